@@ -27,7 +27,7 @@ use Rattle.leveldb_version.specs.Paths.{IsFilePath, log_path, table_path}
 use Rattle.leveldb_version.specs.StoreSteps.{KeepsHistory}
 use Rattle.leveldb_version.specs.VersionSetValue.{ManifestState, OpenManifest, VersionSetValue, broken, in_use, unmade}
 use Rattle.leveldb_store.proofs.NotTabledLemmas.{not_tabled_causes}
-use Rattle.leveldb_store.proofs.OpeningBytesLemmas.{all_bytes, bytes_then, failed_bytes, log_bytes, logging_bytes, made_keys_bytes, opened_bytes}
+use Rattle.leveldb_store.proofs.OpeningBytesLemmas.{log_bytes, logging_bytes, made_keys_bytes}
 use Rattle.leveldb_store.proofs.OpeningEndLemmas.{IsOpenValue, edit_logged, log_spared, logged_manifest, logging_keeps, logging_spares, made_levels_fit, went_on}
 use Rattle.leveldb_store.proofs.OpeningFrontLemmas.{keeps_found_then}
 use Rattle.leveldb_store.proofs.OpeningLogLemmas.{HasLogOpen, IsReplayedWith, log_opened, log_opening_keeps, replayed_recovered, replaying_keeps}
@@ -42,7 +42,7 @@ use Rattle.leveldb_store.specs.OpeningSteps.{AreDamagedLogs, BeginsWriting, Logs
 use Rattle.leveldb_store.specs.OpensStore.{IsOpenedAs, KeepsFound, SameBesideOwn}
 use Rattle.leveldb_store.specs.ReplayLog.{HasCauseOr}
 use Rattle.leveldb_store.specs.Room.{IsFull}
-use Rattle.leveldb_store.specs.SoundCall.{BytesAreAppended, OpensWithBytes}
+use Rattle.leveldb_store.specs.SoundCall.{BytesAreAppended}
 use Rattle.leveldb_store.specs.Written.{IsTableOf}
 use Rattle.leveldb_store.specs.declared.open_store.OpenLog.{OpenLog}
 use Rattle.leveldb_store.specs.declared.opening.replay.Replay.{Replay}
@@ -113,7 +113,7 @@ module _ {E F D FP : Type 0} (env : Ghosts E F) {order : CmpGhosts D} {filters :
 
   -- an error at any of the steps
   refused_at : (C : Type 0) (to : E) (status : Status) → (IsTrue env.models_disk → Keeps to) → (IsTrue env.models_disk → Run (SameBesideOwn store first) (env.observed from) (env.observed to))
-      → OpensWithBytes env store from {T = OpenStoreValue C} (Err status) to
+      → BytesAreAppended env from to
       → SameLocks env.models_disk (env.observed from) (env.observed to) → HasCauseOr {T = OpenStoreValue C} Why (env.failures from) (env.failures to) (Err status) → Begins C (Err status) to
   refused_at C to status keeps spares bytes locks cause = record {
     path = tt;
@@ -131,7 +131,7 @@ module _ {E F D FP : Type 0} (env : Ghosts E F) {order : CmpGhosts D} {filters :
   pub nothing_begun : (C : Type 0) (status : Status) → IsOutOfMemory status → Begins C (Err status) from
   nothing_begun C status memory = refused_at C from status
       (λ modelled meaning agrees contents was allowed there can bound reached. begun (env.observed from) (record { now = λ history c. c; crash = λ durable history s. s }))
-      (λ modelled. begun (env.observed from) (λ path other. refl)) (all_bytes env store (Err status) from from (λ modelled before. before)) (λ modelled. refl)
+      (λ modelled. begun (env.observed from) (λ path other. refl)) (λ modelled before. before) (λ modelled. refl)
       (record { later = omega arith; ok = tt; uncounted = λ why. refl; cause = inl (inl memory) })
 
   -- ---- the logs are replayed
@@ -167,7 +167,7 @@ module _ {E F D FP : Type 0} (env : Ghosts E F) {order : CmpGhosts D} {filters :
     why_not_replayed status (inr damaged) = inr (inl (damaged.0, λ modelled. subst (λ s. AreDamagedLogs s first logs) may.path (damaged.1 modelled)))
 
   pub replay_refused : {C : Type 0} (status : Status) (set1 : VersionSetValue) (e1 : E) → ReplaysLogs env choices {C = C} limit set logs from (Err status) set1 e1 → Begins C (Err status) e1
-  replay_refused {C} status set1 e1 replays = refused_at C e1 status (keeps1 (Err status) set1 e1 replays) (spares1 (Err status) set1 e1 replays) (all_bytes env store (Err status) from e1 replays.spares.bytes) replays.spares.locks
+  replay_refused {C} status set1 e1 replays = refused_at C e1 status (keeps1 (Err status) set1 e1 replays) (spares1 (Err status) set1 e1 replays) replays.spares.bytes replays.spares.locks
       (cause_of_step (env.failures from) (env.failures from) (env.failures e1) status refl (why_not_replayed (Err status) set1 e1 replays status) replays.cause)
 
   -- ---- the log to write is opened
@@ -232,7 +232,7 @@ module _ {E F D FP : Type 0} (env : Ghosts E F) {order : CmpGhosts D} {filters :
           path_of_log = log_path store (number_to_write replay.used set2.next_file)
 
     pub log_refused : (cmp : C) (status : Status) (set3 : VersionSetValue) (e2 : E) → OpensLog env store cmp replay.used set2 e1 (Err status) set3 e2 → Begins C (Err status) e2
-    log_refused cmp status set3 e2 opens = refused_at C e2 status (keeps2 cmp (Err status) set3 e2 opens) (spares2 cmp (Err status) set3 e2 opens) (all_bytes env store (Err status) from e2 (bytes2 cmp (Err status) set3 e2 opens)) (locks2 cmp (Err status) set3 e2 opens)
+    log_refused cmp status set3 e2 opens = refused_at C e2 status (keeps2 cmp (Err status) set3 e2 opens) (spares2 cmp (Err status) set3 e2 opens) (bytes2 cmp (Err status) set3 e2 opens) (locks2 cmp (Err status) set3 e2 opens)
         (cause_of_step (env.failures from) (env.failures e1) (env.failures e2) status replays.cause.ok (λ used_up. inr (inr (inr used_up))) opens.cause)
 
     -- ---- an edit is logged where one is wanted
@@ -307,11 +307,10 @@ module _ {E F D FP : Type 0} (env : Ghosts E F) {order : CmpGhosts D} {filters :
                 let before = spares2 cmp (Ok pair) set3 e2 opens modelled in
                 Run-trans before (λ now spares. spares_then store first (env.observed e2).disk.files now before.has spares) (spares3 wanted logged modelled)
 
-            all_opens_bytes : OpensWithBytes env store from result e3
-            all_opens_bytes = bytes_then env store result from e2 e3 (bytes2 cmp (Ok pair) set3 e2 opens)
-                (subst (λ s. OpensWithBytes env s e2 result e3) path3
-                (logging_bytes env made set3 N e2 e3 set4
-                (λ modelled. made_keys_bytes format set first logs replay set1 replayed_files (replays.ok modelled)) wanted result logged))
+            all_bytes : BytesAreAppended env from e3
+            all_bytes modelled before = logging_bytes env made set3 N e2 e3 set4
+                (λ modelled. made_keys_bytes format set first logs replay set1 replayed_files (replays.ok modelled)) wanted result logged
+                modelled (bytes2 cmp (Ok pair) set3 e2 opens modelled before)
 
             all_locks : SameLocks env.models_disk (env.observed from) (env.observed e3)
             all_locks modelled = locks modelled ∙ locks2 cmp (Ok pair) set3 e2 opens modelled
@@ -354,7 +353,7 @@ module _ {E F D FP : Type 0} (env : Ghosts E F) {order : CmpGhosts D} {filters :
 
           pub edit_refused : LogsIfWanted env wanted N made set3 e2 (Err status) set4 e3 → SameLocks env.models_disk (env.observed e2) (env.observed e3) → Begins C (Err status) e3
           edit_refused logged locks = refused_at C e3 status (all_keep (Err status) set4 e3 logged locks) (all_spare (Err status) set4 e3 logged locks)
-              (failed_bytes env store status from e3 (all_opens_bytes (Err status) set4 e3 logged locks)) (all_locks (Err status) set4 e3 logged locks)
+              (all_bytes (Err status) set4 e3 logged locks) (all_locks (Err status) set4 e3 logged locks)
               (cause_of_step (env.failures from) (env.failures e2) (env.failures e3) status (opens.cause.ok ∙ replays.cause.ok) (λ why. inr why) (logged_cause wanted logged))
 
         -- ---- the store is open
@@ -445,7 +444,7 @@ module _ {E F D FP : Type 0} (env : Ghosts E F) {order : CmpGhosts D} {filters :
                   keeps = all_keep (Ok done) set4 e3 logged locks;
                   opens = opened_by wanted refl logged;
                   others = all_spare (Ok done) set4 e3 logged locks;
-                  bytes = opened_bytes env store done value from e3 (all_opens_bytes (Ok done) set4 e3 logged locks);
+                  bytes = all_bytes (Ok done) set4 e3 logged locks;
                   locks = all_locks (Ok done) set4 e3 logged locks;
                   cause = record { later = omega (arith, count); ok = count; uncounted = tt; cause = tt };
                 }

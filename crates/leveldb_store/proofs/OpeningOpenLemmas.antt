@@ -6,7 +6,6 @@ use Rattle.leveldb_env.proofs.EnvLemmas.{Run-trans}
 use Rattle.leveldb_env.specs.Env.{Files}
 use Rattle.leveldb_env.specs.declared.env.Env.{Ghosts}
 use Rattle.leveldb_version.specs.Contents.{Contents}
-use Rattle.leveldb_store.proofs.OpeningBytesLemmas.{bytes_then, failed_bytes}
 use Rattle.leveldb_store.proofs.OpeningFrontLemmas.{keeps_found_then}
 use Rattle.leveldb_store.proofs.OpeningRecoverLemmas.{cause_of_step}
 use Rattle.leveldb_store.proofs.OpeningSameLemmas.{spares_then}
@@ -15,7 +14,7 @@ use Rattle.leveldb_store.specs.OpenStore.{OpenStoreValue}
 use Rattle.leveldb_store.specs.OpeningState.{with_comparator}
 use Rattle.leveldb_store.specs.OpeningSteps.{BeginsWriting, RecoversStore, WasRecovered, WhyNotBegun}
 use Rattle.leveldb_store.specs.OpensStore.{IsOpenedAs, IsSound, KeepsFound, OpensStore, WhyNotOpened}
-use Rattle.leveldb_store.specs.SoundCall.{OpensWithBytes}
+use Rattle.leveldb_store.specs.SoundCall.{BytesAreAppended}
 use Rattle.leveldb_store.specs.declared.opening.logs.RecoveredSet.{RecoveredSet}
 
 module _ {E F : Type 0} (env : Ghosts E F) (format : Format) (store : List ℕ) (create_if_missing error_if_exists : Bool) (from : E) (limit : ℕ) where
@@ -36,10 +35,6 @@ module _ {E F : Type 0} (env : Ghosts E F) (format : Format) (store : List ℕ) 
       locks = recovers.locks;
       cause = cause_of_step (env.failures from) (env.failures from) (env.failures to) status refl (λ why. inr why) recovers.cause;
     }
-
-    -- what it appends are bytes
-    pub refused_bytes : (to : E) (status : Status) → RecoversStore env format store create_if_missing error_if_exists from (Err status) to → OpensWithBytes env store from {T = OpenStoreValue C} (Err status) to
-    refused_bytes to status recovers = failed_bytes env store status from to recovers.bytes
 
   module _ (it : RecoveredSet E F) (mid : E) (recovers : RecoversStore env format store create_if_missing error_if_exists from (Ok it) mid) (to : E) where
     was_recovered : IsTrue env.models_disk → (meaning : Meaning) → Agrees format meaning → (contents : Contents) → IsSound format.order meaning store (env.observed from).disk.files contents
@@ -73,8 +68,8 @@ module _ {E F : Type 0} (env : Ghosts E F) (format : Format) (store : List ℕ) 
             (begins.keeps modelled meaning agrees (with_comparator format.order_name contents) (was_recovered modelled meaning agrees contents sound))
 
       -- what is appended are bytes
-      pub recovered_bytes : (result : Result (OpenStoreValue C) Status) → Begins result → OpensWithBytes env store from result to
-      recovered_bytes result begins = bytes_then env store result from mid to recovers.bytes.done begins.bytes
+      pub recovered_bytes : (result : Result (OpenStoreValue C) Status) → Begins result → BytesAreAppended env from to
+      recovered_bytes result begins modelled before = begins.bytes modelled (recovers.bytes modelled before)
 
       -- one that is recovered is opened, if it is written then
       pub recovered_then : (result : Result (OpenStoreValue C) Status) → Begins result → Opens result to

@@ -10,7 +10,7 @@ use Rattle.leveldb_version.proofs.ManifestLemmas.{managed_of}
 use Rattle.leveldb_version.specs.Contents.{Contents, made}
 use Rattle.leveldb_version.specs.Paths.{current_path}
 use Rattle.leveldb_version.specs.Store.{HasEdits}
-use Rattle.leveldb_store.proofs.OpeningBytesLemmas.{all_bytes, failed_bytes, finding_bytes, keeping_bytes, set_bytes}
+use Rattle.leveldb_store.proofs.OpeningBytesLemmas.{keeping_bytes, set_bytes}
 use Rattle.leveldb_store.proofs.OpeningFrontLemmas.{IsFoundOrMade, current_is_there, damaged_before, found_is_sound, keeps_found_then, lacking_is_damaged, other_before}
 use Rattle.leveldb_store.proofs.OpeningMadeLemmas.{making_keeps, making_spares}
 use Rattle.leveldb_store.proofs.OpeningRecoveredLemmas.{comparator_is, edits_read, have_numbers, in_use_is, is_read, is_recovered, leaving_keeps, logs_read, logs_there, manifest_below, manifest_there, own_is, path_is, then_bytes, unbroken_is}
@@ -20,7 +20,7 @@ use Rattle.leveldb_store.specs.OpeningState.{IsRecoveredWith, with_comparator}
 use Rattle.leveldb_store.specs.OpeningSteps.{AreBeingKept, AreDamagedLogs, FindsStore, IsBeingMade, RecoversSet, RecoversStore, WhyNotFound, WhyNotRecovered, with_logs_kept}
 use Rattle.leveldb_store.specs.OpensStore.{IsDamaged, IsForbidden, IsSound, KeepsFound, LacksCurrent, LacksUsableEdits, SameBesideOwn, WhyNotOpened}
 use Rattle.leveldb_store.specs.ReplayLog.{HasCauseOr}
-use Rattle.leveldb_store.specs.SoundCall.{BytesAreAppended, OpensWithBytes}
+use Rattle.leveldb_store.specs.SoundCall.{BytesAreAppended}
 use Rattle.leveldb_store.specs.Written.{IsTableOf}
 use Rattle.leveldb_store.specs.declared.opening.logs.RecoveredSet.{RecoveredSet}
 
@@ -91,9 +91,6 @@ module _ {E F : Type 0} (env : Ghosts E F) (format : Format) (store : List ℕ) 
         same now (inl is) = is
         same now (inr being) = absurd (there being.bare.no_current)
 
-    found_bytes : OpensWithBytes env store from result mid
-    found_bytes = finding_bytes env store format.order_name create_if_missing error_if_exists from result mid finds
-
   pub find_refused : (mid : E) (status : Status) → Finds (Err status) mid → Recovers (Err status) mid
   find_refused mid status finds = record {
     ok = tt;
@@ -109,7 +106,7 @@ module _ {E F : Type 0} (env : Ghosts E F) (format : Format) (store : List ℕ) 
           which,
     );
     others = found_spares (Err status) mid finds;
-    bytes = failed_bytes env store status from mid (found_bytes (Err status) mid finds);
+    bytes = finds.bytes;
     locks = finds.locks;
     cause = cause_of_step (env.failures from) (env.failures from) (env.failures mid) status refl (λ why. inr (why_not_found status why)) finds.cause;
   }
@@ -146,7 +143,7 @@ module _ {E F : Type 0} (env : Ghosts E F) (format : Format) (store : List ℕ) 
             Run-trans run (λ now spares. spares_then store first (env.observed mid).disk.files now run.has spares) (sets.others modelled)
 
         both_bytes : BytesAreAppended env from then
-        both_bytes modelled before = set_bytes env store format reuse limit mid result then sets modelled ((found_bytes (Ok done) mid finds).done modelled before)
+        both_bytes modelled before = set_bytes env store format reuse limit mid result then sets modelled (finds.bytes modelled before)
 
         -- where the store has no usable edits, all files stay
         both_same : IsTrue env.models_disk → LacksUsableEdits store format first → Run (FilesUnchanged first) (env.observed from) (env.observed then)
@@ -172,7 +169,7 @@ module _ {E F : Type 0} (env : Ghosts E F) (format : Format) (store : List ℕ) 
               which,
         );
         others = both_spare (Err status) then sets;
-        bytes = all_bytes env store (Err status) from then (both_bytes (Err status) then sets);
+        bytes = both_bytes (Err status) then sets;
         locks = λ modelled. sets.locks modelled ∙ finds.locks modelled;
         cause = cause_of_step (env.failures from) (env.failures mid) (env.failures then) status finds.cause.ok (λ why. inr (why_not_recovered status why)) sets.cause;
       }
@@ -230,7 +227,7 @@ module _ {E F : Type 0} (env : Ghosts E F) (format : Format) (store : List ℕ) 
             keeps = λ modelled meaning agrees contents sound. all_keep modelled meaning contents sound;
             stays = λ modelled which. absurd (is_usable modelled which);
             others = all_spare;
-            bytes = all_bytes env store (Err status) from to three_bytes;
+            bytes = three_bytes;
             locks = all_locks;
             cause = cause_of_step (env.failures from) (env.failures then) (env.failures to) status (sets.cause.ok ∙ finds.cause.ok) (λ never. absurd never)
                 (memory_cause (env.failures then) (env.failures to) status cause);
@@ -288,7 +285,7 @@ module _ {E F : Type 0} (env : Ghosts E F) (format : Format) (store : List ℕ) 
               keeps = λ modelled meaning agrees contents sound. all_keep modelled meaning contents sound;
               stays = λ modelled which. absurd (is_usable modelled which);
               others = all_spare;
-              bytes = all_bytes env store (Ok it) from to three_bytes;
+              bytes = three_bytes;
               locks = all_locks;
               cause = record {
                 later = omega (arith, cause.ok, sets.cause.ok, finds.cause.ok);

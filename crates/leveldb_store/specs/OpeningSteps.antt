@@ -39,7 +39,7 @@ use Rattle.leveldb_store.specs.OpeningState.{HasComparator, IsRecoveredWith, wit
 use Rattle.leveldb_store.specs.OpensStore.{HasOtherComparator, IsBareFolder, IsDamaged, IsForbidden, IsForbiddenAs, IsOpenedAs, IsSound, IsTableOrLog, KeepsFound, LacksCurrent, LacksUsableEdits, SameBesideOwn, WhyNotOpened}
 use Rattle.leveldb_store.specs.ReplayLog.{FailsToTable, HasCauseOr, MakesTablesOnly, table_files}
 use Rattle.leveldb_store.specs.Room.{IsFull}
-use Rattle.leveldb_store.specs.SoundCall.{OpensWithBytes}
+use Rattle.leveldb_store.specs.SoundCall.{BytesAreAppended}
 use Rattle.leveldb_store.specs.Switch.{MayGiveNumber}
 use Rattle.leveldb_store.specs.declared.open_store.OpenLog.{OpenLog}
 use Rattle.leveldb_store.specs.declared.opening.logs.RecoveredSet.{RecoveredSet}
@@ -95,6 +95,7 @@ module _ {E F : Type 0} (env : Ghosts E F) (store comparator : List ℕ)
         → Run (λ files. (files ≡ (env.observed from).disk.files)
         ⊎ IsBeingMade store comparator (env.observed from).disk.files files) (env.observed from)
         (env.observed to)
+    pub bytes : BytesAreAppended env from to
     pub locks : SameLocks env.models_disk (env.observed from) (env.observed to)
     pub cause : HasCauseOr WhyNotFound (env.failures from) (env.failures to) result
 
@@ -481,7 +482,7 @@ module _ {E F : Type 0} (env : Ghosts E F) (format : Format) (store : List ℕ)
     pub others : IsTrue env.models_disk
         → Run (SameBesideOwn store (env.observed from).disk.files) (env.observed from)
         (env.observed to)
-    pub bytes : OpensWithBytes env store from result to
+    pub bytes : BytesAreAppended env from to
     pub locks : SameLocks env.models_disk (env.observed from) (env.observed to)
     pub cause : HasCauseOr
         (WhyNotOpened env store format create_if_missing error_if_exists from)
@@ -520,6 +521,6 @@ module _ {E F : Type 0} (env : Ghosts E F) (format : Format) (store : List ℕ)
     pub others : IsTrue env.models_disk
         → Run (SameBesideOwn store (env.observed from).disk.files) (env.observed from)
         (env.observed to)
-    pub bytes : OpensWithBytes env store from result to
+    pub bytes : BytesAreAppended env from to
     pub locks : SameLocks env.models_disk (env.observed from) (env.observed to)
     pub cause : HasCauseOr WhyNotBegun (env.failures from) (env.failures to) result

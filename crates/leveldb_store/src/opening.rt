@@ -2,7 +2,7 @@
 ghost use Rattle.std.specs.Prelude.{◌≡◌, IfOk};
 ghost use Rattle.leveldb_store.specs.Format.{format_of};
 ghost use Rattle.leveldb_store.specs.OpensStore.{OpensStore};
-ghost use Rattle.leveldb_store.specs.SoundCall.{OpensWithBytes};
+ghost use Rattle.leveldb_store.specs.SoundCall.{BytesAreAppended};
 
 mod begin;
 mod edit;
@@ -40,7 +40,7 @@ impl<E: Env, C: UserCmp + Copy + Drop> OpenStore<E, C> {
             ⟦<CompressorList as Compressors>⟧.codings options.now)
             options.now.create_if_missing options.now.error_if_exists env.old
             options.now.write_buffer_size result env.new }
-        ensures bytes { OpensWithBytes E.Env name.now env.old result env.new }
+        ensures bytes { BytesAreAppended E.Env env.old env.new }
         ensures cmp { IfOk result (λ value. value.cmp ≡ options.now.cmp) }
     {
         let set = recover(alloc, env, name, options)?;

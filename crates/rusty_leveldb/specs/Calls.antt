@@ -1,42 +1,37 @@
 -- What each call on an engine does: one record a call, the same of an engine and of a store that
 -- holds its environment.
-use Rattle.std.specs.Prelude.{◌≡◌, ◌≤◌, ◌⊎◌, ℕ, List, Option, Some, None, false, Result, Ok, Err, OnOk, OnErr, IfOk, IfErr, IsErrAnd, IsTrue}
+use Rattle.std.specs.Prelude.{◌≡◌, ◌⊎◌, ℕ, List, Some, None, Result, Ok, Err, OnOk, OnErr, IfOk, IfErr, IsErrAnd, IsTrue}
 use Rattle.leveldb_base.specs.declared.error.Status.{Status}
+use Rattle.leveldb_base.specs.Error.{IsOutOfMemory}
 use Rattle.leveldb_env.specs.declared.env.Env.{Ghosts}
 use Rattle.leveldb_env.specs.Env.{HasCause}
 use Rattle.leveldb_env.specs.Options.{Boxed, OptionsOf}
-use Rattle.rusty_leveldb.specs.declared.db_impl.engine.Mode.TheVariants.{Open}
 use Rattle.leveldb_store.specs.Format.{Format, Meaning, Agrees}
-use Rattle.rusty_leveldb.specs.State.{Opening, Request, Answer, open_store, write, get, walk, get_snapshot, release_snapshot, flush, close, abandon}
-use Rattle.rusty_leveldb.specs.Causes.{HasFailed}
+use Rattle.leveldb_store.specs.Room.{FailsFor, TellsOnly}
+use Rattle.rusty_leveldb.specs.State.{Opening, Request, Answer, open_mode, open_store, write, get, walk, get_snapshot, release_snapshot, flush, close, abandon}
 use Rattle.rusty_leveldb.specs.Serves.{done_or, given_engine}
-use Rattle.rusty_leveldb.specs.Engine.{IsClosed, HasBroken, IsClosedOrBroken, RefusedByMode, TimeGoesOn, AnswersAs, Answers, WriteExcused, SyncExcused, CloseExcused, GetExcused, OpenExcused, IsStoreName, IsOpening}
-use Rattle.rusty_leveldb.specs.Recovery.{NeverOpens, StaysUnopened}
+use Rattle.rusty_leveldb.specs.Engine.{IsClosed, IsBroken, IsClosedOrBroken, RefusedByMode, TimeGoesOn, AnswersAs, Answers, WriteExcused, SyncExcused, CloseExcused, GetExcused, IsStoreName, IsOpening, mode_in, options_in}
+use Rattle.rusty_leveldb.specs.Unopened.{NeverOpens, OpenExcused, StaysUnopened}
 use Rattle.rusty_leveldb.specs.Boxes.{EngineOf}
 
 -- ---- why a call fails
 
--- The count of failed calls doesn't fall. An Err is excused, or a call of the device failed. A call
--- may return Ok though some call of the device failed, as one that deletes a file which isn't
--- needed.
-pub record FailsFor {T : Type 0} (Excused : Status → Type 0) (before after : ℕ)
-    (result : Result T Status) : Type 0 where
-  pub later : before ≤ after
-  pub cause : IfErr result (λ e. Excused e ⊎ HasFailed before after)
-
-module _ {E C FP F : Type 0} {B : Boxed} (env : Ghosts E F) where
+module _ {E C FP F : Type 0} {B : Boxed} (env : Ghosts E F)
+    (formats : OptionsOf C FP B → Format) where
   -- why a call fails, by its request; each failed call of the device is the reason for which a
   -- flush or a close fails
   abbrev pub HasReason : {T : Type 0} → EngineOf E C FP F B → E → Request → Result T Status → E
       → Type 0
   HasReason before from (get at key) result to =
-      FailsFor (GetExcused before.mode key) (env.failures from) (env.failures to) result
+      FailsFor (GetExcused env formats before from key) (env.failures from) (env.failures to) result
   HasReason before from (write items sync) result to =
-      FailsFor (WriteExcused env before from items) (env.failures from) (env.failures to) result
+      FailsFor (WriteExcused env formats before from items) (env.failures from) (env.failures to)
+      result
   HasReason before from flush result to =
-      HasCause (SyncExcused env before from to) (env.failures from) (env.failures to) result
+      HasCause (SyncExcused env formats before from to) (env.failures from) (env.failures to) result
   HasReason before from close result to =
-      HasCause (CloseExcused env before from to) (env.failures from) (env.failures to) result
+      HasCause (CloseExcused env formats before from to) (env.failures from) (env.failures to)
+      result
   HasReason before from request result to =
       HasCause (λ _. ⊥) (env.failures from) (env.failures to) result
 
@@ -45,44 +40,43 @@ module _ {E C FP F : Type 0} {B : Boxed} (env : Ghosts E F) where
 module _ {E C FP F : Type 0} {B : Boxed} where
   -- the mode refuses the request: of a closed store any, of a broken one those that write
   abbrev pub IsHalted : EngineOf E C FP F B → Request → Type 0
-  IsHalted engine (get at key) = IsClosed engine.mode
-  IsHalted engine (walk at moves) = IsClosed engine.mode
-  IsHalted engine get_snapshot = IsClosed engine.mode
-  IsHalted engine (release_snapshot one) = IsClosed engine.mode
-  IsHalted engine request = IsClosedOrBroken engine.mode engine.writer
+  IsHalted engine (get at key) = IsClosed (mode_in engine)
+  IsHalted engine (walk at moves) = IsClosed (mode_in engine)
+  IsHalted engine get_snapshot = IsClosed (mode_in engine)
+  IsHalted engine (release_snapshot one) = IsClosed (mode_in engine)
+  IsHalted engine request = IsClosedOrBroken (mode_in engine)
 
-  -- what a read leaves of an engine: its mode and its entries
+  -- what a read leaves of an engine: its mode and its store
   abbrev pub IsReadOnly : EngineOf E C FP F B → EngineOf E C FP F B → Type 0
-  IsReadOnly before after = (after.mode ≡ before.mode) × (after.recent ≡ before.recent)
+  IsReadOnly before after = (mode_in after ≡ mode_in before) × (after.store ≡ before.store)
 
-  -- What becomes of an engine. A read leaves its mode and its entries; a write may break it, and
-  -- a flush that fails does; `close` closes it, or leaves it closed or broken.
+  -- What becomes of an engine. A read leaves its mode and its store; a write may break it, and so
+  -- does a flush that fails, but out of memory; `close` closes it, or leaves it closed or broken.
   abbrev pub BecomesOf : {T : Type 0} → EngineOf E C FP F B → Request → Result T Status
       → EngineOf E C FP F B → Type 0
   BecomesOf before (get at key) result after = IsReadOnly before after
   BecomesOf before (walk at moves) result after = IsReadOnly before after
   BecomesOf before get_snapshot result after = IsReadOnly before after
   BecomesOf before (release_snapshot one) result after = IsReadOnly before after
-  BecomesOf before close result after = OnOk result (IsClosed after.mode)
-      × OnErr result (IsClosedOrBroken after.mode after.writer)
+  BecomesOf before close result after = OnOk result (IsClosed (mode_in after))
+      × OnErr result (IsClosedOrBroken (mode_in after))
   BecomesOf before flush result after =
-      (HasBroken after.mode after.writer ⊎ (after.mode ≡ before.mode))
-      × OnErr result (IsClosedOrBroken after.mode after.writer)
+      (IsBroken (mode_in after) ⊎ (mode_in after ≡ mode_in before))
+      × IfErr result (λ e. IsClosedOrBroken (mode_in after) ⊎ IsOutOfMemory e)
   BecomesOf before request result after =
-      HasBroken after.mode after.writer ⊎ (after.mode ≡ before.mode)
+      IsBroken (mode_in after) ⊎ (mode_in after ≡ mode_in before)
 
--- `formats` says of options which format they have
 module _ {E C FP F : Type 0} {B : Boxed} (env : Ghosts E F)
     (formats : OptionsOf C FP B → Format) where
   -- a call on an engine, with its answer
   pub record EngineServes {T : Type 0} (answer_of : Result T Status → Answer)
       (before : EngineOf E C FP F B) (from : E) (request : Request) (result : Result T Status)
       (after : EngineOf E C FP F B) (to : E) : Type 0 where
-    -- the options stay
-    pub options : after.options ≡ before.options
+    -- the options stay, but for the sink of their log
+    pub options : TellsOnly (options_in before) (options_in after)
     -- where the mode refuses the request, nothing changes
     pub halted : IsHalted before request → (to ≡ from) × (after ≡ before)
-        × IsErrAnd result (RefusedByMode before.mode before.writer)
+        × IsErrAnd result (RefusedByMode (mode_in before))
     -- what becomes of the engine, over any environment
     pub becomes : BecomesOf before request result after
     -- where the disk is observed, the call is a step of the machine
@@ -90,14 +84,14 @@ module _ {E C FP F : Type 0} {B : Boxed} (env : Ghosts E F)
     -- no moment of the disk is taken back
     pub time : TimeGoesOn env from to
     -- why it fails
-    pub cause : HasReason env before from request result to
+    pub cause : HasReason env formats before from request result to
 
   -- a call that gives an engine up
   pub record EngineAbandons (engine : EngineOf E C FP F B) (from : E)
       (result : Result (Unit {0}) Status)
       (to : E) : Type 0 where
     -- one that is closed has given back its lock
-    pub halted : IsClosed engine.mode → (to ≡ from) × OnErr result ⊥
+    pub halted : IsClosed (mode_in engine) → (to ≡ from) × OnErr result ⊥
     -- where the disk is observed, the call is a step of the machine
     pub step : Answers env formats (Some engine) from abandon (done_or result) None to
     -- no moment of the disk is taken back
@@ -108,10 +102,9 @@ module _ {E C FP F : Type 0} {B : Boxed} (env : Ghosts E F)
   -- a call that opens the store under a name, as it is asked to by these options
   pub record EngineOpens (name : List ℕ) (options : OptionsOf C FP B) (asked : Opening) (from : E)
       (result : Result (EngineOf E C FP F B) Status) (to : E) : Type 0 where
-    -- the engine has these options, is open, and hasn't broken
+    -- the engine is open and has these options, but for the sink of their log
     pub opened : IfOk result
-        (λ engine. (engine.options ≡ options) × (engine.mode ≡ Open)
-        × (engine.writer.broken ≡ false))
+        (λ engine. (mode_in engine ≡ open_mode) × TellsOnly options (options_in engine))
     -- where the disk is observed, the call is a step of the machine, if the options say of names
     -- and ids what they mean
     pub step : (opening : Opening) → IsOpening name asked opening
@@ -124,18 +117,16 @@ module _ {E C FP F : Type 0} {B : Boxed} (env : Ghosts E F)
     -- count past its limits, or without the compressor of new blocks
     pub misnamed : (IsStoreName name × IsTrue asked.fits × IsTrue asked.compresses → ⊥)
         → (to ≡ from) × OnOk result ⊥
-    -- a store that is locked or damaged isn't opened, nor is a missing one that isn't to be made,
-    -- or one that is there and must not be
+    -- a store that is locked isn't opened, nor one without usable edits, nor a missing one that
+    -- isn't to be made, or one that is there and must not be
     pub never_opens : IsTrue env.models_disk
         → NeverOpens name asked (env.observed from).disk → OnOk result ⊥
     -- what an opening leaves that fails
     pub unopened : IfErr result (λ status. IsTrue env.models_disk
-        → StaysUnopened name asked (env.observed from) (env.observed to)
-        (env.failures from) (env.failures to) status)
+        → StaysUnopened env name asked from to status)
     -- why it fails
-    pub cause : FailsFor
-        (OpenExcused env.models_disk name asked (env.observed from))
-        (env.failures from) (env.failures to) result
+    pub cause : FailsFor (OpenExcused env name asked from) (env.failures from) (env.failures to)
+        result
 
 -- the same result, with what this makes of its value
 abbrev pub result_map : {A B S : Type 0} → (A → B) → Result A S → Result B S

@@ -14,6 +14,7 @@ use std::alloc::Global;
 use std::process::Abort;
 use std::test::Fail;
 
+/// The first log.
 const LOG: &str = "db/000003.log";
 
 /// A batch: whether it is synced, and its keys, each with a byte and how often its value has it, or deleted.
@@ -154,7 +155,11 @@ fn crash_and_go_on(
         tail.len()
     );
     assert!(rt; write_last(alloc, &mut left)?);
-    let mut again = left.crashed(alloc, &pick(alloc, b"")?)?;
+    let none = Pick {
+        tails: Vec::new(alloc),
+        after: false,
+    };
+    let mut again = left.crashed(alloc, &none)?;
     let later = look_up_all(alloc, &mut again)?;
     assert!(rt;
         has_only_changed_last(&found, &later, b"xxx"),

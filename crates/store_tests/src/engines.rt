@@ -10,6 +10,7 @@ use rusty_leveldb::db_impl::{DB, Engine, Store};
 use std::alloc::Global;
 use std::process::Abort;
 
+/// The first log.
 const LOG: &str = "db/000003.log";
 
 type Opened<'a, E> = DB<'a, E, DefaultCmp, BloomPolicy>;
@@ -47,6 +48,14 @@ fn pair(alloc: Global, key: &[u8], value: &[u8]) -> Result<WriteBatch> {
     let mut batch = WriteBatch::new(alloc)?;
     batch.put(key, value)?;
     Ok(batch)
+}
+
+/// Of no file a tail.
+fn no_tail(alloc: Global) -> Pick {
+    Pick {
+        tails: Vec::new(alloc),
+        after: false,
+    }
 }
 
 /// Of the log this tail.
@@ -210,7 +219,7 @@ fn a_failed_close_breaks_the_store(rt: HostRuntime) -> Result<()> {
 fn crash_and_go_on(alloc: Global, env: &MemEnv, tail: &[u8]) -> Result<([u8; 4], [u8; 4])> {
     let mut left = env.crashed(alloc, &pick(alloc, tail)?)?;
     let found = write_after_a_crash(alloc, &mut left)?;
-    let mut later = left.crashed(alloc, &pick(alloc, b"")?)?;
+    let mut later = left.crashed(alloc, &no_tail(alloc))?;
     Ok((found, found_again(alloc, &mut later)?))
 }
 
@@ -238,7 +247,7 @@ fn crashes_keep_a_prefix(rt: HostRuntime) -> Result<()> {
     let alloc = rt.alloc();
     let mut env = after_three_records(alloc)?;
     assert!(rt; env.size_of(LOG)? == 72);
-    assert!(rt; env.crashed(alloc, &pick(alloc, b"")?)?.size_of(LOG)? == 48);
+    assert!(rt; env.crashed(alloc, &no_tail(alloc))?.size_of(LOG)? == 48);
     let mut file = env.open_random_access_file(LOG)?;
     let mut tail = [0; 24];
     assert!(rt; env.read_at(&mut file, 48, &mut tail)? == 24);

@@ -16,12 +16,26 @@ mod example;
 #[cfg(test)]
 mod lives;
 #[cfg(test)]
+mod memory;
+#[cfg(test)]
+mod openings;
+#[cfg(test)]
 mod program;
 #[cfg(test)]
+mod refusals;
+#[cfg(test)]
 mod replies;
+#[cfg(test)]
+mod rooms;
 #[cfg(test)]
 mod rows;
 #[cfg(test)]
 mod steps;
 #[cfg(test)]
+mod stores;
+#[cfg(test)]
+mod sweep;
+#[cfg(test)]
 mod sweeps;
+#[cfg(test)]
+mod switches;

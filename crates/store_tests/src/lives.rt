@@ -162,10 +162,19 @@ fn is_all_lost(alloc: Global, mut reports: Vec<Report>) -> Result<bool> {
     Ok(are_of_a_failed_sync(&first) && matches!(second.as_slice(), [Reply::Nothing]))
 }
 
-/// The ninth call of the device is the sync: six open the store, two are the appends.
+/// The number of the sync's call: those before it open the store, and two are appends.
+fn sync_call(alloc: Global) -> Result<u64> {
+    let mut all = Vec::new(alloc);
+    all.push(life(alloc, commands_of(alloc, &FAILING)?, None, None))?;
+    let reports = lives(alloc, "db", all)?;
+    let first = reports.first().and_then(|report| report.replies.first());
+    Ok(first.map_or(0, |reply| (reply.0 / 2).saturating_add(2)))
+}
+
 #[test]
 fn a_failed_sync_and_a_crash(rt: HostRuntime) -> Result<()> {
-    let reports = fail_and_look(rt.alloc(), 18, 9)?;
+    let nth = sync_call(rt.alloc())?;
+    let reports = fail_and_look(rt.alloc(), nth.saturating_mul(2), nth)?;
     assert!(rt; is_all_lost(rt.alloc(), reports)?);
     Ok(())
 }

@@ -6,7 +6,7 @@ ghost use Rattle.rusty_leveldb.specs.Serves.{done_or};
 ghost use Rattle.leveldb_store.specs.Format.{format_of};
 ghost use Rattle.rusty_leveldb.specs.Calls.{EngineServes, EngineAbandons};
 
-use super::engine::{Engine, Mode, check_open};
+use super::engine::{Engine, Mode};
 use leveldb_base::cmp::UserCmp;
 use leveldb_base::error::{Result, StatusCode};
 use leveldb_env::compressor::{CompressorList, Compressors};
@@ -21,8 +21,11 @@ impl<E: Env, C: UserCmp + Copy, FP: FilterPolicy + Copy> Engine<E, C, FP> {
             ⟦<CompressorList as Compressors>⟧.codings in
             EngineServes E.Env formats done_or self.old env.old close result self.new env.new }
     {
-        check_open(self.alloc, self.mode, &self.writer)?;
-        self.sync(env)?;
+        self.check_open()?;
+        if let Err(status) = self.store.sync(env) {
+            self.mode = Mode::Broken;
+            return Err(status);
+        }
         if let Err(status) = give_back(env, &self.lock) {
             self.mode = Mode::Broken;
             return Err(status);

@@ -5,7 +5,7 @@ ghost use Rattle.rusty_leveldb.specs.Serves.{found_or};
 ghost use Rattle.leveldb_store.specs.Format.{format_of};
 ghost use Rattle.rusty_leveldb.specs.Calls.{EngineServes};
 
-use super::engine::{Engine, check_not_closed};
+use super::engine::Engine;
 use bytes::Bytes;
 use leveldb_base::cmp::UserCmp;
 use leveldb_base::error::{Result, StatusCode, err};
@@ -24,8 +24,7 @@ impl<E: Env, C: UserCmp + Copy, FP: FilterPolicy + Copy> Engine<E, C, FP> {
             EngineServes E.Env formats found_or self.old env.old (get None key.now) result
             self.new env.new }
     {
-        let _ = env;
-        check_not_closed(self.alloc, self.mode)?;
+        self.check_not_closed()?;
         if key.len() > MAX_KEY_SIZE {
             return err(
                 self.alloc,
@@ -33,12 +32,7 @@ impl<E: Env, C: UserCmp + Copy, FP: FilterPolicy + Copy> Engine<E, C, FP> {
                 "a key has at most 2^30 bytes",
             );
         }
-        let Some(newest) = self.recent.newest(key) else {
-            return Ok(None);
-        };
-        let Some(value) = newest else {
-            return Ok(None);
-        };
-        Ok(Some(Bytes::copy_from_slice(self.alloc, value)?))
+        self.options.cmp = self.store.cmp();
+        self.store.get(env, &self.options, key)
     }
 }

@@ -1,10 +1,9 @@
-//! The public store: an engine beside a borrow of its environment. Its calls lend the environment
-//! to the engine.
-ghost use Rattle.std.specs.Prelude.{◌≡◌, ◌∷◌, [], Some, None, false, IfOk};
+//! The public store: an engine beside a borrow of its environment, which each call gives to it.
+ghost use Rattle.std.specs.Prelude.{◌≡◌, ◌∷◌, [], Some, None, false, IfOk, OnOk};
 ghost use Rattle.leveldb_mem.specs.WriteBatch.{item_of};
 ghost use Rattle.rusty_leveldb.specs.State.{write, get, flush, close};
 ghost use Rattle.rusty_leveldb.specs.Serves.{done_or, found_or};
-ghost use Rattle.rusty_leveldb.specs.Engine.{opening_of};
+ghost use Rattle.rusty_leveldb.specs.Engine.{WritesIntoRoom, opening_of};
 ghost use Rattle.leveldb_store.specs.Format.{format_of};
 ghost use Rattle.rusty_leveldb.specs.Calls.{EngineServes, EngineAbandons, EngineOpens, result_map};
 
@@ -56,8 +55,8 @@ impl<'e, E: Env, C: UserCmp + Copy, FP: FilterPolicy + Copy> Store<'e, E, Engine
     /// A missing store is made, or `InvalidArgument` if the options say so; one that is there is
     /// opened, or `AlreadyExists` if they say so; a locked one is `LockError`. Options that
     /// `Options::check` refuses make no call. An opening that fails gives back the lock that it
-    /// took, unless the device failed once more. A store that is damaged or locked, or is missing
-    /// and isn't to be made, or is there and must not be, is never opened.
+    /// took, unless the device failed once more. A store that is locked, or is missing and isn't to
+    /// be made, or is there and must not be, or whose manifest is damaged, is never opened.
     pub fn open(
         alloc: Global,
         name: &str,
@@ -99,14 +98,15 @@ impl<'e, E: Env, C: UserCmp + Copy, FP: FilterPolicy + Copy> Store<'e, E, Engine
     }
 
     /// Makes the batch's changes together, after all others; with `sync` a crash keeps them from
-    /// then on. A failed append or sync breaks the store: the batch isn't seen, and may be there
-    /// when the store is opened again.
+    /// then on. A memtable that is full becomes a table first. A failed append or sync breaks the
+    /// store: the batch isn't seen, and may be there when the store is opened again.
     pub fn write(&mut self, batch: WriteBatch, sync: bool) -> Result<()>
         ensures same_reference { self.new.env.ghost_name ≡ self.old.env.ghost_name }
         ensures serves { let formats = format_of C.Cmp FP.FilterPolicy
             ⟦<CompressorList as Compressors>⟧.codings in
             EngineServes E.Env formats done_or self.old.state self.old.env.now
             (write batch.items sync) result self.new.state self.new.env.now }
+        ensures room { OnOk result (WritesIntoRoom self.old.state batch.items self.new.state) }
     {
         self.state.write(&mut *self.env, batch, sync)
     }

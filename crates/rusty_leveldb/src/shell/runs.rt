@@ -3,9 +3,10 @@ ghost use Rattle.std.specs.Prelude.{◌≡◌, ◌≤◌, ◌⊎◌, ◌++◌, L
 ghost use Rattle.leveldb_base.specs.Error.{IsOutOfMemory};
 ghost use Rattle.leveldb_mem.specs.WriteBatch.{with_item, IsTooLong};
 ghost use Rattle.rusty_leveldb.specs.Causes.{IsLongBatch};
-ghost use Rattle.rusty_leveldb.specs.Engine.{TimeGoesOn, Answers, OpenExcused, opening_of};
+ghost use Rattle.rusty_leveldb.specs.Engine.{TimeGoesOn, Answers, opening_of};
+ghost use Rattle.rusty_leveldb.specs.Unopened.{OpenExcused};
 ghost use Rattle.leveldb_store.specs.Format.{format_of};
-ghost use Rattle.rusty_leveldb.specs.Calls.{FailsFor};
+ghost use Rattle.leveldb_store.specs.Room.{FailsFor};
 ghost use Rattle.rusty_leveldb.specs.Serves.{done_or};
 ghost use Rattle.rusty_leveldb.specs.State as machine;
 ghost use Rattle.rusty_leveldb.specs.Shell.{HasRun, request_of, answer_of, change_of};
@@ -24,8 +25,8 @@ use std::alloc::Global;
 /// Opens a store, answers the commands one after another, and gives back its lock if no command
 /// did. A command that fails is answered, and the run goes on. The replies come after those that
 /// are there, also if the run fails: out of memory before it begins, or since the store isn't
-/// opened or its lock isn't given back. A store that is damaged or locked, or is missing and isn't
-/// to be made, is never opened.
+/// opened or its lock isn't given back. A store that is locked, or whose manifest is damaged, or
+/// that is missing and isn't to be made, is never opened.
 pub fn run<E: Env, C: UserCmp + Copy, FP: FilterPolicy + Copy>(
     env: &mut E,
     name: &str,
@@ -39,8 +40,8 @@ pub fn run<E: Env, C: UserCmp + Copy, FP: FilterPolicy + Copy>(
     ensures after { (given : List Reply) × (replies.new.items ≡ replies.old.items ++ given)
         × OnOk result (length given ≡ length commands.now) }
     ensures time { TimeGoesOn E.Env env.old env.new }
-    ensures cause { FailsFor (OpenExcused E.models_disk name.now (opening_of C.Cmp FP.FilterPolicy
-        ⟦<CompressorList as Compressors>⟧.codings opt) (E.observed env.old)) (E.failures env.old)
+    ensures cause { FailsFor (OpenExcused E.Env name.now (opening_of C.Cmp FP.FilterPolicy
+        ⟦<CompressorList as Compressors>⟧.codings opt) env.old) (E.failures env.old)
         (E.failures env.new) result }
 {
     let alloc = *replies.allocator();
@@ -65,7 +66,6 @@ pub(super) fn answer<E: Env, C: UserCmp + Copy, FP: FilterPolicy + Copy>(
         ⟦<CompressorList as Compressors>⟧.codings in
         Answers E.Env formats (Some engine.old) env.old (request_of command.now)
         (answer_of result) (Some engine.new) env.new }
-    ensures options { engine.new.options ≡ engine.old.options }
     ensures later { E.failures env.old ≤ E.failures env.new }
     ensures time { TimeGoesOn E.Env env.old env.new }
 {
@@ -105,7 +105,6 @@ fn write<E: Env, C: UserCmp + Copy, FP: FilterPolicy + Copy>(
         ⟦<CompressorList as Compressors>⟧.codings in
         Answers E.Env formats (Some engine.old) env.old
         (machine.write (map change_of items.now) sync) (done_or result) (Some engine.new) env.new }
-    ensures options { engine.new.options ≡ engine.old.options }
     ensures later { E.failures env.old ≤ E.failures env.new }
     ensures time { TimeGoesOn E.Env env.old env.new }
 {

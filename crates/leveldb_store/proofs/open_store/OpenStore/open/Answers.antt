@@ -1,5 +1,5 @@
 use Rattle.std.proofs.lemmas.Result.{err_from_is_err_and}
-use Rattle.leveldb_store.proofs.OpeningOpenLemmas.{recover_refused, recovered_bytes, recovered_then, refused_bytes}
+use Rattle.leveldb_store.proofs.OpeningOpenLemmas.{recover_refused, recovered_bytes, recovered_then}
 use Rattle.leveldb_store.proofs.open_store.OpenStore.open.Goals as goal
 
 pub returns-in_err-set : goal.returns-in_err-set
@@ -7,7 +7,7 @@ returns-in_err-set g c =
     let failed = err_from_is_err_and c.from_residual.result c.from_residual.ensures.1 in
     rw (failed.1, failed.2) (record {
       opens = recover_refused g.E.Env _ c.args.name.now c.args.options.now.create_if_missing c.args.options.now.error_if_exists c.args.env.now _ c.recover.new.env _ c.in_err-set.ensures;
-      bytes = refused_bytes g.E.Env _ c.args.name.now c.args.options.now.create_if_missing c.args.options.now.error_if_exists c.args.env.now c.args.options.now.write_buffer_size c.recover.new.env _ c.in_err-set.ensures;
+      bytes = c.in_err-set.ensures.bytes;
       cmp = tt;
     })
 

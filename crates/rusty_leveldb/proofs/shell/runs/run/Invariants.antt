@@ -8,7 +8,7 @@ use Rattle.rusty_leveldb.proofs.shell.runs.run.Given as goal
 
 abbrev pub invariant-loop-command : goal.invariant-loop-command
 invariant-loop-command g l =
-    (l.engine.options ≡ l.fn.opt) × (g.E.Env.failures l.fn.env ≤ g.E.Env.failures l.env)
+    (g.E.Env.failures l.fn.env ≤ g.E.Env.failures l.env)
     × (vec_len l.replies + (length l.commands - l.command-index) ≤ vec_capacity l.replies)
     × (given : List Reply) × (l.replies.items ≡ l.fn.replies.items ++ given) × (length given ≡ l.command-index)
     × PlaysSoFar g.row.C.Denot g.row.FP.Denot g.E.Env (format_of g.C.Cmp g.FP.FilterPolicy (compressors g.dyn-2).codings) l.name l.fn.env (opening_of g.C.Cmp g.FP.FilterPolicy (compressors g.dyn-2).codings l.fn.opt) (take l.command-index l.commands) given l.engine l.env

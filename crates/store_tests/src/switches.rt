@@ -1,0 +1,147 @@
+//! A store with a memtable of 300 bytes on a recording device: logs are switched and tables are made. Crashes and failures come at each
+//! moment and call of its script.
+use crate::crash_disks::{Script, Setting, Tails};
+use crate::steps::Step;
+use crate::sweep::{crash_everywhere, crash_twice_everywhere, fail_everywhere};
+use std::test::Fail;
+
+/// Two lives of one store, the first closed, the second abandoned. Each begins with a look-up, whose reply shows when its opening returned.
+/// Three entries fill the memtable, and the next write makes a table of them; most of these weren't durable before. If the last table
+/// isn't made, since a call fails, a synced batch comes to the new log while those before it wait.
+const FIRST: &[Step] = &[
+    Step::Get("a"),
+    Step::Put("a", "1"),
+    Step::Write(true, &[("b", Some("2"))]),
+    Step::Put("c", "3"),
+    Step::Put("d", "4"),
+    Step::Delete("a"),
+    Step::Write(false, &[("b", Some("5")), ("c", None)]),
+    Step::Get("a"),
+    Step::Put("e", ""),
+    Step::Flush,
+    Step::Write(false, &[]),
+    Step::Put("a", "6"),
+    Step::Get("b"),
+    Step::Close,
+];
+
+const SECOND: &[Step] = &[
+    Step::Get("e"),
+    Step::Put("c", "7"),
+    Step::Write(true, &[("a", None), ("", Some("8"))]),
+    Step::Put("d", "9"),
+    Step::Get("d"),
+    Step::Put("e", "0"),
+    Step::Write(true, &[("", None)]),
+    Step::Put("b", "1"),
+];
+
+/// The last log and the manifest are used on by each opening.
+const REUSING: Script = Script {
+    setting: Setting {
+        write_buffer_size: 300,
+        reuses: true,
+    },
+    lives: &[FIRST, SECOND],
+};
+
+/// Each opening makes a new manifest, and a table of what the logs have.
+const ANEW: Script = Script {
+    setting: Setting {
+        write_buffer_size: 300,
+        reuses: false,
+    },
+    lives: &[FIRST, SECOND],
+};
+
+/// Where a switch has synced the log, a crash loses less than it may.
+#[test]
+fn crashes_without_tails(rt: HostRuntime) -> std::result::Result<(), Fail> {
+    let tally = crash_everywhere(&rt, rt.alloc(), REUSING, Tails::Nothing)?;
+    assert!(rt;
+        tally.shortest > 20 && tally.shortest < tally.open,
+        "{tally:?}"
+    );
+    Ok(())
+}
+
+#[test]
+fn crashes_with_whole_tails(rt: HostRuntime) -> std::result::Result<(), Fail> {
+    let tally = crash_everywhere(&rt, rt.alloc(), REUSING, Tails::Whole)?;
+    assert!(rt; tally.longest > 20, "{tally:?}");
+    Ok(())
+}
+
+#[test]
+fn crashes_without_the_last_byte(rt: HostRuntime) -> std::result::Result<(), Fail> {
+    let tally = crash_everywhere(&rt, rt.alloc(), REUSING, Tails::WithoutLast)?;
+    assert!(rt; tally.shortest > 20, "{tally:?}");
+    Ok(())
+}
+
+#[test]
+fn crashes_with_wrong_bytes(rt: HostRuntime) -> std::result::Result<(), Fail> {
+    let tally = crash_everywhere(&rt, rt.alloc(), REUSING, Tails::WrongBytes)?;
+    assert!(rt; tally.shortest > 20, "{tally:?}");
+    Ok(())
+}
+
+#[test]
+fn crashes_of_new_manifests(rt: HostRuntime) -> std::result::Result<(), Fail> {
+    let tally = crash_everywhere(&rt, rt.alloc(), ANEW, Tails::Nothing)?;
+    assert!(rt;
+        tally.shortest > 20 && tally.shortest < tally.open,
+        "{tally:?}"
+    );
+    Ok(())
+}
+
+#[test]
+fn crashes_of_new_manifests_with_tails(rt: HostRuntime) -> std::result::Result<(), Fail> {
+    let tally = crash_everywhere(&rt, rt.alloc(), ANEW, Tails::Whole)?;
+    assert!(rt; tally.longest > 20, "{tally:?}");
+    let tally = crash_everywhere(&rt, rt.alloc(), ANEW, Tails::WrongBytes)?;
+    assert!(rt; tally.shortest > 20, "{tally:?}");
+    Ok(())
+}
+
+#[test]
+fn second_crashes(rt: HostRuntime) -> std::result::Result<(), Fail> {
+    let kinds = (Tails::WithoutLast, Tails::Nothing);
+    Ok(crash_twice_everywhere(&rt, rt.alloc(), REUSING, kinds)?)
+}
+
+#[test]
+fn second_crashes_with_wrong_bytes(rt: HostRuntime) -> std::result::Result<(), Fail> {
+    let kinds = (Tails::Whole, Tails::WrongBytes);
+    Ok(crash_twice_everywhere(&rt, rt.alloc(), REUSING, kinds)?)
+}
+
+#[test]
+fn second_crashes_of_new_manifests(rt: HostRuntime) -> std::result::Result<(), Fail> {
+    let kinds = (Tails::Nothing, Tails::WithoutLast);
+    Ok(crash_twice_everywhere(&rt, rt.alloc(), ANEW, kinds)?)
+}
+
+#[test]
+fn failures_without_their_change(rt: HostRuntime) -> std::result::Result<(), Fail> {
+    let tally = fail_everywhere(&rt, rt.alloc(), REUSING, false)?;
+    assert!(rt; tally.shortest > 20 && tally.longest > 20, "{tally:?}");
+    Ok(())
+}
+
+#[test]
+fn failures_with_their_change(rt: HostRuntime) -> std::result::Result<(), Fail> {
+    let tally = fail_everywhere(&rt, rt.alloc(), REUSING, true)?;
+    assert!(rt; tally.shortest > 20 && tally.longest > 20, "{tally:?}");
+    Ok(())
+}
+
+#[test]
+fn failures_of_new_manifests(rt: HostRuntime) -> std::result::Result<(), Fail> {
+    let tally = fail_everywhere(&rt, rt.alloc(), ANEW, false)?;
+    assert!(rt; tally.shortest > 20 && tally.longest > 20, "{tally:?}");
+    let tally = fail_everywhere(&rt, rt.alloc(), ANEW, true)?;
+    assert!(rt; tally.shortest > 20 && tally.longest > 20, "{tally:?}");
+    Ok(())
+}
