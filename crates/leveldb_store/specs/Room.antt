@@ -6,7 +6,6 @@ use Rattle.leveldb_base.specs.Error.{IsOutOfMemory}
 use Rattle.leveldb_base.specs.declared.error.Status.{Status}
 use Rattle.leveldb_base.specs.declared.error.StatusCode.TheVariants.{Corruption, NotSupported}
 use Rattle.leveldb_env.specs.Env.{SameLocks}
-use Rattle.leveldb_env.specs.Options.{Boxed, OptionsOf}
 use Rattle.leveldb_env.specs.declared.env.Env.{Ghosts}
 use Rattle.leveldb_mem.specs.MemTable.{Kept, memory_of_entries}
 use Rattle.leveldb_store.specs.Format.{Agrees, Format, HasCompressorError, Meaning}
@@ -27,10 +26,6 @@ pub record FailsFor {T : Type 0} (Excused : Status → Type 0) (before after : �
     (result : Result T Status) : Type 0 where
   pub later : before ≤ after
   pub cause : IfErr result (λ e. Excused e ⊎ HasFailed before after)
-
--- nothing but the sink of the options' log has changed, to which lines may have been told
-abbrev pub TellsOnly : {C FP : Type 0} {B : Boxed} → OptionsOf C FP B → OptionsOf C FP B → Type 0
-TellsOnly before after = after ≡ record before { log = after.log }
 
 -- ---- room
 
