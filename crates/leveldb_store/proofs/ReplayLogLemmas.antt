@@ -43,7 +43,7 @@ use Rattle.leveldb_version.specs.VersionSetValue.{AreFileNumbersUsedUp, VersionS
 use Rattle.leveldb_store.specs.BuildTable.{MakesTable, TableChoices}
 use Rattle.leveldb_store.specs.Format.{Agrees, Format, Meaning}
 use Rattle.leveldb_store.specs.Opening.{IsMadeTable, SameButTables}
-use Rattle.leveldb_store.specs.ReplayLog.{AddsBatch, FailsToTable, Follows, HasReplayed, IsNoNextBatch, IsNotFull, MakesRestTable, MakesTablesOnly, TablesRest, TakesRecord, table_files}
+use Rattle.leveldb_store.specs.ReplayLog.{TakesBatch, FailsToTable, Follows, HasReplayed, IsNoNextBatch, IsNotFull, MakesRestTable, MakesTablesOnly, TablesRest, TakesRecord, table_files}
 use Rattle.leveldb_store.specs.Written.{IsTableOf}
 use Rattle.leveldb_store.specs.declared.opening.replay_log.ReplayedLog.{ReplayedLog}
 use Rattle.leveldb_store.proofs.ReplayFilesLemmas.{GivesNumbers-refl, GivesNumbers-trans, MakesTablesOnly-made, MakesTablesOnly-none, same_store}
@@ -110,18 +110,18 @@ module _ {C : Type 0} (old : ReplayedLog C) (batch : Batch) (rest : MemTableStat
   gained = subst (λ es. IsUnion es (batch_entries batch) rest.kept.entries) same
       (subst (λ n. IsUnion mid (placed n batch.items) rest.kept.entries) is_first gains)
 
-  pub AddsBatch-some : (last : ℕ) → 0 < length batch.items
+  pub TakesBatch-some : (last : ℕ) → 0 < length batch.items
       → last ≡ batch.first + (length batch.items - 1)
-      → AddsBatch old batch (record old { rest = rest; last = last })
-  AddsBatch-some last some is = record {
+      → TakesBatch old batch (record old { rest = rest; last = last })
+  TakesBatch-some last some is = record {
     gains = gained;
     last = is ∙ last_of_some old.last batch.first batch.items follows.above some;
     rest = refl;
     cmp = cmp;
   }
 
-  pub AddsBatch-none : length batch.items ≤ 0 → AddsBatch old batch (record old { rest = rest })
-  AddsBatch-none none = record {
+  pub TakesBatch-none : length batch.items ≤ 0 → TakesBatch old batch (record old { rest = rest })
+  TakesBatch-none none = record {
     gains = gained;
     last = last_of_none old.last batch.first batch.items none;
     rest = refl;
@@ -196,7 +196,7 @@ module _ {E F : Type 0} (env : Ghosts E F) (format : Format) {C : Type 0} where
   -- one batch more
   pub HasReplayed-added : {first set : VersionSetValue} {last : ℕ} {batches : List Batch}
       {old new : ReplayedLog C} {at : E} → HasReplayed env format first last batches old set at
-      → (batch : Batch) → Follows old.last batch → AddsBatch old batch new
+      → (batch : Batch) → Follows old.last batch → TakesBatch old batch new
       → HasReplayed env format first last (batches ++ batch ∷ []) new set at
   HasReplayed-added {first} {set} {last} {batches} {old} {new} {at} was batch follows adds = record {
     in_order = order_append last old.last batches (batch ∷ []) (omega (arith, was.last_is))
@@ -493,7 +493,7 @@ module _ {E F D FP C : Type 0} (env : Ghosts E F) {order : CmpGhosts D} {filters
   }
 
   module _ (batch : Batch) (is : IsRecordOf text batch) (follows : Follows old.last batch)
-      (mid : ReplayedLog C) (adds : AddsBatch old batch mid) where
+      (mid : ReplayedLog C) (adds : TakesBatch old batch mid) where
     -- no table is made
     pub TakesRecord-added : (at : E) → IsNotFull limit mid
         → TakesRecord env choices limit text old set at (Ok tt) mid set at

@@ -54,7 +54,7 @@ pub record Follows (last : ℕ) (batch : Batch) : Type 0 where
   pub all_fit : greatest (batch_entries batch) ≤ greatest_sequence
 
 -- a batch's entries are among those that are in no table, and the last number is the greatest
-pub record AddsBatch {C : Type 0} (old : ReplayedLog C) (batch : Batch) (new : ReplayedLog C)
+pub record TakesBatch {C : Type 0} (old : ReplayedLog C) (batch : Batch) (new : ReplayedLog C)
     : Type 0 where
   pub gains : IsUnion old.rest.kept.entries (batch_entries batch) new.rest.kept.entries
   pub last : new.last ≡ max old.last (greatest (batch_entries batch))

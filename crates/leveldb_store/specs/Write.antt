@@ -120,7 +120,8 @@ pub record PreparesBatch {C : Type 0} (old : OpenStoreValue C) (batch : Batch)
       AreNumbersUsedUp old.set.last_sequence (length batch.items) status
       ⊎ FailsToPrepare old.recent (length batch.items) (bytes_in batch.items) status)
 
--- a batch may be inserted: there is room for it, and it has the next numbers, which entries can have
+-- a batch may be inserted: there is room for it, and it has the next numbers, which entries can
+-- have
 pub record CanBeInserted {C : Type 0} (value : OpenStoreValue C) (batch : Batch) : Type 0 where
   pub room : HasRoom value.recent batch.items
   pub first : batch.first ≡ value.set.last_sequence + 1

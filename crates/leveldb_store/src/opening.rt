@@ -29,7 +29,7 @@ impl<E: Env, C: UserCmp + Copy + Drop> OpenStore<E, C> {
     /// Opens the store under this path, whose lock the caller holds. A missing one is made, or
     /// `InvalidArgument` if the options say so; one that is there is `AlreadyExists` if they say
     /// so. What its logs have comes to memory, or to tables where a log isn't used on.
-    /// Returns `Corruption` where the files are no store. It deletes no file.
+    /// Returns `Corruption` where the files are no store. Obsolete files are left to `tidy_up`.
     pub fn open<FP: FilterPolicy + Copy + Drop>(
         alloc: Global,
         env: &mut E,

@@ -79,7 +79,8 @@ module _ (cmp : List ℕ → List ℕ → Ordering) where
         → (live_after edits).file (level_file file) ≡ Some file
         → (IsKeyRange cmp file.smallest file.largest → ⊥) → WhyUnusable comparator edits status
     overlapping : status.code ≡ Corruption → (live_after edits).comparator ≡ Some comparator
-        → (a b : NewFile) → AreBeside (live_after edits) a b → Overlap a b → WhyUnusable comparator edits status
+        → (a b : NewFile) → AreBeside (live_after edits) a b → Overlap a b
+        → WhyUnusable comparator edits status
     shared_user_key : status.code ≡ NotSupported → (a b : NewFile)
         → AreBeside (live_after edits) a b → ShareUserKey a b
         → WhyUnusable comparator edits status

@@ -25,8 +25,7 @@ use leveldb_mem::memtable::MemTable;
 use std::alloc::Global;
 
 impl<E: Env, C: UserCmp + Copy + Drop> OpenStore<E, C> {
-    /// The key's value, or none if it has none. A table that can't be read is an error, and never
-    /// passed over.
+    /// The key's value, or none if it has none. A table that can't be read is an error.
     pub fn get<FP: FilterPolicy + Copy + Drop>(
         &self,
         env: &mut E,

@@ -47,8 +47,8 @@ impl<E: Env, C: UserCmp + Copy + Drop> OpenStore<E, C> {
     /// memtable waits at most. Obsolete files are deleted after each table; what fails of that is a
     /// line for `log`.
     ///
-    /// After an Err no entry is lost: the memtable is full still, or its entries wait. The next call
-    /// goes on from there, unless the store broke.
+    /// After an Err no entry is lost: the memtable is full still, or its entries wait. The next
+    /// call goes on from there, unless the store broke.
     pub fn make_room<FP: FilterPolicy + Copy + Drop, S: InfoSink>(
         &mut self,
         env: &mut E,

@@ -27,8 +27,8 @@ use leveldb_version::version_edit::VersionEdit;
 
 impl<E: Env, C: UserCmp + Copy + Drop> OpenStore<E, C> {
     /// Makes a table of the entries that wait, in level 0, and logs it: then the logs that had them
-    /// aren't needed any more. Returns `IOError`, and does nothing, if a call on the manifest failed
-    /// before.
+    /// aren't needed any more. Returns `IOError`, and does nothing, if a call on the manifest
+    /// failed before.
     pub fn table_waiting<FP: FilterPolicy + Copy + Drop>(
         &mut self,
         env: &mut E,

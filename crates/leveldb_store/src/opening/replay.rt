@@ -111,7 +111,7 @@ fn replay_next<E: Env, C: UserCmp + Copy + Drop, FP: FilterPolicy + Copy + Drop>
         return err(
             alloc,
             StatusCode::Corruption,
-            "a log ends badly, and one after it isn't empty",
+            "a log is torn, and one after it isn't empty",
         );
     }
     replay.last = log.last;

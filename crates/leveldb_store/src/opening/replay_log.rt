@@ -7,7 +7,7 @@ ghost use Rattle.leveldb_base.specs.declared.error.StatusCode.TheVariants.{Corru
 ghost use Rattle.leveldb_mem.specs.WriteBatch.{IsBatch};
 ghost use Rattle.leveldb_version.specs.Batches.{IsRecordOf};
 ghost use Rattle.leveldb_store.specs.BuildTable.{choices_of};
-ghost use Rattle.leveldb_store.specs.ReplayLog.{AddsBatch, Follows, MakesRestTable, ReplaysFile, ReplaysText, TakesRecord};
+ghost use Rattle.leveldb_store.specs.ReplayLog.{TakesBatch, Follows, MakesRestTable, ReplaysFile, ReplaysText, TakesRecord};
 
 use crate::build::build_memtable;
 use leveldb_base::cmp::{Cmp, InternalKeyCmp, UserCmp};
@@ -153,7 +153,7 @@ impl<C: UserCmp + Copy + Drop> ReplayedLog<C> {
     fn add_batch(&mut self, batch: &WriteBatch) -> Result<()>
         requires follows { Follows self.old.last batch.now }
         requires up_to { AreUpTo self.old.last self.old.rest.kept.entries }
-        ensures ok { OnOk result (AddsBatch self.old batch.now self.new) }
+        ensures ok { OnOk result (TakesBatch self.old batch.now self.new) }
         ensures cause { IfErr result (λ status.
             (status.code ≡ NotSupported) ⊎ IsOutOfMemory status) }
     {
