@@ -484,6 +484,7 @@ module _ {E F C D FP : Type 0} {order : CmpGhosts D} {filters : FilterGhosts FP}
         room = not_full;
         not_full = λ _. (refl, refl, tt);
         none_waits = λ full. absurd (not_full full);
+        places = λ full. absurd (not_full full);
         err = tt;
         keeps = none.keeps;
         usable = none.usable;
@@ -493,12 +494,15 @@ module _ {E F C D FP : Type 0} {order : CmpGhosts D} {filters : FilterGhosts FP}
 
   -- a memtable that was full has become a table
   pub room_made : (new : OpenStoreValue C) (to : E) → IsFull limit old.recent
-      → IsStepToRoom env cmp choices.format FailsToMakeIt old from (Ok tt) new to → new.recent.entries ≡ []
-      → new.waiting ≡ None → MakesRoom env cmp old from choices limit (Ok tt) new to
-  room_made new to full step empty none_waits = record {
+      → IsStepToRoom env cmp choices.format FailsToMakeIt old from (Ok tt) new to
+      → new.recent.entries ≡ []
+      → new.recent.places ≡ 0 → new.waiting ≡ None
+      → MakesRoom env cmp old from choices limit (Ok tt) new to
+  room_made new to full step empty places none_waits = record {
     room = λ full. full.0 empty;
     not_full = λ not_full. absurd (not_full full);
     none_waits = λ full. (empty, none_waits);
+    places = λ full. places;
     err = tt;
     keeps = step.keeps;
     usable = step.usable;
@@ -508,13 +512,15 @@ module _ {E F C D FP : Type 0} {order : CmpGhosts D} {filters : FilterGhosts FP}
 
   -- it is full still, or waits
   pub no_room_made : (status : Status) (new : OpenStoreValue C) (to : E)
-      → IsFull limit old.recent → IsStepToRoom env cmp choices.format FailsToMakeIt old from (Err status) new to
+      → IsFull limit old.recent
+      → IsStepToRoom env cmp choices.format FailsToMakeIt old from (Err status) new to
       → (new.recent ≡ old.recent) ⊎ (new.waiting ≢ None)
       → MakesRoom env cmp old from choices limit (Err status) new to
   no_room_made status new to full step left = record {
     room = tt;
     not_full = λ not_full. absurd (not_full full);
     none_waits = tt;
+    places = tt;
     err = ⊎_elim (λ same. inl (subst (IsFull limit) (sym same) full)) (λ waits. inr waits) left;
     keeps = step.keeps;
     usable = step.usable;
@@ -524,11 +530,12 @@ module _ {E F C D FP : Type 0} {order : CmpGhosts D} {filters : FilterGhosts FP}
 
   -- after the last step, by what it returns
   pub room_tried : (result : Result (Unit {0}) Status) (new : OpenStoreValue C) (to : E)
-      → IsFull limit old.recent → IsStepToRoom env cmp choices.format FailsToMakeIt old from result new to
-      → new.recent.entries ≡ [] → OnOk result (new.waiting ≡ None)
+      → IsFull limit old.recent
+      → IsStepToRoom env cmp choices.format FailsToMakeIt old from result new to
+      → new.recent.entries ≡ [] → new.recent.places ≡ 0 → OnOk result (new.waiting ≡ None)
       → OnErr result (new.waiting ≢ None)
       → MakesRoom env cmp old from choices limit result new to
-  room_tried (Ok unit) new to full step empty none_waits waits =
-      room_made new to full step empty none_waits
-  room_tried (Err status) new to full step empty none_waits waits =
+  room_tried (Ok unit) new to full step empty places none_waits waits =
+      room_made new to full step empty places none_waits
+  room_tried (Err status) new to full step empty places none_waits waits =
       no_room_made status new to full step (inr waits)

@@ -59,8 +59,8 @@ module _ {E F C : Type 0} (env : Ghosts E F) (cmp : List ℕ → List ℕ → Or
       → IsWritten cmp meaning old (env.observed from).disk.files → ⊥)
 
   -- Why no room is made, where the device didn't fail: out of memory; the numbers of files are too
-  -- few for two tables and a log; no table is built of the entries of the memtable, or of those that
-  -- wait; or a file of the store is lost.
+  -- few for two tables and a log; no table is built of the entries of the memtable, or of those
+  -- that wait; or a file of the store is lost.
   abbrev pub FailsToMakeRoom : {D FP : Type 0} {order : CmpGhosts D} {filters : FilterGhosts FP}
       → TableChoices order filters → Status → Type 0
   FailsToMakeRoom choices status = IsOutOfMemory status
@@ -78,6 +78,8 @@ module _ {E F C : Type 0} (env : Ghosts E F) (cmp : List ℕ → List ℕ → Or
     pub not_full : (IsFull limit old.recent → ⊥) → (new ≡ old) × (to ≡ from) × OnErr result ⊥
     pub none_waits : OnOk result (IsFull limit old.recent
         → (new.recent.entries ≡ []) × (new.waiting ≡ None))
+    -- and no place was taken in it yet
+    pub places : OnOk result (IsFull limit old.recent → new.recent.places ≡ 0)
     -- after an Err it is full still, or one waits: that a file wasn't deleted is no Err
     pub err : OnErr result (IsFull limit new.recent ⊎ (new.waiting ≢ None))
     pub keeps : IsTrue env.models_disk → (meaning : Meaning) → Agrees choices.format meaning

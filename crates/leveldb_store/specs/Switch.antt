@@ -60,6 +60,7 @@ module _ {E F C : Type 0} (env : Ghosts E F) (old : OpenStoreValue C) (from : E)
         ≡ record { number = old.set.next_file; writer = new_writer log_block_size 0 })
     pub waits : OnOk result (new.waiting ≡ Some old.recent)
     pub empty : OnOk result (new.recent.entries ≡ [])
+    pub places : OnOk result (new.recent.places ≡ 0)
     pub err : OnErr result (MayGiveNumber old.set new.set
         × (new.log.number ≡ old.log.number)
         × (new.recent ≡ old.recent) × (new.waiting ≡ old.waiting))

@@ -68,7 +68,7 @@ returns-clause-makes g c =
     let second = step_switched g.E.Env order _ old mid from at first.step first.numbers (Ok tt) switched begun done.switches done.keeps done.sound in
     room_tried g.E.Env (order old.cmp) _ _ old from result new to (c.if-not-is_full.ensures.0 refl)
     (step_tabled g.E.Env order _ old mid from at first.step first.numbers first.recent switched begun done.switches second result new to last.step)
-    (ap (λ kept. kept.entries) last.recent ∙ done.switches.empty) last.none_waits last.waits
+    (ap (λ kept. kept.entries) last.recent ∙ done.switches.empty) (ap (λ kept. kept.places) last.recent ∙ done.switches.places) last.none_waits last.waits
 
 pub returns-clause-sound : goal.returns-clause-sound
 returns-clause-sound g c =
