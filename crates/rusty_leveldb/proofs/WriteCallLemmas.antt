@@ -85,8 +85,7 @@ module _ {E C FP F : Type 0} {B : Boxed} (env : Ghosts E F) (formats : OptionsOf
     options = refl;
     halted = λ halted. absurd (not_halted (mode_in before) opened halted);
     becomes = inr refl;
-    step = not_written env formats before
-        (λ store meaning disk old recalls. sym recalls.mode ∙ opened) items sync status why from;
+    step = not_written env formats before opened items sync status why from;
     time = λ modelled. omega arith;
     cause = record {
       later = omega arith;

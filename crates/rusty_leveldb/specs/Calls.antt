@@ -8,9 +8,10 @@ use Rattle.leveldb_env.specs.Env.{HasCause}
 use Rattle.leveldb_env.specs.Options.{Boxed, OptionsOf}
 use Rattle.leveldb_store.specs.Format.{Format, Meaning, Agrees}
 use Rattle.leveldb_store.specs.Room.{FailsFor, TellsOnly}
+use Rattle.leveldb_store.specs.SoundCall.{TimeGoesOn}
 use Rattle.rusty_leveldb.specs.State.{Opening, Request, Answer, open_mode, open_store, write, get, walk, get_snapshot, release_snapshot, flush, close, abandon}
 use Rattle.rusty_leveldb.specs.Serves.{done_or, given_engine}
-use Rattle.rusty_leveldb.specs.Engine.{IsClosed, IsBroken, IsClosedOrBroken, RefusedByMode, TimeGoesOn, AnswersAs, Answers, WriteExcused, SyncExcused, CloseExcused, GetExcused, IsStoreName, IsOpening, mode_in, options_in}
+use Rattle.rusty_leveldb.specs.Engine.{IsClosed, IsBroken, IsClosedOrBroken, RefusedByMode, AnswersAs, Answers, WriteExcused, SyncExcused, CloseExcused, GetExcused, IsStoreName, IsOpening, mode_in, options_in}
 use Rattle.rusty_leveldb.specs.Unopened.{NeverOpens, OpenExcused, StaysUnopened}
 use Rattle.rusty_leveldb.specs.Boxes.{EngineOf}
 

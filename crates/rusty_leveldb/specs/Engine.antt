@@ -1,5 +1,5 @@
 -- What an engine has in memory, what that has to do with the disk, and what its calls return.
-use Rattle.std.specs.Prelude.{◌≡◌, ◌≢◌, ◌≤◌, ◌⊎◌, ◌↔◌, ℕ, Bool, true, false, List, [], ◌∷◌, ◌++◌, length, Option, Some, None, IsTrue, string_bytes, ◌&&◌, ◌||◌, nat_le, ◌^◌, is_some}
+use Rattle.std.specs.Prelude.{◌≡◌, ◌≢◌, ◌⊎◌, ◌↔◌, ℕ, Bool, true, false, List, [], ◌∷◌, ◌++◌, length, Option, Some, None, IsTrue, string_bytes, ◌&&◌, ◌||◌, nat_le, ◌^◌, is_some}
 use Rattle.leveldb_base.specs.declared.cmp.Cmp.{Ghosts as CmpGhosts}
 use Rattle.leveldb_base.specs.declared.error.Status.{Status}
 use Rattle.leveldb_base.specs.declared.error.StatusCode.TheVariants.{InvalidArgument, NotSupported}
@@ -93,11 +93,6 @@ module _ {E C FP F : Type 0} {B : Boxed} (formats : OptionsOf C FP B → Format)
         → IsWritten state.format.order meaning engine.store disk.files
 
 -- ---- what the calls return
-
--- where the environment's disk is observed, its moment doesn't fall
-abbrev pub TimeGoesOn : {E F : Type 0} → Ghosts E F → E → E → Type 0
-TimeGoesOn env from to = IsTrue env.models_disk
-    → (env.observed from).moment ≤ (env.observed to).moment
 
 -- no engine of these options
 abbrev pub no_engine : {E C FP F : Type 0} {B : Boxed} → OptionsOf C FP B

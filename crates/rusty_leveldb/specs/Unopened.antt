@@ -15,13 +15,13 @@ use Rattle.rusty_leveldb.specs.Engine.{IsStoreName}
 -- ---- disks on which a store isn't opened
 
 -- the store's lock is held
-abbrev pub IsLocked : List ℕ → Disk → Type 0
-IsLocked store disk = IsTrue (disk.locked (lock_path store))
+abbrev pub IsLockHeld : List ℕ → Disk → Type 0
+IsLockHeld store disk = IsTrue (disk.locked (lock_path store))
 
 -- a disk on which an opening looks no further: its lock is held, a store is there that must not be,
 -- or none is and none is to be made
 abbrev pub IsBarred : List ℕ → Opening → Disk → Type 0
-IsBarred store asked disk = IsLocked store disk
+IsBarred store asked disk = IsLockHeld store disk
     ⊎ IsForbidden store asked.create_if_missing asked.error_if_exists disk.files
 
 -- a disk on which this store isn't opened; a damaged table is found by the read that needs it
@@ -47,7 +47,7 @@ module _ {E F : Type 0} (env : Ghosts E F) (store : List ℕ) (asked : Opening) 
       let where_modelled : Type 0 → Type 0 = λ fact. IsTrue env.models_disk → fact in
       IsOutOfMemory e
       ⊎ ((e.code ≡ InvalidArgument) × (IsStoreName store × IsTrue asked.fits → ⊥))
-      ⊎ ((e.code ≡ LockError) × where_modelled (IsLocked store disk))
+      ⊎ ((e.code ≡ LockError) × where_modelled (IsLockHeld store disk))
       ⊎ IsForbiddenAs env.models_disk store asked.create_if_missing asked.error_if_exists
       disk.files e
       ⊎ ((e.code ≡ InvalidArgument)
@@ -66,7 +66,7 @@ module _ {E F : Type 0} (env : Ghosts E F) (store : List ℕ) (asked : Opening) 
     -- its lock is as it was, or is held where giving it back failed, too
     pub lock : ((env.observed to).disk.locked (lock_path store)
         ≡ (env.observed from).disk.locked (lock_path store))
-        ⊎ (IsLocked store (env.observed to).disk
+        ⊎ (IsLockHeld store (env.observed to).disk
         × FailedBeside (OpenExcused e) (env.failures from) (env.failures to))
     -- what isn't the store's is as it was
     pub others : Spares store (IsOwn store) (env.observed from).disk (env.observed to).disk
