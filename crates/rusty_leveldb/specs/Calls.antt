@@ -11,8 +11,9 @@ use Rattle.leveldb_store.specs.Room.{FailsFor, TellsOnly}
 use Rattle.leveldb_store.specs.SoundCall.{TimeGoesOn}
 use Rattle.rusty_leveldb.specs.State.{Opening, Request, Answer, open_mode, open_store, write, get, walk, get_snapshot, release_snapshot, flush, close, abandon}
 use Rattle.rusty_leveldb.specs.Serves.{done_or, given_engine}
-use Rattle.rusty_leveldb.specs.Engine.{IsClosed, IsBroken, IsClosedOrBroken, RefusedByMode, AnswersAs, Answers, WriteExcused, SyncExcused, CloseExcused, GetExcused, IsStoreName, IsOpening, mode_in, options_in}
-use Rattle.rusty_leveldb.specs.Unopened.{NeverOpens, OpenExcused, StaysUnopened}
+use Rattle.rusty_leveldb.specs.Engine.{IsClosed, IsBroken, IsClosedOrBroken, RefusedByMode, AnswersAs, Answers, WriteExcused, SyncExcused, CloseExcused, GetExcused, IsStoreName, IsOpening, HasOwnLock, mode_in, options_in}
+use Rattle.rusty_leveldb.specs.Frame.{IsOwn, Spares}
+use Rattle.rusty_leveldb.specs.Unopened.{IsLockGivenBack, IsLockHeld, MakesLockAlone, NeverOpens, OpenExcused}
 use Rattle.rusty_leveldb.specs.Boxes.{EngineOf}
 
 -- ---- why a call fails
@@ -100,12 +101,27 @@ module _ {E C FP F : Type 0} {B : Boxed} (env : Ghosts E F)
     -- it fails only where the device did
     pub cause : HasCause (λ _. ⊥) (env.failures from) (env.failures to) result
 
+  -- an engine that an opening with these options gave
+  pub record IsOpened (name : List ℕ) (given : OptionsOf C FP B) (engine : EngineOf E C FP F B)
+      : Type 0 where
+    pub mode : mode_in engine ≡ open_mode
+    -- it has the options, but for the sink of their log
+    pub options : TellsOnly given (options_in engine)
+    -- its store is that of the name
+    pub place : engine.store.set.store ≡ name
+    pub lock : HasOwnLock engine
+
   -- a call that opens the store under a name, as it is asked to by these options
   pub record EngineOpens (name : List ℕ) (options : OptionsOf C FP B) (asked : Opening) (from : E)
       (result : Result (EngineOf E C FP F B) Status) (to : E) : Type 0 where
-    -- the engine is open and has these options, but for the sink of their log
-    pub opened : IfOk result
-        (λ engine. (mode_in engine ≡ open_mode) × TellsOnly options (options_in engine))
+    pub opened : IfOk result (IsOpened name options)
+    -- the lock was free, and is held
+    pub held : OnOk result (IsTrue env.models_disk
+        → (IsLockHeld name (env.observed from).disk → ⊥)
+        × IsLockHeld name (env.observed to).disk)
+    -- what isn't the store's stays as it is
+    pub others : IsTrue env.models_disk
+        → Spares name (IsOwn name) (env.observed from).disk (env.observed to).disk
     -- where the disk is observed, the call is a step of the machine, if the options say of names
     -- and ids what they mean
     pub step : (opening : Opening) → IsOpening name asked opening
@@ -118,13 +134,13 @@ module _ {E C FP F : Type 0} {B : Boxed} (env : Ghosts E F)
     -- count past its limits, or without the compressor of new blocks
     pub misnamed : (IsStoreName name × IsTrue asked.fits × IsTrue asked.compresses → ⊥)
         → (to ≡ from) × OnOk result ⊥
-    -- a store that is locked isn't opened, nor one without usable edits, nor a missing one that
-    -- isn't to be made, or one that is there and must not be
-    pub never_opens : IsTrue env.models_disk
-        → NeverOpens name asked (env.observed from).disk → OnOk result ⊥
-    -- what an opening leaves that fails
+    -- a store that is locked isn't opened, nor one without `CURRENT` or usable edits, nor a missing
+    -- one that isn't to be made, or one that is there and must not be; and its files stay
+    pub never_opens : IsTrue env.models_disk → NeverOpens name asked (env.observed from).disk
+        → OnOk result ⊥ × MakesLockAlone name (env.observed from) (env.observed to)
+    -- an opening that fails gives back the lock
     pub unopened : IfErr result (λ status. IsTrue env.models_disk
-        → StaysUnopened env name asked from to status)
+        → IsLockGivenBack env name asked from to status)
     -- why it fails
     pub cause : FailsFor (OpenExcused env name asked from) (env.failures from) (env.failures to)
         result

@@ -71,6 +71,12 @@ IsClosedOrBroken mode = IsClosed mode ⊎ IsBroken mode
 abbrev pub options_in : {E C FP F : Type 0} {B : Boxed} → EngineOf E C FP F B → OptionsOf C FP B
 options_in engine = record engine.options { cmp = engine.store.cmp }
 
+-- ---- the lock
+
+-- the lock of an engine is that of its store
+abbrev pub HasOwnLock : {E C FP F : Type 0} {B : Boxed} → EngineOf E C FP F B → Type 0
+HasOwnLock engine = string_bytes engine.lock ≡ lock_path engine.store.set.store
+
 -- ---- memory and disk
 
 module _ {E C FP F : Type 0} {B : Boxed} (formats : OptionsOf C FP B → Format) (store : List ℕ)
