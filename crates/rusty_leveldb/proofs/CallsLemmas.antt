@@ -118,9 +118,13 @@ module _ {E C FP F : Type 0} {B : Boxed} (env : Ghosts E F) (formats : OptionsOf
   halted_becomes : (request : Request) → Writes request → (status : Status)
       → IsClosedOrBroken (mode_in before)
       → BecomesOf {T = Unit {0}} before request (Err status) before
-  halted_becomes (write items sync) writes status halted = inr refl
-  halted_becomes flush writes status halted = (inr refl, inl halted)
-  halted_becomes close writes status halted = (tt, halted)
+  halted_becomes (write items sync) writes status halted = (tt, inr refl)
+  halted_becomes flush writes status halted = (tt, (inr refl, inl halted))
+  halted_becomes close writes status halted = (
+    tt,
+    ⊎_elim (λ (out : mode_in before ≡ machine.closed). inr (out, out))
+        (λ (broke : mode_in before ≡ machine.broken). inl broke) halted,
+  )
   halted_becomes request writes status halted = absurd writes
 
   halted_reason : (request : Request) → Writes request → (status : Status) (at : E)
@@ -170,18 +174,18 @@ module _ {E C FP F : Type 0} {B : Boxed} (env : Ghosts E F) (formats : OptionsOf
     flush_becomes : (result : Result (Unit {0}) Status)
         → SyncsLog env before.store from result value mid
         → BecomesOf before flush result (record before { store = value })
-    flush_becomes result syncs = (
-      ⊎_elim (λ opens. inr (opens.0 ∙ sym opened)) (λ broke. inl broke.0)
-          (open_or_broken {E = E} {C = C} {FP = FP} {F = F} {B = B} (record before { store = value })
-          (open_mode_is before opened)),
-      by result syncs,
+    flush_becomes (Ok nothing) syncs = (
+      ap (λ (v : OpenStoreValue C). mode_in {E = E} {C = C} {FP = FP} {F = F} {B = B}
+          (record before { store = v })) syncs.ok,
+      tt,
     )
-      where
-        by : (r : Result (Unit {0}) Status) → SyncsLog env before.store from r value mid
-            → IfErr r (λ e. IsClosedOrBroken (mode_in {E = E} {C = C} {FP = FP} {F = F} {B = B}
-            (record before { store = value })) ⊎ IsOutOfMemory e)
-        by (Ok nothing) syncs = tt
-        by (Err status) syncs = ⊎_elim
+    flush_becomes (Err status) syncs = (
+      tt,
+      (
+        ⊎_elim (λ opens. inr (opens.0 ∙ sym opened)) (λ broke. inl broke.0)
+            (open_or_broken {E = E} {C = C} {FP = FP} {F = F} {B = B}
+            (record before { store = value }) (open_mode_is before opened)),
+        ⊎_elim
             (λ (still : IsOutOfMemory status × (value ≡ before.store) × (mid ≡ from)). inr still.0)
             (λ (broke : value ≡ with_writer before.store (broken_writer before.store.log.writer)).
             inl (⊎_elim
@@ -189,7 +193,9 @@ module _ {E C FP F : Type 0} {B : Boxed} (env : Ghosts E F) (formats : OptionsOf
             sym (ap (λ (v : OpenStoreValue C). v.log.writer.broken) broke) ∙ sound.1.log in cc))
             (λ is. inr is.0)
             (open_or_broken {E = E} {C = C} {FP = FP} {F = F} {B = B}
-            (record before { store = value }) (open_mode_is before opened)))) syncs.err
+            (record before { store = value }) (open_mode_is before opened)))) syncs.err,
+      ),
+    )
 
     flush_cause : (result : Result (Unit {0}) Status)
         → SyncsLog env before.store from result value mid
@@ -238,7 +244,7 @@ module _ {E C FP F : Type 0} {B : Boxed} (env : Ghosts E F) (formats : OptionsOf
     close_unsynced_serves status syncs batches sound = record {
       options = sync_tells (Err status) Broken syncs;
       halted = λ halted. absurd (not_halted (mode_in before) opened halted);
-      becomes = (tt, inr refl);
+      becomes = (tt, inl refl);
       step = close_unsynced env formats before from opened value mid status syncs batches sound;
       time = sound.time;
       cause = record {
@@ -267,7 +273,7 @@ module _ {E C FP F : Type 0} {B : Boxed} (env : Ghosts E F) (formats : OptionsOf
       close_locked_serves status does locks cause = record {
         options = sync_tells (Ok tt) Broken syncs;
         halted = λ halted. absurd (not_halted (mode_in before) opened halted);
-        becomes = (tt, inr refl);
+        becomes = (tt, inl refl);
         step = close_locked env formats before from opened value mid syncs batches sound to lock lock_is
             status does locks cause;
         time = λ modelled.

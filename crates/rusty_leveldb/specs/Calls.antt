@@ -11,7 +11,7 @@ use Rattle.leveldb_store.specs.Room.{FailsFor, TellsOnly}
 use Rattle.leveldb_store.specs.SoundCall.{TimeGoesOn}
 use Rattle.rusty_leveldb.specs.State.{Opening, Request, Answer, open_mode, open_store, write, get, walk, get_snapshot, release_snapshot, flush, close, abandon}
 use Rattle.rusty_leveldb.specs.Serves.{done_or, given_engine}
-use Rattle.rusty_leveldb.specs.Engine.{IsClosed, IsBroken, IsClosedOrBroken, RefusedByMode, AnswersAs, Answers, WriteExcused, SyncExcused, CloseExcused, GetExcused, IsStoreName, IsOpening, HasOwnLock, mode_in, options_in}
+use Rattle.rusty_leveldb.specs.Engine.{IsClosed, IsBroken, IsClosedOrBroken, RefusedByMode, AnswersAs, Answers, WriteExcused, SyncExcused, CloseExcused, GetExcused, IsStoreName, IsOpening, HasOwnLock, WritesIntoRoom, mode_in, options_in}
 use Rattle.rusty_leveldb.specs.Frame.{IsOwn, Spares}
 use Rattle.rusty_leveldb.specs.Unopened.{IsLockGivenBack, IsLockHeld, MakesLockAlone, NeverOpens, OpenExcused}
 use Rattle.rusty_leveldb.specs.Boxes.{EngineOf}
@@ -52,21 +52,29 @@ module _ {E C FP F : Type 0} {B : Boxed} where
   abbrev pub IsReadOnly : EngineOf E C FP F B → EngineOf E C FP F B → Type 0
   IsReadOnly before after = (mode_in after ≡ mode_in before) × (after.store ≡ before.store)
 
-  -- What becomes of an engine. A read leaves its mode and its store; a write may break it, and so
-  -- does a flush that fails, but out of memory; `close` closes it, or leaves it closed or broken.
+  -- its mode is as before, or the call broke it
+  abbrev pub KeepsModeOrBreaks : EngineOf E C FP F B → EngineOf E C FP F B → Type 0
+  KeepsModeOrBreaks before after = IsBroken (mode_in after) ⊎ (mode_in after ≡ mode_in before)
+
+  -- What becomes of an engine. A read leaves its mode and its store. A write or a flush that is Ok
+  -- leaves its mode; a write that fails may break it, and a flush that fails does, but out of
+  -- memory. `close` closes it, or leaves it broken, or closed if it was.
   abbrev pub BecomesOf : {T : Type 0} → EngineOf E C FP F B → Request → Result T Status
       → EngineOf E C FP F B → Type 0
   BecomesOf before (get at key) result after = IsReadOnly before after
   BecomesOf before (walk at moves) result after = IsReadOnly before after
   BecomesOf before get_snapshot result after = IsReadOnly before after
   BecomesOf before (release_snapshot one) result after = IsReadOnly before after
+  BecomesOf before (write items sync) result after =
+      OnOk result ((mode_in after ≡ mode_in before) × WritesIntoRoom before items after)
+      × OnErr result (KeepsModeOrBreaks before after)
+  BecomesOf before flush result after = OnOk result (mode_in after ≡ mode_in before)
+      × IfErr result (λ e. KeepsModeOrBreaks before after
+      × (IsClosedOrBroken (mode_in after) ⊎ IsOutOfMemory e))
   BecomesOf before close result after = OnOk result (IsClosed (mode_in after))
-      × OnErr result (IsClosedOrBroken (mode_in after))
-  BecomesOf before flush result after =
-      (IsBroken (mode_in after) ⊎ (mode_in after ≡ mode_in before))
-      × IfErr result (λ e. IsClosedOrBroken (mode_in after) ⊎ IsOutOfMemory e)
-  BecomesOf before request result after =
-      IsBroken (mode_in after) ⊎ (mode_in after ≡ mode_in before)
+      × OnErr result (IsBroken (mode_in after)
+      ⊎ (IsClosed (mode_in before) × IsClosed (mode_in after)))
+  BecomesOf before request result after = KeepsModeOrBreaks before after
 
 module _ {E C FP F : Type 0} {B : Boxed} (env : Ghosts E F)
     (formats : OptionsOf C FP B → Format) where
