@@ -142,7 +142,7 @@ module _ {E C FP F : Type 0} {B : Boxed} (env : Ghosts E F) (formats : OptionsOf
       → RefusedByMode (mode_in before) status
       → EngineServes env formats {T = Unit {0}} done_or before at request (Err status) before at
   halted_serves request writes status at why = record {
-    options = refl;
+    options = record { rest = refl; sink = refl };
     halted = λ halted. (refl, refl, why);
     becomes = halted_becomes request writes status (halted_by (mode_in before) status why);
     step = halted_still request writes status why at;
@@ -168,8 +168,10 @@ module _ {E C FP F : Type 0} {B : Boxed} (env : Ghosts E F) (formats : OptionsOf
         → SyncsLog env before.store from result value mid
         → TellsOnly (options_in before) (options_in {E = E} {C = C} {FP = FP} {F = F} {B = B}
         (record before { store = value; mode = m }))
-    sync_tells result m syncs =
-        ap (λ (c : C). record before.options { cmp = c }) (sync_cmp result syncs)
+    sync_tells result m syncs = record {
+      rest = ap (λ (c : C). record before.options { cmp = c }) (sync_cmp result syncs);
+      sink = refl;
+    }
 
     flush_becomes : (result : Result (Unit {0}) Status)
         → SyncsLog env before.store from result value mid
@@ -315,7 +317,7 @@ module _ {E C FP F : Type 0} {B : Boxed} (env : Ghosts E F) (formats : OptionsOf
     pub get_closed_serves : (status : Status) → RefusedAsClosed (mode_in before) status
         → EngineServes env formats found_or before from (get None key) (Err status) before from
     get_closed_serves status why = record {
-      options = refl;
+      options = record { rest = refl; sink = refl };
       halted = λ halted. (refl, refl, inl why);
       becomes = (refl, refl);
       step = get_closed env formats before key status why from;
@@ -328,7 +330,7 @@ module _ {E C FP F : Type 0} {B : Boxed} (env : Ghosts E F) (formats : OptionsOf
           → IsErrAnd result (λ status. status.code ≡ InvalidArgument) → IsLongKey key
           → EngineServes env formats found_or before from (get None key) result before from
       get_long_serves result fails long = record {
-        options = refl;
+        options = record { rest = refl; sink = refl };
         halted = λ halted. absurd (usable halted);
         becomes = (refl, refl);
         step = get_long env formats before key usable result fails long from;
@@ -349,7 +351,7 @@ module _ {E C FP F : Type 0} {B : Boxed} (env : Ghosts E F) (formats : OptionsOf
           → EngineServes env formats found_or before from (get None key) result
           (record before { options = options_in before }) to
       get_serves short to result looks = record {
-        options = refl;
+        options = record { rest = refl; sink = refl };
         halted = λ halted. absurd (usable halted);
         becomes = (refl, refl);
         step = get_goes env formats before key usable short from to result looks;

@@ -88,8 +88,11 @@ module _ {E C FP F : Type 0} {B : Boxed} (env : Ghosts E F) (formats : OptionsOf
   here = (env.observed taken).disk.files
 
   tells_in : TellsOnly options (options_in engine)
-  tells_in = ap (λ (o : OptionsOf C FP B). record o { cmp = engine.store.cmp }) tells
-      ∙ ap (λ (c : C). record options { log = engine.options.log; cmp = c }) cmp
+  tells_in = record {
+    rest = ap (λ (o : OptionsOf C FP B). record o { cmp = engine.store.cmp }) tells.rest
+        ∙ ap (λ (c : C). record options { log = engine.options.log; cmp = c }) cmp;
+    sink = tells.sink;
+  }
 
   format : formats (options_in engine) ≡ asked.format
   format = ignores options (options_in engine) tells_in ∙ asked_is

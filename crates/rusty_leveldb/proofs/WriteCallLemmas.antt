@@ -27,7 +27,7 @@ use Rattle.rusty_leveldb.proofs.Batching.{IsUnmade, not_written}
 use Rattle.rusty_leveldb.proofs.EngineLemmas.{open_mode_is, open_or_broken, unbroken_opens}
 use Rattle.rusty_leveldb.proofs.CallsLemmas.{not_halted}
 use Rattle.rusty_leveldb.proofs.SyncLemmas.{log_is_there}
-use Rattle.rusty_leveldb.proofs.WritingLemmas.{EngineMakesRoom, failed_later, room_fails, room_tells, write_done, write_fails}
+use Rattle.rusty_leveldb.proofs.WritingLemmas.{EngineMakesRoom, batch_tells, failed_later, room_fails, room_tells, write_done, write_fails}
 
 -- ---- a memtable that is full
 
@@ -82,7 +82,7 @@ module _ {E C FP F : Type 0} {B : Boxed} (env : Ghosts E F) (formats : OptionsOf
       → EngineServes env formats {T = Unit {0}} done_or before from (write items sync) (Err status)
       before from
   unmade_serves status why = record {
-    options = refl;
+    options = record { rest = refl; sink = refl };
     halted = λ halted. absurd (not_halted (mode_in before) opened halted);
     becomes = (tt, inr refl);
     step = not_written env formats before opened items sync status why from;
@@ -242,9 +242,8 @@ module _ {E C FP F : Type 0} {B : Boxed} (env : Ghosts E F) (formats : OptionsOf
           let sound = subst (λ (f : Format). IsSoundCall {T = Unit {0}} env f.order any_meaning
           roomy.store mid result value to) same_format sound_in in
           record {
-            options = ap (λ (c : C). record roomy.options { cmp = c })
-                (ap (λ (v : OpenStoreValue C). v.cmp) writes.rest)
-                ∙ room_tells env formats before from (Ok tt) roomy mid made;
+            options = batch_tells env formats before from roomy mid made value
+                (ap (λ (v : OpenStoreValue C). v.cmp) writes.rest);
             halted = λ halted. absurd (not_halted (mode_in before) opened halted);
             becomes = batch_becomes result writes_in;
             step = step result short writes sound;

@@ -1,6 +1,6 @@
 -- The step of the machine in which a batch is written: first room is made in the memtable, then the
 -- batch is appended to the log.
-use Rattle.std.specs.Prelude.{Result, string_bytes}
+use Rattle.std.specs.Prelude.{Result, is_some, string_bytes}
 use Rattle.std.proofs.Common.{◌≡◌, ◌≤◌, ◌<◌, ◌+◌, ◌-◌, ◌^◌, ◌⊎◌, ◌∙◌, ⊎_elim, inl, inr, ℕ, zero, suc, Bool, List, [], ◌∷◌, ◌++◌, length, max, refl, sym, ap, subst, arith, Option, Some, None, Ok, Err, IsTrue}
 use Rattle.std.specs.declared.cmp.Ordering.{Ordering}
 use Rattle.leveldb_base.specs.Error.{IsOutOfMemory, text_of}
@@ -71,6 +71,7 @@ module _ {E C FP F : Type 0} {B : Boxed} (env : Ghosts E F)
       store = after.store;
       options = record (options_in before) { log = after.options.log };
     }
+    pub sink : is_some after.options.log ≡ is_some before.options.log
 
 -- what making room leaves of the options
 pub room_tells : {E C FP F : Type 0} {B : Boxed} (env : Ghosts E F)
@@ -78,10 +79,26 @@ pub room_tells : {E C FP F : Type 0} {B : Boxed} (env : Ghosts E F)
     (result : Result (Unit {0}) Status) (after : EngineOf E C FP F B) (to : E)
     → EngineMakesRoom env formats before from result after to
     → TellsOnly (options_in before) (options_in after)
-room_tells {E} {C} {FP} {F} {B} env formats before from result after to made =
-    ap (λ (e : EngineOf E C FP F B). options_in e) made.rest
-    ∙ ap (λ (c : C). record (options_in before) { cmp = c; log = after.options.log })
-    made.makes.rest.cmp
+room_tells {E} {C} {FP} {F} {B} env formats before from result after to made = record {
+  rest = ap (λ (e : EngineOf E C FP F B). options_in e) made.rest
+      ∙ ap (λ (c : C). record (options_in before) { cmp = c; log = after.options.log })
+      made.makes.rest.cmp;
+  sink = made.sink;
+}
+
+-- and the batch that is written then
+pub batch_tells : {E C FP F : Type 0} {B : Boxed} (env : Ghosts E F)
+    (formats : OptionsOf C FP B → Format) (before : EngineOf E C FP F B) (from : E)
+    (roomy : EngineOf E C FP F B) (mid : E) → EngineMakesRoom env formats before from (Ok tt) roomy mid
+    → (value : OpenStoreValue C) → value.cmp ≡ roomy.store.cmp
+    → TellsOnly (options_in before) (options_in {E = E} {C = C} {FP = FP} {F = F} {B = B}
+    (record roomy { store = value }))
+batch_tells {C = C} env formats before from roomy mid made value same =
+    let tells = room_tells env formats before from (Ok tt) roomy mid made in
+    record {
+      rest = ap (λ (c : C). record roomy.options { cmp = c }) same ∙ tells.rest;
+      sink = tells.sink;
+    }
 
 module _ {E C FP F : Type 0} {B : Boxed} (env : Ghosts E F) (formats : OptionsOf C FP B → Format)
     (store : List ℕ) (meaning : Meaning) (before : EngineOf E C FP F B) (from : E) (old : State)
@@ -419,9 +436,9 @@ module _ {E C FP F : Type 0} {B : Boxed} (env : Ghosts E F) (formats : OptionsOf
       end_path = ap (λ (v : OpenStoreValue C). v.set.store) writes.rest ∙ made.makes.rest.store
 
       end_options : formats (options_in after) ≡ formats (options_in before)
-      end_options = ignores (options_in before) (options_in after) (ap (λ (c : C).
-          record roomy.options { cmp = c }) (ap (λ (v : OpenStoreValue C). v.cmp) writes.rest)
-          ∙ room_tells env formats before from (Ok tt) roomy mid made)
+      end_options = ignores (options_in before) (options_in after)
+          (batch_tells env formats before from roomy mid made value
+          (ap (λ (v : OpenStoreValue C). v.cmp) writes.rest))
 
       end_bytes : AppendedAreBytes (env.observed to).disk.files
       end_bytes = sound.bytes modelled (room_bytes ignores roomy mid (Ok tt) made)

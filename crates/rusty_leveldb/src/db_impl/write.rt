@@ -1,5 +1,5 @@
 //! Writing to a store: batches, and syncs of its log.
-ghost use Rattle.std.specs.Prelude.{◌≡◌, ◌∷◌, [], Some, None, false};
+ghost use Rattle.std.specs.Prelude.{◌≡◌, ◌∷◌, [], Some, None, false, is_some};
 ghost use Rattle.leveldb_mem.specs.WriteBatch.{item_of};
 ghost use Rattle.rusty_leveldb.specs.State.{write, flush};
 ghost use Rattle.rusty_leveldb.specs.Serves.{done_or};
@@ -11,7 +11,7 @@ ghost use Rattle.rusty_leveldb.specs.Engine.{options_in};
 ghost use Rattle.rusty_leveldb.specs.Calls.{EngineServes};
 
 use super::engine::Engine;
-use super::info_log::InfoLog;
+use super::info_log::{InfoLog, NoLog};
 use leveldb_base::cmp::UserCmp;
 use leveldb_base::error::Result;
 use leveldb_env::compressor::{CompressorList, Compressors};
@@ -73,12 +73,18 @@ impl<E: Env, C: UserCmp + Copy, FP: FilterPolicy + Copy> Engine<E, C, FP> {
           store = self.new.store;
           options = record (options_in self.old) { log = self.new.options.log };
         } }
+        ensures sink { is_some self.new.options.log ≡ is_some self.old.options.log }
     {
         self.options.cmp = self.store.cmp();
-        let mut log = InfoLog(self.options.log.take());
-        let made = self.store.make_room(env, &self.options, &mut log);
-        self.options.log = log.0;
-        made
+        match self.options.log.take() {
+            Some(logger) => {
+                let mut log = InfoLog(logger);
+                let made = self.store.make_room(env, &self.options, &mut log);
+                self.options.log = Some(log.0);
+                made
+            }
+            None => self.store.make_room(env, &self.options, &mut NoLog),
+        }
     }
 
     /// Makes a crash keep all batches.

@@ -21,21 +21,23 @@ returns-in_err-make_room g c =
     c.from_residual-in_err-make_room.ensures.1 in
     rw (p.1, p.2) (room_fails_serves g.E.Env _ c.args.self.now c.args.env.now
     c.in_ok-check_open.ensures.ok c.args.batch.items c.args.sync
-    (λ a b is. ap (format_of g.C.Cmp g.FP.FilterPolicy (compressors g.dyn-2).codings) is)
+    (λ a b is. ap (format_of g.C.Cmp g.FP.FilterPolicy (compressors g.dyn-2).codings) is.rest)
     c.make_room.new.self c.make_room.new.env c.in_err-make_room.field-0.0 (record {
       makes = c.in_err-make_room.ensures.makes;
       sound = c.in_err-make_room.ensures.sound;
       rest = c.in_err-make_room.ensures.rest;
+      sink = c.in_err-make_room.ensures.sink;
     }))
 
 pub returns : goal.returns
 returns g c = batch_serves g.E.Env _ c.args.self.now c.args.env.now
     c.in_ok-check_open.ensures.ok c.args.batch.items c.args.sync
-    (λ a b is. ap (format_of g.C.Cmp g.FP.FilterPolicy (compressors g.dyn-2).codings) is)
+    (λ a b is. ap (format_of g.C.Cmp g.FP.FilterPolicy (compressors g.dyn-2).codings) is.rest)
     c.make_room.new.self c.make_room.new.env (record {
       makes = c.in_ok-make_room.ensures.makes;
       sound = c.in_ok-make_room.ensures.sound;
       rest = c.in_ok-make_room.ensures.rest;
+      sink = c.in_ok-make_room.ensures.sink;
     }) c.write_batch.new.self
     c.write_batch.new.env c.write_batch.result c.write_batch.ensures.short
     c.write_batch.ensures.writes c.write_batch.ensures.sound
