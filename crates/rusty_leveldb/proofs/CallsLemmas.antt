@@ -33,6 +33,8 @@ use Rattle.rusty_leveldb.proofs.EngineLemmas.{open_mode_is, open_or_broken}
 use Rattle.rusty_leveldb.proofs.Moments.{moments_none}
 use Rattle.rusty_leveldb.proofs.Others.{spares_still}
 use Rattle.rusty_leveldb.proofs.ReadingLemmas.{get_cause, get_closed, get_goes, get_long}
+use Rattle.rusty_leveldb.proofs.RestLemmas.{rest_given, rest_read, rest_still, rest_synced}
+use Rattle.rusty_leveldb.proofs.SyncLemmas.{log_is_data}
 
 -- ---- the mode
 
@@ -146,6 +148,7 @@ module _ {E C FP F : Type 0} {B : Boxed} (env : Ghosts E F) (formats : OptionsOf
     halted = λ halted. (refl, refl, why);
     becomes = halted_becomes request writes status (halted_by (mode_in before) status why);
     step = halted_still request writes status why at;
+    rest = rest_still env before at request (Err status) (inr (status, refl));
     time = λ modelled. omega arith;
     cause = halted_reason request writes status at why;
   }
@@ -232,6 +235,8 @@ module _ {E C FP F : Type 0} {B : Boxed} (env : Ghosts E F) (formats : OptionsOf
       halted = λ halted. absurd (not_halted (mode_in before) opened halted);
       becomes = flush_becomes result syncs;
       step = flush_goes env formats before from opened value mid result syncs batches sound;
+      rest = rest_synced env before from opened value mid result syncs flush log_is_data tt
+          (inl (λ held. refl)) before.mode;
       time = sound.time;
       cause = flush_cause result syncs;
     }
@@ -248,6 +253,8 @@ module _ {E C FP F : Type 0} {B : Boxed} (env : Ghosts E F) (formats : OptionsOf
       halted = λ halted. absurd (not_halted (mode_in before) opened halted);
       becomes = (tt, inl refl);
       step = close_unsynced env formats before from opened value mid status syncs batches sound;
+      rest = rest_synced env before from opened value mid (Err status) syncs close log_is_data tt
+          (inr (status, refl)) Broken;
       time = sound.time;
       cause = record {
         later = syncs.cause.later;
@@ -278,6 +285,8 @@ module _ {E C FP F : Type 0} {B : Boxed} (env : Ghosts E F) (formats : OptionsOf
         becomes = (tt, inl refl);
         step = close_locked env formats before from opened value mid syncs batches sound to lock lock_is
             status does locks cause;
+        rest = rest_given env before from opened value mid (Ok tt) syncs to lock lock_is (Err status)
+            does locks Broken;
         time = λ modelled.
             let first = sound.time modelled in
             let second = does.time.later in omega (arith, first, second);
@@ -300,6 +309,8 @@ module _ {E C FP F : Type 0} {B : Boxed} (env : Ghosts E F) (formats : OptionsOf
             becomes = (refl, tt);
             step = closed_now env formats before from opened value mid syncs batches sound to lock
                 lock_is does locks cause;
+            rest = rest_given env before from opened value mid (Ok tt) syncs to lock lock_is (Ok tt)
+                does locks Closed;
             time = λ modelled.
                 let first = sound.time modelled in
                 let second = does.time.later in omega (arith, first, second);
@@ -321,6 +332,7 @@ module _ {E C FP F : Type 0} {B : Boxed} (env : Ghosts E F) (formats : OptionsOf
       halted = λ halted. (refl, refl, inl why);
       becomes = (refl, refl);
       step = get_closed env formats before key status why from;
+      rest = rest_still env before from (get None key) (Err status) (inr (status, refl));
       time = λ modelled. omega arith;
       cause = record { later = omega arith; cause = inl (inl why) };
     }
@@ -334,6 +346,7 @@ module _ {E C FP F : Type 0} {B : Boxed} (env : Ghosts E F) (formats : OptionsOf
         halted = λ halted. absurd (usable halted);
         becomes = (refl, refl);
         step = get_long env formats before key usable result fails long from;
+        rest = rest_still env before from (get None key) result (inl (λ held. refl));
         time = λ modelled. omega arith;
         cause = record { later = omega arith; cause = by result fails };
       }
@@ -355,6 +368,7 @@ module _ {E C FP F : Type 0} {B : Boxed} (env : Ghosts E F) (formats : OptionsOf
         halted = λ halted. absurd (usable halted);
         becomes = (refl, refl);
         step = get_goes env formats before key usable short from to result looks;
+        rest = rest_read env before from key result to (options_in before) looks.reads.kept_disk;
         time = λ modelled. (looks.reads.kept_disk.disk modelled).time.later;
         cause = get_cause env formats before key usable short from to result looks;
       }

@@ -35,10 +35,10 @@ use Rattle.rusty_leveldb.proofs.SyncLemmas.{durable, ends_durable, goes_broken, 
 
 -- ---- locks
 
-freed : (lock : List ℕ) (locked : List ℕ → Bool) → lock_set lock false locked lock ≡ false
+pub freed : (lock : List ℕ) (locked : List ℕ → Bool) → lock_set lock false locked lock ≡ false
 freed lock locked = ap (λ b. cond b false (locked lock)) (bytes_eq-same lock)
 
-freed_other : (lock name : List ℕ) (locked : List ℕ → Bool) → name ≢ lock
+pub freed_other : (lock name : List ℕ) (locked : List ℕ → Bool) → name ≢ lock
     → lock_set lock false locked name ≡ locked name
 freed_other lock name locked differs =
     ap (λ b. cond b false (locked name)) (bytes_eq-apart lock name (λ e. differs (sym e)))

@@ -26,6 +26,7 @@ use Rattle.rusty_leveldb.specs.declared.db_impl.engine.Mode.TheVariants.{Open}
 use Rattle.rusty_leveldb.proofs.Batching.{IsUnmade, not_written}
 use Rattle.rusty_leveldb.proofs.EngineLemmas.{open_mode_is, open_or_broken, unbroken_opens}
 use Rattle.rusty_leveldb.proofs.CallsLemmas.{not_halted}
+use Rattle.rusty_leveldb.proofs.RestLemmas.{rest_roomless, rest_still, rest_written}
 use Rattle.rusty_leveldb.proofs.SyncLemmas.{log_is_there}
 use Rattle.rusty_leveldb.proofs.WritingLemmas.{EngineMakesRoom, batch_tells, failed_later, room_fails, room_tells, write_done, write_fails}
 
@@ -86,6 +87,7 @@ module _ {E C FP F : Type 0} {B : Boxed} (env : Ghosts E F) (formats : OptionsOf
     halted = λ halted. absurd (not_halted (mode_in before) opened halted);
     becomes = (tt, inr refl);
     step = not_written env formats before opened items sync status why from;
+    rest = rest_still env before from (write items sync) (Err status) (inr (status, refl));
     time = λ modelled. omega arith;
     cause = record {
       later = omega arith;
@@ -115,6 +117,7 @@ module _ {E C FP F : Type 0} {B : Boxed} (env : Ghosts E F) (formats : OptionsOf
       );
       step = λ store meaning modelled old was. room_fails env formats store meaning before from old was
           opened modelled ignores after to items sync status made;
+      rest = rest_roomless env before from opened formats items sync after to status made;
       time = made.sound.time;
       cause = record { later = made.makes.cause.later; cause = excused made.makes.cause.cause };
     }
@@ -247,6 +250,8 @@ module _ {E C FP F : Type 0} {B : Boxed} (env : Ghosts E F) (formats : OptionsOf
             halted = λ halted. absurd (not_halted (mode_in before) opened halted);
             becomes = batch_becomes result writes_in;
             step = step result short writes sound;
+            rest = rest_written env before from opened formats items sync roomy mid made value to
+                result writes_in;
             time = λ modelled.
                 let first = made.sound.time modelled in
                 let second = sound.time modelled in omega (arith, first, second);

@@ -1,6 +1,6 @@
 -- What each call on an engine does: one record a call, the same of an engine and of a store that
 -- holds its environment.
-use Rattle.std.specs.Prelude.{◌≡◌, ◌⊎◌, ℕ, List, Some, None, Result, Ok, Err, OnOk, OnErr, IfOk, IfErr, IsErrAnd, IsTrue}
+use Rattle.std.specs.Prelude.{◌≡◌, ◌⊎◌, ℕ, Bool, false, List, Some, None, Result, Ok, Err, OnOk, OnErr, IfOk, IfErr, IsErrAnd, IsTrue, string_bytes}
 use Rattle.leveldb_base.specs.declared.error.Status.{Status}
 use Rattle.leveldb_base.specs.Error.{IsOutOfMemory}
 use Rattle.leveldb_env.specs.declared.env.Env.{Ghosts}
@@ -9,10 +9,11 @@ use Rattle.leveldb_env.specs.Options.{Boxed, OptionsOf}
 use Rattle.leveldb_store.specs.Format.{Format, Meaning, Agrees}
 use Rattle.leveldb_store.specs.Room.{FailsFor, TellsOnly}
 use Rattle.leveldb_store.specs.SoundCall.{TimeGoesOn}
+use Rattle.leveldb_store.specs.Write.{open_log_path}
 use Rattle.rusty_leveldb.specs.State.{Opening, Request, Answer, open_mode, open_store, write, get, walk, get_snapshot, release_snapshot, flush, close, abandon}
 use Rattle.rusty_leveldb.specs.Serves.{done_or, given_engine}
-use Rattle.rusty_leveldb.specs.Engine.{IsClosed, IsBroken, IsClosedOrBroken, RefusedByMode, AnswersAs, Answers, WriteExcused, SyncExcused, CloseExcused, GetExcused, IsStoreName, IsOpening, HasOwnLock, WritesIntoRoom, mode_in, options_in}
-use Rattle.rusty_leveldb.specs.Frame.{IsOwn, Spares}
+use Rattle.rusty_leveldb.specs.Engine.{IsClosed, IsBroken, IsClosedOrBroken, RefusedByMode, AnswersAs, Answers, WriteExcused, SyncExcused, CloseExcused, GetExcused, IsStoreName, IsOpening, HasOwnLock, WritesIntoRoom, holds_lock, mode_in, options_in}
+use Rattle.rusty_leveldb.specs.Frame.{IsOwn, MayTouchOrLog, Spares}
 use Rattle.rusty_leveldb.specs.Unopened.{IsLockGivenBack, IsLockHeld, MakesLockAlone, NeverOpens, OpenExcused}
 use Rattle.rusty_leveldb.specs.Boxes.{EngineOf}
 
@@ -36,6 +37,38 @@ module _ {E C FP F : Type 0} {B : Boxed} (env : Ghosts E F)
       result
   HasReason before from request result to =
       HasCause (λ _. ⊥) (env.failures from) (env.failures to) result
+
+-- ---- what a call leaves alone, whatever the files are
+
+-- whether a lock is held after a call that is Ok
+abbrev pub held_after : Request → Bool → Bool
+held_after close held = false
+held_after abandon held = false
+held_after request held = held
+
+-- whether a lock is held before and after a call: an Ok frees it, or leaves it, as an Err does
+abbrev pub IsLockLeft : {T : Type 0} → Request → Result T Status → Bool → Bool → Type 0
+IsLockLeft request result before after =
+    OnOk result (after ≡ held_after request before) × OnErr result (after ≡ before)
+
+module _ {E C FP F : Type 0} {B : Boxed} (env : Ghosts E F) where
+  -- where the disk is modelled, no file changes but these, and no lock but the engine's
+  abbrev pub SparesBut : EngineOf E C FP F B → (List ℕ → Type 0) → E → E → Type 0
+  SparesBut engine May from to = IsTrue env.models_disk → HasOwnLock engine
+      → Spares engine.store.set.store May (env.observed from).disk (env.observed to).disk
+
+  -- What a call leaves alone, also of files that are damaged.
+  pub record LeavesRest {T : Type 0} (before : EngineOf E C FP F B) (from : E) (request : Request)
+      (result : Result T Status) (after : EngineOf E C FP F B) (to : E) : Type 0 where
+    -- the lock's name and the store's path
+    pub place : (string_bytes after.lock ≡ string_bytes before.lock)
+        × (after.store.set.store ≡ before.store.set.store)
+    -- all files but those that the request may touch
+    pub others : SparesBut before (MayTouchOrLog before.store.set.store (mode_in before) request
+        (open_log_path after.store)) from to
+    -- and the lock, but that closing frees it
+    pub lock : IsTrue env.models_disk
+        → IsLockLeft request result (holds_lock env before from) (holds_lock env before to)
 
 -- ---- calls on an engine
 
@@ -91,6 +124,8 @@ module _ {E C FP F : Type 0} {B : Boxed} (env : Ghosts E F)
     pub becomes : BecomesOf before request result after
     -- where the disk is observed, the call is a step of the machine
     pub step : Answers env formats (Some before) from request (answer_of result) (Some after) to
+    -- and in any state of the disk it leaves this alone
+    pub rest : LeavesRest env before from request result after to
     -- no moment of the disk is taken back
     pub time : TimeGoesOn env from to
     -- why it fails
@@ -104,6 +139,11 @@ module _ {E C FP F : Type 0} {B : Boxed} (env : Ghosts E F)
     pub halted : IsClosed (mode_in engine) → (to ≡ from) × OnErr result ⊥
     -- where the disk is observed, the call is a step of the machine
     pub step : Answers env formats (Some engine) from abandon (done_or result) None to
+    -- no file changes, and no lock but the engine's
+    pub others : SparesBut env engine (λ path. ⊥) from to
+    -- one that isn't closed gives back its lock
+    pub lock : IsTrue env.models_disk → (IsClosed (mode_in engine) → ⊥)
+        → IsLockLeft abandon result (holds_lock env engine from) (holds_lock env engine to)
     -- no moment of the disk is taken back
     pub time : TimeGoesOn env from to
     -- it fails only where the device did

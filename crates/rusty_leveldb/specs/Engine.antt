@@ -77,6 +77,11 @@ options_in engine = record engine.options { cmp = engine.store.cmp }
 abbrev pub HasOwnLock : {E C FP F : Type 0} {B : Boxed} → EngineOf E C FP F B → Type 0
 HasOwnLock engine = string_bytes engine.lock ≡ lock_path engine.store.set.store
 
+-- whether an engine's lock is held
+abbrev pub holds_lock : {E C FP F : Type 0} {B : Boxed} → Ghosts E F → EngineOf E C FP F B → E
+    → Bool
+holds_lock env engine at = (env.observed at).disk.locked (string_bytes engine.lock)
+
 -- ---- memory and disk
 
 module _ {E C FP F : Type 0} {B : Boxed} (formats : OptionsOf C FP B → Format) (store : List ℕ)
