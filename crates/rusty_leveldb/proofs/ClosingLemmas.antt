@@ -17,7 +17,6 @@ use Rattle.leveldb_store.specs.OpenStore.{IsUnbroken, OpenStoreValue}
 use Rattle.leveldb_store.specs.SoundCall.{IsSoundCall, any_meaning}
 use Rattle.leveldb_store.specs.Write.{SyncsLog, open_log_path, with_writer}
 use Rattle.leveldb_store.specs.WriteBatch.{MakesDurable, SyncsBatches}
-use Rattle.rusty_leveldb.specs.declared.db_impl.engine.Mode.{Mode}
 use Rattle.rusty_leveldb.specs.declared.db_impl.engine.Mode.TheVariants.{Broken, Closed}
 use Rattle.rusty_leveldb.specs.Boxes.{EngineOf}
 use Rattle.rusty_leveldb.specs.Causes.{Cause, Comes, ReachesDevice, Setting, device_failed, out_of_memory}

@@ -1,7 +1,7 @@
 -- What opening an engine does, put together: an opening that ends before the lock is taken, one
 -- whose store isn't opened, and one that is done.
 use Rattle.std.specs.Prelude.{Result}
-use Rattle.std.proofs.Common.{◌≡◌, ◌≤◌, ◌+◌, ◌-◌, ◌⊎◌, ◌∙◌, ⊎_elim, inl, inr, ℕ, Bool, true, List, refl, sym, ap, subst, arith, None, Err, IsTrue}
+use Rattle.std.proofs.Common.{◌≡◌, ◌≤◌, ◌+◌, ◌⊎◌, ◌∙◌, ⊎_elim, inl, inr, ℕ, Bool, true, List, refl, sym, ap, subst, arith, None, Err, IsTrue}
 use Rattle.leveldb_base.specs.Error.{IsOutOfMemory}
 use Rattle.leveldb_base.specs.declared.error.Status.{Status}
 use Rattle.leveldb_base.specs.declared.error.StatusCode.TheVariants.{LockError}
@@ -10,7 +10,6 @@ use Rattle.leveldb_env.specs.Options.{Boxed, OptionsOf}
 use Rattle.leveldb_env.specs.declared.env.Env.{Ghosts}
 use Rattle.leveldb_env.proofs.EnvLemmas.{Run-call, Run-mono, SameBut-created, begun, call}
 use Rattle.leveldb_version.proofs.BytesLemmas.{bytes_stay}
-use Rattle.leveldb_version.specs.Contents.{made}
 use Rattle.leveldb_version.specs.Paths.{lock_path}
 use Rattle.leveldb_version.specs.StoreSteps.{AppendedAreBytes}
 use Rattle.leveldb_store.specs.Format.{Agrees, Format, Meaning}

@@ -1,7 +1,7 @@
 -- What a call leaves alone, whatever the files are.
 use Rattle.std.specs.Prelude.{Result, codes, if◌then◌else◌, is_ok, replicate, string_bytes}
 use Rattle.std.specs.Fmt.{decimal}
-use Rattle.std.proofs.Common.{◌≡◌, ◌≢◌, ◌+◌, ◌-◌, ◌++◌, ◌⊎◌, ◌∙◌, ⊎_elim, inl, inr, ℕ, Bool, false, List, length, length-append, refl, sym, ap, subst, arith, Option, None, Ok, Err, IsTrue}
+use Rattle.std.proofs.Common.{◌≡◌, ◌≢◌, ◌-◌, ◌++◌, ◌⊎◌, ◌∙◌, ⊎_elim, inl, inr, ℕ, Bool, false, List, length, length-append, refl, sym, ap, subst, arith, None, Ok, Err, IsTrue}
 use Rattle.std.proofs.lemmas.List.{length-replicate}
 use Rattle.leveldb_base.specs.Error.{IsOutOfMemory}
 use Rattle.leveldb_base.specs.History.{Item}
@@ -24,7 +24,7 @@ use Rattle.leveldb_store.specs.Written.{IsData}
 use Rattle.rusty_leveldb.specs.declared.db_impl.engine.Mode.{Mode}
 use Rattle.rusty_leveldb.specs.Boxes.{EngineOf}
 use Rattle.rusty_leveldb.specs.Calls.{IsLockLeft, LeavesRest, SparesBut, held_after}
-use Rattle.rusty_leveldb.specs.Engine.{HasOwnLock, holds_lock, mode_in, options_in}
+use Rattle.rusty_leveldb.specs.Engine.{holds_lock, mode_in, options_in}
 use Rattle.rusty_leveldb.specs.Frame.{MayTouchOrLog, Spares, Touches}
 use Rattle.rusty_leveldb.specs.State as machine
 use Rattle.rusty_leveldb.specs.State.{Request, abandon, close, flush, get, open_mode, write}
