@@ -1,6 +1,6 @@
 -- What making room in the memtable returns and leaves, and why it fails; and deletions whose
 -- failures are told to a sink alone.
-use Rattle.std.specs.Prelude.{◌≡◌, ◌≢◌, ◌≤◌, ◌<◌, ◌-◌, ◌^◌, ◌⊎◌, ℕ, List, [], Option, None, Some, Result, IfErr, OnErr, OnOk, IsTrue, map}
+use Rattle.std.specs.Prelude.{◌≡◌, ◌≢◌, ◌≤◌, ◌<◌, ◌-◌, ◌^◌, ◌⊎◌, ℕ, List, [], Option, None, Some, Result, IfErr, OnErr, OnOk, IsTrue, is_some, map}
 use Rattle.std.specs.declared.cmp.Ordering.{Ordering}
 use Rattle.leveldb_base.specs.Entries.{internal_pair}
 use Rattle.leveldb_base.specs.Error.{IsOutOfMemory}
@@ -33,8 +33,10 @@ pub record FailsFor {T : Type 0} (Excused : Status → Type 0) (before after : �
   pub cause : IfErr result (λ e. Excused e ⊎ HasFailed before after)
 
 -- nothing but the sink of the options' log has changed, to which lines may have been told
-abbrev pub TellsOnly : {C FP : Type 0} {B : Boxed} → OptionsOf C FP B → OptionsOf C FP B → Type 0
-TellsOnly before after = after ≡ record before { log = after.log }
+pub record TellsOnly {C FP : Type 0} {B : Boxed} (before after : OptionsOf C FP B) : Type 0 where
+  pub rest : after ≡ record before { log = after.log }
+  -- there is one if there was one
+  pub sink : is_some after.log ≡ is_some before.log
 
 -- ---- room
 

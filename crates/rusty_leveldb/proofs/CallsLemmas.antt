@@ -2,7 +2,7 @@
 -- fails.
 use Rattle.std.specs.Prelude.{IfErr, IsErrAnd, Result, codes, IfSome, string_bytes, String}
 use Rattle.std.specs.declared.alloc.Global.{Global}
-use Rattle.std.proofs.Common.{◌≡◌, ◌-◌, ◌⊎◌, ◌∙◌, ⊎_elim, inl, inr, ℕ, true, false, List, [], refl, sym, ap, subst, arith, Option, Some, None, Ok, Err}
+use Rattle.std.proofs.Common.{◌≡◌, ◌⊎◌, ◌∙◌, ⊎_elim, inl, inr, ℕ, true, false, List, [], refl, sym, ap, subst, arith, Option, Some, None, Ok, Err}
 use Rattle.leveldb_base.specs.Error.{IsOutOfMemory, text_of}
 use Rattle.leveldb_base.specs.declared.error.Status.{Status}
 use Rattle.leveldb_base.specs.declared.error.StatusCode.TheVariants.{InvalidArgument}
@@ -33,6 +33,8 @@ use Rattle.rusty_leveldb.proofs.EngineLemmas.{open_mode_is, open_or_broken}
 use Rattle.rusty_leveldb.proofs.Moments.{moments_none}
 use Rattle.rusty_leveldb.proofs.Others.{spares_still}
 use Rattle.rusty_leveldb.proofs.ReadingLemmas.{get_cause, get_closed, get_goes, get_long}
+use Rattle.rusty_leveldb.proofs.RestLemmas.{rest_given, rest_read, rest_still, rest_synced}
+use Rattle.rusty_leveldb.proofs.SyncLemmas.{log_is_data}
 
 -- ---- the mode
 
@@ -118,9 +120,13 @@ module _ {E C FP F : Type 0} {B : Boxed} (env : Ghosts E F) (formats : OptionsOf
   halted_becomes : (request : Request) → Writes request → (status : Status)
       → IsClosedOrBroken (mode_in before)
       → BecomesOf {T = Unit {0}} before request (Err status) before
-  halted_becomes (write items sync) writes status halted = inr refl
-  halted_becomes flush writes status halted = (inr refl, inl halted)
-  halted_becomes close writes status halted = (tt, halted)
+  halted_becomes (write items sync) writes status halted = (tt, inr refl)
+  halted_becomes flush writes status halted = (tt, (inr refl, inl halted))
+  halted_becomes close writes status halted = (
+    tt,
+    ⊎_elim (λ (out : mode_in before ≡ machine.closed). inr (out, out))
+        (λ (broke : mode_in before ≡ machine.broken). inl broke) halted,
+  )
   halted_becomes request writes status halted = absurd writes
 
   halted_reason : (request : Request) → Writes request → (status : Status) (at : E)
@@ -138,10 +144,11 @@ module _ {E C FP F : Type 0} {B : Boxed} (env : Ghosts E F) (formats : OptionsOf
       → RefusedByMode (mode_in before) status
       → EngineServes env formats {T = Unit {0}} done_or before at request (Err status) before at
   halted_serves request writes status at why = record {
-    options = refl;
+    options = record { rest = refl; sink = refl };
     halted = λ halted. (refl, refl, why);
     becomes = halted_becomes request writes status (halted_by (mode_in before) status why);
     step = halted_still request writes status why at;
+    rest = rest_still env before at request (Err status) (inr (status, refl));
     time = λ modelled. omega arith;
     cause = halted_reason request writes status at why;
   }
@@ -164,24 +171,26 @@ module _ {E C FP F : Type 0} {B : Boxed} (env : Ghosts E F) (formats : OptionsOf
         → SyncsLog env before.store from result value mid
         → TellsOnly (options_in before) (options_in {E = E} {C = C} {FP = FP} {F = F} {B = B}
         (record before { store = value; mode = m }))
-    sync_tells result m syncs =
-        ap (λ (c : C). record before.options { cmp = c }) (sync_cmp result syncs)
+    sync_tells result m syncs = record {
+      rest = ap (λ (c : C). record before.options { cmp = c }) (sync_cmp result syncs);
+      sink = refl;
+    }
 
     flush_becomes : (result : Result (Unit {0}) Status)
         → SyncsLog env before.store from result value mid
         → BecomesOf before flush result (record before { store = value })
-    flush_becomes result syncs = (
-      ⊎_elim (λ opens. inr (opens.0 ∙ sym opened)) (λ broke. inl broke.0)
-          (open_or_broken {E = E} {C = C} {FP = FP} {F = F} {B = B} (record before { store = value })
-          (open_mode_is before opened)),
-      by result syncs,
+    flush_becomes (Ok nothing) syncs = (
+      ap (λ (v : OpenStoreValue C). mode_in {E = E} {C = C} {FP = FP} {F = F} {B = B}
+          (record before { store = v })) syncs.ok,
+      tt,
     )
-      where
-        by : (r : Result (Unit {0}) Status) → SyncsLog env before.store from r value mid
-            → IfErr r (λ e. IsClosedOrBroken (mode_in {E = E} {C = C} {FP = FP} {F = F} {B = B}
-            (record before { store = value })) ⊎ IsOutOfMemory e)
-        by (Ok nothing) syncs = tt
-        by (Err status) syncs = ⊎_elim
+    flush_becomes (Err status) syncs = (
+      tt,
+      (
+        ⊎_elim (λ opens. inr (opens.0 ∙ sym opened)) (λ broke. inl broke.0)
+            (open_or_broken {E = E} {C = C} {FP = FP} {F = F} {B = B}
+            (record before { store = value }) (open_mode_is before opened)),
+        ⊎_elim
             (λ (still : IsOutOfMemory status × (value ≡ before.store) × (mid ≡ from)). inr still.0)
             (λ (broke : value ≡ with_writer before.store (broken_writer before.store.log.writer)).
             inl (⊎_elim
@@ -189,7 +198,9 @@ module _ {E C FP F : Type 0} {B : Boxed} (env : Ghosts E F) (formats : OptionsOf
             sym (ap (λ (v : OpenStoreValue C). v.log.writer.broken) broke) ∙ sound.1.log in cc))
             (λ is. inr is.0)
             (open_or_broken {E = E} {C = C} {FP = FP} {F = F} {B = B}
-            (record before { store = value }) (open_mode_is before opened)))) syncs.err
+            (record before { store = value }) (open_mode_is before opened)))) syncs.err,
+      ),
+    )
 
     flush_cause : (result : Result (Unit {0}) Status)
         → SyncsLog env before.store from result value mid
@@ -224,6 +235,8 @@ module _ {E C FP F : Type 0} {B : Boxed} (env : Ghosts E F) (formats : OptionsOf
       halted = λ halted. absurd (not_halted (mode_in before) opened halted);
       becomes = flush_becomes result syncs;
       step = flush_goes env formats before from opened value mid result syncs batches sound;
+      rest = rest_synced env before from opened value mid result syncs flush log_is_data tt
+          (inl (λ held. refl)) before.mode;
       time = sound.time;
       cause = flush_cause result syncs;
     }
@@ -238,8 +251,10 @@ module _ {E C FP F : Type 0} {B : Boxed} (env : Ghosts E F) (formats : OptionsOf
     close_unsynced_serves status syncs batches sound = record {
       options = sync_tells (Err status) Broken syncs;
       halted = λ halted. absurd (not_halted (mode_in before) opened halted);
-      becomes = (tt, inr refl);
+      becomes = (tt, inl refl);
       step = close_unsynced env formats before from opened value mid status syncs batches sound;
+      rest = rest_synced env before from opened value mid (Err status) syncs close log_is_data tt
+          (inr (status, refl)) Broken;
       time = sound.time;
       cause = record {
         later = syncs.cause.later;
@@ -267,9 +282,11 @@ module _ {E C FP F : Type 0} {B : Boxed} (env : Ghosts E F) (formats : OptionsOf
       close_locked_serves status does locks cause = record {
         options = sync_tells (Ok tt) Broken syncs;
         halted = λ halted. absurd (not_halted (mode_in before) opened halted);
-        becomes = (tt, inr refl);
+        becomes = (tt, inl refl);
         step = close_locked env formats before from opened value mid syncs batches sound to lock lock_is
             status does locks cause;
+        rest = rest_given env before from opened value mid (Ok tt) syncs to lock lock_is (Err status)
+            does locks Broken;
         time = λ modelled.
             let first = sound.time modelled in
             let second = does.time.later in omega (arith, first, second);
@@ -292,6 +309,8 @@ module _ {E C FP F : Type 0} {B : Boxed} (env : Ghosts E F) (formats : OptionsOf
             becomes = (refl, tt);
             step = closed_now env formats before from opened value mid syncs batches sound to lock
                 lock_is does locks cause;
+            rest = rest_given env before from opened value mid (Ok tt) syncs to lock lock_is (Ok tt)
+                does locks Closed;
             time = λ modelled.
                 let first = sound.time modelled in
                 let second = does.time.later in omega (arith, first, second);
@@ -309,10 +328,11 @@ module _ {E C FP F : Type 0} {B : Boxed} (env : Ghosts E F) (formats : OptionsOf
     pub get_closed_serves : (status : Status) → RefusedAsClosed (mode_in before) status
         → EngineServes env formats found_or before from (get None key) (Err status) before from
     get_closed_serves status why = record {
-      options = refl;
+      options = record { rest = refl; sink = refl };
       halted = λ halted. (refl, refl, inl why);
       becomes = (refl, refl);
       step = get_closed env formats before key status why from;
+      rest = rest_still env before from (get None key) (Err status) (inr (status, refl));
       time = λ modelled. omega arith;
       cause = record { later = omega arith; cause = inl (inl why) };
     }
@@ -322,10 +342,11 @@ module _ {E C FP F : Type 0} {B : Boxed} (env : Ghosts E F) (formats : OptionsOf
           → IsErrAnd result (λ status. status.code ≡ InvalidArgument) → IsLongKey key
           → EngineServes env formats found_or before from (get None key) result before from
       get_long_serves result fails long = record {
-        options = refl;
+        options = record { rest = refl; sink = refl };
         halted = λ halted. absurd (usable halted);
         becomes = (refl, refl);
         step = get_long env formats before key usable result fails long from;
+        rest = rest_still env before from (get None key) result (inl (λ held. refl));
         time = λ modelled. omega arith;
         cause = record { later = omega arith; cause = by result fails };
       }
@@ -343,10 +364,11 @@ module _ {E C FP F : Type 0} {B : Boxed} (env : Ghosts E F) (formats : OptionsOf
           → EngineServes env formats found_or before from (get None key) result
           (record before { options = options_in before }) to
       get_serves short to result looks = record {
-        options = refl;
+        options = record { rest = refl; sink = refl };
         halted = λ halted. absurd (usable halted);
         becomes = (refl, refl);
         step = get_goes env formats before key usable short from to result looks;
+        rest = rest_read env before from key result to (options_in before) looks.reads.kept_disk;
         time = λ modelled. (looks.reads.kept_disk.disk modelled).time.later;
         cause = get_cause env formats before key usable short from to result looks;
       }

@@ -16,7 +16,7 @@ use Rattle.leveldb_version.specs.Holds.{Holds}
 use Rattle.leveldb_version.specs.Paths.{lock_path}
 use Rattle.leveldb_version.specs.StoreSteps.{AppendedAreBytes}
 use Rattle.leveldb_store.specs.Format.{Agrees, Format, HasCompressorError, Meaning}
-use Rattle.leveldb_store.specs.OpensStore.{FailsToOpen, HasOtherComparator, IsForbidden, LacksUsableEdits, OpensStore}
+use Rattle.leveldb_store.specs.OpensStore.{FailsToOpen, HasOtherComparator, LacksUsableEdits, OpensStore}
 use Rattle.leveldb_store.specs.Room.{HasFailed}
 use Rattle.leveldb_store.specs.SoundCall.{BytesAreAppended}
 use Rattle.rusty_leveldb.specs.Calls.{EngineOpens}
@@ -26,12 +26,12 @@ use Rattle.rusty_leveldb.specs.Frame.{IsOwn, Spares}
 use Rattle.rusty_leveldb.specs.Machine.{IsEarly}
 use Rattle.rusty_leveldb.specs.Serves.{Goes, IsSpared, Reads, Represents, refusal_of, setting_between}
 use Rattle.rusty_leveldb.specs.State.{Opening, State, open_store, refused}
-use Rattle.rusty_leveldb.specs.Unopened.{IsBarred, OpenExcused}
+use Rattle.rusty_leveldb.specs.Unopened.{MakesLockAlone, OpenExcused}
 use Rattle.rusty_leveldb.proofs.LockLemmas.{lock_edits, lock_reads}
 use Rattle.rusty_leveldb.proofs.MachineLemmas.{risk_opening}
 use Rattle.rusty_leveldb.proofs.OpeningLemmas.{contents, fits_or_not, is_sound, lock_spares, opening_holds, opening_run, other_lacks, taken_holds}
 use Rattle.rusty_leveldb.proofs.ReadsLemmas.{IsNamed}
-use Rattle.rusty_leveldb.proofs.UnderLockLemmas.{IsTaken, but, excused_late, failed_beside, forbidden_here, late_spares, same_current, set_other, set_same}
+use Rattle.rusty_leveldb.proofs.UnderLockLemmas.{IsTaken, LooksNoFurther, but, excused_late, failed_beside, late_spares, never_here, same_current, set_other, set_same}
 use Rattle.rusty_leveldb.proofs.UnopenedLemmas.{comparator_there, found_in, in_order, lacking, other, unwanted}
 use Rattle.rusty_leveldb.proofs.UnopenedStepLemmas.{settles, unopened_goes}
 
@@ -131,30 +131,19 @@ module _ {E C FP F : Type 0} {B : Boxed} (env : Ghosts E F) (formats : OptionsOf
         ∙ (opens.others modelled).has path foreign) other_locks
 
     -- where it looks no further, all files stay
-    abbrev LooksNoFurther : Type 0
-    LooksNoFurther = IsForbidden store asked.create_if_missing asked.error_if_exists here
-        ⊎ LacksUsableEdits store asked.format here
+    unchanged : LooksNoFurther store asked here
+        → Run (FilesUnchanged here) (env.observed taken) (env.observed opened)
+    unchanged looks = (opens.stays modelled looks).1
 
-    unchanged : LooksNoFurther → Run (FilesUnchanged here) (env.observed taken)
-        (env.observed opened)
-    unchanged (inl forbidden) = (opens.stays modelled (inl forbidden)).1
-    unchanged (inr lacks) = (opens.stays modelled (inr (inr lacks))).1
-
-    still : LooksNoFurther → (env.observed to).disk.files ≡ here
-    still barred = end_files ∙ (unchanged barred).has
-
-    made_end : LooksNoFurther → BeforeOrAfter (created (lock_path store))
-        (env.observed from).disk.files (env.observed to).disk.files
-    made_end barred = subst (BeforeOrAfter (created (lock_path store))
-        (env.observed from).disk.files) (sym (still barred)) (took modelled).run.has
-
-    untouched : IsBarred store asked (env.observed from).disk
-        → BeforeOrAfter (created (lock_path store)) (env.observed from).disk.files
-        (env.observed to).disk.files
-    untouched (inl held) = absurd (let never : true ≡ false =
-        sym held ∙ (took modelled).was_free in cc)
-    untouched (inr forbidden) =
-        made_end (inl (forbidden_here env store asked from taken took modelled forbidden))
+    made_run : LooksNoFurther store asked here
+        → MakesLockAlone store (env.observed from) (env.observed to)
+    made_run looks =
+        let both = Run-trans (took modelled).run (λ files is.
+        subst (BeforeOrAfter (created (lock_path store)) (env.observed from).disk.files) (sym is)
+        (took modelled).run.has) (unchanged looks) in
+        call modelled both (λ files is.
+        subst (BeforeOrAfter (created (lock_path store)) (env.observed from).disk.files) (sym is)
+        both.has) does
 
     -- ---- the step
 
@@ -195,7 +184,8 @@ module _ {E C FP F : Type 0} {B : Boxed} (env : Ghosts E F) (formats : OptionsOf
       -- with the causes that come early all files stay
       abbrev Late : Type 0
       Late = (cause : Cause) × Comes (setting_between meaning (env.failures from) mid) old
-          (open_store opening) (refusal_of e) cause × ((IsEarly cause → ⊥) ⊎ LooksNoFurther)
+          (open_store opening) (refusal_of e) cause
+          × ((IsEarly cause → ⊥) ⊎ LooksNoFurther store asked here)
 
       abbrev setting : Setting
       setting = setting_between meaning (env.failures from) mid
@@ -256,7 +246,7 @@ module _ {E C FP F : Type 0} {B : Boxed} (env : Ghosts E F) (formats : OptionsOf
               inr (other env store meaning asked opening is agrees from modelled old was.disk_is setting
                   e there),
             ),
-            inr (inr (lacks there)),
+            inr (inr (inr (lacks there))),
           )
       late_of (inl (inr (inr (inr (inr (inl damage))), count))) =
           let found = found_in store meaning (env.observed from).disk old was.disk_is in
@@ -284,13 +274,13 @@ module _ {E C FP F : Type 0} {B : Boxed} (env : Ghosts E F) (formats : OptionsOf
           (scene env None to) old
 
       -- all files have stayed
-      stays_goes : LooksNoFurther → (cause : Cause) → Comes setting old (open_store opening)
+      stays_goes : LooksNoFurther store asked here → (cause : Cause) → Comes setting old (open_store opening)
           (refusal_of e) cause → Refused
       stays_goes barred cause comes =
           unopened_goes env formats store meaning opening from old was to e old.store (inl refl)
           (taken_holds store meaning opening agrees (env.observed from) old was.disk_is
           (env.observed to) (SameBut-created (lock_path store) (env.observed from).disk.files
-          (env.observed to).disk.files (made_end barred)))
+          (env.observed to).disk.files (made_run barred).has))
           bytes_end
           (then_freed (Run-mono (λ files is. subst Spared (sym is) early_run.has)
           (unchanged barred)))
@@ -328,12 +318,12 @@ module _ {E C FP F : Type 0} {B : Boxed} (env : Ghosts E F) (formats : OptionsOf
           settles_goes fits why_so.0 why_so.1 late)
           (λ (differs : (name : List ℕ) × (old.store ≡ made (Some name))
           × (name ≢ opening.format.order_name)).
-          stays_goes (inr (subst (λ (f : Format). LacksUsableEdits store f here) same_format
+          stays_goes (inr (inr (subst (λ (f : Format). LacksUsableEdits store f here) same_format
           (other_lacks store meaning opening agrees (env.observed from) old was.disk_is here
-          (but env store asked from taken took modelled) differs.0 differs.1 differs.2)))
+          (but env store asked from taken took modelled) differs.0 differs.1 differs.2))))
           why_so.0 why_so.1)
           (fits_or_not store meaning opening agrees (env.observed from) old was.disk_is))
-          (λ (barred : LooksNoFurther). stays_goes barred why_so.0 why_so.1) why_so.2
+          (λ (barred : LooksNoFurther store asked here). stays_goes barred why_so.0 why_so.1) why_so.2
 
   pub late_opens : (options : OptionsOf C FP B)
       → IsStoreName store × IsTrue asked.fits × IsTrue asked.compresses
@@ -341,6 +331,8 @@ module _ {E C FP F : Type 0} {B : Boxed} (env : Ghosts E F) (formats : OptionsOf
       → EngineOpens env formats store options asked from (Err e) to
   late_opens options well counts = record {
     opened = tt;
+    held = tt;
+    others = spares;
     step = λ opening is meaning agrees modelled old was.
         late_goes modelled opening is meaning agrees old was;
     time = λ modelled.
@@ -348,17 +340,14 @@ module _ {E C FP F : Type 0} {B : Boxed} (env : Ghosts E F) (formats : OptionsOf
         let second = (opens.others modelled).time.later in
         let third = does.time.later in omega (arith, first, second, third);
     misnamed = λ no. absurd (no well);
-    never_opens = λ modelled never. tt;
-    unopened = λ modelled. record {
-      untouched = untouched modelled;
-      lock = ⊎_elim (λ same_lock. inl same_lock)
-          (λ held. inr (
-            held.0,
-            failed_beside (OpenExcused env store asked from e) (env.failures from)
-                mid (env.failures to) later freed.later counts why held.1,
-          )) (lock_end modelled);
-      others = spares modelled;
-    };
+    never_opens = λ modelled never.
+        (tt, made_run modelled (never_here env store asked from taken took modelled never));
+    unopened = λ modelled. ⊎_elim (λ same_lock. inl same_lock)
+        (λ held. inr (
+          held.0,
+          failed_beside (OpenExcused env store asked from e) (env.failures from)
+              mid (env.failures to) later freed.later counts why held.1,
+        )) (lock_end modelled);
     cause = record {
       later = omega (arith, later, freed.later);
       cause = ⊎_elim (λ (because : OpenExcused env store asked from e). inl because)

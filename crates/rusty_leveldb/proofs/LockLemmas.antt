@@ -1,10 +1,10 @@
 -- The file of a store's lock isn't read: whether it is made or not, a store's files hold what they
 -- held.
 use Rattle.std.specs.Str.{bytes_eq}
-use Rattle.std.proofs.Common.{◌≡◌, ◌≢◌, ◌∙◌, inl, inr, ℕ, List, false, refl}
+use Rattle.std.proofs.Common.{◌≡◌, ◌≢◌, ◌∙◌, ⊎_elim, inl, inr, ℕ, List, false, refl, sym}
 use Rattle.std.specs.declared.cmp.Ordering.{Ordering}
 use Rattle.leveldb_base.specs.Cmp.{bytewise}
-use Rattle.leveldb_base.specs.Names.{file_name}
+use Rattle.leveldb_base.specs.Names.{IsFileName, file_name}
 use Rattle.leveldb_base.specs.declared.types.FileType.{FileType}
 use Rattle.leveldb_base.specs.declared.types.FileType.TheVariants.{Current, DBLock, Descriptor, Log, Table}
 use Rattle.leveldb_env.specs.Env.{Files, SameBut, in_folder}
@@ -20,6 +20,7 @@ use Rattle.leveldb_version.specs.VersionEdit.{Edit}
 use Rattle.leveldb_version.specs.VersionSet.{FileSet, live_after}
 use Rattle.leveldb_store.proofs.TableKeepsLemmas.{is_table_path, types_apart}
 use Rattle.leveldb_store.specs.Format.{Meaning}
+use Rattle.leveldb_store.specs.OpensStore.{LacksCurrent}
 use Rattle.leveldb_store.specs.Written.{IsTableOf}
 
 module _ (store : List ℕ) where
@@ -54,6 +55,23 @@ module _ (store : List ℕ) where
     lock_edits edits e = edits_on store bytewise (λ bytes pairs. ⊥) (lock_path store) files now edits e same apart_current
         (apart (in_folder store e.name) Descriptor (e.name, e.number, e.named.0, refl)
         (λ d. let never : DBLock ≡ Descriptor = d in cc))
+
+    -- tables or logs without `CURRENT` are so still
+    pub lock_lacks : LacksCurrent store files → LacksCurrent store now
+    lock_lacks lacks = record {
+      no_current = lock_current ∙ lacks.no_current;
+      name = lacks.name;
+      is = lacks.is;
+      there = λ gone. lacks.there (sym (same (in_folder store lacks.name) differs) ∙ gone);
+    }
+      where
+        differs : bytes_eq (lock_path store) (in_folder store lacks.name) ≡ false
+        differs = ⊎_elim
+            (λ (is : IsFileName lacks.name lacks.is.0 Table). apart (in_folder store lacks.name) Table
+            (lacks.name, lacks.is.0, is, refl) (λ e. let never : DBLock ≡ Table = e in cc))
+            (λ (is : IsFileName lacks.name lacks.is.0 Log). apart_log lacks.name lacks.is.0
+            (lacks.name, lacks.is.0, is, refl))
+            lacks.is.1
 
     module _ (meaning : Meaning) (cmp : List ℕ → List ℕ → Ordering) where
       -- and the same contents

@@ -1,7 +1,7 @@
 -- What opening an engine does, put together: an opening that ends before the lock is taken, one
 -- whose store isn't opened, and one that is done.
 use Rattle.std.specs.Prelude.{Result}
-use Rattle.std.proofs.Common.{◌≡◌, ◌≤◌, ◌+◌, ◌-◌, ◌⊎◌, ◌∙◌, ⊎_elim, inl, inr, ℕ, Bool, true, List, refl, sym, ap, subst, arith, None, Err, IsTrue}
+use Rattle.std.proofs.Common.{◌≡◌, ◌≤◌, ◌+◌, ◌⊎◌, ◌∙◌, ⊎_elim, inl, inr, ℕ, Bool, true, List, refl, sym, ap, subst, arith, None, Err, IsTrue}
 use Rattle.leveldb_base.specs.Error.{IsOutOfMemory}
 use Rattle.leveldb_base.specs.declared.error.Status.{Status}
 use Rattle.leveldb_base.specs.declared.error.StatusCode.TheVariants.{LockError}
@@ -10,7 +10,6 @@ use Rattle.leveldb_env.specs.Options.{Boxed, OptionsOf}
 use Rattle.leveldb_env.specs.declared.env.Env.{Ghosts}
 use Rattle.leveldb_env.proofs.EnvLemmas.{Run-call, Run-mono, SameBut-created, begun, call}
 use Rattle.leveldb_version.proofs.BytesLemmas.{bytes_stay}
-use Rattle.leveldb_version.specs.Contents.{made}
 use Rattle.leveldb_version.specs.Paths.{lock_path}
 use Rattle.leveldb_version.specs.StoreSteps.{AppendedAreBytes}
 use Rattle.leveldb_store.specs.Format.{Agrees, Format, Meaning}
@@ -21,7 +20,7 @@ use Rattle.rusty_leveldb.specs.Engine.{IsOpening, IsStoreName, Recalls}
 use Rattle.rusty_leveldb.specs.Frame.{IsOwn, Spares}
 use Rattle.rusty_leveldb.specs.Serves.{Represents, refusal_of, setting_between}
 use Rattle.rusty_leveldb.specs.State.{Opening, State, open_store}
-use Rattle.rusty_leveldb.specs.Unopened.{OpenExcused}
+use Rattle.rusty_leveldb.specs.Unopened.{MakesLockAlone, OpenExcused}
 use Rattle.rusty_leveldb.proofs.OpeningLemmas.{lock_spares, taken_holds}
 use Rattle.rusty_leveldb.proofs.Others.{others_made}
 use Rattle.rusty_leveldb.proofs.UnopenedLemmas.{open_cause}
@@ -31,7 +30,7 @@ use Rattle.rusty_leveldb.proofs.UnopenedStepLemmas.{unopened_goes}
 
 -- the lock's file was made at most, and no lock has changed
 pub record IsNear (store : List ℕ) (from to : Observed) : Type 0 where
-  pub run : Run (BeforeOrAfter (created (lock_path store)) from.disk.files) from to
+  pub run : MakesLockAlone store from to
   pub locks : to.disk.locked ≡ from.disk.locked
 
 pub near_still : (store : List ℕ) (at : Observed) → IsNear store at at
@@ -117,6 +116,8 @@ module _ {E C FP F : Type 0} {B : Boxed} (env : Ghosts E F) (formats : OptionsOf
       (Err e) to
   early_opens near later why misnamed = record {
     opened = tt;
+    held = tt;
+    others = λ modelled. near_others (near modelled);
     step = λ opening is meaning agrees modelled old was.
         let by = near modelled in
         let cause = cause_of opening is meaning agrees modelled old was (env.failures to) why in
@@ -133,11 +134,8 @@ module _ {E C FP F : Type 0} {B : Boxed} (env : Ghosts E F) (formats : OptionsOf
         (λ early. refl);
     time = λ modelled. (near modelled).run.time.later;
     misnamed = λ no. (misnamed no, tt);
-    never_opens = λ modelled never. tt;
-    unopened = λ modelled. record {
-      untouched = λ barred. (near modelled).run.has;
-      lock = inl (ap (λ (l : List ℕ → Bool). l (lock_path store)) (near modelled).locks);
-      others = near_others (near modelled);
-    };
+    never_opens = λ modelled never. (tt, (near modelled).run);
+    unopened = λ modelled.
+        inl (ap (λ (l : List ℕ → Bool). l (lock_path store)) (near modelled).locks);
     cause = record { later = later; cause = why };
   }

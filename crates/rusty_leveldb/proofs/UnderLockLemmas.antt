@@ -11,13 +11,13 @@ use Rattle.leveldb_env.specs.declared.env.Env.{Ghosts}
 use Rattle.leveldb_env.proofs.EnvLemmas.{SameBut-created, at_same, bytes_eq-apart, bytes_eq-same}
 use Rattle.leveldb_version.specs.Paths.{current_path, lock_path}
 use Rattle.leveldb_store.proofs.TableKeepsLemmas.{types_apart}
-use Rattle.leveldb_store.specs.OpensStore.{FailsToOpen, IsForbidden, IsForbiddenAs, IsOwnPath, LacksUsableEdits, SameBesideOwn, WhyNotOpened}
+use Rattle.leveldb_store.specs.OpensStore.{FailsToOpen, IsForbidden, IsForbiddenAs, IsOwnPath, LacksCurrent, LacksUsableEdits, SameBesideOwn, WhyNotOpened}
 use Rattle.leveldb_store.specs.Room.{HasFailed}
 use Rattle.leveldb_store.specs.Written.{IsData}
 use Rattle.rusty_leveldb.specs.Frame.{IsOwn, IsOwned, Spares}
 use Rattle.rusty_leveldb.specs.State.{Opening}
-use Rattle.rusty_leveldb.specs.Unopened.{FailedBeside, OpenExcused}
-use Rattle.rusty_leveldb.proofs.LockLemmas.{lock_current, lock_edits, lock_reads}
+use Rattle.rusty_leveldb.specs.Unopened.{FailedBeside, NeverOpens, OpenExcused}
+use Rattle.rusty_leveldb.proofs.LockLemmas.{lock_current, lock_edits, lock_lacks, lock_reads}
 use Rattle.rusty_leveldb.proofs.Others.{others_made, others_then}
 use Rattle.rusty_leveldb.proofs.SyncLemmas.{lock_is_no_data}
 
@@ -107,6 +107,12 @@ late_spares store from taken to took others locks = others_then store from.disk 
 
 -- ---- why a store isn't opened
 
+-- files at which an opening under the lock looks no further
+abbrev pub LooksNoFurther : List ℕ → Opening → Files → Type 0
+LooksNoFurther store asked files =
+    IsForbidden store asked.create_if_missing asked.error_if_exists files
+    ⊎ LacksCurrent store files ⊎ LacksUsableEdits store asked.format files
+
 module _ {E F : Type 0} (env : Ghosts E F) (store : List ℕ) (asked : Opening) (from taken : E)
     (took : IsTrue env.models_disk → IsTaken store (env.observed from) (env.observed taken)) where
   abbrev was : Files
@@ -124,21 +130,26 @@ module _ {E F : Type 0} (env : Ghosts E F) (store : List ℕ) (asked : Opening) 
   pub same_current : IsTrue env.models_disk → here (current_path store) ≡ was (current_path store)
   same_current modelled = lock_current store was here (but modelled)
 
-  -- what was forbidden is
-  pub forbidden_here : IsTrue env.models_disk
-      → IsForbidden store asked.create_if_missing asked.error_if_exists was
-      → IsForbidden store asked.create_if_missing asked.error_if_exists here
-  forbidden_here modelled (inl there) =
-      inl (there.0, λ gone. there.1 (sym (same_current modelled) ∙ gone))
-  forbidden_here modelled (inr none) = inr (none.0, same_current modelled ∙ none.1)
-
-  -- and what had no usable edits has none
-  pub lacks_here : IsTrue env.models_disk → LacksUsableEdits store asked.format was
-      → LacksUsableEdits store asked.format here
-  lacks_here modelled lacks = (
+  -- what was forbidden is, and what had no `CURRENT` or no usable edits has none
+  pub no_further : IsTrue env.models_disk → LooksNoFurther store asked was
+      → LooksNoFurther store asked here
+  no_further modelled (inl (inl there)) =
+      inl (inl (there.0, λ gone. there.1 (sym (same_current modelled) ∙ gone)))
+  no_further modelled (inl (inr none)) = inl (inr (none.0, same_current modelled ∙ none.1))
+  no_further modelled (inr (inl lacks)) =
+      inr (inl (lock_lacks store was here (but modelled) lacks))
+  no_further modelled (inr (inr lacks)) = inr (inr (
     λ gone. lacks.0 (sym (same_current modelled) ∙ gone),
     λ edits has. lacks.1 edits (lock_edits store here was (but_back modelled) edits has),
-  )
+  ))
+
+  -- where the lock is held already, or the opening looks no further, it does so under the lock
+  pub never_here : IsTrue env.models_disk → NeverOpens store asked (env.observed from).disk
+      → LooksNoFurther store asked here
+  never_here modelled (inl (inl held)) =
+      absurd (let never : true ≡ false = sym held ∙ (took modelled).was_free in cc)
+  never_here modelled (inl (inr forbidden)) = no_further modelled (inl forbidden)
+  never_here modelled (inr lacks) = no_further modelled (inr lacks)
 
   excused_forbidden : (e : Status) → IsForbiddenAs env.models_disk store asked.create_if_missing
       asked.error_if_exists here e

@@ -1,7 +1,7 @@
 -- What a write to an engine does, put together: its step, what becomes of the engine, and why it
 -- fails.
 use Rattle.std.specs.Prelude.{OnOk, Result}
-use Rattle.std.proofs.Common.{◌≡◌, ◌<◌, ◌≤◌, ◌+◌, ◌-◌, ◌⊎◌, ◌∙◌, ⊎_elim, inl, inr, ℕ, zero, suc, Bool, true, false, List, [], ◌∷◌, ◌++◌, length, refl, sym, ap, subst, arith, Some, Ok, Err}
+use Rattle.std.proofs.Common.{◌≡◌, ◌<◌, ◌≤◌, ◌+◌, ◌⊎◌, ◌∙◌, ⊎_elim, inl, inr, ℕ, zero, suc, Bool, true, false, List, [], ◌∷◌, ◌++◌, length, refl, sym, ap, subst, arith, Some, Ok, Err}
 use Rattle.leveldb_base.specs.Error.{IsOutOfMemory}
 use Rattle.leveldb_base.specs.History.{Entry, Item, placed}
 use Rattle.leveldb_base.specs.declared.error.Status.{Status}
@@ -16,18 +16,19 @@ use Rattle.leveldb_store.specs.Room.{FailsFor, FailsToMakeRoom, HasFailed, IsFul
 use Rattle.leveldb_store.specs.SoundCall.{IsSoundCall, any_meaning}
 use Rattle.leveldb_store.specs.WriteBatch.{FailsToWrite, WritesBatch}
 use Rattle.rusty_leveldb.specs.Boxes.{EngineOf}
-use Rattle.rusty_leveldb.specs.Calls.{EngineServes}
+use Rattle.rusty_leveldb.specs.Calls.{BecomesOf, EngineServes, KeepsModeOrBreaks}
 use Rattle.rusty_leveldb.specs.Causes.{AreUsedUp}
-use Rattle.rusty_leveldb.specs.Engine.{Answers, IsBroken, WriteExcused, WritesIntoRoom, mode_in, options_in}
+use Rattle.rusty_leveldb.specs.Engine.{Answers, WriteExcused, mode_in, options_in}
 use Rattle.rusty_leveldb.specs.Serves.{done_or}
 use Rattle.rusty_leveldb.specs.State as machine
 use Rattle.rusty_leveldb.specs.State.{write}
 use Rattle.rusty_leveldb.specs.declared.db_impl.engine.Mode.TheVariants.{Open}
 use Rattle.rusty_leveldb.proofs.Batching.{IsUnmade, not_written}
-use Rattle.rusty_leveldb.proofs.EngineLemmas.{open_mode_is, open_or_broken}
+use Rattle.rusty_leveldb.proofs.EngineLemmas.{open_mode_is, open_or_broken, unbroken_opens}
 use Rattle.rusty_leveldb.proofs.CallsLemmas.{not_halted}
+use Rattle.rusty_leveldb.proofs.RestLemmas.{rest_roomless, rest_still, rest_written}
 use Rattle.rusty_leveldb.proofs.SyncLemmas.{log_is_there}
-use Rattle.rusty_leveldb.proofs.WritingLemmas.{EngineMakesRoom, failed_later, room_fails, room_tells, write_done, write_fails}
+use Rattle.rusty_leveldb.proofs.WritingLemmas.{EngineMakesRoom, batch_tells, failed_later, room_fails, room_tells, write_done, write_fails}
 
 -- ---- a memtable that is full
 
@@ -82,11 +83,11 @@ module _ {E C FP F : Type 0} {B : Boxed} (env : Ghosts E F) (formats : OptionsOf
       → EngineServes env formats {T = Unit {0}} done_or before from (write items sync) (Err status)
       before from
   unmade_serves status why = record {
-    options = refl;
+    options = record { rest = refl; sink = refl };
     halted = λ halted. absurd (not_halted (mode_in before) opened halted);
-    becomes = inr refl;
-    step = not_written env formats before
-        (λ store meaning disk old recalls. sym recalls.mode ∙ opened) items sync status why from;
+    becomes = (tt, inr refl);
+    step = not_written env formats before opened items sync status why from;
+    rest = rest_still env before from (write items sync) (Err status) (inr (status, refl));
     time = λ modelled. omega arith;
     cause = record {
       later = omega arith;
@@ -96,8 +97,7 @@ module _ {E C FP F : Type 0} {B : Boxed} (env : Ghosts E F) (formats : OptionsOf
   }
 
   -- the mode in the end
-  becomes : (after : EngineOf E C FP F B) → after.mode ≡ Open
-      → IsBroken (mode_in after) ⊎ (mode_in after ≡ mode_in before)
+  becomes : (after : EngineOf E C FP F B) → after.mode ≡ Open → KeepsModeOrBreaks before after
   becomes after is = ⊎_elim (λ opens. inr (opens.0 ∙ sym opened)) (λ broke. inl broke.0)
       (open_or_broken after is)
 
@@ -110,10 +110,14 @@ module _ {E C FP F : Type 0} {B : Boxed} (env : Ghosts E F) (formats : OptionsOf
     room_fails_serves after to status made = record {
       options = room_tells env formats before from (Err status) after to made;
       halted = λ halted. absurd (not_halted (mode_in before) opened halted);
-      becomes = becomes after
-          (ap (λ (e : EngineOf E C FP F B). e.mode) made.rest ∙ open_mode_is before opened);
+      becomes = (
+        tt,
+        becomes after (ap (λ (e : EngineOf E C FP F B). e.mode) made.rest
+            ∙ open_mode_is before opened),
+      );
       step = λ store meaning modelled old was. room_fails env formats store meaning before from old was
           opened modelled ignores after to items sync status made;
+      rest = rest_roomless env before from opened formats items sync after to status made;
       time = made.sound.time;
       cause = record { later = made.makes.cause.later; cause = excused made.makes.cause.cause };
     }
@@ -139,18 +143,27 @@ module _ {E C FP F : Type 0} {B : Boxed} (env : Ghosts E F) (formats : OptionsOf
     module _ (roomy : EngineOf E C FP F B) (mid : E)
         (made : EngineMakesRoom env formats before from (Ok tt) roomy mid)
         (value : OpenStoreValue C) (to : E) where
+      room_open : roomy.mode ≡ Open
+      room_open = ap (λ (e : EngineOf E C FP F B). e.mode) made.rest ∙ open_mode_is before opened
+
       -- a batch is written into a memtable with room
-      pub into_room : (result : Result (Unit {0}) Status)
+      batch_becomes : (result : Result (Unit {0}) Status)
           → WritesBatch env (formats (options_in roomy)).order roomy.store mid items sync result value
-          to → OnOk result (WritesIntoRoom before items
-          (record roomy { store = value }))
-      into_room (Err status) writes = tt
-      into_room (Ok nothing) writes = (
-        roomy.store.recent,
-        made.makes.room,
-        subst (λ n. IsUnion roomy.store.recent.entries (placed (n + 1) items) value.recent.entries)
-            made.makes.rest.last writes.gains,
+          to → BecomesOf before (write items sync) result (record roomy { store = value })
+      batch_becomes (Ok nothing) writes = (
+        (
+          unbroken_opens (record roomy { store = value }) room_open writes.usable ∙ sym opened,
+          (
+            roomy.store.recent,
+            made.makes.room,
+            subst (λ n. IsUnion roomy.store.recent.entries (placed (n + 1) items)
+                value.recent.entries) made.makes.rest.last writes.gains,
+          ),
+        ),
+        tt,
       )
+      batch_becomes (Err status) writes =
+          (tt, becomes (record roomy { store = value }) room_open)
 
       -- why the batch isn't written
       batch_excused : (status : Status)
@@ -232,13 +245,13 @@ module _ {E C FP F : Type 0} {B : Boxed} (env : Ghosts E F) (formats : OptionsOf
           let sound = subst (λ (f : Format). IsSoundCall {T = Unit {0}} env f.order any_meaning
           roomy.store mid result value to) same_format sound_in in
           record {
-            options = ap (λ (c : C). record roomy.options { cmp = c })
-                (ap (λ (v : OpenStoreValue C). v.cmp) writes.rest)
-                ∙ room_tells env formats before from (Ok tt) roomy mid made;
+            options = batch_tells env formats before from roomy mid made value
+                (ap (λ (v : OpenStoreValue C). v.cmp) writes.rest);
             halted = λ halted. absurd (not_halted (mode_in before) opened halted);
-            becomes = becomes (record roomy { store = value })
-                (ap (λ (e : EngineOf E C FP F B). e.mode) made.rest ∙ open_mode_is before opened);
+            becomes = batch_becomes result writes_in;
             step = step result short writes sound;
+            rest = rest_written env before from opened formats items sync roomy mid made value to
+                result writes_in;
             time = λ modelled.
                 let first = made.sound.time modelled in
                 let second = sound.time modelled in omega (arith, first, second);

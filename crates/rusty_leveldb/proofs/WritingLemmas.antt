@@ -1,6 +1,6 @@
 -- The step of the machine in which a batch is written: first room is made in the memtable, then the
 -- batch is appended to the log.
-use Rattle.std.specs.Prelude.{Result, string_bytes}
+use Rattle.std.specs.Prelude.{Result, is_some, string_bytes}
 use Rattle.std.proofs.Common.{◌≡◌, ◌≤◌, ◌<◌, ◌+◌, ◌-◌, ◌^◌, ◌⊎◌, ◌∙◌, ⊎_elim, inl, inr, ℕ, zero, suc, Bool, List, [], ◌∷◌, ◌++◌, length, max, refl, sym, ap, subst, arith, Option, Some, None, Ok, Err, IsTrue}
 use Rattle.std.specs.declared.cmp.Ordering.{Ordering}
 use Rattle.leveldb_base.specs.Error.{IsOutOfMemory, text_of}
@@ -22,15 +22,14 @@ use Rattle.leveldb_store.specs.OpenStore.{IsUnbroken, OpenStoreValue}
 use Rattle.leveldb_store.specs.Room.{FailsToMakeRoom, HasFailed, MakesRoom, TellsOnly}
 use Rattle.leveldb_store.specs.SoundCall.{IsSoundCall, any_meaning}
 use Rattle.leveldb_store.specs.Write.{open_log_path}
-use Rattle.leveldb_store.specs.WriteBatch.{AddsBatch, FailsToWrite, HoldsBatches, IsOf, LeavesHistory, WritesBatch}
-use Rattle.leveldb_store.specs.WriteBatch as store_batch
+use Rattle.leveldb_store.specs.WriteBatch.{AddsBatch, FailsToWrite, HoldsBatches, IsOf, LeavesHistory, WritesBatch, next_batch}
 use Rattle.leveldb_store.specs.Written.{IsDataPath, IsTableOf, IsWritten, KeepsStore, KeepsWritten, Shows, SparesRest}
 use Rattle.rusty_leveldb.specs.declared.db_impl.engine.Mode.TheVariants.{Open}
 use Rattle.rusty_leveldb.specs.Boxes.{EngineOf}
 use Rattle.rusty_leveldb.specs.Causes.{Cause, Comes, Fits, Setting, compressor_failed, device_failed, out_of_memory, too_large, used_up}
 use Rattle.rusty_leveldb.specs.Engine.{Recalls, mode_in, options_in, scene}
 use Rattle.rusty_leveldb.specs.Frame.{MayTouch, Spares}
-use Rattle.rusty_leveldb.specs.Machine.{Breaks, Refuses, Risk, Step, Writes, next_batch, risk_between}
+use Rattle.rusty_leveldb.specs.Machine.{Breaks, Refuses, Risk, Step, Writes, added_batch, risk_between}
 use Rattle.rusty_leveldb.specs.Serves.{Goes, IsSpared, Represents, refusal_of, setting_between}
 use Rattle.rusty_leveldb.specs.State as machine
 use Rattle.rusty_leveldb.specs.State.{State, done, open_mode, refused, write}
@@ -72,6 +71,7 @@ module _ {E C FP F : Type 0} {B : Boxed} (env : Ghosts E F)
       store = after.store;
       options = record (options_in before) { log = after.options.log };
     }
+    pub sink : is_some after.options.log ≡ is_some before.options.log
 
 -- what making room leaves of the options
 pub room_tells : {E C FP F : Type 0} {B : Boxed} (env : Ghosts E F)
@@ -79,10 +79,26 @@ pub room_tells : {E C FP F : Type 0} {B : Boxed} (env : Ghosts E F)
     (result : Result (Unit {0}) Status) (after : EngineOf E C FP F B) (to : E)
     → EngineMakesRoom env formats before from result after to
     → TellsOnly (options_in before) (options_in after)
-room_tells {E} {C} {FP} {F} {B} env formats before from result after to made =
-    ap (λ (e : EngineOf E C FP F B). options_in e) made.rest
-    ∙ ap (λ (c : C). record (options_in before) { cmp = c; log = after.options.log })
-    made.makes.rest.cmp
+room_tells {E} {C} {FP} {F} {B} env formats before from result after to made = record {
+  rest = ap (λ (e : EngineOf E C FP F B). options_in e) made.rest
+      ∙ ap (λ (c : C). record (options_in before) { cmp = c; log = after.options.log })
+      made.makes.rest.cmp;
+  sink = made.sink;
+}
+
+-- and the batch that is written then
+pub batch_tells : {E C FP F : Type 0} {B : Boxed} (env : Ghosts E F)
+    (formats : OptionsOf C FP B → Format) (before : EngineOf E C FP F B) (from : E)
+    (roomy : EngineOf E C FP F B) (mid : E) → EngineMakesRoom env formats before from (Ok tt) roomy mid
+    → (value : OpenStoreValue C) → value.cmp ≡ roomy.store.cmp
+    → TellsOnly (options_in before) (options_in {E = E} {C = C} {FP = FP} {F = F} {B = B}
+    (record roomy { store = value }))
+batch_tells {C = C} env formats before from roomy mid made value same =
+    let tells = room_tells env formats before from (Ok tt) roomy mid made in
+    record {
+      rest = ap (λ (c : C). record roomy.options { cmp = c }) same ∙ tells.rest;
+      sink = tells.sink;
+    }
 
 module _ {E C FP F : Type 0} {B : Boxed} (env : Ghosts E F) (formats : OptionsOf C FP B → Format)
     (store : List ℕ) (meaning : Meaning) (before : EngineOf E C FP F B) (from : E) (old : State)
@@ -232,8 +248,8 @@ module _ {E C FP F : Type 0} {B : Boxed} (env : Ghosts E F) (formats : OptionsOf
     }
 
     breaks : (pending : Option (List Entry))
-        → ((pending ≡ None) ⊎ (pending ≡ Some (next_batch old items)))
-        → Breaks old None (broke pending) ⊎ Breaks old (Some (next_batch old items)) (broke pending)
+        → ((pending ≡ None) ⊎ (pending ≡ Some (added_batch old items)))
+        → Breaks old None (broke pending) ⊎ Breaks old (Some (added_batch old items)) (broke pending)
     breaks pending (inl is) = inl (record {
       state = ap (λ p. broke p) is;
       durable = inl refl;
@@ -245,7 +261,7 @@ module _ {E C FP F : Type 0} {B : Boxed} (env : Ghosts E F) (formats : OptionsOf
 
     -- refused, and the store is broken
     refuses_broken : (pending : Option (List Entry))
-        → ((pending ≡ None) ⊎ (pending ≡ Some (next_batch old items)))
+        → ((pending ≡ None) ⊎ (pending ≡ Some (added_batch old items)))
         → IsOutOfMemory status ⊎ HasFailed (env.failures from) (env.failures to)
         → Refuses setting old (write items sync) (refusal_of status) (broke pending)
     refuses_broken pending which (inl memory) = record {
@@ -384,7 +400,7 @@ module _ {E C FP F : Type 0} {B : Boxed} (env : Ghosts E F) (formats : OptionsOf
 
     -- the batch as the store has it
     abbrev its_batch : List Entry
-    its_batch = store_batch.next_batch roomy.store items
+    its_batch = next_batch roomy.store items
 
     room_unbroken : IsUnbroken roomy.store
     room_unbroken = made.makes.usable
@@ -401,7 +417,7 @@ module _ {E C FP F : Type 0} {B : Boxed} (env : Ghosts E F) (formats : OptionsOf
     room_last : roomy.store.set.last_sequence ≡ old.last
     room_last = kept_last roomy.store mid (room_keeps ignores roomy mid (Ok tt) made) made.makes.rest
 
-    same_batch : its_batch ≡ next_batch old items
+    same_batch : its_batch ≡ added_batch old items
     same_batch = ap (λ n. placed (n + 1) items) room_last
 
     in_order : (result : Result (Unit {0}) Status)
@@ -420,9 +436,9 @@ module _ {E C FP F : Type 0} {B : Boxed} (env : Ghosts E F) (formats : OptionsOf
       end_path = ap (λ (v : OpenStoreValue C). v.set.store) writes.rest ∙ made.makes.rest.store
 
       end_options : formats (options_in after) ≡ formats (options_in before)
-      end_options = ignores (options_in before) (options_in after) (ap (λ (c : C).
-          record roomy.options { cmp = c }) (ap (λ (v : OpenStoreValue C). v.cmp) writes.rest)
-          ∙ room_tells env formats before from (Ok tt) roomy mid made)
+      end_options = ignores (options_in before) (options_in after)
+          (batch_tells env formats before from roomy mid made value
+          (ap (λ (v : OpenStoreValue C). v.cmp) writes.rest))
 
       end_bytes : AppendedAreBytes (env.observed to).disk.files
       end_bytes = sound.bytes modelled (room_bytes ignores roomy mid (Ok tt) made)
@@ -476,12 +492,12 @@ module _ {E C FP F : Type 0} {B : Boxed} (env : Ghosts E F) (formats : OptionsOf
       adds = (in_order (Ok tt) writes).adds modelled meaning (may_stay None old.store) old.history
           old.durable room_held
 
-      longer : old.history ++ its_batch ∷ [] ≡ old.history ++ next_batch old items ∷ []
+      longer : old.history ++ its_batch ∷ [] ≡ old.history ++ added_batch old items ∷ []
       longer = ap (λ b. old.history ++ b ∷ []) same_batch
 
       abbrev new : State
       new = record old {
-        history = old.history ++ next_batch old items ∷ [];
+        history = old.history ++ added_batch old items ∷ [];
         last = old.last + length items;
         durable = adds.durable_now;
       }
@@ -513,7 +529,7 @@ module _ {E C FP F : Type 0} {B : Boxed} (env : Ghosts E F) (formats : OptionsOf
       }
 
       end_run : Run (IsSpared store meaning old (record {
-        history = old.history ++ next_batch old items ∷ [];
+        history = old.history ++ added_batch old items ∷ [];
         bound = old.last + length items + 0;
         opening = None;
       })) (env.observed mid) (env.observed to)
@@ -555,16 +571,16 @@ module _ {E C FP F : Type 0} {B : Boxed} (env : Ghosts E F) (formats : OptionsOf
           (subst (λ m. Step m (setting_between meaning (env.failures from) (env.failures to)) old
           (write items sync) done new) (sym mode) (fits, wrote))
           (subst (λ p. Run (IsSpared store meaning old (record {
-            history = with_batch (old.history ++ next_batch old items ∷ []) p;
+            history = with_batch (old.history ++ added_batch old items ∷ []) p;
             bound = old.last + length items + count_of p;
             opening = None;
           })) (env.observed from) (env.observed to)) (sym nothing)
           (both_run (Ok tt) writes sound (record {
-            history = old.history ++ next_batch old items ∷ [];
+            history = old.history ++ added_batch old items ∷ [];
             bound = old.last + length items + 0;
             opening = None;
           }) refl (omega arith)
-          (spared_longer (next_batch old items) (old.last + length items + 0) (omega arith)) end_run))
+          (spared_longer (added_batch old items) (old.last + length items + 0) (omega arith)) end_run))
           (end_spares (Ok tt) writes sound) (λ never. absurd never)
 
     -- ---- it isn't written
@@ -582,7 +598,7 @@ module _ {E C FP F : Type 0} {B : Boxed} (env : Ghosts E F) (formats : OptionsOf
           old.history old.durable room_held
 
       -- what is pending, as the machine's batch
-      which : (leaves.0 ≡ None) ⊎ (leaves.0 ≡ Some (next_batch old items))
+      which : (leaves.0 ≡ None) ⊎ (leaves.0 ≡ Some (added_batch old items))
       which = ⊎_elim (λ (no : leaves.0 ≡ None). inl no)
           (λ (it : leaves.0 ≡ Some its_batch). inr (it ∙ ap (λ b. Some b) same_batch)) leaves.1
 
@@ -672,7 +688,7 @@ module _ {E C FP F : Type 0} {B : Boxed} (env : Ghosts E F) (formats : OptionsOf
           })
 
           spared_left : (pending : Option (List Entry))
-              → ((pending ≡ None) ⊎ (pending ≡ Some (next_batch old items)))
+              → ((pending ≡ None) ⊎ (pending ≡ Some (added_batch old items)))
               → IsSpared store meaning old (record {
                 history = with_batch old.history pending;
                 bound = old.last + count_of pending;
@@ -687,8 +703,8 @@ module _ {E C FP F : Type 0} {B : Boxed} (env : Ghosts E F) (formats : OptionsOf
             history = with_batch old.history p;
             bound = old.last + count_of p;
             opening = None;
-          }) files) (sym is) (spared_longer (next_batch old items)
-              (old.last + count_of (Some (next_batch old items))) (omega arith))
+          }) files) (sym is) (spared_longer (added_batch old items)
+              (old.last + count_of (Some (added_batch old items))) (omega arith))
 
       pub write_fails : Goes store meaning (Recalls formats store meaning)
           (scene env (Some before) from) (write items sync) (refused (refusal_of status))

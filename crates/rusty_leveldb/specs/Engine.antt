@@ -1,5 +1,5 @@
 -- What an engine has in memory, what that has to do with the disk, and what its calls return.
-use Rattle.std.specs.Prelude.{◌≡◌, ◌≢◌, ◌≤◌, ◌⊎◌, ◌↔◌, ℕ, Bool, true, false, List, [], ◌∷◌, ◌++◌, length, Option, Some, None, IsTrue, string_bytes, ◌&&◌, ◌||◌, nat_le, ◌^◌, is_some}
+use Rattle.std.specs.Prelude.{◌≡◌, ◌≢◌, ◌⊎◌, ◌↔◌, ℕ, Bool, true, false, List, [], ◌∷◌, ◌++◌, length, Option, Some, None, IsTrue, string_bytes, ◌&&◌, ◌||◌, nat_le, ◌^◌, is_some}
 use Rattle.leveldb_base.specs.declared.cmp.Cmp.{Ghosts as CmpGhosts}
 use Rattle.leveldb_base.specs.declared.error.Status.{Status}
 use Rattle.leveldb_base.specs.declared.error.StatusCode.TheVariants.{InvalidArgument, NotSupported}
@@ -71,6 +71,17 @@ IsClosedOrBroken mode = IsClosed mode ⊎ IsBroken mode
 abbrev pub options_in : {E C FP F : Type 0} {B : Boxed} → EngineOf E C FP F B → OptionsOf C FP B
 options_in engine = record engine.options { cmp = engine.store.cmp }
 
+-- ---- the lock
+
+-- the lock of an engine is that of its store
+abbrev pub HasOwnLock : {E C FP F : Type 0} {B : Boxed} → EngineOf E C FP F B → Type 0
+HasOwnLock engine = string_bytes engine.lock ≡ lock_path engine.store.set.store
+
+-- whether an engine's lock is held
+abbrev pub holds_lock : {E C FP F : Type 0} {B : Boxed} → Ghosts E F → EngineOf E C FP F B → E
+    → Bool
+holds_lock env engine at = (env.observed at).disk.locked (string_bytes engine.lock)
+
 -- ---- memory and disk
 
 module _ {E C FP F : Type 0} {B : Boxed} (formats : OptionsOf C FP B → Format) (store : List ℕ)
@@ -93,11 +104,6 @@ module _ {E C FP F : Type 0} {B : Boxed} (formats : OptionsOf C FP B → Format)
         → IsWritten state.format.order meaning engine.store disk.files
 
 -- ---- what the calls return
-
--- where the environment's disk is observed, its moment doesn't fall
-abbrev pub TimeGoesOn : {E F : Type 0} → Ghosts E F → E → E → Type 0
-TimeGoesOn env from to = IsTrue env.models_disk
-    → (env.observed from).moment ≤ (env.observed to).moment
 
 -- no engine of these options
 abbrev pub no_engine : {E C FP F : Type 0} {B : Boxed} → OptionsOf C FP B

@@ -1,9 +1,9 @@
 //! The public store: an engine beside a borrow of its environment, which each call gives to it.
-ghost use Rattle.std.specs.Prelude.{◌≡◌, ◌∷◌, [], Some, None, false, IfOk, OnOk};
+ghost use Rattle.std.specs.Prelude.{◌≡◌, ◌∷◌, [], Some, None, false, IfOk};
 ghost use Rattle.leveldb_mem.specs.WriteBatch.{item_of};
 ghost use Rattle.rusty_leveldb.specs.State.{write, get, flush, close};
 ghost use Rattle.rusty_leveldb.specs.Serves.{done_or, found_or};
-ghost use Rattle.rusty_leveldb.specs.Engine.{WritesIntoRoom, opening_of};
+ghost use Rattle.rusty_leveldb.specs.Engine.{opening_of};
 ghost use Rattle.leveldb_store.specs.Format.{format_of};
 ghost use Rattle.rusty_leveldb.specs.Calls.{EngineServes, EngineAbandons, EngineOpens, result_map};
 
@@ -57,6 +57,10 @@ impl<'e, E: Env, C: UserCmp + Copy, FP: FilterPolicy + Copy> Store<'e, E, Engine
     /// `Options::check` refuses make no call. An opening that fails gives back the lock that it
     /// took, unless the device failed once more. A store that is locked, or is missing and isn't to
     /// be made, or is there and must not be, or whose manifest is damaged, is never opened.
+    ///
+    /// After an Err nothing is said of which environment is left: `left` is only some one, since
+    /// the borrow of the environment is gone with the store that wasn't opened. `Engine::open` says
+    /// it of the environment that you give it.
     pub fn open(
         alloc: Global,
         name: &str,
@@ -106,7 +110,6 @@ impl<'e, E: Env, C: UserCmp + Copy, FP: FilterPolicy + Copy> Store<'e, E, Engine
             ⟦<CompressorList as Compressors>⟧.codings in
             EngineServes E.Env formats done_or self.old.state self.old.env.now
             (write batch.items sync) result self.new.state self.new.env.now }
-        ensures room { OnOk result (WritesIntoRoom self.old.state batch.items self.new.state) }
     {
         self.state.write(&mut *self.env, batch, sync)
     }

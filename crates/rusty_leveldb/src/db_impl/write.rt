@@ -1,5 +1,5 @@
 //! Writing to a store: batches, and syncs of its log.
-ghost use Rattle.std.specs.Prelude.{◌≡◌, ◌∷◌, [], Some, None, false, OnOk};
+ghost use Rattle.std.specs.Prelude.{◌≡◌, ◌∷◌, [], Some, None, false, is_some};
 ghost use Rattle.leveldb_mem.specs.WriteBatch.{item_of};
 ghost use Rattle.rusty_leveldb.specs.State.{write, flush};
 ghost use Rattle.rusty_leveldb.specs.Serves.{done_or};
@@ -7,11 +7,11 @@ ghost use Rattle.leveldb_store.specs.Format.{Agrees, format_of};
 ghost use Rattle.leveldb_store.specs.OpenStore.{IsUnbroken};
 ghost use Rattle.leveldb_store.specs.Room.{MakesRoom};
 ghost use Rattle.leveldb_store.specs.SoundCall.{IsSoundCall};
-ghost use Rattle.rusty_leveldb.specs.Engine.{WritesIntoRoom, options_in};
+ghost use Rattle.rusty_leveldb.specs.Engine.{options_in};
 ghost use Rattle.rusty_leveldb.specs.Calls.{EngineServes};
 
 use super::engine::Engine;
-use super::info_log::InfoLog;
+use super::info_log::{InfoLog, NoLog};
 use leveldb_base::cmp::UserCmp;
 use leveldb_base::error::Result;
 use leveldb_env::compressor::{CompressorList, Compressors};
@@ -50,11 +50,10 @@ impl<E: Env, C: UserCmp + Copy, FP: FilterPolicy + Copy> Engine<E, C, FP> {
     /// then on. A memtable that is full becomes a table first. A failed append or sync breaks the
     /// store: the batch isn't seen, and may be there when the store is opened again.
     pub fn write(&mut self, env: &mut E, batch: WriteBatch, sync: bool) -> Result<()>
-        ensures serves { let formats = format_of C.Cmp FP.FilterPolicy
+        ensures { let formats = format_of C.Cmp FP.FilterPolicy
             ⟦<CompressorList as Compressors>⟧.codings in
             EngineServes E.Env formats done_or self.old env.old (write batch.items sync) result
             self.new env.new }
-        ensures room { OnOk result (WritesIntoRoom self.old batch.items self.new) }
     {
         self.check_open()?;
         self.make_room(env)?;
@@ -74,12 +73,18 @@ impl<E: Env, C: UserCmp + Copy, FP: FilterPolicy + Copy> Engine<E, C, FP> {
           store = self.new.store;
           options = record (options_in self.old) { log = self.new.options.log };
         } }
+        ensures sink { is_some self.new.options.log ≡ is_some self.old.options.log }
     {
         self.options.cmp = self.store.cmp();
-        let mut log = InfoLog(self.options.log.take());
-        let made = self.store.make_room(env, &self.options, &mut log);
-        self.options.log = log.0;
-        made
+        match self.options.log.take() {
+            Some(logger) => {
+                let mut log = InfoLog(logger);
+                let made = self.store.make_room(env, &self.options, &mut log);
+                self.options.log = Some(log.0);
+                made
+            }
+            None => self.store.make_room(env, &self.options, &mut NoLog),
+        }
     }
 
     /// Makes a crash keep all batches.

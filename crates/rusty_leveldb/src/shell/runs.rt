@@ -3,10 +3,11 @@ ghost use Rattle.std.specs.Prelude.{◌≡◌, ◌≤◌, ◌⊎◌, ◌++◌, L
 ghost use Rattle.leveldb_base.specs.Error.{IsOutOfMemory};
 ghost use Rattle.leveldb_mem.specs.WriteBatch.{with_item, IsTooLong};
 ghost use Rattle.rusty_leveldb.specs.Causes.{IsLongBatch};
-ghost use Rattle.rusty_leveldb.specs.Engine.{TimeGoesOn, Answers, opening_of};
+ghost use Rattle.rusty_leveldb.specs.Engine.{Answers, opening_of};
 ghost use Rattle.rusty_leveldb.specs.Unopened.{OpenExcused};
 ghost use Rattle.leveldb_store.specs.Format.{format_of};
 ghost use Rattle.leveldb_store.specs.Room.{FailsFor};
+ghost use Rattle.leveldb_store.specs.SoundCall.{TimeGoesOn};
 ghost use Rattle.rusty_leveldb.specs.Serves.{done_or};
 ghost use Rattle.rusty_leveldb.specs.State as machine;
 ghost use Rattle.rusty_leveldb.specs.Shell.{HasRun, request_of, answer_of, change_of};

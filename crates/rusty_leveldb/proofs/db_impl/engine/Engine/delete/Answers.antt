@@ -41,4 +41,4 @@ returns g c =
     (format_of g.C.Cmp g.FP.FilterPolicy (compressors g.dyn-2).codings) done_or c.args.self.now
     c.args.env.now (write items false) c.write.result c.write.new.self c.write.new.env)
     (one_change c.in_ok-batch.batch c.delete.new.self (item_of c.args.key.now None) c.in_ok-batch.ensures.ok
-    c.in_ok-delete.ensures.ok) c.write.ensures.serves
+    c.in_ok-delete.ensures.ok) c.write.ensures
