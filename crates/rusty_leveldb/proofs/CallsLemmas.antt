@@ -4,12 +4,15 @@ use Rattle.std.specs.Prelude.{IfErr, IsErrAnd, Result, codes, IfSome, string_byt
 use Rattle.std.specs.declared.alloc.Global.{Global}
 use Rattle.std.proofs.Common.{◌≡◌, ◌⊎◌, ◌∙◌, ⊎_elim, inl, inr, ℕ, true, false, List, [], refl, sym, ap, subst, arith, Option, Some, None, Ok, Err}
 use Rattle.leveldb_base.specs.Error.{IsOutOfMemory, text_of}
+use Rattle.leveldb_base.specs.declared.cmp.Cmp.{Ghosts as CmpGhosts}
 use Rattle.leveldb_base.specs.declared.error.Status.{Status}
 use Rattle.leveldb_base.specs.declared.error.StatusCode.TheVariants.{InvalidArgument}
 use Rattle.leveldb_env.specs.Env.{ChangesFiles, ChangesLocks, FilesUnchanged, HasCause, lock_set, same}
 use Rattle.leveldb_env.specs.Options.{Boxed, OptionsOf}
 use Rattle.leveldb_env.specs.declared.env.Env.{Ghosts}
+use Rattle.leveldb_env.specs.declared.filter.FilterPolicy.{Ghosts as FilterGhosts}
 use Rattle.leveldb_mem.specs.Log.Writer.{broken_writer}
+use Rattle.leveldb_store.specs.BuildTable.{TableChoices}
 use Rattle.leveldb_store.specs.Format.{Format}
 use Rattle.leveldb_store.specs.OpenStore.{OpenStoreValue}
 use Rattle.leveldb_store.specs.Read.{LooksUpKey}
@@ -22,7 +25,7 @@ use Rattle.rusty_leveldb.specs.declared.db_impl.engine.Mode.TheVariants.{Broken,
 use Rattle.rusty_leveldb.specs.Boxes.{EngineOf}
 use Rattle.rusty_leveldb.specs.Calls.{BecomesOf, EngineServes, HasReason}
 use Rattle.rusty_leveldb.specs.Causes.{IsClosedRefusal, IsBrokenRefusal, IsLongKey, Setting}
-use Rattle.rusty_leveldb.specs.Engine.{AnswersStill, GetExcused, IsClosedOrBroken, RefusedAsBroken, RefusedAsClosed, RefusedByMode, SyncExcused, mode_in, options_in}
+use Rattle.rusty_leveldb.specs.Engine.{AnswersStill, GetExcused, IsClosedOrBroken, RefusedAsBroken, RefusedAsClosed, RefusedByMode, SyncExcused, mode_in, options_in, formats_of}
 use Rattle.rusty_leveldb.specs.Frame.{MayTouch}
 use Rattle.rusty_leveldb.specs.Machine.{Step}
 use Rattle.rusty_leveldb.specs.Serves.{done_or, found_or, refusal_of, setting_between}
@@ -86,8 +89,12 @@ module _ (setting : Setting) (old : State) where
   broken_step close writes refusal says = (says, refl)
   broken_step request writes refusal says = absurd writes
 
-module _ {E C FP F : Type 0} {B : Boxed} (env : Ghosts E F) (formats : OptionsOf C FP B → Format)
+module _ {E C FP F D P : Type 0} {B : Boxed} {keys : CmpGhosts D} {key_filters : FilterGhosts P}
+    (env : Ghosts E F) (choices : OptionsOf C FP B → TableChoices keys key_filters)
     (before : EngineOf E C FP F B) where
+  abbrev formats : OptionsOf C FP B → Format
+  formats = formats_of choices
+
   -- ---- a call that the mode refuses
 
   -- the machine refuses it so
@@ -131,7 +138,7 @@ module _ {E C FP F : Type 0} {B : Boxed} (env : Ghosts E F) (formats : OptionsOf
 
   halted_reason : (request : Request) → Writes request → (status : Status) (at : E)
       → RefusedByMode (mode_in before) status
-      → HasReason env formats {T = Unit {0}} before at request (Err status) at
+      → HasReason env choices {T = Unit {0}} before at request (Err status) at
   halted_reason (write items sync) writes status at why =
       record { later = omega arith; cause = inl (inl why) }
   halted_reason flush writes status at why =
@@ -142,7 +149,7 @@ module _ {E C FP F : Type 0} {B : Boxed} (env : Ghosts E F) (formats : OptionsOf
 
   pub halted_serves : (request : Request) → Writes request → (status : Status) (at : E)
       → RefusedByMode (mode_in before) status
-      → EngineServes env formats {T = Unit {0}} done_or before at request (Err status) before at
+      → EngineServes env choices {T = Unit {0}} done_or before at request (Err status) before at
   halted_serves request writes status at why = record {
     options = record { rest = refl; sink = refl };
     halted = λ halted. (refl, refl, why);
@@ -228,7 +235,7 @@ module _ {E C FP F : Type 0} {B : Boxed} (env : Ghosts E F) (formats : OptionsOf
         → SyncsBatches env (formats (options_in before)).order before.store from result value mid
         → IsSoundCall {T = Unit {0}} env (formats (options_in before)).order any_meaning before.store
         from result value mid
-        → EngineServes env formats done_or before from flush result (record before { store = value })
+        → EngineServes env choices done_or before from flush result (record before { store = value })
         mid
     flush_serves result syncs batches sound = record {
       options = sync_tells result before.mode syncs;
@@ -246,7 +253,7 @@ module _ {E C FP F : Type 0} {B : Boxed} (env : Ghosts E F) (formats : OptionsOf
         → SyncsBatches env (formats (options_in before)).order before.store from (Err status) value mid
         → IsSoundCall {T = Unit {0}} env (formats (options_in before)).order any_meaning before.store
         from (Err status) value mid
-        → EngineServes env formats {T = Unit {0}} done_or before from close (Err status)
+        → EngineServes env choices {T = Unit {0}} done_or before from close (Err status)
         (record before { store = value; mode = Broken }) mid
     close_unsynced_serves status syncs batches sound = record {
       options = sync_tells (Err status) Broken syncs;
@@ -277,7 +284,7 @@ module _ {E C FP F : Type 0} {B : Boxed} (env : Ghosts E F) (formats : OptionsOf
           → ChangesLocks {T = Unit {0}} env.models_disk (lock_set lock false) (env.observed mid)
           (env.observed to) (Err status)
           → HasCause {T = Unit {0}} (λ _. ⊥) (env.failures mid) (env.failures to) (Err status)
-          → EngineServes env formats {T = Unit {0}} done_or before from close (Err status)
+          → EngineServes env choices {T = Unit {0}} done_or before from close (Err status)
           (record before { store = value; mode = Broken }) to
       close_locked_serves status does locks cause = record {
         options = sync_tells (Ok tt) Broken syncs;
@@ -299,7 +306,7 @@ module _ {E C FP F : Type 0} {B : Boxed} (env : Ghosts E F) (formats : OptionsOf
           → ChangesLocks {T = Unit {0}} env.models_disk (lock_set lock false) (env.observed mid)
           (env.observed to) (Ok tt)
           → HasCause {T = Unit {0}} (λ _. ⊥) (env.failures mid) (env.failures to) (Ok tt)
-          → EngineServes env formats {T = Unit {0}} done_or before from close (Ok tt)
+          → EngineServes env choices {T = Unit {0}} done_or before from close (Ok tt)
           (record before { store = value; mode = Closed }) to
       closed_serves does locks cause =
           let counted = cause.ok ∙ syncs.cause.ok in
@@ -326,7 +333,7 @@ module _ {E C FP F : Type 0} {B : Boxed} (env : Ghosts E F) (formats : OptionsOf
 
   module _ (key : List ℕ) (from : E) where
     pub get_closed_serves : (status : Status) → RefusedAsClosed (mode_in before) status
-        → EngineServes env formats found_or before from (get None key) (Err status) before from
+        → EngineServes env choices found_or before from (get None key) (Err status) before from
     get_closed_serves status why = record {
       options = record { rest = refl; sink = refl };
       halted = λ halted. (refl, refl, inl why);
@@ -340,7 +347,7 @@ module _ {E C FP F : Type 0} {B : Boxed} (env : Ghosts E F) (formats : OptionsOf
     module _ (usable : mode_in before ≡ machine.closed → ⊥) where
       pub get_long_serves : (result : Result (Option (List ℕ)) Status)
           → IsErrAnd result (λ status. status.code ≡ InvalidArgument) → IsLongKey key
-          → EngineServes env formats found_or before from (get None key) result before from
+          → EngineServes env choices found_or before from (get None key) result before from
       get_long_serves result fails long = record {
         options = record { rest = refl; sink = refl };
         halted = λ halted. absurd (usable halted);
@@ -361,7 +368,7 @@ module _ {E C FP F : Type 0} {B : Boxed} (env : Ghosts E F) (formats : OptionsOf
       pub get_serves : (IsLongKey key → ⊥) → (to : E) (result : Result (Option (List ℕ)) Status)
           → LooksUpKey env (formats (options_in before)).order (formats (options_in before))
           before.store from key result to
-          → EngineServes env formats found_or before from (get None key) result
+          → EngineServes env choices found_or before from (get None key) result
           (record before { options = options_in before }) to
       get_serves short to result looks = record {
         options = record { rest = refl; sink = refl };
@@ -378,10 +385,10 @@ module _ {E C FP F : Type 0} {B : Boxed} (env : Ghosts E F) (formats : OptionsOf
           → (result : Result (Option (List ℕ)) Status)
           → LooksUpKey env (formats (options_in before)).order
           (formats (record before.options { cmp = cmp })) before.store from key result to
-          → EngineServes env formats found_or before from (get None key) result
+          → EngineServes env choices found_or before from (get None key) result
           (record before { options = record before.options { cmp = cmp } }) to
       get_serves_in cmp same short to result looks =
-          subst (λ (c : C). EngineServes env formats found_or before from (get None key) result
+          subst (λ (c : C). EngineServes env choices found_or before from (get None key) result
           (record before { options = record before.options { cmp = c } }) to) (sym same)
           (get_serves short to result (subst (λ (c : C).
           LooksUpKey env (formats (options_in before)).order

@@ -3,15 +3,18 @@ use Rattle.std.specs.Prelude.{string_bytes}
 use Rattle.std.proofs.Common.{◌≡◌, ◌≢◌, ◌≤◌, ◌∙◌, ⊎_elim, inl, inr, ℕ, Bool, true, false, List, sym, ap, subst, arith, Some, None, Ok, IsTrue}
 use Rattle.leveldb_base.specs.declared.types.FileType.{FileType}
 use Rattle.leveldb_base.specs.declared.types.FileType.TheVariants.{Descriptor, Log, Table, Temp}
+use Rattle.leveldb_base.specs.declared.cmp.Cmp.{Ghosts as CmpGhosts}
 use Rattle.leveldb_env.specs.Env.{Files, Run, in_folder}
 use Rattle.leveldb_env.specs.Options.{Boxed, OptionsOf}
 use Rattle.leveldb_env.specs.declared.env.Env.{Ghosts}
+use Rattle.leveldb_env.specs.declared.filter.FilterPolicy.{Ghosts as FilterGhosts}
 use Rattle.leveldb_env.proofs.EnvLemmas.{Run-mono, SameBut-created}
 use Rattle.leveldb_version.specs.Contents.{made}
 use Rattle.leveldb_version.specs.Paths.{lock_path}
 use Rattle.leveldb_version.specs.StoreSteps.{AppendedAreBytes}
 use Rattle.leveldb_version.specs.VersionSetValue.{VersionSetValue}
 use Rattle.leveldb_version.specs.Writing.{IsObsolete}
+use Rattle.leveldb_store.specs.BuildTable.{TableChoices}
 use Rattle.leveldb_store.specs.Format.{Agrees, Format, Meaning}
 use Rattle.leveldb_store.specs.OpensStore.{IsForbidden, LacksUsableEdits, OpensStore, SameBesideOwn}
 use Rattle.leveldb_store.specs.Room.{TellsOnly, TidiesUp}
@@ -21,7 +24,7 @@ use Rattle.leveldb_store.specs.Written.{IsData, KeepsWritten}
 use Rattle.rusty_leveldb.specs.declared.db_impl.engine.Mode.TheVariants.{Open}
 use Rattle.rusty_leveldb.specs.Boxes.{EngineOf}
 use Rattle.rusty_leveldb.specs.Calls.{EngineOpens}
-use Rattle.rusty_leveldb.specs.Engine.{IsOpening, IsStoreName, Recalls, no_engine, options_in, scene}
+use Rattle.rusty_leveldb.specs.Engine.{formats_of, IsOpening, IsStoreName, Recalls, no_engine, options_in, scene}
 use Rattle.rusty_leveldb.specs.Frame.{IsOwn, Spares}
 use Rattle.rusty_leveldb.specs.Serves.{Goes, IsSpared, Represents}
 use Rattle.rusty_leveldb.specs.State.{Opening, State, done, open_store}
@@ -68,22 +71,27 @@ removed_bytes set before after removes bytes name file there = ⊎_elim
     absurd (let never : None ≡ Some file = sym gone.1 ∙ there in cc))
     (removes name)
 
-module _ {E C FP F : Type 0} {B : Boxed} (env : Ghosts E F) (formats : OptionsOf C FP B → Format)
+module _ {E C FP F D P : Type 0} {B : Boxed} {keys : CmpGhosts D} {key_filters : FilterGhosts P}
+    (env : Ghosts E F) (choices : OptionsOf C FP B → TableChoices keys key_filters)
     (store : List ℕ) (options : OptionsOf C FP B) (asked : Opening) (from taken opened to : E)
     (engine : EngineOf E C FP F B)
     (took : IsTrue env.models_disk → IsTaken store (env.observed from) (env.observed taken))
     (limit : ℕ)
     (opens : OpensStore env store asked.format asked.create_if_missing asked.error_if_exists taken limit
     (Ok engine.store) opened)
+    (opens_count : env.failures opened ≡ env.failures taken)
     (bytes_go : BytesAreAppended env taken opened)
     (tidies : TidiesUp env asked.format.order engine.store opened to)
     (tidy_time : TimeGoesOn env opened to) (mode : engine.mode ≡ Open)
     (lock : string_bytes engine.lock ≡ lock_path store)
     (tells : TellsOnly options engine.options) (cmp : engine.store.cmp ≡ options.cmp)
-    (ignores : (a b : OptionsOf C FP B) → TellsOnly a b → formats b ≡ formats a)
-    (asked_is : formats options ≡ asked.format)
+    (ignores : (a b : OptionsOf C FP B) → TellsOnly a b → formats_of choices b ≡ formats_of choices a)
+    (asked_is : formats_of choices options ≡ asked.format)
     (counted : env.failures taken ≡ env.failures from)
     (well : IsStoreName store × IsTrue asked.fits × IsTrue asked.compresses) where
+  abbrev formats : OptionsOf C FP B → Format
+  formats = formats_of choices
+
   abbrev here : Files
   here = (env.observed taken).disk.files
 
@@ -98,7 +106,7 @@ module _ {E C FP F : Type 0} {B : Boxed} (env : Ghosts E F) (formats : OptionsOf
   format = ignores options (options_in engine) tells_in ∙ asked_is
 
   later : env.failures from ≤ env.failures to
-  later = omega (arith, counted, opens.cause.ok, tidies.later)
+  later = omega (arith, counted, opens_count, tidies.later)
 
   may : IsTrue env.models_disk → LooksNoFurther store asked here → ⊥
   may modelled looks = (opens.stays modelled looks).0
@@ -187,7 +195,7 @@ module _ {E C FP F : Type 0} {B : Boxed} (env : Ghosts E F) (formats : OptionsOf
         (but env store asked from taken took modelled) differs.0 differs.1 differs.2))))))
         (fits_or_not store meaning opening agrees (env.observed from) old was.disk_is)
 
-  pub done_opens : EngineOpens env formats store options asked from (Ok engine) to
+  pub done_opens : EngineOpens env choices store options asked from (Ok engine) to
   done_opens = record {
     opened = record {
       mode = unbroken_opens engine mode opens.unbroken;

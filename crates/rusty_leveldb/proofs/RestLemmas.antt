@@ -6,17 +6,19 @@ use Rattle.std.proofs.lemmas.List.{length-replicate}
 use Rattle.leveldb_base.specs.Error.{IsOutOfMemory}
 use Rattle.leveldb_base.specs.History.{Item}
 use Rattle.leveldb_base.specs.Names.{six_digits}
+use Rattle.leveldb_base.specs.declared.cmp.Cmp.{Ghosts as CmpGhosts}
 use Rattle.leveldb_base.specs.declared.error.Status.{Status}
 use Rattle.leveldb_base.specs.declared.types.FileType.{FileType}
 use Rattle.leveldb_base.specs.declared.types.FileType.TheVariants.{Log}
 use Rattle.leveldb_env.specs.Env.{ChangesFiles, ChangesLocks, Files, FilesUnchanged, SameBut, lock_set, same}
 use Rattle.leveldb_env.specs.Options.{Boxed, OptionsOf}
 use Rattle.leveldb_env.specs.declared.env.Env.{Ghosts}
+use Rattle.leveldb_env.specs.declared.filter.FilterPolicy.{Ghosts as FilterGhosts}
 use Rattle.leveldb_env.proofs.EnvLemmas.{SameBut-synced, bytes_eq-apart}
 use Rattle.leveldb_mem.specs.Log.Writer.{broken_writer}
 use Rattle.leveldb_table.specs.TableBlock.{KeepsDisk}
 use Rattle.leveldb_version.specs.Paths.{lock_path, log_path}
-use Rattle.leveldb_store.specs.Format.{Format}
+use Rattle.leveldb_store.specs.BuildTable.{TableChoices}
 use Rattle.leveldb_store.specs.OpenStore.{OpenStoreValue}
 use Rattle.leveldb_store.specs.Write.{SyncsLog, open_log_path, with_writer}
 use Rattle.leveldb_store.specs.WriteBatch.{WritesBatch}
@@ -252,10 +254,12 @@ module _ {E C FP F : Type 0} {B : Boxed} (env : Ghosts E F) (before : EngineOf E
 
     -- ---- writes
 
-    module _ (formats : OptionsOf C FP B → Format) (items : List Item) (sync : Bool) where
+    module _ {D P : Type 0} {keys : CmpGhosts D} {key_filters : FilterGhosts P}
+        (choices : OptionsOf C FP B → TableChoices keys key_filters) (items : List Item)
+        (sync : Bool) where
       -- no room was made
       pub rest_roomless : (after : EngineOf E C FP F B) (to : E) (status : Status)
-          → EngineMakesRoom env formats before from (Err status) after to
+          → EngineMakesRoom env choices before from (Err status) after to
           → LeavesRest env {T = Unit {0}} before from (write items sync) (Err status) after to
       rest_roomless after to status made = record {
         place = (
@@ -275,9 +279,9 @@ module _ {E C FP F : Type 0} {B : Boxed} (env : Ghosts E F) (before : EngineOf E
 
       -- it was, and then the batch was written or not
       module _ (roomy : EngineOf E C FP F B) (mid : E)
-          (made : EngineMakesRoom env formats before from (Ok tt) roomy mid)
+          (made : EngineMakesRoom env choices before from (Ok tt) roomy mid)
           (value : OpenStoreValue C) (to : E) (result : Result (Unit {0}) Status)
-          (writes : WritesBatch env (formats (options_in roomy)).order roomy.store mid items sync
+          (writes : WritesBatch env (choices (options_in roomy)).format.order roomy.store mid items sync
           result value to) where
         batch_log : open_log_path value ≡ open_log_path roomy.store
         batch_log = ap (λ (v : OpenStoreValue C). open_log_path v) writes.rest

@@ -1,25 +1,31 @@
 -- The step of the machine in which a batch is written: first room is made in the memtable, then the
 -- batch is appended to the log.
-use Rattle.std.specs.Prelude.{Result, is_some, string_bytes}
+use Rattle.std.specs.Prelude.{Result, is_some, map, string_bytes}
 use Rattle.std.proofs.Common.{◌≡◌, ◌≤◌, ◌<◌, ◌+◌, ◌-◌, ◌^◌, ◌⊎◌, ◌∙◌, ⊎_elim, inl, inr, ℕ, zero, suc, Bool, List, [], ◌∷◌, ◌++◌, length, max, refl, sym, ap, subst, arith, Option, Some, None, Ok, Err, IsTrue}
 use Rattle.std.specs.declared.cmp.Ordering.{Ordering}
 use Rattle.leveldb_base.specs.Error.{IsOutOfMemory, text_of}
 use Rattle.leveldb_base.specs.History.{Entry, Item, count_of, placed, with_batch}
 use Rattle.leveldb_base.specs.KeyTypes.{greatest_sequence}
+use Rattle.leveldb_base.specs.declared.cmp.Cmp.{Ghosts as CmpGhosts}
 use Rattle.leveldb_base.specs.declared.error.Status.{Status}
 use Rattle.leveldb_base.specs.declared.types.FileType.TheVariants.{Log}
 use Rattle.leveldb_env.specs.Env.{Files, Run}
 use Rattle.leveldb_env.specs.Options.{Boxed, OptionsOf}
 use Rattle.leveldb_env.specs.declared.env.Env.{Ghosts}
+use Rattle.leveldb_env.specs.declared.filter.FilterPolicy.{Ghosts as FilterGhosts}
 use Rattle.leveldb_env.proofs.EnvLemmas.{Run-mono, Run-trans, bytes_eq-apart}
 use Rattle.leveldb_mem.specs.WriteBatch.{batch_bytes, max_length}
 use Rattle.leveldb_version.specs.Holds.{Holds}
 use Rattle.leveldb_version.specs.Paths.{IsFilePath, lock_path}
 use Rattle.leveldb_version.specs.Store.{IsStore}
 use Rattle.leveldb_version.specs.StoreSteps.{AppendedAreBytes, KeepsHistory}
+use Rattle.leveldb_base.specs.Entries.{internal_pair}
+use Rattle.leveldb_mem.specs.MemTable.{Kept}
+use Rattle.leveldb_store.proofs.NotTabledLemmas.{not_tabled_causes}
+use Rattle.leveldb_store.specs.BuildTable.{TableChoices}
 use Rattle.leveldb_store.specs.Format.{Agrees, Format, HasCompressorError, Meaning}
 use Rattle.leveldb_store.specs.OpenStore.{IsUnbroken, OpenStoreValue}
-use Rattle.leveldb_store.specs.Room.{FailsToMakeRoom, HasFailed, MakesRoom, TellsOnly}
+use Rattle.leveldb_store.specs.Room.{AreEntriesNotTabled, FailsToMakeRoom, HasFailed, MakesRoom, TellsOnly}
 use Rattle.leveldb_store.specs.SoundCall.{IsSoundCall, any_meaning}
 use Rattle.leveldb_store.specs.Write.{open_log_path}
 use Rattle.leveldb_store.specs.WriteBatch.{AddsBatch, FailsToWrite, HoldsBatches, IsOf, LeavesHistory, WritesBatch, next_batch}
@@ -27,7 +33,7 @@ use Rattle.leveldb_store.specs.Written.{IsDataPath, IsTableOf, IsWritten, KeepsS
 use Rattle.rusty_leveldb.specs.declared.db_impl.engine.Mode.TheVariants.{Open}
 use Rattle.rusty_leveldb.specs.Boxes.{EngineOf}
 use Rattle.rusty_leveldb.specs.Causes.{Cause, Comes, Fits, Setting, compressor_failed, device_failed, out_of_memory, too_large, used_up}
-use Rattle.rusty_leveldb.specs.Engine.{Recalls, mode_in, options_in, scene}
+use Rattle.rusty_leveldb.specs.Engine.{Recalls, mode_in, options_in, scene, formats_of}
 use Rattle.rusty_leveldb.specs.Frame.{MayTouch, Spares}
 use Rattle.rusty_leveldb.specs.Machine.{Breaks, Refuses, Risk, Step, Writes, added_batch, risk_between}
 use Rattle.rusty_leveldb.specs.Serves.{Goes, IsSpared, Represents, refusal_of, setting_between}
@@ -57,15 +63,15 @@ failed_later from mid to first second (inr full) = ⊎_elim
     (λ (less : from < mid). inl (omega (arith, less, second)))
     (same_or_below from mid first)
 
-module _ {E C FP F : Type 0} {B : Boxed} (env : Ghosts E F)
-    (formats : OptionsOf C FP B → Format) where
+module _ {E C FP F D P : Type 0} {B : Boxed} {keys : CmpGhosts D} {key_filters : FilterGhosts P}
+    (env : Ghosts E F) (choices : OptionsOf C FP B → TableChoices keys key_filters) where
   -- an engine makes room in its memtable, by its options
   pub record EngineMakesRoom (before : EngineOf E C FP F B) (from : E)
       (result : Result (Unit {0}) Status) (after : EngineOf E C FP F B) (to : E) : Type 0 where
-    pub makes : MakesRoom env (formats (options_in before)).order before.store from
-        (formats (options_in before)) before.options.write_buffer_size result after.store to
-    pub sound : IsSoundCall env (formats (options_in before)).order
-        (Agrees (formats (options_in before))) before.store from result after.store to
+    pub makes : MakesRoom env (choices (options_in before)).format.order before.store from
+        (choices (options_in before)) before.options.write_buffer_size result after.store to
+    pub sound : IsSoundCall env (choices (options_in before)).format.order
+        (Agrees (choices (options_in before)).format) before.store from result after.store to
     -- nothing else of the engine changes but the sink of the options' log
     pub rest : after ≡ record before {
       store = after.store;
@@ -74,12 +80,13 @@ module _ {E C FP F : Type 0} {B : Boxed} (env : Ghosts E F)
     pub sink : is_some after.options.log ≡ is_some before.options.log
 
 -- what making room leaves of the options
-pub room_tells : {E C FP F : Type 0} {B : Boxed} (env : Ghosts E F)
-    (formats : OptionsOf C FP B → Format) (before : EngineOf E C FP F B) (from : E)
+pub room_tells : {E C FP F D P : Type 0} {B : Boxed} {keys : CmpGhosts D}
+    {key_filters : FilterGhosts P} (env : Ghosts E F)
+    (choices : OptionsOf C FP B → TableChoices keys key_filters) (before : EngineOf E C FP F B) (from : E)
     (result : Result (Unit {0}) Status) (after : EngineOf E C FP F B) (to : E)
-    → EngineMakesRoom env formats before from result after to
+    → EngineMakesRoom env choices before from result after to
     → TellsOnly (options_in before) (options_in after)
-room_tells {E} {C} {FP} {F} {B} env formats before from result after to made = record {
+room_tells {E} {C} {FP} {F} {B} env choices before from result after to made = record {
   rest = ap (λ (e : EngineOf E C FP F B). options_in e) made.rest
       ∙ ap (λ (c : C). record (options_in before) { cmp = c; log = after.options.log })
       made.makes.rest.cmp;
@@ -87,24 +94,29 @@ room_tells {E} {C} {FP} {F} {B} env formats before from result after to made = r
 }
 
 -- and the batch that is written then
-pub batch_tells : {E C FP F : Type 0} {B : Boxed} (env : Ghosts E F)
-    (formats : OptionsOf C FP B → Format) (before : EngineOf E C FP F B) (from : E)
-    (roomy : EngineOf E C FP F B) (mid : E) → EngineMakesRoom env formats before from (Ok tt) roomy mid
+pub batch_tells : {E C FP F D P : Type 0} {B : Boxed} {keys : CmpGhosts D}
+    {key_filters : FilterGhosts P} (env : Ghosts E F)
+    (choices : OptionsOf C FP B → TableChoices keys key_filters) (before : EngineOf E C FP F B) (from : E)
+    (roomy : EngineOf E C FP F B) (mid : E) → EngineMakesRoom env choices before from (Ok tt) roomy mid
     → (value : OpenStoreValue C) → value.cmp ≡ roomy.store.cmp
     → TellsOnly (options_in before) (options_in {E = E} {C = C} {FP = FP} {F = F} {B = B}
     (record roomy { store = value }))
-batch_tells {C = C} env formats before from roomy mid made value same =
-    let tells = room_tells env formats before from (Ok tt) roomy mid made in
+batch_tells {C = C} env choices before from roomy mid made value same =
+    let tells = room_tells env choices before from (Ok tt) roomy mid made in
     record {
       rest = ap (λ (c : C). record roomy.options { cmp = c }) same ∙ tells.rest;
       sink = tells.sink;
     }
 
-module _ {E C FP F : Type 0} {B : Boxed} (env : Ghosts E F) (formats : OptionsOf C FP B → Format)
+module _ {E C FP F D P : Type 0} {B : Boxed} {keys : CmpGhosts D} {key_filters : FilterGhosts P}
+    (env : Ghosts E F) (choices : OptionsOf C FP B → TableChoices keys key_filters)
     (store : List ℕ) (meaning : Meaning) (before : EngineOf E C FP F B) (from : E) (old : State)
-    (was : Represents store meaning (Recalls formats store meaning) (Some before)
+    (was : Represents store meaning (Recalls (formats_of choices) store meaning) (Some before)
     (env.observed from).disk old) (opened : mode_in before ≡ machine.open_mode)
     (modelled : IsTrue env.models_disk) where
+  abbrev formats : OptionsOf C FP B → Format
+  formats = formats_of choices
+
   abbrev order : List ℕ → List ℕ → Ordering
   order = old.format.order
 
@@ -220,18 +232,28 @@ module _ {E C FP F : Type 0} {B : Boxed} (env : Ghosts E F) (formats : OptionsOf
         → Comes setting old (write items sync) (refusal_of status) device_failed
     by_device failed = (tt, failed)
 
+    -- no table is built of entries
+    untabled : (kept : Option Kept) → AreEntriesNotTabled (choices (options_in before)) kept status
+        → HasCause
+    untabled None never = absurd never
+    untabled (Some kept) not = ⊎_elim (λ memory. (out_of_memory, by_memory memory))
+        (λ other. ⊎_elim (λ code. (too_large, (tt, code)))
+        (λ fails. (
+          compressor_failed,
+          subst (λ (f : Format). HasCompressorError f status.code)
+              (same_format env formats store meaning before from old was opened) fails,
+        )) other)
+        (not_tabled_causes (choices (options_in before)) (map internal_pair kept.entries) status not)
+
     -- why no room is made
     room_cause : FailsToMakeRoom env (formats (options_in before)).order before.store from
-        (formats (options_in before)) status ⊎ HasFailed (env.failures from) (env.failures to)
+        (choices (options_in before)) status ⊎ HasFailed (env.failures from) (env.failures to)
         → HasCause
     room_cause (inl (inl memory)) = (out_of_memory, by_memory memory)
-    room_cause (inl (inr (inl code))) = (too_large, (tt, code))
-    room_cause (inl (inr (inr (inl fails)))) = (
-      compressor_failed,
-      subst (λ (f : Format). HasCompressorError f status.code)
-          (same_format env formats store meaning before from old was opened) fails,
-    )
-    room_cause (inl (inr (inr (inr lost)))) =
+    room_cause (inl (inr (inl few))) = (too_large, (tt, few.code))
+    room_cause (inl (inr (inr (inl recent)))) = untabled (Some before.store.recent) recent
+    room_cause (inl (inr (inr (inr (inl waiting))))) = untabled before.store.waiting waiting
+    room_cause (inl (inr (inr (inr (inr lost))))) =
         let f = same_format env formats store meaning before from old was opened in
         absurd (lost.1 modelled meaning
         (subst (λ (g : Format). Agrees g meaning) (sym f)
@@ -279,7 +301,7 @@ module _ {E C FP F : Type 0} {B : Boxed} (env : Ghosts E F) (formats : OptionsOf
 
   module _ (ignores : (a b : OptionsOf C FP B) → TellsOnly a b → formats b ≡ formats a)
       (roomy : EngineOf E C FP F B) (mid : E) (result : Result (Unit {0}) Status)
-      (made : EngineMakesRoom env formats before from result roomy mid) where
+      (made : EngineMakesRoom env choices before from result roomy mid) where
     room_keeps : KeepsStore order meaning (Stays old) before.store (env.observed from) roomy.store
         (env.observed mid)
     room_keeps =
@@ -295,7 +317,7 @@ module _ {E C FP F : Type 0} {B : Boxed} (env : Ghosts E F) (formats : OptionsOf
 
     room_options : formats (options_in roomy) ≡ formats (options_in before)
     room_options = ignores (options_in before) (options_in roomy)
-        (room_tells env formats before from result roomy mid made)
+        (room_tells env choices before from result roomy mid made)
 
     room_bytes : AppendedAreBytes (env.observed mid).disk.files
     room_bytes = made.sound.bytes modelled was.disk_is.bytes
@@ -311,7 +333,7 @@ module _ {E C FP F : Type 0} {B : Boxed} (env : Ghosts E F) (formats : OptionsOf
   -- no room was made
   module _ (ignores : (a b : OptionsOf C FP B) → TellsOnly a b → formats b ≡ formats a)
       (after : EngineOf E C FP F B) (to : E) (items : List Item) (sync : Bool) (status : Status)
-      (made : EngineMakesRoom env formats before from (Err status) after to) where
+      (made : EngineMakesRoom env choices before from (Err status) after to) where
     keeps : KeepsStore order meaning (Stays old) before.store (env.observed from) after.store
         (env.observed to)
     keeps = room_keeps ignores after to (Err status) made
@@ -388,7 +410,7 @@ module _ {E C FP F : Type 0} {B : Boxed} (env : Ghosts E F) (formats : OptionsOf
 
   module _ (ignores : (a b : OptionsOf C FP B) → TellsOnly a b → formats b ≡ formats a)
       (roomy : EngineOf E C FP F B) (mid : E)
-      (made : EngineMakesRoom env formats before from (Ok tt) roomy mid)
+      (made : EngineMakesRoom env choices before from (Ok tt) roomy mid)
       (items : List Item) (sync : Bool) (value : OpenStoreValue C) (to : E) where
     -- the files as room was made
     abbrev here : Files
@@ -437,7 +459,7 @@ module _ {E C FP F : Type 0} {B : Boxed} (env : Ghosts E F) (formats : OptionsOf
 
       end_options : formats (options_in after) ≡ formats (options_in before)
       end_options = ignores (options_in before) (options_in after)
-          (batch_tells env formats before from roomy mid made value
+          (batch_tells env choices before from roomy mid made value
           (ap (λ (v : OpenStoreValue C). v.cmp) writes.rest))
 
       end_bytes : AppendedAreBytes (env.observed to).disk.files

@@ -1,40 +1,46 @@
 -- What each call on an engine does: one record a call, the same of an engine and of a store that
 -- holds its environment.
 use Rattle.std.specs.Prelude.{◌≡◌, ◌⊎◌, ℕ, Bool, false, List, Some, None, Result, Ok, Err, OnOk, OnErr, IfOk, IfErr, IsErrAnd, IsTrue, string_bytes}
+use Rattle.leveldb_base.specs.declared.cmp.Cmp.{Ghosts as CmpGhosts}
 use Rattle.leveldb_base.specs.declared.error.Status.{Status}
 use Rattle.leveldb_base.specs.Error.{IsOutOfMemory}
 use Rattle.leveldb_env.specs.declared.env.Env.{Ghosts}
+use Rattle.leveldb_env.specs.declared.filter.FilterPolicy.{Ghosts as FilterGhosts}
 use Rattle.leveldb_env.specs.Env.{HasCause}
 use Rattle.leveldb_env.specs.Options.{Boxed, OptionsOf}
+use Rattle.leveldb_store.specs.BuildTable.{TableChoices}
+use Rattle.leveldb_store.specs.FoundLogs.{HasLogNotKept}
 use Rattle.leveldb_store.specs.Format.{Format, Meaning, Agrees}
 use Rattle.leveldb_store.specs.Room.{FailsFor, TellsOnly}
 use Rattle.leveldb_store.specs.SoundCall.{TimeGoesOn}
 use Rattle.leveldb_store.specs.Write.{open_log_path}
 use Rattle.rusty_leveldb.specs.State.{Opening, Request, Answer, open_mode, open_store, write, get, walk, get_snapshot, release_snapshot, flush, close, abandon}
 use Rattle.rusty_leveldb.specs.Serves.{done_or, given_engine}
-use Rattle.rusty_leveldb.specs.Engine.{IsClosed, IsBroken, IsClosedOrBroken, RefusedByMode, AnswersAs, Answers, WriteExcused, SyncExcused, CloseExcused, GetExcused, IsStoreName, IsOpening, HasOwnLock, WritesIntoRoom, holds_lock, mode_in, options_in}
+use Rattle.rusty_leveldb.specs.Engine.{IsClosed, IsBroken, IsClosedOrBroken, RefusedByMode, AnswersAs, Answers, WriteExcused, SyncExcused, CloseExcused, GetExcused, IsStoreName, IsOpening, HasOwnLock, WritesIntoRoom, formats_of, holds_lock, mode_in, options_in}
 use Rattle.rusty_leveldb.specs.Frame.{IsOwn, MayTouchOrLog, Spares}
 use Rattle.rusty_leveldb.specs.Unopened.{IsLockGivenBack, IsLockHeld, MakesLockAlone, NeverOpens, OpenExcused}
 use Rattle.rusty_leveldb.specs.Boxes.{EngineOf}
 
 -- ---- why a call fails
 
-module _ {E C FP F : Type 0} {B : Boxed} (env : Ghosts E F)
-    (formats : OptionsOf C FP B → Format) where
+module _ {E C FP F D P : Type 0} {B : Boxed} {keys : CmpGhosts D} {key_filters : FilterGhosts P}
+    (env : Ghosts E F) (choices : OptionsOf C FP B → TableChoices keys key_filters) where
   -- why a call fails, by its request; each failed call of the device is the reason for which a
   -- flush or a close fails
   abbrev pub HasReason : {T : Type 0} → EngineOf E C FP F B → E → Request → Result T Status → E
       → Type 0
   HasReason before from (get at key) result to =
-      FailsFor (GetExcused env formats before from key) (env.failures from) (env.failures to) result
+      FailsFor (GetExcused env (formats_of choices) before from key) (env.failures from)
+      (env.failures to) result
   HasReason before from (write items sync) result to =
-      FailsFor (WriteExcused env formats before from items) (env.failures from) (env.failures to)
+      FailsFor (WriteExcused env choices before from items) (env.failures from) (env.failures to)
       result
   HasReason before from flush result to =
-      HasCause (SyncExcused env formats before from to) (env.failures from) (env.failures to) result
+      HasCause (SyncExcused env (formats_of choices) before from to) (env.failures from)
+      (env.failures to) result
   HasReason before from close result to =
-      HasCause (CloseExcused env formats before from to) (env.failures from) (env.failures to)
-      result
+      HasCause (CloseExcused env (formats_of choices) before from to) (env.failures from)
+      (env.failures to) result
   HasReason before from request result to =
       HasCause (λ _. ⊥) (env.failures from) (env.failures to) result
 
@@ -109,8 +115,8 @@ module _ {E C FP F : Type 0} {B : Boxed} where
       ⊎ (IsClosed (mode_in before) × IsClosed (mode_in after)))
   BecomesOf before request result after = KeepsModeOrBreaks before after
 
-module _ {E C FP F : Type 0} {B : Boxed} (env : Ghosts E F)
-    (formats : OptionsOf C FP B → Format) where
+module _ {E C FP F D P : Type 0} {B : Boxed} {keys : CmpGhosts D} {key_filters : FilterGhosts P}
+    (env : Ghosts E F) (choices : OptionsOf C FP B → TableChoices keys key_filters) where
   -- a call on an engine, with its answer
   pub record EngineServes {T : Type 0} (answer_of : Result T Status → Answer)
       (before : EngineOf E C FP F B) (from : E) (request : Request) (result : Result T Status)
@@ -123,14 +129,17 @@ module _ {E C FP F : Type 0} {B : Boxed} (env : Ghosts E F)
     -- what becomes of the engine, over any environment
     pub becomes : BecomesOf before request result after
     -- where the disk is observed, the call is a step of the machine
-    pub step : Answers env formats (Some before) from request (answer_of result) (Some after) to
+    pub step : Answers env (formats_of choices) (Some before) from request (answer_of result)
+        (Some after) to
     -- and in any state of the disk it leaves this alone
     pub rest : LeavesRest env before from request result after to
     -- no moment of the disk is taken back
     pub time : TimeGoesOn env from to
     -- why it fails
-    pub cause : HasReason env formats before from request result to
+    pub cause : HasReason env choices before from request result to
 
+module _ {E C FP F : Type 0} {B : Boxed} (env : Ghosts E F)
+    (formats : OptionsOf C FP B → Format) where
   -- a call that gives an engine up
   pub record EngineAbandons (engine : EngineOf E C FP F B) (from : E)
       (result : Result (Unit {0}) Status)
@@ -159,10 +168,12 @@ module _ {E C FP F : Type 0} {B : Boxed} (env : Ghosts E F)
     pub place : engine.store.set.store ≡ name
     pub lock : HasOwnLock engine
 
+module _ {E C FP F D P : Type 0} {B : Boxed} {keys : CmpGhosts D} {key_filters : FilterGhosts P}
+    (env : Ghosts E F) (choices : OptionsOf C FP B → TableChoices keys key_filters) where
   -- a call that opens the store under a name, as it is asked to by these options
   pub record EngineOpens (name : List ℕ) (options : OptionsOf C FP B) (asked : Opening) (from : E)
       (result : Result (EngineOf E C FP F B) Status) (to : E) : Type 0 where
-    pub opened : IfOk result (IsOpened name options)
+    pub opened : IfOk result (IsOpened env (formats_of choices) name options)
     -- the lock was free, and is held
     pub held : OnOk result (IsTrue env.models_disk
         → (IsLockHeld name (env.observed from).disk → ⊥)
@@ -174,8 +185,8 @@ module _ {E C FP F : Type 0} {B : Boxed} (env : Ghosts E F)
     -- and ids what they mean
     pub step : (opening : Opening) → IsOpening name asked opening
         → (meaning : Meaning) → Agrees opening.format meaning
-        → AnswersAs env formats name meaning None from (open_store opening) (done_or result)
-        (given_engine result) to
+        → AnswersAs env (formats_of choices) name meaning None from (open_store opening)
+        (done_or result) (given_engine result) to
     -- no moment of the disk is taken back
     pub time : TimeGoesOn env from to
     -- under a name that is no store's nothing is opened, and no call is made; nor with a size or a
@@ -188,10 +199,11 @@ module _ {E C FP F : Type 0} {B : Boxed} (env : Ghosts E F)
         → OnOk result ⊥ × MakesLockAlone name (env.observed from) (env.observed to)
     -- an opening that fails gives back the lock
     pub unopened : IfErr result (λ status. IsTrue env.models_disk
-        → IsLockGivenBack env name asked from to status)
+        → IsLockGivenBack env name asked from (HasLogNotKept (choices options) env.models_disk name
+        (env.observed from).disk.files) to status)
     -- why it fails
-    pub cause : FailsFor (OpenExcused env name asked from) (env.failures from) (env.failures to)
-        result
+    pub cause : FailsFor (OpenExcused env name (choices options) asked from) (env.failures from)
+        (env.failures to) result
 
 -- the same result, with what this makes of its value
 abbrev pub result_map : {A B S : Type 0} → (A → B) → Result A S → Result B S

@@ -16,7 +16,7 @@ use Rattle.rusty_leveldb.specs.State.{State, Opening, Request, open_store, write
 use Rattle.rusty_leveldb.specs.Serves.{Represents, Runs, recalls_nothing, refusal_of, done_or}
 use Rattle.rusty_leveldb.specs.Engine.{scene, IsOpening, IsStoreName}
 use Rattle.rusty_leveldb.specs.Frame.{IsOwn, Spares}
-use Rattle.rusty_leveldb.specs.Unopened.{IsLockGivenBack, MakesLockAlone, NeverOpens}
+use Rattle.rusty_leveldb.specs.Unopened.{IsLockGivenBack, IsNotKeptUnder, MakesLockAlone, NeverOpens}
 
 -- the change that an item asks for
 abbrev pub change_of : Item → history.Item
@@ -44,7 +44,8 @@ answer_of (reply.Refused status) = refused (refusal_of status)
 -- the run failed, since the store isn't one that is opened
 pub record IsUnopened {E F : Type 0} (env : Ghosts E F) (store : List ℕ) (asked : Opening)
     (from : E) (ended : Result (Unit {0}) Status) (to : E) : Type 0 where
-  pub lock : IsErrAnd ended (IsLockGivenBack env store asked from to)
+  pub lock : IsErrAnd ended
+      (IsLockGivenBack env store asked from (IsNotKeptUnder asked.format) to)
   pub files : MakesLockAlone store (env.observed from) (env.observed to)
   -- what isn't the store's stays as it is
   pub others : Spares store (IsOwn store) (env.observed from).disk (env.observed to).disk

@@ -1,13 +1,17 @@
 -- What keeps a store from being opened, why an opening fails, and what it leaves then.
 use Rattle.std.specs.Prelude.{◌≡◌, ◌<◌, ◌≤◌, ◌+◌, ◌-◌, ◌^◌, ◌⊎◌, ℕ, List, IsTrue}
 use Rattle.leveldb_base.specs.Error.{IsOutOfMemory}
+use Rattle.leveldb_base.specs.declared.cmp.Cmp.{Ghosts as CmpGhosts}
 use Rattle.leveldb_base.specs.declared.error.Status.{Status}
 use Rattle.leveldb_base.specs.declared.error.StatusCode.TheVariants.{Corruption, InvalidArgument, LockError, NotSupported}
 use Rattle.leveldb_env.specs.declared.env.Env.{Ghosts}
+use Rattle.leveldb_env.specs.declared.filter.FilterPolicy.{Ghosts as FilterGhosts}
 use Rattle.leveldb_env.specs.Env.{BeforeOrAfter, Disk, Observed, Run, created}
 use Rattle.leveldb_version.specs.Paths.{lock_path}
-use Rattle.leveldb_store.specs.Format.{HasCompressorError}
-use Rattle.leveldb_store.specs.OpensStore.{HasOtherComparator, IsDamaged, IsForbidden, IsForbiddenAs, LacksCurrent, LacksUsableEdits}
+use Rattle.leveldb_store.specs.BuildTable.{TableChoices}
+use Rattle.leveldb_store.specs.FoundLogs.{HasLogNotKept}
+use Rattle.leveldb_store.specs.Format.{Format, HasCompressorError}
+use Rattle.leveldb_store.specs.OpensStore.{HasHugeManifest, HasOtherComparator, HasSharedUserKey, IsDamaged, IsForbidden, IsForbiddenAs, LacksCurrent, LacksNumbers, LacksUsableEdits}
 use Rattle.rusty_leveldb.specs.State.{Opening}
 use Rattle.rusty_leveldb.specs.Engine.{IsStoreName}
 
@@ -42,12 +46,20 @@ abbrev pub FailedBeside : Type 0 → ℕ → ℕ → Type 0
 FailedBeside excused before now = (excused × (before < now)) ⊎ (before + 2 ≤ now)
     ⊎ (now ≡ 2 ^ 64 - 1)
 
-module _ {E F : Type 0} (env : Ghosts E F) (store : List ℕ) (asked : Opening) (from : E) where
+-- why a log's batches aren't kept in memory and in tables, where only the format is known
+abbrev pub IsNotKeptUnder : Format → Status → Type 0
+IsNotKeptUnder format e =
+    IsOutOfMemory e ⊎ (e.code ≡ NotSupported) ⊎ HasCompressorError format e.code
+
+-- `NotKept` says why a log's batches aren't kept in memory and in tables
+module _ {E F : Type 0} (env : Ghosts E F) (store : List ℕ) (asked : Opening) (from : E)
+    (NotKept : Status → Type 0) where
   -- Why an opening may fail where the device didn't: out of memory, or the name or an option
-  -- doesn't fit; the lock is held, or the store may not be opened so; it is damaged; or a
-  -- compressor fails or isn't set, or numbers or room are used up.
-  abbrev pub OpenExcused : Status → Type 0
-  OpenExcused e =
+  -- doesn't fit; the lock is held, or the store may not be opened so; it is damaged; the compressor
+  -- isn't set; the files aren't supported, since tables share a user key, or a manifest or a number
+  -- is too great; or a log's batches aren't kept in memory and in tables.
+  abbrev pub OpenExcusedOr : Status → Type 0
+  OpenExcusedOr e =
       let disk = (env.observed from).disk in
       let where_modelled : Type 0 → Type 0 = λ fact. IsTrue env.models_disk → fact in
       IsOutOfMemory e
@@ -58,8 +70,12 @@ module _ {E F : Type 0} (env : Ghosts E F) (store : List ℕ) (asked : Opening) 
       ⊎ ((e.code ≡ InvalidArgument)
       × where_modelled (HasOtherComparator store asked.format disk.files))
       ⊎ ((e.code ≡ Corruption) × where_modelled (IsDamaged store asked.format disk.files))
-      ⊎ HasCompressorError asked.format e.code
-      ⊎ (e.code ≡ NotSupported)
+      ⊎ ((e.code ≡ NotSupported) × (IsTrue asked.compresses → ⊥))
+      ⊎ ((e.code ≡ NotSupported)
+      × where_modelled (HasSharedUserKey store disk.files asked.format.order
+      ⊎ HasHugeManifest store disk.files asked.format.order_name
+      ⊎ LacksNumbers store disk.files))
+      ⊎ NotKept e
 
   -- After an opening that fails the lock is as it was, or is held where giving it back failed, too.
   abbrev pub IsLockGivenBack : E → Status → Type 0
@@ -67,4 +83,11 @@ module _ {E F : Type 0} (env : Ghosts E F) (store : List ℕ) (asked : Opening) 
       ((env.observed to).disk.locked (lock_path store)
       ≡ (env.observed from).disk.locked (lock_path store))
       ⊎ (IsLockHeld store (env.observed to).disk
-      × FailedBeside (OpenExcused e) (env.failures from) (env.failures to))
+      × FailedBeside (OpenExcusedOr e) (env.failures from) (env.failures to))
+
+-- the same with the batches of a log that is found, and the choices with which tables are built
+abbrev pub OpenExcused : {E F D P : Type 0} (env : Ghosts E F) (store : List ℕ)
+    {keys : CmpGhosts D} {key_filters : FilterGhosts P} → TableChoices keys key_filters → Opening
+    → E → Status → Type 0
+OpenExcused env store choices asked from = OpenExcusedOr env store asked from
+    (HasLogNotKept choices env.models_disk store (env.observed from).disk.files)

@@ -1,7 +1,7 @@
 //! Opening a store: its lock is taken, and its files are read.
 ghost use Rattle.std.specs.Prelude.{◌≡◌, is_some};
 ghost use Rattle.rusty_leveldb.specs.Engine.{opening_of};
-ghost use Rattle.leveldb_store.specs.Format.{format_of};
+ghost use Rattle.leveldb_store.specs.BuildTable.{choices_of};
 ghost use Rattle.leveldb_store.specs.OpenStore.{IsUnbroken};
 ghost use Rattle.leveldb_store.specs.Room.{TidiesUp};
 ghost use Rattle.leveldb_store.specs.SoundCall.{TimeGoesOn};
@@ -11,11 +11,11 @@ use super::close::give_back;
 use super::engine::{Engine, Mode};
 use super::info_log::{InfoLog, NoLog};
 use super::names::{check_name, lock_name};
-use leveldb_base::cmp::UserCmp;
+use leveldb_base::cmp::{Cmp, InternalKeyCmp, UserCmp};
 use leveldb_base::error::Result;
 use leveldb_env::compressor::{CompressorList, Compressors};
 use leveldb_env::env::Env;
-use leveldb_env::filter::FilterPolicy;
+use leveldb_env::filter::{FilterPolicy, InternalFilterPolicy};
 use leveldb_env::infolog::Logger;
 use leveldb_env::options::Options;
 use leveldb_store::open_store::OpenStore;
@@ -36,7 +36,8 @@ impl<E: Env, C: UserCmp + Copy, FP: FilterPolicy + Copy> Engine<E, C, FP> {
         options: Options<C, FP>,
     ) -> Result<Engine<E, C, FP>>
         ensures { let codings = ⟦<CompressorList as Compressors>⟧.codings in
-            EngineOpens E.Env (format_of C.Cmp FP.FilterPolicy codings) name.now options
+            EngineOpens E.Env (choices_of C.Cmp FP.FilterPolicy ⟦<InternalKeyCmp<C> as Cmp>⟧
+            ⟦<InternalFilterPolicy<FP> as FilterPolicy>⟧ codings) name.now options
             (opening_of C.Cmp FP.FilterPolicy codings options) env.old result env.new }
     {
         check_name(alloc, name)?;

@@ -3,6 +3,7 @@ use Rattle.std.proofs.Math.Seq.{drop-length, drop-append_seam}
 use Rattle.std.proofs.lemmas.List.{take_all}
 use Rattle.std.proofs.lemmas.Result.{err_from_is_err_and}
 use Rattle.leveldb_env.specs.contracts.compressor.CompressorListCompressors.TheImpl.{ghosts as compressors}
+use Rattle.rusty_leveldb.proofs.UnopenedLemmas.{given_back_under}
 use Rattle.rusty_leveldb.proofs.Playing.{play_first, play_more, play_end, not_opened, not_begun, commands_up_to}
 use Rattle.rusty_leveldb.specs.Engine.{opening_of}
 use Rattle.leveldb_store.specs.Format.{format_of}
@@ -24,7 +25,10 @@ returns-in_err-engine-clause-runs g c =
       unopened = λ modelled never. (
         none,
         record {
-          lock = c.in_err-engine.ensures.unopened modelled;
+          lock = given_back_under g.E.Env c.args.name.now _
+              (opening_of g.C.Cmp g.FP.FilterPolicy (compressors g.dyn-2).codings c.args.opt) refl
+              c.args.env.now c.in_err-engine.field-0.0 c.open.new.env
+              (c.in_err-engine.ensures.unopened modelled);
           files = (c.in_err-engine.ensures.never_opens modelled never).1;
           others = c.in_err-engine.ensures.others modelled;
         },
