@@ -26,6 +26,7 @@ mod BatchHistoryLemmas
 mod WriteBatchLemmas
 mod SoundWriteLemmas
 mod OpeningFindLemmas
+pub mod FoundLogsLemmas
 mod ReplayAllLemmas
 mod ReplayDamageLemmas
 mod ReplayMoreLemmas
@@ -40,6 +41,7 @@ mod OpeningNumbersLemmas
 mod OpeningSameLemmas
 mod OpeningRecoveredLemmas
 mod OpeningFrontLemmas
+mod FoundNumbersLemmas
 mod OpeningRecoverLemmas
 mod OpeningOpenLemmas
 mod OpeningBeginLemmas

@@ -1,5 +1,6 @@
 pub mod Format
 pub mod BuildTable
+pub mod FoundLogs
 pub mod OpenStore
 pub mod Write
 pub mod Written

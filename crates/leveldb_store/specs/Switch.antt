@@ -1,12 +1,12 @@
 -- What a switch of the log, the table of the entries that wait, and the removal of obsolete files
 -- change of an open store, and why each fails.
-use Rattle.std.specs.Prelude.{◌≡◌, ◌≢◌, ◌⊎◌, ◌≤◌, ◌<◌, ◌-◌, ◌^◌, ℕ, List, [], ◌∷◌, All, Contains, None, Some, Result, Ok, IfErr, OnErr, OnOk, IsTrue}
+use Rattle.std.specs.Prelude.{◌≡◌, ◌≢◌, ◌⊎◌, ◌≤◌, ◌<◌, ◌+◌, ◌-◌, ◌^◌, ℕ, List, [], ◌∷◌, All, Contains, None, Some, Result, Ok, IfErr, OnErr, OnOk, IsTrue}
 use Rattle.leveldb_base.specs.Error.{IsOutOfMemory}
 use Rattle.leveldb_base.specs.Names.{IsFileName}
 use Rattle.leveldb_base.specs.Types.{Pair}
 use Rattle.leveldb_base.specs.declared.cmp.Cmp.{Ghosts as CmpGhosts}
 use Rattle.leveldb_base.specs.declared.error.Status.{Status}
-use Rattle.leveldb_base.specs.declared.error.StatusCode.TheVariants.{NotFound}
+use Rattle.leveldb_base.specs.declared.error.StatusCode.TheVariants.{NotFound, NotSupported}
 use Rattle.leveldb_base.specs.declared.types.FileType.{FileType}
 use Rattle.leveldb_env.specs.Env.{BeforeOrAfter, ChangesFiles, Files, HasCause, IsEmptyFolder, IsMissing, Run, SameLocks, deleted, in_folder}
 use Rattle.leveldb_env.specs.WholeFiles.{IsLost}
@@ -26,6 +26,11 @@ use Rattle.leveldb_store.specs.Written.{SparesRest}
 -- the set is as it was, or one more number is given
 abbrev pub MayGiveNumber : VersionSetValue → VersionSetValue → Type 0
 MayGiveNumber old new = (new ≡ old) ⊎ (new ≡ with_number_given old)
+
+-- from the next one on, the numbers of files are too few for `count` files
+pub record AreFileNumbersTooFew (next count : ℕ) (status : Status) : Type 0 where
+  pub code : status.code ≡ NotSupported
+  pub too_few : 2 ^ 64 ≤ next + count
 
 -- the set after the edit of a table of level 0, whose number was the next one
 pub record LogsTable (old : VersionSetValue) (log : ℕ) (new : VersionSetValue) : Type 0 where
@@ -55,6 +60,7 @@ module _ {E F C : Type 0} (env : Ghosts E F) (old : OpenStoreValue C) (from : E)
         ≡ record { number = old.set.next_file; writer = new_writer log_block_size 0 })
     pub waits : OnOk result (new.waiting ≡ Some old.recent)
     pub empty : OnOk result (new.recent.entries ≡ [])
+    pub places : OnOk result (new.recent.places ≡ 0)
     pub err : OnErr result (MayGiveNumber old.set new.set
         × (new.log.number ≡ old.log.number)
         × (new.recent ≡ old.recent) × (new.waiting ≡ old.waiting))

@@ -2,14 +2,17 @@
 -- fails.
 use Rattle.std.specs.Prelude.{IfErr, IsErrAnd, Result, codes, IfSome, string_bytes, String}
 use Rattle.std.specs.declared.alloc.Global.{Global}
-use Rattle.std.proofs.Common.{◌≡◌, ◌-◌, ◌⊎◌, ◌∙◌, ⊎_elim, inl, inr, ℕ, true, false, List, [], refl, sym, ap, subst, arith, Option, Some, None, Ok, Err}
+use Rattle.std.proofs.Common.{◌≡◌, ◌⊎◌, ◌∙◌, ⊎_elim, inl, inr, ℕ, true, false, List, [], refl, sym, ap, subst, arith, Option, Some, None, Ok, Err}
 use Rattle.leveldb_base.specs.Error.{IsOutOfMemory, text_of}
+use Rattle.leveldb_base.specs.declared.cmp.Cmp.{Ghosts as CmpGhosts}
 use Rattle.leveldb_base.specs.declared.error.Status.{Status}
 use Rattle.leveldb_base.specs.declared.error.StatusCode.TheVariants.{InvalidArgument}
 use Rattle.leveldb_env.specs.Env.{ChangesFiles, ChangesLocks, FilesUnchanged, HasCause, lock_set, same}
 use Rattle.leveldb_env.specs.Options.{Boxed, OptionsOf}
 use Rattle.leveldb_env.specs.declared.env.Env.{Ghosts}
+use Rattle.leveldb_env.specs.declared.filter.FilterPolicy.{Ghosts as FilterGhosts}
 use Rattle.leveldb_mem.specs.Log.Writer.{broken_writer}
+use Rattle.leveldb_store.specs.BuildTable.{TableChoices}
 use Rattle.leveldb_store.specs.Format.{Format}
 use Rattle.leveldb_store.specs.OpenStore.{OpenStoreValue}
 use Rattle.leveldb_store.specs.Read.{LooksUpKey}
@@ -22,7 +25,7 @@ use Rattle.rusty_leveldb.specs.declared.db_impl.engine.Mode.TheVariants.{Broken,
 use Rattle.rusty_leveldb.specs.Boxes.{EngineOf}
 use Rattle.rusty_leveldb.specs.Calls.{BecomesOf, EngineServes, HasReason}
 use Rattle.rusty_leveldb.specs.Causes.{IsClosedRefusal, IsBrokenRefusal, IsLongKey, Setting}
-use Rattle.rusty_leveldb.specs.Engine.{AnswersStill, GetExcused, IsClosedOrBroken, RefusedAsBroken, RefusedAsClosed, RefusedByMode, SyncExcused, mode_in, options_in}
+use Rattle.rusty_leveldb.specs.Engine.{AnswersStill, GetExcused, IsClosedOrBroken, RefusedAsBroken, RefusedAsClosed, RefusedByMode, SyncExcused, mode_in, options_in, formats_of}
 use Rattle.rusty_leveldb.specs.Frame.{MayTouch}
 use Rattle.rusty_leveldb.specs.Machine.{Step}
 use Rattle.rusty_leveldb.specs.Serves.{done_or, found_or, refusal_of, setting_between}
@@ -33,6 +36,8 @@ use Rattle.rusty_leveldb.proofs.EngineLemmas.{open_mode_is, open_or_broken}
 use Rattle.rusty_leveldb.proofs.Moments.{moments_none}
 use Rattle.rusty_leveldb.proofs.Others.{spares_still}
 use Rattle.rusty_leveldb.proofs.ReadingLemmas.{get_cause, get_closed, get_goes, get_long}
+use Rattle.rusty_leveldb.proofs.RestLemmas.{rest_given, rest_read, rest_still, rest_synced}
+use Rattle.rusty_leveldb.proofs.SyncLemmas.{log_is_data}
 
 -- ---- the mode
 
@@ -84,8 +89,12 @@ module _ (setting : Setting) (old : State) where
   broken_step close writes refusal says = (says, refl)
   broken_step request writes refusal says = absurd writes
 
-module _ {E C FP F : Type 0} {B : Boxed} (env : Ghosts E F) (formats : OptionsOf C FP B → Format)
+module _ {E C FP F D P : Type 0} {B : Boxed} {keys : CmpGhosts D} {key_filters : FilterGhosts P}
+    (env : Ghosts E F) (choices : OptionsOf C FP B → TableChoices keys key_filters)
     (before : EngineOf E C FP F B) where
+  abbrev formats : OptionsOf C FP B → Format
+  formats = formats_of choices
+
   -- ---- a call that the mode refuses
 
   -- the machine refuses it so
@@ -118,14 +127,18 @@ module _ {E C FP F : Type 0} {B : Boxed} (env : Ghosts E F) (formats : OptionsOf
   halted_becomes : (request : Request) → Writes request → (status : Status)
       → IsClosedOrBroken (mode_in before)
       → BecomesOf {T = Unit {0}} before request (Err status) before
-  halted_becomes (write items sync) writes status halted = inr refl
-  halted_becomes flush writes status halted = (inr refl, inl halted)
-  halted_becomes close writes status halted = (tt, halted)
+  halted_becomes (write items sync) writes status halted = (tt, inr refl)
+  halted_becomes flush writes status halted = (tt, (inr refl, inl halted))
+  halted_becomes close writes status halted = (
+    tt,
+    ⊎_elim (λ (out : mode_in before ≡ machine.closed). inr (out, out))
+        (λ (broke : mode_in before ≡ machine.broken). inl broke) halted,
+  )
   halted_becomes request writes status halted = absurd writes
 
   halted_reason : (request : Request) → Writes request → (status : Status) (at : E)
       → RefusedByMode (mode_in before) status
-      → HasReason env formats {T = Unit {0}} before at request (Err status) at
+      → HasReason env choices {T = Unit {0}} before at request (Err status) at
   halted_reason (write items sync) writes status at why =
       record { later = omega arith; cause = inl (inl why) }
   halted_reason flush writes status at why =
@@ -136,12 +149,13 @@ module _ {E C FP F : Type 0} {B : Boxed} (env : Ghosts E F) (formats : OptionsOf
 
   pub halted_serves : (request : Request) → Writes request → (status : Status) (at : E)
       → RefusedByMode (mode_in before) status
-      → EngineServes env formats {T = Unit {0}} done_or before at request (Err status) before at
+      → EngineServes env choices {T = Unit {0}} done_or before at request (Err status) before at
   halted_serves request writes status at why = record {
-    options = refl;
+    options = record { rest = refl; sink = refl };
     halted = λ halted. (refl, refl, why);
     becomes = halted_becomes request writes status (halted_by (mode_in before) status why);
     step = halted_still request writes status why at;
+    rest = rest_still env before at request (Err status) (inr (status, refl));
     time = λ modelled. omega arith;
     cause = halted_reason request writes status at why;
   }
@@ -164,24 +178,26 @@ module _ {E C FP F : Type 0} {B : Boxed} (env : Ghosts E F) (formats : OptionsOf
         → SyncsLog env before.store from result value mid
         → TellsOnly (options_in before) (options_in {E = E} {C = C} {FP = FP} {F = F} {B = B}
         (record before { store = value; mode = m }))
-    sync_tells result m syncs =
-        ap (λ (c : C). record before.options { cmp = c }) (sync_cmp result syncs)
+    sync_tells result m syncs = record {
+      rest = ap (λ (c : C). record before.options { cmp = c }) (sync_cmp result syncs);
+      sink = refl;
+    }
 
     flush_becomes : (result : Result (Unit {0}) Status)
         → SyncsLog env before.store from result value mid
         → BecomesOf before flush result (record before { store = value })
-    flush_becomes result syncs = (
-      ⊎_elim (λ opens. inr (opens.0 ∙ sym opened)) (λ broke. inl broke.0)
-          (open_or_broken {E = E} {C = C} {FP = FP} {F = F} {B = B} (record before { store = value })
-          (open_mode_is before opened)),
-      by result syncs,
+    flush_becomes (Ok nothing) syncs = (
+      ap (λ (v : OpenStoreValue C). mode_in {E = E} {C = C} {FP = FP} {F = F} {B = B}
+          (record before { store = v })) syncs.ok,
+      tt,
     )
-      where
-        by : (r : Result (Unit {0}) Status) → SyncsLog env before.store from r value mid
-            → IfErr r (λ e. IsClosedOrBroken (mode_in {E = E} {C = C} {FP = FP} {F = F} {B = B}
-            (record before { store = value })) ⊎ IsOutOfMemory e)
-        by (Ok nothing) syncs = tt
-        by (Err status) syncs = ⊎_elim
+    flush_becomes (Err status) syncs = (
+      tt,
+      (
+        ⊎_elim (λ opens. inr (opens.0 ∙ sym opened)) (λ broke. inl broke.0)
+            (open_or_broken {E = E} {C = C} {FP = FP} {F = F} {B = B}
+            (record before { store = value }) (open_mode_is before opened)),
+        ⊎_elim
             (λ (still : IsOutOfMemory status × (value ≡ before.store) × (mid ≡ from)). inr still.0)
             (λ (broke : value ≡ with_writer before.store (broken_writer before.store.log.writer)).
             inl (⊎_elim
@@ -189,7 +205,9 @@ module _ {E C FP F : Type 0} {B : Boxed} (env : Ghosts E F) (formats : OptionsOf
             sym (ap (λ (v : OpenStoreValue C). v.log.writer.broken) broke) ∙ sound.1.log in cc))
             (λ is. inr is.0)
             (open_or_broken {E = E} {C = C} {FP = FP} {F = F} {B = B}
-            (record before { store = value }) (open_mode_is before opened)))) syncs.err
+            (record before { store = value }) (open_mode_is before opened)))) syncs.err,
+      ),
+    )
 
     flush_cause : (result : Result (Unit {0}) Status)
         → SyncsLog env before.store from result value mid
@@ -217,13 +235,15 @@ module _ {E C FP F : Type 0} {B : Boxed} (env : Ghosts E F) (formats : OptionsOf
         → SyncsBatches env (formats (options_in before)).order before.store from result value mid
         → IsSoundCall {T = Unit {0}} env (formats (options_in before)).order any_meaning before.store
         from result value mid
-        → EngineServes env formats done_or before from flush result (record before { store = value })
+        → EngineServes env choices done_or before from flush result (record before { store = value })
         mid
     flush_serves result syncs batches sound = record {
       options = sync_tells result before.mode syncs;
       halted = λ halted. absurd (not_halted (mode_in before) opened halted);
       becomes = flush_becomes result syncs;
       step = flush_goes env formats before from opened value mid result syncs batches sound;
+      rest = rest_synced env before from opened value mid result syncs flush log_is_data tt
+          (inl (λ held. refl)) before.mode;
       time = sound.time;
       cause = flush_cause result syncs;
     }
@@ -233,13 +253,15 @@ module _ {E C FP F : Type 0} {B : Boxed} (env : Ghosts E F) (formats : OptionsOf
         → SyncsBatches env (formats (options_in before)).order before.store from (Err status) value mid
         → IsSoundCall {T = Unit {0}} env (formats (options_in before)).order any_meaning before.store
         from (Err status) value mid
-        → EngineServes env formats {T = Unit {0}} done_or before from close (Err status)
+        → EngineServes env choices {T = Unit {0}} done_or before from close (Err status)
         (record before { store = value; mode = Broken }) mid
     close_unsynced_serves status syncs batches sound = record {
       options = sync_tells (Err status) Broken syncs;
       halted = λ halted. absurd (not_halted (mode_in before) opened halted);
-      becomes = (tt, inr refl);
+      becomes = (tt, inl refl);
       step = close_unsynced env formats before from opened value mid status syncs batches sound;
+      rest = rest_synced env before from opened value mid (Err status) syncs close log_is_data tt
+          (inr (status, refl)) Broken;
       time = sound.time;
       cause = record {
         later = syncs.cause.later;
@@ -262,14 +284,16 @@ module _ {E C FP F : Type 0} {B : Boxed} (env : Ghosts E F) (formats : OptionsOf
           → ChangesLocks {T = Unit {0}} env.models_disk (lock_set lock false) (env.observed mid)
           (env.observed to) (Err status)
           → HasCause {T = Unit {0}} (λ _. ⊥) (env.failures mid) (env.failures to) (Err status)
-          → EngineServes env formats {T = Unit {0}} done_or before from close (Err status)
+          → EngineServes env choices {T = Unit {0}} done_or before from close (Err status)
           (record before { store = value; mode = Broken }) to
       close_locked_serves status does locks cause = record {
         options = sync_tells (Ok tt) Broken syncs;
         halted = λ halted. absurd (not_halted (mode_in before) opened halted);
-        becomes = (tt, inr refl);
+        becomes = (tt, inl refl);
         step = close_locked env formats before from opened value mid syncs batches sound to lock lock_is
             status does locks cause;
+        rest = rest_given env before from opened value mid (Ok tt) syncs to lock lock_is (Err status)
+            does locks Broken;
         time = λ modelled.
             let first = sound.time modelled in
             let second = does.time.later in omega (arith, first, second);
@@ -282,7 +306,7 @@ module _ {E C FP F : Type 0} {B : Boxed} (env : Ghosts E F) (formats : OptionsOf
           → ChangesLocks {T = Unit {0}} env.models_disk (lock_set lock false) (env.observed mid)
           (env.observed to) (Ok tt)
           → HasCause {T = Unit {0}} (λ _. ⊥) (env.failures mid) (env.failures to) (Ok tt)
-          → EngineServes env formats {T = Unit {0}} done_or before from close (Ok tt)
+          → EngineServes env choices {T = Unit {0}} done_or before from close (Ok tt)
           (record before { store = value; mode = Closed }) to
       closed_serves does locks cause =
           let counted = cause.ok ∙ syncs.cause.ok in
@@ -292,6 +316,8 @@ module _ {E C FP F : Type 0} {B : Boxed} (env : Ghosts E F) (formats : OptionsOf
             becomes = (refl, tt);
             step = closed_now env formats before from opened value mid syncs batches sound to lock
                 lock_is does locks cause;
+            rest = rest_given env before from opened value mid (Ok tt) syncs to lock lock_is (Ok tt)
+                does locks Closed;
             time = λ modelled.
                 let first = sound.time modelled in
                 let second = does.time.later in omega (arith, first, second);
@@ -307,12 +333,13 @@ module _ {E C FP F : Type 0} {B : Boxed} (env : Ghosts E F) (formats : OptionsOf
 
   module _ (key : List ℕ) (from : E) where
     pub get_closed_serves : (status : Status) → RefusedAsClosed (mode_in before) status
-        → EngineServes env formats found_or before from (get None key) (Err status) before from
+        → EngineServes env choices found_or before from (get None key) (Err status) before from
     get_closed_serves status why = record {
-      options = refl;
+      options = record { rest = refl; sink = refl };
       halted = λ halted. (refl, refl, inl why);
       becomes = (refl, refl);
       step = get_closed env formats before key status why from;
+      rest = rest_still env before from (get None key) (Err status) (inr (status, refl));
       time = λ modelled. omega arith;
       cause = record { later = omega arith; cause = inl (inl why) };
     }
@@ -320,12 +347,13 @@ module _ {E C FP F : Type 0} {B : Boxed} (env : Ghosts E F) (formats : OptionsOf
     module _ (usable : mode_in before ≡ machine.closed → ⊥) where
       pub get_long_serves : (result : Result (Option (List ℕ)) Status)
           → IsErrAnd result (λ status. status.code ≡ InvalidArgument) → IsLongKey key
-          → EngineServes env formats found_or before from (get None key) result before from
+          → EngineServes env choices found_or before from (get None key) result before from
       get_long_serves result fails long = record {
-        options = refl;
+        options = record { rest = refl; sink = refl };
         halted = λ halted. absurd (usable halted);
         becomes = (refl, refl);
         step = get_long env formats before key usable result fails long from;
+        rest = rest_still env before from (get None key) result (inl (λ held. refl));
         time = λ modelled. omega arith;
         cause = record { later = omega arith; cause = by result fails };
       }
@@ -340,13 +368,14 @@ module _ {E C FP F : Type 0} {B : Boxed} (env : Ghosts E F) (formats : OptionsOf
       pub get_serves : (IsLongKey key → ⊥) → (to : E) (result : Result (Option (List ℕ)) Status)
           → LooksUpKey env (formats (options_in before)).order (formats (options_in before))
           before.store from key result to
-          → EngineServes env formats found_or before from (get None key) result
+          → EngineServes env choices found_or before from (get None key) result
           (record before { options = options_in before }) to
       get_serves short to result looks = record {
-        options = refl;
+        options = record { rest = refl; sink = refl };
         halted = λ halted. absurd (usable halted);
         becomes = (refl, refl);
         step = get_goes env formats before key usable short from to result looks;
+        rest = rest_read env before from key result to (options_in before) looks.reads.kept_disk;
         time = λ modelled. (looks.reads.kept_disk.disk modelled).time.later;
         cause = get_cause env formats before key usable short from to result looks;
       }
@@ -356,10 +385,10 @@ module _ {E C FP F : Type 0} {B : Boxed} (env : Ghosts E F) (formats : OptionsOf
           → (result : Result (Option (List ℕ)) Status)
           → LooksUpKey env (formats (options_in before)).order
           (formats (record before.options { cmp = cmp })) before.store from key result to
-          → EngineServes env formats found_or before from (get None key) result
+          → EngineServes env choices found_or before from (get None key) result
           (record before { options = record before.options { cmp = cmp } }) to
       get_serves_in cmp same short to result looks =
-          subst (λ (c : C). EngineServes env formats found_or before from (get None key) result
+          subst (λ (c : C). EngineServes env choices found_or before from (get None key) result
           (record before { options = record before.options { cmp = c } }) to) (sym same)
           (get_serves short to result (subst (λ (c : C).
           LooksUpKey env (formats (options_in before)).order

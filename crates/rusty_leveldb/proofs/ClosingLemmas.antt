@@ -17,7 +17,6 @@ use Rattle.leveldb_store.specs.OpenStore.{IsUnbroken, OpenStoreValue}
 use Rattle.leveldb_store.specs.SoundCall.{IsSoundCall, any_meaning}
 use Rattle.leveldb_store.specs.Write.{SyncsLog, open_log_path, with_writer}
 use Rattle.leveldb_store.specs.WriteBatch.{MakesDurable, SyncsBatches}
-use Rattle.rusty_leveldb.specs.declared.db_impl.engine.Mode.{Mode}
 use Rattle.rusty_leveldb.specs.declared.db_impl.engine.Mode.TheVariants.{Broken, Closed}
 use Rattle.rusty_leveldb.specs.Boxes.{EngineOf}
 use Rattle.rusty_leveldb.specs.Causes.{Cause, Comes, ReachesDevice, Setting, device_failed, out_of_memory}
@@ -35,10 +34,10 @@ use Rattle.rusty_leveldb.proofs.SyncLemmas.{durable, ends_durable, goes_broken, 
 
 -- ---- locks
 
-freed : (lock : List ℕ) (locked : List ℕ → Bool) → lock_set lock false locked lock ≡ false
+pub freed : (lock : List ℕ) (locked : List ℕ → Bool) → lock_set lock false locked lock ≡ false
 freed lock locked = ap (λ b. cond b false (locked lock)) (bytes_eq-same lock)
 
-freed_other : (lock name : List ℕ) (locked : List ℕ → Bool) → name ≢ lock
+pub freed_other : (lock name : List ℕ) (locked : List ℕ → Bool) → name ≢ lock
     → lock_set lock false locked name ≡ locked name
 freed_other lock name locked differs =
     ap (λ b. cond b false (locked name)) (bytes_eq-apart lock name (λ e. differs (sym e)))

@@ -1,17 +1,20 @@
 -- An opening that is done.
 use Rattle.std.specs.Prelude.{string_bytes}
-use Rattle.std.proofs.Common.{◌≡◌, ◌≢◌, ◌≤◌, ◌⊎◌, ◌∙◌, ⊎_elim, inl, inr, ℕ, Bool, true, false, List, sym, ap, subst, arith, Some, None, Ok, IsTrue}
+use Rattle.std.proofs.Common.{◌≡◌, ◌≢◌, ◌≤◌, ◌∙◌, ⊎_elim, inl, inr, ℕ, Bool, true, false, List, sym, ap, subst, arith, Some, None, Ok, IsTrue}
 use Rattle.leveldb_base.specs.declared.types.FileType.{FileType}
 use Rattle.leveldb_base.specs.declared.types.FileType.TheVariants.{Descriptor, Log, Table, Temp}
+use Rattle.leveldb_base.specs.declared.cmp.Cmp.{Ghosts as CmpGhosts}
 use Rattle.leveldb_env.specs.Env.{Files, Run, in_folder}
 use Rattle.leveldb_env.specs.Options.{Boxed, OptionsOf}
 use Rattle.leveldb_env.specs.declared.env.Env.{Ghosts}
+use Rattle.leveldb_env.specs.declared.filter.FilterPolicy.{Ghosts as FilterGhosts}
 use Rattle.leveldb_env.proofs.EnvLemmas.{Run-mono, SameBut-created}
 use Rattle.leveldb_version.specs.Contents.{made}
 use Rattle.leveldb_version.specs.Paths.{lock_path}
 use Rattle.leveldb_version.specs.StoreSteps.{AppendedAreBytes}
 use Rattle.leveldb_version.specs.VersionSetValue.{VersionSetValue}
 use Rattle.leveldb_version.specs.Writing.{IsObsolete}
+use Rattle.leveldb_store.specs.BuildTable.{TableChoices}
 use Rattle.leveldb_store.specs.Format.{Agrees, Format, Meaning}
 use Rattle.leveldb_store.specs.OpensStore.{IsForbidden, LacksUsableEdits, OpensStore, SameBesideOwn}
 use Rattle.leveldb_store.specs.Room.{TellsOnly, TidiesUp}
@@ -21,17 +24,16 @@ use Rattle.leveldb_store.specs.Written.{IsData, KeepsWritten}
 use Rattle.rusty_leveldb.specs.declared.db_impl.engine.Mode.TheVariants.{Open}
 use Rattle.rusty_leveldb.specs.Boxes.{EngineOf}
 use Rattle.rusty_leveldb.specs.Calls.{EngineOpens}
-use Rattle.rusty_leveldb.specs.Engine.{IsOpening, IsStoreName, Recalls, no_engine, options_in, scene}
+use Rattle.rusty_leveldb.specs.Engine.{formats_of, IsOpening, IsStoreName, Recalls, no_engine, options_in, scene}
 use Rattle.rusty_leveldb.specs.Frame.{IsOwn, Spares}
 use Rattle.rusty_leveldb.specs.Serves.{Goes, IsSpared, Represents}
 use Rattle.rusty_leveldb.specs.State.{Opening, State, done, open_store}
-use Rattle.rusty_leveldb.specs.Unopened.{NeverOpens}
 use Rattle.rusty_leveldb.proofs.EngineLemmas.{unbroken_opens}
 use Rattle.rusty_leveldb.proofs.LateOpeningLemmas.{made_bytes}
 use Rattle.rusty_leveldb.proofs.MachineLemmas.{risk_opening}
 use Rattle.rusty_leveldb.proofs.OpeningLemmas.{contents, fits_or_not, is_sound, lock_spares, opened_goes, other_lacks}
 use Rattle.rusty_leveldb.proofs.ReadsLemmas.{IsNamed}
-use Rattle.rusty_leveldb.proofs.UnderLockLemmas.{IsTaken, but, forbidden_here, lacks_here, late_spares}
+use Rattle.rusty_leveldb.proofs.UnderLockLemmas.{IsTaken, LooksNoFurther, but, late_spares, never_here}
 
 -- ---- what is deleted
 
@@ -69,47 +71,62 @@ removed_bytes set before after removes bytes name file there = ⊎_elim
     absurd (let never : None ≡ Some file = sym gone.1 ∙ there in cc))
     (removes name)
 
-module _ {E C FP F : Type 0} {B : Boxed} (env : Ghosts E F) (formats : OptionsOf C FP B → Format)
+module _ {E C FP F D P : Type 0} {B : Boxed} {keys : CmpGhosts D} {key_filters : FilterGhosts P}
+    (env : Ghosts E F) (choices : OptionsOf C FP B → TableChoices keys key_filters)
     (store : List ℕ) (options : OptionsOf C FP B) (asked : Opening) (from taken opened to : E)
     (engine : EngineOf E C FP F B)
     (took : IsTrue env.models_disk → IsTaken store (env.observed from) (env.observed taken))
     (limit : ℕ)
     (opens : OpensStore env store asked.format asked.create_if_missing asked.error_if_exists taken limit
     (Ok engine.store) opened)
+    (opens_count : env.failures opened ≡ env.failures taken)
     (bytes_go : BytesAreAppended env taken opened)
     (tidies : TidiesUp env asked.format.order engine.store opened to)
     (tidy_time : TimeGoesOn env opened to) (mode : engine.mode ≡ Open)
     (lock : string_bytes engine.lock ≡ lock_path store)
     (tells : TellsOnly options engine.options) (cmp : engine.store.cmp ≡ options.cmp)
-    (ignores : (a b : OptionsOf C FP B) → TellsOnly a b → formats b ≡ formats a)
-    (asked_is : formats options ≡ asked.format)
+    (ignores : (a b : OptionsOf C FP B) → TellsOnly a b → formats_of choices b ≡ formats_of choices a)
+    (asked_is : formats_of choices options ≡ asked.format)
     (counted : env.failures taken ≡ env.failures from)
     (well : IsStoreName store × IsTrue asked.fits × IsTrue asked.compresses) where
+  abbrev formats : OptionsOf C FP B → Format
+  formats = formats_of choices
+
   abbrev here : Files
   here = (env.observed taken).disk.files
 
   tells_in : TellsOnly options (options_in engine)
-  tells_in = ap (λ (o : OptionsOf C FP B). record o { cmp = engine.store.cmp }) tells
-      ∙ ap (λ (c : C). record options { log = engine.options.log; cmp = c }) cmp
+  tells_in = record {
+    rest = ap (λ (o : OptionsOf C FP B). record o { cmp = engine.store.cmp }) tells.rest
+        ∙ ap (λ (c : C). record options { log = engine.options.log; cmp = c }) cmp;
+    sink = tells.sink;
+  }
 
   format : formats (options_in engine) ≡ asked.format
   format = ignores options (options_in engine) tells_in ∙ asked_is
 
   later : env.failures from ≤ env.failures to
-  later = omega (arith, counted, opens.cause.ok, tidies.later)
+  later = omega (arith, counted, opens_count, tidies.later)
 
-  may : IsTrue env.models_disk → IsForbidden store asked.create_if_missing asked.error_if_exists here
-      ⊎ LacksUsableEdits store asked.format here → ⊥
-  may modelled (inl forbidden) = (opens.stays modelled (inl forbidden)).0
-  may modelled (inr lacks) = (opens.stays modelled (inr (inr lacks))).0
+  may : IsTrue env.models_disk → LooksNoFurther store asked here → ⊥
+  may modelled looks = (opens.stays modelled looks).0
 
-  never : IsTrue env.models_disk → NeverOpens store asked (env.observed from).disk → ⊥
-  never modelled (inl (inl held)) =
-      let no : true ≡ false = sym held ∙ (took modelled).was_free in cc
-  never modelled (inl (inr forbidden)) =
-      may modelled (inl (forbidden_here env store asked from taken took modelled forbidden))
-  never modelled (inr lacks) =
-      may modelled (inr (lacks_here env store asked from taken took modelled lacks))
+  same_locks : IsTrue env.models_disk
+      → (env.observed to).disk.locked ≡ (env.observed taken).disk.locked
+  same_locks modelled = tidies.locks modelled ∙ opens.locks modelled
+
+  lock_held : IsTrue env.models_disk → IsTrue ((env.observed to).disk.locked (lock_path store))
+  lock_held modelled = ap (λ (l : List ℕ → Bool). l (lock_path store)) (same_locks modelled)
+      ∙ (took modelled).held
+
+  spares : IsTrue env.models_disk
+      → Spares store (IsOwn store) (env.observed from).disk (env.observed to).disk
+  spares modelled = late_spares store (env.observed from) (env.observed taken) (env.observed to)
+      (took modelled)
+      (λ path foreign. removed_spares engine.store.set store (env.observed opened).disk.files
+      (env.observed to).disk.files opens.path (tidies.others modelled) path foreign
+      ∙ (opens.others modelled).has path foreign)
+      (λ path differs. ap (λ (l : List ℕ → Bool). l path) (same_locks modelled))
 
   module _ (modelled : IsTrue env.models_disk) (opening : Opening)
       (is : IsOpening store asked opening) (meaning : Meaning)
@@ -132,17 +149,6 @@ module _ {E C FP F : Type 0} {B : Boxed} (env : Ghosts E F) (formats : OptionsOf
     bytes_end : AppendedAreBytes (env.observed to).disk.files
     bytes_end = removed_bytes engine.store.set (env.observed opened).disk.files
         (env.observed to).disk.files (tidies.others modelled) (bytes_go modelled bytes_taken)
-
-    same_locks : (env.observed to).disk.locked ≡ (env.observed taken).disk.locked
-    same_locks = tidies.locks modelled ∙ opens.locks modelled
-
-    spares : Spares store (IsOwn store) (env.observed from).disk (env.observed to).disk
-    spares = late_spares store (env.observed from) (env.observed taken) (env.observed to)
-        (took modelled)
-        (λ path foreign. removed_spares engine.store.set store (env.observed opened).disk.files
-        (env.observed to).disk.files opens.path (tidies.others modelled) path foreign
-        ∙ (opens.others modelled).has path foreign)
-        (λ path differs. ap (λ (l : List ℕ → Bool). l path) same_locks)
 
     tidied : KeepsWritten opening.format.order meaning engine.store (env.observed opened) engine.store
         (env.observed to)
@@ -176,8 +182,7 @@ module _ {E C FP F : Type 0} {B : Boxed} (env : Ghosts E F) (formats : OptionsOf
         (opens_so.opens modelled meaning agrees found sound) tidied (took modelled).was_free allowed
         mode lock (format ∙ sym same_format) (is.fits.1 (well.0, well.1))
         (subst IsTrue (sym (ap (λ (o : Opening). o.compresses) is.same)) well.2) later early_run
-        bytes_end (ap (λ (l : List ℕ → Bool). l (lock_path store)) same_locks ∙ (took modelled).held)
-        spares
+        bytes_end (lock_held modelled) (spares modelled)
 
     pub done_goes : Goes store meaning (Recalls formats store meaning)
         (scene env (no_engine {E = E} {C = C} {FP = FP} {F = F} {B = B} engine.options) from)
@@ -185,14 +190,24 @@ module _ {E C FP F : Type 0} {B : Boxed} (env : Ghosts E F) (formats : OptionsOf
     done_goes = ⊎_elim goes
         (λ (differs : (name : List ℕ) × (old.store ≡ made (Some name))
         × (name ≢ opening.format.order_name)).
-        absurd (may modelled (inr (subst (λ (f : Format). LacksUsableEdits store f here) same_format
-        (other_lacks store meaning opening agrees (env.observed from) old was.disk_is here
-        (but env store asked from taken took modelled) differs.0 differs.1 differs.2)))))
+        absurd (may modelled (inr (inr (subst (λ (f : Format). LacksUsableEdits store f here)
+        same_format (other_lacks store meaning opening agrees (env.observed from) old was.disk_is here
+        (but env store asked from taken took modelled) differs.0 differs.1 differs.2))))))
         (fits_or_not store meaning opening agrees (env.observed from) old was.disk_is)
 
-  pub done_opens : EngineOpens env formats store options asked from (Ok engine) to
+  pub done_opens : EngineOpens env choices store options asked from (Ok engine) to
   done_opens = record {
-    opened = (unbroken_opens engine mode opens.unbroken, tells_in);
+    opened = record {
+      mode = unbroken_opens engine mode opens.unbroken;
+      options = tells_in;
+      place = opens.path;
+      lock = lock ∙ ap lock_path (sym opens.path);
+    };
+    held = λ modelled. (
+      λ was_held. let never : true ≡ false = sym was_held ∙ (took modelled).was_free in cc,
+      lock_held modelled,
+    );
+    others = spares;
     step = λ opening is meaning agrees modelled old was.
         done_goes modelled opening is meaning agrees old was;
     time = λ modelled.
@@ -200,7 +215,8 @@ module _ {E C FP F : Type 0} {B : Boxed} (env : Ghosts E F) (formats : OptionsOf
         let second = (opens.others modelled).time.later in
         let third = tidy_time modelled in omega (arith, first, second, third);
     misnamed = λ no. absurd (no well);
-    never_opens = never;
+    never_opens = λ modelled never.
+        absurd (may modelled (never_here env store asked from taken took modelled never));
     unopened = tt;
     cause = record { later = later; cause = tt };
   }

@@ -2,37 +2,43 @@
 -- opened.
 use Rattle.std.specs.Prelude.{Result, if◌then◌else◌, is_ok}
 use Rattle.std.proofs.Common.{◌≡◌, ◌≢◌, ◌<◌, ◌≤◌, ◌+◌, ◌-◌, ◌^◌, ◌⊎◌, ◌∙◌, ⊎_elim, inl, inr, ℕ, Bool, true, false, List, refl, sym, ap, subst, arith, Some, None, Ok, Err, IsTrue}
-use Rattle.leveldb_base.specs.Error.{text_of}
+use Rattle.leveldb_base.specs.Error.{IsOutOfMemory, text_of}
 use Rattle.leveldb_base.specs.Names.{file_name}
+use Rattle.leveldb_base.specs.declared.cmp.Cmp.{Ghosts as CmpGhosts}
 use Rattle.leveldb_base.specs.declared.error.Status.{Status}
+use Rattle.leveldb_base.specs.declared.error.StatusCode.TheVariants.{NotSupported}
 use Rattle.leveldb_base.specs.declared.types.FileType.TheVariants.{DBLock}
 use Rattle.leveldb_env.specs.Env.{BeforeOrAfter, ChangesFiles, ChangesLocks, Files, FilesUnchanged, HasCause, Run, created, lock_set, same}
 use Rattle.leveldb_env.specs.Options.{Boxed, OptionsOf}
 use Rattle.leveldb_env.specs.declared.env.Env.{Ghosts}
+use Rattle.leveldb_env.specs.declared.filter.FilterPolicy.{Ghosts as FilterGhosts}
 use Rattle.leveldb_env.proofs.EnvLemmas.{Run-mono, Run-trans, SameBut-created, call}
 use Rattle.leveldb_version.proofs.BytesLemmas.{bytes_stay}
 use Rattle.leveldb_version.specs.Contents.{made}
 use Rattle.leveldb_version.specs.Holds.{Holds}
 use Rattle.leveldb_version.specs.Paths.{lock_path}
 use Rattle.leveldb_version.specs.StoreSteps.{AppendedAreBytes}
+use Rattle.leveldb_store.specs.BuildTable.{TableChoices}
 use Rattle.leveldb_store.specs.Format.{Agrees, Format, HasCompressorError, Meaning}
-use Rattle.leveldb_store.specs.OpensStore.{FailsToOpen, HasOtherComparator, IsForbidden, LacksUsableEdits, OpensStore}
+use Rattle.leveldb_store.specs.FoundLogs.{HasLogNotKept}
+use Rattle.leveldb_store.specs.OpenStore.{OpenStoreValue}
+use Rattle.leveldb_store.specs.OpensStore.{FailsToOpen, HasOtherComparator, LacksUsableEdits, OpensStore, WhyNotOpenable}
 use Rattle.leveldb_store.specs.Room.{HasFailed}
 use Rattle.leveldb_store.specs.SoundCall.{BytesAreAppended}
 use Rattle.rusty_leveldb.specs.Calls.{EngineOpens}
 use Rattle.rusty_leveldb.specs.Causes.{Cause, Comes, Setting, bad_operand, compressor_failed, device_failed, out_of_memory, store_exists, too_large}
-use Rattle.rusty_leveldb.specs.Engine.{IsOpening, IsStoreName, Recalls, scene}
+use Rattle.rusty_leveldb.specs.Engine.{formats_of, IsOpening, IsStoreName, Recalls, scene}
 use Rattle.rusty_leveldb.specs.Frame.{IsOwn, Spares}
 use Rattle.rusty_leveldb.specs.Machine.{IsEarly}
 use Rattle.rusty_leveldb.specs.Serves.{Goes, IsSpared, Reads, Represents, refusal_of, setting_between}
 use Rattle.rusty_leveldb.specs.State.{Opening, State, open_store, refused}
-use Rattle.rusty_leveldb.specs.Unopened.{IsBarred, OpenExcused}
+use Rattle.rusty_leveldb.specs.Unopened.{MakesLockAlone, OpenExcused}
 use Rattle.rusty_leveldb.proofs.LockLemmas.{lock_edits, lock_reads}
 use Rattle.rusty_leveldb.proofs.MachineLemmas.{risk_opening}
 use Rattle.rusty_leveldb.proofs.OpeningLemmas.{contents, fits_or_not, is_sound, lock_spares, opening_holds, opening_run, other_lacks, taken_holds}
 use Rattle.rusty_leveldb.proofs.ReadsLemmas.{IsNamed}
-use Rattle.rusty_leveldb.proofs.UnderLockLemmas.{IsTaken, but, excused_late, failed_beside, forbidden_here, late_spares, same_current, set_other, set_same}
-use Rattle.rusty_leveldb.proofs.UnopenedLemmas.{comparator_there, found_in, in_order, lacking, other, unwanted}
+use Rattle.rusty_leveldb.proofs.UnderLockLemmas.{IsTaken, LooksNoFurther, but, excused_late, failed_beside, late_spares, never_here, same_current, set_other, set_same}
+use Rattle.rusty_leveldb.proofs.UnopenedLemmas.{comparator_there, found_in, in_order, lacking, not_kept_causes, other, unwanted}
 use Rattle.rusty_leveldb.proofs.UnopenedStepLemmas.{settles, unopened_goes}
 
 pub made_bytes : (store : List ℕ) (files now : Files)
@@ -42,12 +48,18 @@ made_bytes store files now (inl is) bytes = subst AppendedAreBytes (sym is) byte
 made_bytes store files now (inr is) bytes =
     subst AppendedAreBytes (sym is) ((bytes_stay files bytes).make (lock_path store))
 
-module _ {E C FP F : Type 0} {B : Boxed} (env : Ghosts E F) (formats : OptionsOf C FP B → Format)
-    (store : List ℕ) (asked : Opening) (from taken opened to : E) (e : Status)
+module _ {E C FP F D P : Type 0} {B : Boxed} {keys : CmpGhosts D} {key_filters : FilterGhosts P}
+    (env : Ghosts E F) (choices : OptionsOf C FP B → TableChoices keys key_filters)
+    (options : OptionsOf C FP B) (store : List ℕ) (asked : Opening) (from taken opened to : E)
+    (e : Status)
     (took : IsTrue env.models_disk → IsTaken store (env.observed from) (env.observed taken))
     (limit : ℕ)
     (opens : OpensStore env store asked.format asked.create_if_missing asked.error_if_exists taken
     {C = C} limit (Err e) opened)
+    (opens_cause : HasCause {T = OpenStoreValue C} (FailsToOpen env store (choices options)
+    asked.create_if_missing asked.error_if_exists taken opened) (env.failures taken)
+    (env.failures opened) (Err e))
+    (asked_is : formats_of choices options ≡ asked.format)
     (bytes_go : BytesAreAppended env taken opened)
     (result : Result (Unit {0}) Status)
     (does : ChangesFiles env.models_disk same FilesUnchanged (env.observed opened) (env.observed to)
@@ -57,6 +69,9 @@ module _ {E C FP F : Type 0} {B : Boxed} (env : Ghosts E F) (formats : OptionsOf
     (env.observed to) result)
     (freed : HasCause (λ _. ⊥) (env.failures opened) (env.failures to) result)
     (counted : env.failures taken ≡ env.failures from) where
+  abbrev formats : OptionsOf C FP B → Format
+  formats = formats_of choices
+
   abbrev here : Files
   here = (env.observed taken).disk.files
 
@@ -64,16 +79,33 @@ module _ {E C FP F : Type 0} {B : Boxed} (env : Ghosts E F) (formats : OptionsOf
   mid = env.failures opened
 
   later : env.failures from ≤ mid
-  later = omega (arith, counted, opens.cause.later)
+  later = omega (arith, counted, opens_cause.later)
 
   -- why it isn't opened
-  why : OpenExcused env store asked from e ⊎ HasFailed (env.failures from) mid
+  why : OpenExcused env store (choices options) asked from e ⊎ HasFailed (env.failures from) mid
   why = ⊎_elim
-      (λ (fails : FailsToOpen env store asked.format asked.create_if_missing asked.error_if_exists taken
-      opened e). inl (excused_late env store asked from taken took opened e fails))
+      (λ (fails : FailsToOpen env store (choices options) asked.create_if_missing
+      asked.error_if_exists taken opened e). inl
+      (excused_late env store asked from taken took (choices options) asked_is opened e fails))
       (λ count. inr (⊎_elim
       (λ (more : mid ≡ env.failures taken + 1). inl (omega (arith, more, counted)))
-      (λ full. inr (sym counted ∙ full.0)) count)) opens.cause.cause
+      (λ full. inr (sym counted ∙ full.0)) count)) opens_cause.cause
+
+  -- it isn't opened for these causes, by the format that is asked for
+  abbrev FailsAsked : Type 0
+  FailsAsked = IsOutOfMemory e
+      ⊎ ((WhyNotOpenable env store asked.format asked.create_if_missing asked.error_if_exists taken e
+      ⊎ HasLogNotKept (choices options) env.models_disk store here e) × (mid ≡ env.failures taken))
+
+  fails_asked : FailsToOpen env store (choices options) asked.create_if_missing
+      asked.error_if_exists taken opened e → FailsAsked
+  fails_asked (inl memory) = inl memory
+  fails_asked (inr (inl openable, count)) = inr (
+    inl (subst (λ f. WhyNotOpenable env store f asked.create_if_missing asked.error_if_exists taken e)
+        asked_is openable),
+    count,
+  )
+  fails_asked (inr (inr log, count)) = inr (inr log, count)
 
   -- the lock is as it was, or held still since giving it back failed
   module _ (modelled : IsTrue env.models_disk) where
@@ -131,30 +163,19 @@ module _ {E C FP F : Type 0} {B : Boxed} (env : Ghosts E F) (formats : OptionsOf
         ∙ (opens.others modelled).has path foreign) other_locks
 
     -- where it looks no further, all files stay
-    abbrev LooksNoFurther : Type 0
-    LooksNoFurther = IsForbidden store asked.create_if_missing asked.error_if_exists here
-        ⊎ LacksUsableEdits store asked.format here
+    unchanged : LooksNoFurther store asked here
+        → Run (FilesUnchanged here) (env.observed taken) (env.observed opened)
+    unchanged looks = (opens.stays modelled looks).1
 
-    unchanged : LooksNoFurther → Run (FilesUnchanged here) (env.observed taken)
-        (env.observed opened)
-    unchanged (inl forbidden) = (opens.stays modelled (inl forbidden)).1
-    unchanged (inr lacks) = (opens.stays modelled (inr (inr lacks))).1
-
-    still : LooksNoFurther → (env.observed to).disk.files ≡ here
-    still barred = end_files ∙ (unchanged barred).has
-
-    made_end : LooksNoFurther → BeforeOrAfter (created (lock_path store))
-        (env.observed from).disk.files (env.observed to).disk.files
-    made_end barred = subst (BeforeOrAfter (created (lock_path store))
-        (env.observed from).disk.files) (sym (still barred)) (took modelled).run.has
-
-    untouched : IsBarred store asked (env.observed from).disk
-        → BeforeOrAfter (created (lock_path store)) (env.observed from).disk.files
-        (env.observed to).disk.files
-    untouched (inl held) = absurd (let never : true ≡ false =
-        sym held ∙ (took modelled).was_free in cc)
-    untouched (inr forbidden) =
-        made_end (inl (forbidden_here env store asked from taken took modelled forbidden))
+    made_run : LooksNoFurther store asked here
+        → MakesLockAlone store (env.observed from) (env.observed to)
+    made_run looks =
+        let both = Run-trans (took modelled).run (λ files is.
+        subst (BeforeOrAfter (created (lock_path store)) (env.observed from).disk.files) (sym is)
+        (took modelled).run.has) (unchanged looks) in
+        call modelled both (λ files is.
+        subst (BeforeOrAfter (created (lock_path store)) (env.observed from).disk.files) (sym is)
+        both.has) does
 
     -- ---- the step
 
@@ -195,7 +216,8 @@ module _ {E C FP F : Type 0} {B : Boxed} (env : Ghosts E F) (formats : OptionsOf
       -- with the causes that come early all files stay
       abbrev Late : Type 0
       Late = (cause : Cause) × Comes (setting_between meaning (env.failures from) mid) old
-          (open_store opening) (refusal_of e) cause × ((IsEarly cause → ⊥) ⊎ LooksNoFurther)
+          (open_store opening) (refusal_of e) cause
+          × ((IsEarly cause → ⊥) ⊎ LooksNoFurther store asked here)
 
       abbrev setting : Setting
       setting = setting_between meaning (env.failures from) mid
@@ -222,14 +244,13 @@ module _ {E C FP F : Type 0} {B : Boxed} (env : Ghosts E F) (formats : OptionsOf
           one.name one.named)
           (λ same_name. one.other (same_name ∙ ap (λ (f : Format). f.order_name) same_format)))
 
-      late_of : FailsToOpen env store asked.format asked.create_if_missing asked.error_if_exists taken
-          opened e ⊎ ((mid ≡ env.failures taken + 1)
+      late_of : FailsAsked ⊎ ((mid ≡ env.failures taken + 1)
           ⊎ ((env.failures taken ≡ 2 ^ 64 - 1) × (mid ≡ env.failures taken))) → Late
       late_of (inl (inl memory)) =
           (out_of_memory, (tt, memory.0, ap text_of memory.1), inl (λ never. never))
-      late_of (inl (inr (inl bare, count))) =
+      late_of (inl (inr (inl (inl bare), count))) =
           absurd ((took modelled).there (bare.1 modelled (file_name DBLock 0)))
-      late_of (inl (inr (inr (inl (inl there)), count))) = (
+      late_of (inl (inr (inl (inr (inl (inl there))), count))) = (
         store_exists,
         (
           there.0,
@@ -239,7 +260,7 @@ module _ {E C FP F : Type 0} {B : Boxed} (env : Ghosts E F) (formats : OptionsOf
         ),
         inr (inl (inl (there.1, there.2 modelled))),
       )
-      late_of (inl (inr (inr (inl (inr none)), count))) = (
+      late_of (inl (inr (inl (inr (inl (inr none))), count))) = (
         bad_operand,
         (
           none.0,
@@ -248,7 +269,7 @@ module _ {E C FP F : Type 0} {B : Boxed} (env : Ghosts E F) (formats : OptionsOf
         ),
         inr (inl (inr (none.1, none.2 modelled))),
       )
-      late_of (inl (inr (inr (inr (inl one)), count))) =
+      late_of (inl (inr (inl (inr (inr (inl one))), count))) =
           let there = other_there (one.1 modelled) in (
             bad_operand,
             (
@@ -256,9 +277,9 @@ module _ {E C FP F : Type 0} {B : Boxed} (env : Ghosts E F) (formats : OptionsOf
               inr (other env store meaning asked opening is agrees from modelled old was.disk_is setting
                   e there),
             ),
-            inr (inr (lacks there)),
+            inr (inr (inr (lacks there))),
           )
-      late_of (inl (inr (inr (inr (inr (inl damage))), count))) =
+      late_of (inl (inr (inl (inr (inr (inr (inl damage)))), count))) =
           let found = found_in store meaning (env.observed from).disk old was.disk_is in
           let read = in_order store asked.format (env.observed from).disk.files meaning
           (subst (λ (f : Format). f.order ≡ meaning.orders f.order_name) same_format agrees.order)
@@ -266,13 +287,19 @@ module _ {E C FP F : Type 0} {B : Boxed} (env : Ghosts E F) (formats : OptionsOf
           absurd (damage.1 modelled meaning read.0 found.contents read.1
           (lock_reads store (env.observed from).disk.files here
           (but env store asked from taken took modelled) meaning read.0 found.contents read.2))
-      late_of (inl (inr (inr (inr (inr (inr (inl fails)))), count))) = (
-        compressor_failed,
-        subst (λ (f : Format). HasCompressorError f e.code) (sym same_format) fails,
-        inl (λ never. never),
-      )
-      late_of (inl (inr (inr (inr (inr (inr (inr code)))), count))) =
-          (too_large, (tt, code), inl (λ never. never))
+      late_of (inl (inr (inl (inr (inr (inr (inr not)))), count))) =
+          (too_large, (tt, not.0), inl (λ never. never))
+      late_of (inl (inr (inr log, count))) =
+          ⊎_elim
+          (λ (memory : IsOutOfMemory e).
+          (out_of_memory, (tt, memory.0, ap text_of memory.1), inl (λ never. never)))
+          (λ other. ⊎_elim
+          (λ (code : e.code ≡ NotSupported). (too_large, (tt, code), inl (λ never. never)))
+          (λ fails. (
+            compressor_failed,
+            subst (λ (f : Format). HasCompressorError f e.code) (asked_is ∙ sym same_format) fails,
+            inl (λ never. never),
+          )) other) (not_kept_causes (choices options) log.batches e log.fails)
       late_of (inr (inl more)) =
           (device_failed, (tt, inl (omega (arith, more, counted))), inl (λ never. never))
       late_of (inr (inr full)) =
@@ -284,13 +311,13 @@ module _ {E C FP F : Type 0} {B : Boxed} (env : Ghosts E F) (formats : OptionsOf
           (scene env None to) old
 
       -- all files have stayed
-      stays_goes : LooksNoFurther → (cause : Cause) → Comes setting old (open_store opening)
+      stays_goes : LooksNoFurther store asked here → (cause : Cause) → Comes setting old (open_store opening)
           (refusal_of e) cause → Refused
       stays_goes barred cause comes =
           unopened_goes env formats store meaning opening from old was to e old.store (inl refl)
           (taken_holds store meaning opening agrees (env.observed from) old was.disk_is
           (env.observed to) (SameBut-created (lock_path store) (env.observed from).disk.files
-          (env.observed to).disk.files (made_end barred)))
+          (env.observed to).disk.files (made_run barred).has))
           bytes_end
           (then_freed (Run-mono (λ files is. subst Spared (sym is) early_run.has)
           (unchanged barred)))
@@ -321,26 +348,28 @@ module _ {E C FP F : Type 0} {B : Boxed} (env : Ghosts E F) (formats : OptionsOf
 
       pub late_goes : Refused
       late_goes =
-          let why_so = late_of opens.cause.cause in
+          let why_so = late_of (⊎_elim (λ fails. inl (fails_asked fails)) (λ count. inr count)
+          opens_cause.cause) in
           ⊎_elim
           (λ (late : IsEarly why_so.0 → ⊥). ⊎_elim
           (λ (fits : IsNamed opening.format.order_name old.store).
           settles_goes fits why_so.0 why_so.1 late)
           (λ (differs : (name : List ℕ) × (old.store ≡ made (Some name))
           × (name ≢ opening.format.order_name)).
-          stays_goes (inr (subst (λ (f : Format). LacksUsableEdits store f here) same_format
+          stays_goes (inr (inr (subst (λ (f : Format). LacksUsableEdits store f here) same_format
           (other_lacks store meaning opening agrees (env.observed from) old was.disk_is here
-          (but env store asked from taken took modelled) differs.0 differs.1 differs.2)))
+          (but env store asked from taken took modelled) differs.0 differs.1 differs.2))))
           why_so.0 why_so.1)
           (fits_or_not store meaning opening agrees (env.observed from) old was.disk_is))
-          (λ (barred : LooksNoFurther). stays_goes barred why_so.0 why_so.1) why_so.2
+          (λ (barred : LooksNoFurther store asked here). stays_goes barred why_so.0 why_so.1) why_so.2
 
-  pub late_opens : (options : OptionsOf C FP B)
-      → IsStoreName store × IsTrue asked.fits × IsTrue asked.compresses
+  pub late_opens : IsStoreName store × IsTrue asked.fits × IsTrue asked.compresses
       → env.failures to < 2 ^ 64
-      → EngineOpens env formats store options asked from (Err e) to
-  late_opens options well counts = record {
+      → EngineOpens env choices store options asked from (Err e) to
+  late_opens well counts = record {
     opened = tt;
+    held = tt;
+    others = spares;
     step = λ opening is meaning agrees modelled old was.
         late_goes modelled opening is meaning agrees old was;
     time = λ modelled.
@@ -348,20 +377,17 @@ module _ {E C FP F : Type 0} {B : Boxed} (env : Ghosts E F) (formats : OptionsOf
         let second = (opens.others modelled).time.later in
         let third = does.time.later in omega (arith, first, second, third);
     misnamed = λ no. absurd (no well);
-    never_opens = λ modelled never. tt;
-    unopened = λ modelled. record {
-      untouched = untouched modelled;
-      lock = ⊎_elim (λ same_lock. inl same_lock)
-          (λ held. inr (
-            held.0,
-            failed_beside (OpenExcused env store asked from e) (env.failures from)
-                mid (env.failures to) later freed.later counts why held.1,
-          )) (lock_end modelled);
-      others = spares modelled;
-    };
+    never_opens = λ modelled never.
+        (tt, made_run modelled (never_here env store asked from taken took modelled never));
+    unopened = λ modelled. ⊎_elim (λ same_lock. inl same_lock)
+        (λ held. inr (
+          held.0,
+          failed_beside (OpenExcused env store (choices options) asked from e) (env.failures from)
+              mid (env.failures to) later freed.later counts why held.1,
+        )) (lock_end modelled);
     cause = record {
       later = omega (arith, later, freed.later);
-      cause = ⊎_elim (λ (because : OpenExcused env store asked from e). inl because)
+      cause = ⊎_elim (λ (because : OpenExcused env store (choices options) asked from e). inl because)
           (λ (failed : HasFailed (env.failures from) mid). inr (⊎_elim
           (λ (less : env.failures from < mid). inl (omega (arith, less, freed.later)))
           (λ full. inr full) failed)) why;

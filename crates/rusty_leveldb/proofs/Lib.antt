@@ -32,5 +32,6 @@ pub mod SyncLemmas
 pub mod ClosingLemmas
 pub mod ReadingLemmas
 pub mod WritingLemmas
+pub mod RestLemmas
 pub mod CallsLemmas
 pub mod WriteCallLemmas

@@ -1,27 +1,29 @@
 -- What opening an engine does, put together: an opening that ends before the lock is taken, one
 -- whose store isn't opened, and one that is done.
 use Rattle.std.specs.Prelude.{Result}
-use Rattle.std.proofs.Common.{◌≡◌, ◌≤◌, ◌+◌, ◌-◌, ◌⊎◌, ◌∙◌, ⊎_elim, inl, inr, ℕ, Bool, true, List, refl, sym, ap, subst, arith, None, Err, IsTrue}
+use Rattle.std.proofs.Common.{◌≡◌, ◌≤◌, ◌+◌, ◌⊎◌, ◌∙◌, ⊎_elim, inl, inr, ℕ, Bool, true, List, refl, sym, ap, subst, arith, None, Err, IsTrue}
 use Rattle.leveldb_base.specs.Error.{IsOutOfMemory}
+use Rattle.leveldb_base.specs.declared.cmp.Cmp.{Ghosts as CmpGhosts}
 use Rattle.leveldb_base.specs.declared.error.Status.{Status}
 use Rattle.leveldb_base.specs.declared.error.StatusCode.TheVariants.{LockError}
 use Rattle.leveldb_env.specs.Env.{BeforeOrAfter, ChangesFiles, Files, FilesUnchanged, HasCause, IsLocked, Observed, Run, SameBut, SameLocks, created, same}
 use Rattle.leveldb_env.specs.Options.{Boxed, OptionsOf}
 use Rattle.leveldb_env.specs.declared.env.Env.{Ghosts}
+use Rattle.leveldb_env.specs.declared.filter.FilterPolicy.{Ghosts as FilterGhosts}
 use Rattle.leveldb_env.proofs.EnvLemmas.{Run-call, Run-mono, SameBut-created, begun, call}
 use Rattle.leveldb_version.proofs.BytesLemmas.{bytes_stay}
-use Rattle.leveldb_version.specs.Contents.{made}
 use Rattle.leveldb_version.specs.Paths.{lock_path}
 use Rattle.leveldb_version.specs.StoreSteps.{AppendedAreBytes}
+use Rattle.leveldb_store.specs.BuildTable.{TableChoices}
 use Rattle.leveldb_store.specs.Format.{Agrees, Format, Meaning}
 use Rattle.leveldb_store.specs.Room.{HasFailed}
 use Rattle.rusty_leveldb.specs.Calls.{EngineOpens}
 use Rattle.rusty_leveldb.specs.Causes.{Cause, Comes, device_failed}
-use Rattle.rusty_leveldb.specs.Engine.{IsOpening, IsStoreName, Recalls}
+use Rattle.rusty_leveldb.specs.Engine.{formats_of, IsOpening, IsStoreName, Recalls}
 use Rattle.rusty_leveldb.specs.Frame.{IsOwn, Spares}
 use Rattle.rusty_leveldb.specs.Serves.{Represents, refusal_of, setting_between}
 use Rattle.rusty_leveldb.specs.State.{Opening, State, open_store}
-use Rattle.rusty_leveldb.specs.Unopened.{OpenExcused}
+use Rattle.rusty_leveldb.specs.Unopened.{MakesLockAlone, OpenExcused}
 use Rattle.rusty_leveldb.proofs.OpeningLemmas.{lock_spares, taken_holds}
 use Rattle.rusty_leveldb.proofs.Others.{others_made}
 use Rattle.rusty_leveldb.proofs.UnopenedLemmas.{open_cause}
@@ -31,7 +33,7 @@ use Rattle.rusty_leveldb.proofs.UnopenedStepLemmas.{unopened_goes}
 
 -- the lock's file was made at most, and no lock has changed
 pub record IsNear (store : List ℕ) (from to : Observed) : Type 0 where
-  pub run : Run (BeforeOrAfter (created (lock_path store)) from.disk.files) from to
+  pub run : MakesLockAlone store from to
   pub locks : to.disk.locked ≡ from.disk.locked
 
 pub near_still : (store : List ℕ) (at : Observed) → IsNear store at at
@@ -77,8 +79,13 @@ lock_excused store lock from folder e is locks (inr held) = inr (
       ∙ subst (λ l. folder.disk.locked l ≡ true) is (held.1 modelled),
 )
 
-module _ {E C FP F : Type 0} {B : Boxed} (env : Ghosts E F) (formats : OptionsOf C FP B → Format)
-    (store : List ℕ) (options : OptionsOf C FP B) (asked : Opening) (from to : E) (e : Status) where
+module _ {E C FP F D P : Type 0} {B : Boxed} {keys : CmpGhosts D} {key_filters : FilterGhosts P}
+    (env : Ghosts E F) (choices : OptionsOf C FP B → TableChoices keys key_filters)
+    (store : List ℕ) (options : OptionsOf C FP B) (asked : Opening) (from to : E) (e : Status)
+    (asked_is : formats_of choices options ≡ asked.format) where
+  abbrev formats : OptionsOf C FP B → Format
+  formats = formats_of choices
+
   near_but : IsNear store (env.observed from) (env.observed to)
       → SameBut (lock_path store) (env.observed from).disk.files (env.observed to).disk.files
   near_but near = SameBut-created (lock_path store) (env.observed from).disk.files
@@ -100,23 +107,25 @@ module _ {E C FP F : Type 0} {B : Boxed} (env : Ghosts E F) (formats : OptionsOf
       → Agrees opening.format meaning → IsTrue env.models_disk → (old : State)
       → Represents store meaning (Recalls {E = E} {C = C} {FP = FP} {F = F} {B = B} formats store
       meaning) None (env.observed from).disk old → (mid : ℕ)
-      → OpenExcused env store asked from e ⊎ HasFailed (env.failures from) mid
+      → OpenExcused env store (choices options) asked from e ⊎ HasFailed (env.failures from) mid
       → (cause : Cause) × Comes (setting_between meaning (env.failures from) mid) old
       (open_store opening) (refusal_of e) cause
   cause_of opening is meaning agrees modelled old was mid (inl why) =
       open_cause env store meaning asked opening is agrees from modelled old was.disk_is
-      (setting_between meaning (env.failures from) mid) e why
+      (setting_between meaning (env.failures from) mid) e (choices options) asked_is why
   cause_of opening is meaning agrees modelled old was mid (inr failed) =
       (device_failed, (tt, failed))
 
   pub early_opens : (IsTrue env.models_disk → IsNear store (env.observed from) (env.observed to))
       → env.failures from ≤ env.failures to
-      → OpenExcused env store asked from e ⊎ HasFailed (env.failures from) (env.failures to)
+      → OpenExcused env store (choices options) asked from e ⊎ HasFailed (env.failures from) (env.failures to)
       → ((IsStoreName store × IsTrue asked.fits × IsTrue asked.compresses → ⊥) → to ≡ from)
-      → EngineOpens env formats store options asked from
+      → EngineOpens env choices store options asked from
       (Err e) to
   early_opens near later why misnamed = record {
     opened = tt;
+    held = tt;
+    others = λ modelled. near_others (near modelled);
     step = λ opening is meaning agrees modelled old was.
         let by = near modelled in
         let cause = cause_of opening is meaning agrees modelled old was (env.failures to) why in
@@ -133,11 +142,8 @@ module _ {E C FP F : Type 0} {B : Boxed} (env : Ghosts E F) (formats : OptionsOf
         (λ early. refl);
     time = λ modelled. (near modelled).run.time.later;
     misnamed = λ no. (misnamed no, tt);
-    never_opens = λ modelled never. tt;
-    unopened = λ modelled. record {
-      untouched = λ barred. (near modelled).run.has;
-      lock = inl (ap (λ (l : List ℕ → Bool). l (lock_path store)) (near modelled).locks);
-      others = near_others (near modelled);
-    };
+    never_opens = λ modelled never. (tt, (near modelled).run);
+    unopened = λ modelled.
+        inl (ap (λ (l : List ℕ → Bool). l (lock_path store)) (near modelled).locks);
     cause = record { later = later; cause = why };
   }

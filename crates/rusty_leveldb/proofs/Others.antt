@@ -1,5 +1,5 @@
 -- What the calls of a store leave alone: what isn't the store's, and the bytes of its files.
-use Rattle.std.proofs.Common.{◌≡◌, ◌≢◌, ◌∷◌, inl, inr, ⊎_elim, ℕ, Bool, true, false, List, refl, sym, ◌∙◌, ap, subst, append-nil, Option, Some, None}
+use Rattle.std.proofs.Common.{◌≡◌, ◌≢◌, inl, inr, ⊎_elim, ℕ, Bool, true, false, List, refl, sym, ◌∙◌, ap, subst, append-nil, Option, Some, None}
 use Rattle.std.specs.Prelude.{codes}
 use Rattle.std.specs.Option.{option_map}
 use Rattle.std.specs.Str.{bytes_eq}

@@ -6,6 +6,7 @@ use Rattle.std.proofs.Math.ListN.{get_or}
 use Rattle.std.proofs.lemmas.List.{map-append, take_more}
 use Rattle.std.proofs.lemmas.List.Elements.{All-nil, All-cons, All-append}
 use Rattle.leveldb_base.specs.declared.error.Status.{Status}
+use Rattle.leveldb_env.proofs.EnvLemmas.{begun}
 use Rattle.leveldb_env.specs.declared.env.Env.{Ghosts}
 use Rattle.leveldb_env.specs.Env.{Files, Disk, FilesCrashTo, Observed}
 use Rattle.rusty_leveldb.specs.declared.shell.commands.Command.{Command}
@@ -440,7 +441,7 @@ not_begun env store asked commands from given status none memory = record {
   plays = λ modelled opening is meaning agrees old represents. inr (none, inr (memory, refl));
   unopened = λ modelled never. (
     none,
-    record { untouched = λ barred. inl refl; lock = inl refl; others = spares_still store (IsOwn store) (env.observed from).disk },
+    record { lock = inl refl; files = begun (env.observed from) (inl refl); others = spares_still store (IsOwn store) (env.observed from).disk },
   );
   misnamed = λ no. (refl, none, tt);
 }

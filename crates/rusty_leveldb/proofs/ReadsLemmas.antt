@@ -10,7 +10,7 @@ use Rattle.leveldb_base.specs.Cmp.{bytewise}
 use Rattle.leveldb_base.specs.History.{Entry, History, count_of, with_batch}
 use Rattle.leveldb_base.specs.KeyTypes.{internal_cmp}
 use Rattle.leveldb_env.specs.Compressor.{Decodes}
-use Rattle.leveldb_env.specs.Env.{AreBytes, File, FileCrashesTo, Files, FilesCrashTo, kept_file}
+use Rattle.leveldb_env.specs.Env.{AreBytes, File, FileCrashesTo, Files, FilesCrashTo}
 use Rattle.leveldb_table.proofs.TableReaderLemmas.{decodes_one, one_table}
 use Rattle.leveldb_env.proofs.AppendedLemmas.{fine_kept}
 use Rattle.leveldb_version.proofs.FirstCurrentLemmas.{no_store_safe}
@@ -23,12 +23,11 @@ use Rattle.leveldb_version.specs.Contents.{Contents, Store, made, missing, no_co
 use Rattle.leveldb_version.specs.Holds.{Carries, Holds, IsSafe}
 use Rattle.leveldb_version.specs.Store.{IsManaged, IsStore, OneTableReading, SameContents}
 use Rattle.leveldb_version.specs.StoreSteps.{AppendedAreBytes, KeepsHistory}
-use Rattle.leveldb_version.specs.VersionSet.{live_after}
 use Rattle.leveldb_store.specs.Format.{Meaning}
 use Rattle.leveldb_store.specs.Written.{IsTableOf}
 use Rattle.rusty_leveldb.specs.Laws.{NothingStands, OneReading}
 use Rattle.rusty_leveldb.specs.Machine.{IsStoreOf, Risk, StaysOr}
-use Rattle.rusty_leveldb.specs.Serves.{IsSpared, Reads, StandsFor, order_of}
+use Rattle.rusty_leveldb.specs.Serves.{IsSpared, Reads, order_of}
 use Rattle.rusty_leveldb.specs.State.{Opening, State}
 
 -- ---- two readings

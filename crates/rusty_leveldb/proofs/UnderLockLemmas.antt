@@ -3,21 +3,24 @@ use Rattle.std.specs.Prelude.{cond}
 use Rattle.std.specs.Str.{bytes_eq}
 use Rattle.std.proofs.Common.{◌≡◌, ◌≢◌, ◌<◌, ◌≤◌, ◌-◌, ◌^◌, ◌⊎◌, ◌∙◌, ⊎_elim, inl, inr, ℕ, Bool, true, false, List, refl, sym, ap, subst, arith, Option, Some, None, Ok, IsTrue}
 use Rattle.leveldb_base.specs.Names.{file_name}
+use Rattle.leveldb_base.specs.declared.cmp.Cmp.{Ghosts as CmpGhosts}
 use Rattle.leveldb_base.specs.declared.error.Status.{Status}
 use Rattle.leveldb_base.specs.declared.types.FileType.{FileType}
 use Rattle.leveldb_base.specs.declared.types.FileType.TheVariants.{Current, DBLock, InfoLog}
 use Rattle.leveldb_env.specs.Env.{BeforeOrAfter, ChangesFiles, ChangesLocks, File, Files, Observed, Run, SameBut, created, lock_set, or_empty}
 use Rattle.leveldb_env.specs.declared.env.Env.{Ghosts}
+use Rattle.leveldb_env.specs.declared.filter.FilterPolicy.{Ghosts as FilterGhosts}
 use Rattle.leveldb_env.proofs.EnvLemmas.{SameBut-created, at_same, bytes_eq-apart, bytes_eq-same}
 use Rattle.leveldb_version.specs.Paths.{current_path, lock_path}
 use Rattle.leveldb_store.proofs.TableKeepsLemmas.{types_apart}
-use Rattle.leveldb_store.specs.OpensStore.{FailsToOpen, IsForbidden, IsForbiddenAs, IsOwnPath, LacksUsableEdits, SameBesideOwn, WhyNotOpened}
+use Rattle.leveldb_store.specs.BuildTable.{TableChoices}
+use Rattle.leveldb_store.specs.OpensStore.{FailsToOpen, IsForbidden, IsForbiddenAs, IsOwnPath, LacksCurrent, LacksUsableEdits, SameBesideOwn, WhyNotOpenable}
 use Rattle.leveldb_store.specs.Room.{HasFailed}
 use Rattle.leveldb_store.specs.Written.{IsData}
 use Rattle.rusty_leveldb.specs.Frame.{IsOwn, IsOwned, Spares}
 use Rattle.rusty_leveldb.specs.State.{Opening}
-use Rattle.rusty_leveldb.specs.Unopened.{FailedBeside, OpenExcused}
-use Rattle.rusty_leveldb.proofs.LockLemmas.{lock_current, lock_edits, lock_reads}
+use Rattle.rusty_leveldb.specs.Unopened.{FailedBeside, NeverOpens, OpenExcused}
+use Rattle.rusty_leveldb.proofs.LockLemmas.{lock_current, lock_edits, lock_huge, lock_lacks, lock_log, lock_numbers, lock_reads, lock_shared}
 use Rattle.rusty_leveldb.proofs.Others.{others_made, others_then}
 use Rattle.rusty_leveldb.proofs.SyncLemmas.{lock_is_no_data}
 
@@ -107,6 +110,12 @@ late_spares store from taken to took others locks = others_then store from.disk 
 
 -- ---- why a store isn't opened
 
+-- files at which an opening under the lock looks no further
+abbrev pub LooksNoFurther : List ℕ → Opening → Files → Type 0
+LooksNoFurther store asked files =
+    IsForbidden store asked.create_if_missing asked.error_if_exists files
+    ⊎ LacksCurrent store files ⊎ LacksUsableEdits store asked.format files
+
 module _ {E F : Type 0} (env : Ghosts E F) (store : List ℕ) (asked : Opening) (from taken : E)
     (took : IsTrue env.models_disk → IsTaken store (env.observed from) (env.observed taken)) where
   abbrev was : Files
@@ -124,21 +133,26 @@ module _ {E F : Type 0} (env : Ghosts E F) (store : List ℕ) (asked : Opening) 
   pub same_current : IsTrue env.models_disk → here (current_path store) ≡ was (current_path store)
   same_current modelled = lock_current store was here (but modelled)
 
-  -- what was forbidden is
-  pub forbidden_here : IsTrue env.models_disk
-      → IsForbidden store asked.create_if_missing asked.error_if_exists was
-      → IsForbidden store asked.create_if_missing asked.error_if_exists here
-  forbidden_here modelled (inl there) =
-      inl (there.0, λ gone. there.1 (sym (same_current modelled) ∙ gone))
-  forbidden_here modelled (inr none) = inr (none.0, same_current modelled ∙ none.1)
-
-  -- and what had no usable edits has none
-  pub lacks_here : IsTrue env.models_disk → LacksUsableEdits store asked.format was
-      → LacksUsableEdits store asked.format here
-  lacks_here modelled lacks = (
+  -- what was forbidden is, and what had no `CURRENT` or no usable edits has none
+  pub no_further : IsTrue env.models_disk → LooksNoFurther store asked was
+      → LooksNoFurther store asked here
+  no_further modelled (inl (inl there)) =
+      inl (inl (there.0, λ gone. there.1 (sym (same_current modelled) ∙ gone)))
+  no_further modelled (inl (inr none)) = inl (inr (none.0, same_current modelled ∙ none.1))
+  no_further modelled (inr (inl lacks)) =
+      inr (inl (lock_lacks store was here (but modelled) lacks))
+  no_further modelled (inr (inr lacks)) = inr (inr (
     λ gone. lacks.0 (sym (same_current modelled) ∙ gone),
     λ edits has. lacks.1 edits (lock_edits store here was (but_back modelled) edits has),
-  )
+  ))
+
+  -- where the lock is held already, or the opening looks no further, it does so under the lock
+  pub never_here : IsTrue env.models_disk → NeverOpens store asked (env.observed from).disk
+      → LooksNoFurther store asked here
+  never_here modelled (inl (inl held)) =
+      absurd (let never : true ≡ false = sym held ∙ (took modelled).was_free in cc)
+  never_here modelled (inl (inr forbidden)) = no_further modelled (inl forbidden)
+  never_here modelled (inr lacks) = no_further modelled (inr lacks)
 
   excused_forbidden : (e : Status) → IsForbiddenAs env.models_disk store asked.create_if_missing
       asked.error_if_exists here e
@@ -154,39 +168,60 @@ module _ {E F : Type 0} (env : Ghosts E F) (store : List ℕ) (asked : Opening) 
     λ modelled. sym (same_current modelled) ∙ none.2 modelled,
   )
 
-  excused_why : (e : Status) → WhyNotOpened env store asked.format asked.create_if_missing
-      asked.error_if_exists taken e → OpenExcused env store asked from e
-  excused_why e (inl bare) = inr (inr (inr (inr (inr (inl (
-    bare.0,
-    λ modelled. absurd ((took modelled).there (bare.1 modelled (file_name DBLock 0))),
-  ))))))
-  excused_why e (inr (inl forbidden)) = inr (inr (inr (inl (excused_forbidden e forbidden))))
-  excused_why e (inr (inr (inl other))) = inr (inr (inr (inr (inl (
-    other.0,
-    λ modelled.
-        let one = other.1 modelled in
-        record {
-          edits = one.edits;
-          has_edits = lock_edits store here was (but_back modelled) one.edits one.has_edits;
-          name = one.name;
-          named = one.named;
-          other = one.other;
-        },
-  )))))
-  excused_why e (inr (inr (inr (inl damage)))) = inr (inr (inr (inr (inr (inl (
-    damage.0,
-    λ modelled meaning order contents for read. damage.1 modelled meaning order contents for
-        (lock_reads store was here (but modelled) meaning order contents read),
-  ))))))
-  excused_why e (inr (inr (inr (inr (inl fails))))) = inr (inr (inr (inr (inr (inr (inl fails))))))
-  excused_why e (inr (inr (inr (inr (inr code))))) = inr (inr (inr (inr (inr (inr (inr code))))))
+  module _ {D P : Type 0} {keys : CmpGhosts D} {key_filters : FilterGhosts P}
+      (choices : TableChoices keys key_filters) where
+    openable_why : (e : Status) → WhyNotOpenable env store asked.format asked.create_if_missing
+        asked.error_if_exists taken e → OpenExcused env store choices asked from e
+    openable_why e (inl bare) = inr (inr (inr (inr (inr (inl (
+      bare.0,
+      λ modelled. absurd ((took modelled).there (bare.1 modelled (file_name DBLock 0))),
+    ))))))
+    openable_why e (inr (inl forbidden)) = inr (inr (inr (inl (excused_forbidden e forbidden))))
+    openable_why e (inr (inr (inl other))) = inr (inr (inr (inr (inl (
+      other.0,
+      λ modelled.
+          let one = other.1 modelled in
+          record {
+            edits = one.edits;
+            has_edits = lock_edits store here was (but_back modelled) one.edits one.has_edits;
+            name = one.name;
+            named = one.named;
+            other = one.other;
+          },
+    )))))
+    openable_why e (inr (inr (inr (inl damage)))) = inr (inr (inr (inr (inr (inl (
+      damage.0,
+      λ modelled meaning order contents for read. damage.1 modelled meaning order contents for
+          (lock_reads store was here (but modelled) meaning order contents read),
+    ))))))
+    openable_why e (inr (inr (inr (inr not)))) = inr (inr (inr (inr (inr (inr (inr (inl (
+      not.0,
+      λ modelled. ⊎_elim
+          (λ shared. inl
+          (lock_shared store here was (but_back modelled) asked.format.order shared))
+          (λ other. ⊎_elim
+          (λ huge. inr (inl
+          (lock_huge store here was (but_back modelled) asked.format.order_name huge)))
+          (λ few. inr (inr (lock_numbers store here was (but_back modelled) few))) other)
+          (not.1 modelled),
+    ))))))))
 
-  -- why it isn't opened, by the files as they were before the lock was taken
-  pub excused_late : (opened : E) (e : Status)
-      → FailsToOpen env store asked.format asked.create_if_missing asked.error_if_exists taken opened e
-      → OpenExcused env store asked from e
-  excused_late opened e (inl memory) = inl memory
-  excused_late opened e (inr why) = excused_why e why.0
+    -- why it isn't opened, by the files as they were before the lock was taken
+    pub excused_late : choices.format ≡ asked.format → (opened : E) (e : Status)
+        → FailsToOpen env store choices asked.create_if_missing asked.error_if_exists taken opened e
+        → OpenExcused env store choices asked from e
+    excused_late same opened e (inl memory) = inl memory
+    excused_late same opened e (inr (inl why, still)) = openable_why e
+        (subst (λ f. WhyNotOpenable env store f asked.create_if_missing asked.error_if_exists taken e)
+        same why)
+    excused_late same opened e (inr (inr log, still)) =
+        inr (inr (inr (inr (inr (inr (inr (inr (record {
+          number = log.number;
+          batches = log.batches;
+          begins = λ modelled. lock_log store here was (but_back modelled) log.number log.batches
+              (log.begins modelled);
+          fails = log.fails;
+        }))))))))
 
 -- beside why it isn't opened, giving back the lock failed
 pub failed_beside : (excused : Type 0) (before mid after : ℕ) → before ≤ mid → mid ≤ after

@@ -1,14 +1,20 @@
 -- What files say of the store of a state that they represent, and that each reason for which an
 -- opening of them may fail is a cause of the machine.
+use Rattle.std.specs.Prelude.{map}
 use Rattle.std.specs.Str.{bytes_eq}
 use Rattle.std.specs.Cmp.Lexicographic.{bytes_decides}
 use Rattle.std.specs.declared.cmp.Ordering.{Ordering}
 use Rattle.std.proofs.Common.{◌≡◌, ◌≢◌, ◌+◌, ◌⊎◌, ◌∙◌, ⊎_elim, inl, inr, ℕ, Bool, true, false, List, refl, sym, ap, subst, None, Some, IsTrue}
-use Rattle.leveldb_base.specs.Error.{text_of}
+use Rattle.leveldb_base.specs.Entries.{internal_pair}
+use Rattle.leveldb_base.specs.Error.{IsOutOfMemory, text_of}
 use Rattle.leveldb_base.specs.History.{History, count_of, with_batch}
+use Rattle.leveldb_base.specs.declared.cmp.Cmp.{Ghosts as CmpGhosts}
 use Rattle.leveldb_base.specs.declared.error.Status.{Status}
+use Rattle.leveldb_base.specs.declared.error.StatusCode.TheVariants.{NotSupported}
 use Rattle.leveldb_env.specs.Env.{Disk, Files}
 use Rattle.leveldb_env.specs.declared.env.Env.{Ghosts}
+use Rattle.leveldb_env.specs.declared.filter.FilterPolicy.{Ghosts as FilterGhosts}
+use Rattle.leveldb_mem.specs.WriteBatch.{Batch}
 use Rattle.leveldb_version.proofs.ManifestLemmas.{managed_of}
 use Rattle.leveldb_version.proofs.SafeLemmas.{some_is}
 use Rattle.leveldb_version.specs.Contents.{Contents, Store, made, missing}
@@ -17,6 +23,9 @@ use Rattle.leveldb_version.specs.Paths.{current_path}
 use Rattle.leveldb_version.specs.Store.{HasEdits, IsStore}
 use Rattle.leveldb_version.specs.VersionEdit.{Edit}
 use Rattle.leveldb_version.specs.VersionSet.{live_after}
+use Rattle.leveldb_store.proofs.NotTabledLemmas.{not_tabled_causes}
+use Rattle.leveldb_store.specs.BuildTable.{TableChoices}
+use Rattle.leveldb_store.specs.FoundLogs.{FailsToKeep, HasLogNotKept}
 use Rattle.leveldb_store.specs.Format.{Agrees, Format, HasCompressorError, Meaning}
 use Rattle.leveldb_store.specs.OpensStore.{HasOtherComparator, IsOrderFor}
 use Rattle.leveldb_store.specs.Written.{IsTableOf}
@@ -24,7 +33,7 @@ use Rattle.rusty_leveldb.specs.Causes.{Cause, Comes, Disagrees, Exists, Setting,
 use Rattle.rusty_leveldb.specs.Engine.{IsOpening}
 use Rattle.rusty_leveldb.specs.Serves.{Reads, StandsFor, order_of, refusal_of}
 use Rattle.rusty_leveldb.specs.State.{Opening, State, open_store}
-use Rattle.rusty_leveldb.specs.Unopened.{OpenExcused}
+use Rattle.rusty_leveldb.specs.Unopened.{IsLockGivenBack, IsNotKeptUnder, OpenExcused, OpenExcusedOr}
 
 -- contents that are read of files, whose store is this one
 pub record Found (store : List ℕ) (meaning : Meaning) (files : Files) (there : Store) : Type 0 where
@@ -116,6 +125,45 @@ not_true : (b : Bool) → (IsTrue b → ⊥) → b ≡ false
 not_true true never = absurd (never refl)
 not_true false never = refl
 
+-- why a log's batches aren't kept: three causes
+pub not_kept_causes : {D P : Type 0} {keys : CmpGhosts D} {key_filters : FilterGhosts P}
+    (choices : TableChoices keys key_filters) (batches : List Batch) (status : Status)
+    → FailsToKeep choices batches status
+    → IsOutOfMemory status ⊎ (status.code ≡ NotSupported)
+    ⊎ HasCompressorError choices.format status.code
+not_kept_causes choices batches status (inl large) = inr (inl large.code)
+not_kept_causes choices batches status (inr (entries, are, not)) =
+    not_tabled_causes choices (map internal_pair entries) status not
+
+-- so an opening is excused, and its lock given back, where only the format is known
+module _ {E F D P : Type 0} (env : Ghosts E F) (store : List ℕ) {keys : CmpGhosts D}
+    {key_filters : FilterGhosts P} (choices : TableChoices keys key_filters) (asked : Opening)
+    (same : choices.format ≡ asked.format) (from : E) (e : Status) where
+  excused_under : OpenExcused env store choices asked from e
+      → OpenExcusedOr env store asked from (IsNotKeptUnder asked.format) e
+  excused_under (inl memory) = inl memory
+  excused_under (inr (inl badly)) = inr (inl badly)
+  excused_under (inr (inr (inl held))) = inr (inr (inl held))
+  excused_under (inr (inr (inr (inl forbidden)))) = inr (inr (inr (inl forbidden)))
+  excused_under (inr (inr (inr (inr (inl others))))) = inr (inr (inr (inr (inl others))))
+  excused_under (inr (inr (inr (inr (inr (inl damage)))))) =
+      inr (inr (inr (inr (inr (inl damage)))))
+  excused_under (inr (inr (inr (inr (inr (inr (inl unset))))))) =
+      inr (inr (inr (inr (inr (inr (inl unset))))))
+  excused_under (inr (inr (inr (inr (inr (inr (inr (inl not)))))))) =
+      inr (inr (inr (inr (inr (inr (inr (inl not)))))))
+  excused_under (inr (inr (inr (inr (inr (inr (inr (inr log)))))))) =
+      inr (inr (inr (inr (inr (inr (inr (inr (subst (λ f. IsNotKeptUnder f e) same
+      (not_kept_causes choices log.batches e log.fails)))))))))
+
+  pub given_back_under : (to : E)
+      → IsLockGivenBack env store asked from
+      (HasLogNotKept choices env.models_disk store (env.observed from).disk.files) to e
+      → IsLockGivenBack env store asked from (IsNotKeptUnder asked.format) to e
+  given_back_under to (inl still) = inl still
+  given_back_under to (inr (held, inl (why, failed))) = inr (held, inl (excused_under why, failed))
+  given_back_under to (inr (held, inr failed)) = inr (held, inr failed)
+
 module _ {E F : Type 0} (env : Ghosts E F) (store : List ℕ) (meaning : Meaning)
     (asked opening : Opening) (is : IsOpening store asked opening)
     (agrees : Agrees opening.format meaning) (from : E) (modelled : IsTrue env.models_disk)
@@ -158,25 +206,31 @@ module _ {E F : Type 0} (env : Ghosts E F) (store : List ℕ) (meaning : Meaning
       (named ∙ ap (λ (f : Format). Some f.order_name) same_format)))
 
   -- each reason is a cause
-  pub open_cause : OpenExcused env store asked from e → HasCause
-  open_cause (inl memory) = (out_of_memory, (tt, memory.0, ap text_of memory.1))
-  open_cause (inr (inl badly)) = (
-    bad_operand,
-    (badly.0, inl (not_true opening.fits (λ fits. badly.1 (is.fits.0 fits)))),
-  )
-  open_cause (inr (inr (inl held))) =
-      (lock_is_held, (tt, held.0, subst IsTrue stands.locked (held.1 modelled)))
-  open_cause (inr (inr (inr (inl (inl there))))) =
-      (store_exists, (there.0, unwanted there.1 (there.2 modelled)))
-  open_cause (inr (inr (inr (inl (inr none))))) =
-      (bad_operand, (none.0, inr (lacking none.1 (none.2 modelled))))
-  open_cause (inr (inr (inr (inr (inl others))))) =
-      (bad_operand, (others.0, inr (other (others.1 modelled))))
-  open_cause (inr (inr (inr (inr (inr (inl damage)))))) =
-      let read = in_order store asked.format files meaning same_order found.contents found.read in
-      absurd (damage.1 modelled meaning read.0 found.contents read.1 read.2)
-  open_cause (inr (inr (inr (inr (inr (inr (inl fails))))))) = (
-    compressor_failed,
-    subst (λ (f : Format). HasCompressorError f e.code) (sym same_format) fails,
-  )
-  open_cause (inr (inr (inr (inr (inr (inr (inr code))))))) = (too_large, (tt, code))
+  module _ {D P : Type 0} {keys : CmpGhosts D} {key_filters : FilterGhosts P}
+      (choices : TableChoices keys key_filters) (same : choices.format ≡ asked.format) where
+    pub open_cause : OpenExcused env store choices asked from e → HasCause
+    open_cause (inl memory) = (out_of_memory, (tt, memory.0, ap text_of memory.1))
+    open_cause (inr (inl badly)) = (
+      bad_operand,
+      (badly.0, inl (not_true opening.fits (λ fits. badly.1 (is.fits.0 fits)))),
+    )
+    open_cause (inr (inr (inl held))) =
+        (lock_is_held, (tt, held.0, subst IsTrue stands.locked (held.1 modelled)))
+    open_cause (inr (inr (inr (inl (inl there))))) =
+        (store_exists, (there.0, unwanted there.1 (there.2 modelled)))
+    open_cause (inr (inr (inr (inl (inr none))))) =
+        (bad_operand, (none.0, inr (lacking none.1 (none.2 modelled))))
+    open_cause (inr (inr (inr (inr (inl others))))) =
+        (bad_operand, (others.0, inr (other (others.1 modelled))))
+    open_cause (inr (inr (inr (inr (inr (inl damage)))))) =
+        let read = in_order store asked.format files meaning same_order found.contents found.read in
+        absurd (damage.1 modelled meaning read.0 found.contents read.1 read.2)
+    open_cause (inr (inr (inr (inr (inr (inr (inl unset))))))) = (too_large, (tt, unset.0))
+    open_cause (inr (inr (inr (inr (inr (inr (inr (inl not)))))))) = (too_large, (tt, not.0))
+    open_cause (inr (inr (inr (inr (inr (inr (inr (inr log)))))))) =
+        ⊎_elim (λ (memory : IsOutOfMemory e). (out_of_memory, (tt, memory.0, ap text_of memory.1)))
+        (λ other. ⊎_elim (λ (code : e.code ≡ NotSupported). (too_large, (tt, code)))
+        (λ fails. (
+          compressor_failed,
+          subst (λ (f : Format). HasCompressorError f e.code) (same ∙ sym same_format) fails,
+        )) other) (not_kept_causes choices log.batches e log.fails)

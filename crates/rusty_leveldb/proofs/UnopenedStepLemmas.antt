@@ -1,6 +1,6 @@
 -- The step of the machine in which a store isn't opened: what is left of its files, and the lock,
 -- which is given back.
-use Rattle.std.proofs.Common.{◌≡◌, ◌≢◌, ◌<◌, ◌≤◌, ◌+◌, ◌-◌, ◌⊎◌, ◌∙◌, ⊎_elim, inl, inr, ℕ, true, List, refl, sym, ap, subst, arith, Option, Some, None}
+use Rattle.std.proofs.Common.{◌≡◌, ◌≢◌, ◌<◌, ◌≤◌, ◌+◌, ◌⊎◌, ◌∙◌, ⊎_elim, inl, inr, ℕ, true, List, refl, sym, ap, subst, arith, Option, Some, None}
 use Rattle.leveldb_base.specs.History.{Entry, History, count_of, with_batch}
 use Rattle.leveldb_base.specs.declared.error.Status.{Status}
 use Rattle.leveldb_env.specs.Env.{File, FileCrashesTo, Files, FilesCrashTo, Run}

@@ -1,33 +1,37 @@
 -- What a write to an engine does, put together: its step, what becomes of the engine, and why it
 -- fails.
 use Rattle.std.specs.Prelude.{OnOk, Result}
-use Rattle.std.proofs.Common.{◌≡◌, ◌<◌, ◌≤◌, ◌+◌, ◌-◌, ◌⊎◌, ◌∙◌, ⊎_elim, inl, inr, ℕ, zero, suc, Bool, true, false, List, [], ◌∷◌, ◌++◌, length, refl, sym, ap, subst, arith, Some, Ok, Err}
+use Rattle.std.proofs.Common.{◌≡◌, ◌<◌, ◌≤◌, ◌+◌, ◌⊎◌, ◌∙◌, ⊎_elim, inl, inr, ℕ, zero, suc, Bool, true, false, List, [], ◌∷◌, ◌++◌, length, refl, sym, ap, subst, arith, Some, Ok, Err}
 use Rattle.leveldb_base.specs.Error.{IsOutOfMemory}
 use Rattle.leveldb_base.specs.History.{Entry, Item, placed}
+use Rattle.leveldb_base.specs.declared.cmp.Cmp.{Ghosts as CmpGhosts}
 use Rattle.leveldb_base.specs.declared.error.Status.{Status}
 use Rattle.leveldb_base.specs.declared.error.StatusCode.TheVariants.{InvalidArgument}
 use Rattle.leveldb_env.specs.Options.{Boxed, OptionsOf}
 use Rattle.leveldb_env.specs.declared.env.Env.{Ghosts}
+use Rattle.leveldb_env.specs.declared.filter.FilterPolicy.{Ghosts as FilterGhosts}
 use Rattle.leveldb_mem.specs.MemTable.{FailsToPrepare, IsUnion, Kept, bytes_in, memory_of_entries}
 use Rattle.leveldb_mem.specs.WriteBatch.{Batch, IsTooLong, batch_bytes, batch_of, max_length, with_item}
+use Rattle.leveldb_store.specs.BuildTable.{TableChoices}
 use Rattle.leveldb_store.specs.Format.{Format}
 use Rattle.leveldb_store.specs.OpenStore.{OpenStoreValue}
 use Rattle.leveldb_store.specs.Room.{FailsFor, FailsToMakeRoom, HasFailed, IsFull, TellsOnly}
 use Rattle.leveldb_store.specs.SoundCall.{IsSoundCall, any_meaning}
 use Rattle.leveldb_store.specs.WriteBatch.{FailsToWrite, WritesBatch}
 use Rattle.rusty_leveldb.specs.Boxes.{EngineOf}
-use Rattle.rusty_leveldb.specs.Calls.{EngineServes}
+use Rattle.rusty_leveldb.specs.Calls.{BecomesOf, EngineServes, KeepsModeOrBreaks}
 use Rattle.rusty_leveldb.specs.Causes.{AreUsedUp}
-use Rattle.rusty_leveldb.specs.Engine.{Answers, IsBroken, WriteExcused, WritesIntoRoom, mode_in, options_in}
+use Rattle.rusty_leveldb.specs.Engine.{empty_memtable, Answers, WriteExcused, mode_in, options_in, formats_of}
 use Rattle.rusty_leveldb.specs.Serves.{done_or}
 use Rattle.rusty_leveldb.specs.State as machine
 use Rattle.rusty_leveldb.specs.State.{write}
 use Rattle.rusty_leveldb.specs.declared.db_impl.engine.Mode.TheVariants.{Open}
 use Rattle.rusty_leveldb.proofs.Batching.{IsUnmade, not_written}
-use Rattle.rusty_leveldb.proofs.EngineLemmas.{open_mode_is, open_or_broken}
+use Rattle.rusty_leveldb.proofs.EngineLemmas.{open_mode_is, open_or_broken, unbroken_opens}
 use Rattle.rusty_leveldb.proofs.CallsLemmas.{not_halted}
+use Rattle.rusty_leveldb.proofs.RestLemmas.{rest_roomless, rest_still, rest_written}
 use Rattle.rusty_leveldb.proofs.SyncLemmas.{log_is_there}
-use Rattle.rusty_leveldb.proofs.WritingLemmas.{EngineMakesRoom, failed_later, room_fails, room_tells, write_done, write_fails}
+use Rattle.rusty_leveldb.proofs.WritingLemmas.{EngineMakesRoom, batch_tells, failed_later, room_fails, room_tells, write_done, write_fails}
 
 -- ---- a memtable that is full
 
@@ -74,19 +78,23 @@ unmade empty item status is why long = ⊎_elim
     ))
     (λ (memory : IsOutOfMemory status). inl memory) why
 
-module _ {E C FP F : Type 0} {B : Boxed} (env : Ghosts E F) (formats : OptionsOf C FP B → Format)
+module _ {E C FP F D P : Type 0} {B : Boxed} {keys : CmpGhosts D} {key_filters : FilterGhosts P}
+    (env : Ghosts E F) (choices : OptionsOf C FP B → TableChoices keys key_filters)
     (before : EngineOf E C FP F B) (from : E) (opened : mode_in before ≡ machine.open_mode)
     (items : List Item) (sync : Bool) where
+  abbrev formats : OptionsOf C FP B → Format
+  formats = formats_of choices
+
   -- the batch isn't made
   pub unmade_serves : (status : Status) → IsUnmade items status
-      → EngineServes env formats {T = Unit {0}} done_or before from (write items sync) (Err status)
+      → EngineServes env choices {T = Unit {0}} done_or before from (write items sync) (Err status)
       before from
   unmade_serves status why = record {
-    options = refl;
+    options = record { rest = refl; sink = refl };
     halted = λ halted. absurd (not_halted (mode_in before) opened halted);
-    becomes = inr refl;
-    step = not_written env formats before
-        (λ store meaning disk old recalls. sym recalls.mode ∙ opened) items sync status why from;
+    becomes = (tt, inr refl);
+    step = not_written env formats before opened items sync status why from;
+    rest = rest_still env before from (write items sync) (Err status) (inr (status, refl));
     time = λ modelled. omega arith;
     cause = record {
       later = omega arith;
@@ -96,24 +104,27 @@ module _ {E C FP F : Type 0} {B : Boxed} (env : Ghosts E F) (formats : OptionsOf
   }
 
   -- the mode in the end
-  becomes : (after : EngineOf E C FP F B) → after.mode ≡ Open
-      → IsBroken (mode_in after) ⊎ (mode_in after ≡ mode_in before)
+  becomes : (after : EngineOf E C FP F B) → after.mode ≡ Open → KeepsModeOrBreaks before after
   becomes after is = ⊎_elim (λ opens. inr (opens.0 ∙ sym opened)) (λ broke. inl broke.0)
       (open_or_broken after is)
 
   module _ (ignores : (a b : OptionsOf C FP B) → TellsOnly a b → formats b ≡ formats a) where
     -- no room is made
     pub room_fails_serves : (after : EngineOf E C FP F B) (to : E) (status : Status)
-        → EngineMakesRoom env formats before from (Err status) after to
-        → EngineServes env formats {T = Unit {0}} done_or before from (write items sync) (Err status)
+        → EngineMakesRoom env choices before from (Err status) after to
+        → EngineServes env choices {T = Unit {0}} done_or before from (write items sync) (Err status)
         after to
     room_fails_serves after to status made = record {
-      options = room_tells env formats before from (Err status) after to made;
+      options = room_tells env choices before from (Err status) after to made;
       halted = λ halted. absurd (not_halted (mode_in before) opened halted);
-      becomes = becomes after
-          (ap (λ (e : EngineOf E C FP F B). e.mode) made.rest ∙ open_mode_is before opened);
-      step = λ store meaning modelled old was. room_fails env formats store meaning before from old was
+      becomes = (
+        tt,
+        becomes after (ap (λ (e : EngineOf E C FP F B). e.mode) made.rest
+            ∙ open_mode_is before opened),
+      );
+      step = λ store meaning modelled old was. room_fails env choices store meaning before from old was
           opened modelled ignores after to items sync status made;
+      rest = rest_roomless env before from opened choices items sync after to status made;
       time = made.sound.time;
       cause = record { later = made.makes.cause.later; cause = excused made.makes.cause.cause };
     }
@@ -126,44 +137,65 @@ module _ {E C FP F : Type 0} {B : Boxed} (env : Ghosts E F) (formats : OptionsOf
             (full_or_not before.options.write_buffer_size before.store.recent)
 
         excused : FailsToMakeRoom env (formats (options_in before)).order before.store from
-            (formats (options_in before)) status ⊎ HasFailed (env.failures from) (env.failures to)
-            → WriteExcused env formats before from items status
+            (choices (options_in before)) status ⊎ HasFailed (env.failures from) (env.failures to)
+            → WriteExcused env choices before from items status
             ⊎ HasFailed (env.failures from) (env.failures to)
         excused (inl (inl memory)) = inl (inr (inr (inl memory)))
-        excused (inl (inr (inl code))) = inl (inr (inr (inr (inr (inr (inl (full, inl code)))))))
-        excused (inl (inr (inr (inl fails)))) =
-            inl (inr (inr (inr (inr (inr (inl (full, inr fails)))))))
-        excused (inl (inr (inr (inr lost)))) = inl (inr (inr (inr (inr (inr (inr lost))))))
+        excused (inl (inr (inl few))) = inl (inr (inr (inr (inr (inr (inl (full, inl few)))))))
+        excused (inl (inr (inr (inl recent)))) =
+            inl (inr (inr (inr (inr (inr (inl (full, inr (inl recent))))))))
+        excused (inl (inr (inr (inr (inl waiting))))) =
+            inl (inr (inr (inr (inr (inr (inl (full, inr (inr (inl waiting)))))))))
+        excused (inl (inr (inr (inr (inr lost))))) = inl (inr (inr (inr (inr (inr (inr lost))))))
         excused (inr failed) = inr failed
 
     module _ (roomy : EngineOf E C FP F B) (mid : E)
-        (made : EngineMakesRoom env formats before from (Ok tt) roomy mid)
+        (made : EngineMakesRoom env choices before from (Ok tt) roomy mid)
         (value : OpenStoreValue C) (to : E) where
+      room_open : roomy.mode ≡ Open
+      room_open = ap (λ (e : EngineOf E C FP F B). e.mode) made.rest ∙ open_mode_is before opened
+
       -- a batch is written into a memtable with room
-      pub into_room : (result : Result (Unit {0}) Status)
+      batch_becomes : (result : Result (Unit {0}) Status)
           → WritesBatch env (formats (options_in roomy)).order roomy.store mid items sync result value
-          to → OnOk result (WritesIntoRoom before items
-          (record roomy { store = value }))
-      into_room (Err status) writes = tt
-      into_room (Ok nothing) writes = (
-        roomy.store.recent,
-        made.makes.room,
-        subst (λ n. IsUnion roomy.store.recent.entries (placed (n + 1) items) value.recent.entries)
-            made.makes.rest.last writes.gains,
+          to → BecomesOf before (write items sync) result (record roomy { store = value })
+      batch_becomes (Ok nothing) writes = (
+        (
+          unbroken_opens (record roomy { store = value }) room_open writes.usable ∙ sym opened,
+          (
+            roomy.store.recent,
+            made.makes.room,
+            subst (λ n. IsUnion roomy.store.recent.entries (placed (n + 1) items)
+                value.recent.entries) made.makes.rest.last writes.gains,
+          ),
+        ),
+        tt,
       )
+      batch_becomes (Err status) writes =
+          (tt, becomes (record roomy { store = value }) room_open)
+
+      -- the memtable that room was made in is empty
+      in_empty : IsFull before.options.write_buffer_size before.store.recent → {status : Status}
+          → FailsToPrepare roomy.store.recent (length items) (bytes_in items) status
+          → FailsToPrepare empty_memtable (length items) (bytes_in items) status
+      in_empty full (inl large) =
+          let none = ap memory_of_entries (made.makes.none_waits full).0 in
+          let places = made.makes.places full in
+          let most = large.1 in
+          inl (large.0, omega (arith, none, places, most))
+      in_empty full (inr memory) = inr memory
 
       -- why the batch isn't written
       batch_excused : (status : Status)
           → FailsToWrite env (formats (options_in before)).order roomy.store mid items to status
-          → WriteExcused env formats before from items status
+          → WriteExcused env choices before from items status
       batch_excused status (inl (inl used, still)) = inr (inr (inr (inl (
         used.code,
         subst (λ n. AreUsedUp n (length items)) made.makes.rest.last used.past,
       ))))
       batch_excused status (inl (inr fails, still)) = ⊎_elim
-          (λ (full : IsFull before.options.write_buffer_size before.store.recent). ⊎_elim
-          (λ large. inr (inr (inr (inr (inr (inl (full, inl large.0)))))))
-          (λ memory. inr (inr (inl memory))) fails)
+          (λ (full : IsFull before.options.write_buffer_size before.store.recent).
+          inr (inr (inr (inr (inr (inl (full, inr (inr (inr (in_empty full fails))))))))))
           (λ (room : IsFull before.options.write_buffer_size before.store.recent → ⊥).
           inr (inr (inr (inr (inl (subst (λ (v : OpenStoreValue C).
           FailsToPrepare v.recent (length items) (bytes_in items) status)
@@ -183,7 +215,7 @@ module _ {E C FP F : Type 0} {B : Boxed} (env : Ghosts E F) (formats : OptionsOf
 
       batch_cause : (result : Result (Unit {0}) Status)
           → WritesBatch env (formats (options_in before)).order roomy.store mid items sync result value
-          to → FailsFor (WriteExcused env formats before from items) (env.failures from)
+          to → FailsFor (WriteExcused env choices before from items) (env.failures from)
           (env.failures to) result
       batch_cause (Ok nothing) writes = record {
         later = omega (arith, made.makes.cause.later, writes.cause.later);
@@ -208,15 +240,15 @@ module _ {E C FP F : Type 0} {B : Boxed} (env : Ghosts E F) (formats : OptionsOf
           → Answers env formats (Some before) from (write items sync) (done_or result)
           (Some (record roomy { store = value })) to
       step (Ok nothing) short writes sound store meaning modelled old was =
-          write_done env formats store meaning before from old was opened modelled ignores roomy mid
+          write_done env choices store meaning before from old was opened modelled ignores roomy mid
           made items sync value to short writes sound
       step (Err status) short writes sound store meaning modelled old was =
-          write_fails env formats store meaning before from old was opened modelled ignores roomy mid
+          write_fails env choices store meaning before from old was opened modelled ignores roomy mid
           made items sync value to status writes sound
 
       same_format : formats (options_in roomy) ≡ formats (options_in before)
       same_format = ignores (options_in before) (options_in roomy)
-          (room_tells env formats before from (Ok tt) roomy mid made)
+          (room_tells env choices before from (Ok tt) roomy mid made)
 
       -- the batch is written, or isn't
       pub batch_serves : (result : Result (Unit {0}) Status)
@@ -224,7 +256,7 @@ module _ {E C FP F : Type 0} {B : Boxed} (env : Ghosts E F) (formats : OptionsOf
           → WritesBatch env (formats (options_in roomy)).order roomy.store mid items sync result value
           to → IsSoundCall {T = Unit {0}} env (formats (options_in roomy)).order any_meaning
           roomy.store mid result value to
-          → EngineServes env formats done_or before from (write items sync) result
+          → EngineServes env choices done_or before from (write items sync) result
           (record roomy { store = value }) to
       batch_serves result short writes_in sound_in =
           let writes = subst (λ (f : Format).
@@ -232,13 +264,13 @@ module _ {E C FP F : Type 0} {B : Boxed} (env : Ghosts E F) (formats : OptionsOf
           let sound = subst (λ (f : Format). IsSoundCall {T = Unit {0}} env f.order any_meaning
           roomy.store mid result value to) same_format sound_in in
           record {
-            options = ap (λ (c : C). record roomy.options { cmp = c })
-                (ap (λ (v : OpenStoreValue C). v.cmp) writes.rest)
-                ∙ room_tells env formats before from (Ok tt) roomy mid made;
+            options = batch_tells env choices before from roomy mid made value
+                (ap (λ (v : OpenStoreValue C). v.cmp) writes.rest);
             halted = λ halted. absurd (not_halted (mode_in before) opened halted);
-            becomes = becomes (record roomy { store = value })
-                (ap (λ (e : EngineOf E C FP F B). e.mode) made.rest ∙ open_mode_is before opened);
+            becomes = batch_becomes result writes_in;
             step = step result short writes sound;
+            rest = rest_written env before from opened choices items sync roomy mid made value to
+                result writes_in;
             time = λ modelled.
                 let first = made.sound.time modelled in
                 let second = sound.time modelled in omega (arith, first, second);

@@ -1,36 +1,41 @@
 -- The step of the machine in which a batch is written: first room is made in the memtable, then the
 -- batch is appended to the log.
-use Rattle.std.specs.Prelude.{Result, string_bytes}
+use Rattle.std.specs.Prelude.{Result, is_some, map, string_bytes}
 use Rattle.std.proofs.Common.{◌≡◌, ◌≤◌, ◌<◌, ◌+◌, ◌-◌, ◌^◌, ◌⊎◌, ◌∙◌, ⊎_elim, inl, inr, ℕ, zero, suc, Bool, List, [], ◌∷◌, ◌++◌, length, max, refl, sym, ap, subst, arith, Option, Some, None, Ok, Err, IsTrue}
 use Rattle.std.specs.declared.cmp.Ordering.{Ordering}
 use Rattle.leveldb_base.specs.Error.{IsOutOfMemory, text_of}
 use Rattle.leveldb_base.specs.History.{Entry, Item, count_of, placed, with_batch}
 use Rattle.leveldb_base.specs.KeyTypes.{greatest_sequence}
+use Rattle.leveldb_base.specs.declared.cmp.Cmp.{Ghosts as CmpGhosts}
 use Rattle.leveldb_base.specs.declared.error.Status.{Status}
 use Rattle.leveldb_base.specs.declared.types.FileType.TheVariants.{Log}
 use Rattle.leveldb_env.specs.Env.{Files, Run}
 use Rattle.leveldb_env.specs.Options.{Boxed, OptionsOf}
 use Rattle.leveldb_env.specs.declared.env.Env.{Ghosts}
+use Rattle.leveldb_env.specs.declared.filter.FilterPolicy.{Ghosts as FilterGhosts}
 use Rattle.leveldb_env.proofs.EnvLemmas.{Run-mono, Run-trans, bytes_eq-apart}
 use Rattle.leveldb_mem.specs.WriteBatch.{batch_bytes, max_length}
 use Rattle.leveldb_version.specs.Holds.{Holds}
 use Rattle.leveldb_version.specs.Paths.{IsFilePath, lock_path}
 use Rattle.leveldb_version.specs.Store.{IsStore}
 use Rattle.leveldb_version.specs.StoreSteps.{AppendedAreBytes, KeepsHistory}
+use Rattle.leveldb_base.specs.Entries.{internal_pair}
+use Rattle.leveldb_mem.specs.MemTable.{Kept}
+use Rattle.leveldb_store.proofs.NotTabledLemmas.{not_tabled_causes}
+use Rattle.leveldb_store.specs.BuildTable.{TableChoices}
 use Rattle.leveldb_store.specs.Format.{Agrees, Format, HasCompressorError, Meaning}
 use Rattle.leveldb_store.specs.OpenStore.{IsUnbroken, OpenStoreValue}
-use Rattle.leveldb_store.specs.Room.{FailsToMakeRoom, HasFailed, MakesRoom, TellsOnly}
+use Rattle.leveldb_store.specs.Room.{AreEntriesNotTabled, FailsToMakeRoom, HasFailed, MakesRoom, TellsOnly}
 use Rattle.leveldb_store.specs.SoundCall.{IsSoundCall, any_meaning}
 use Rattle.leveldb_store.specs.Write.{open_log_path}
-use Rattle.leveldb_store.specs.WriteBatch.{AddsBatch, FailsToWrite, HoldsBatches, IsOf, LeavesHistory, WritesBatch}
-use Rattle.leveldb_store.specs.WriteBatch as store_batch
+use Rattle.leveldb_store.specs.WriteBatch.{AddsBatch, FailsToWrite, HoldsBatches, IsOf, LeavesHistory, WritesBatch, next_batch}
 use Rattle.leveldb_store.specs.Written.{IsDataPath, IsTableOf, IsWritten, KeepsStore, KeepsWritten, Shows, SparesRest}
 use Rattle.rusty_leveldb.specs.declared.db_impl.engine.Mode.TheVariants.{Open}
 use Rattle.rusty_leveldb.specs.Boxes.{EngineOf}
 use Rattle.rusty_leveldb.specs.Causes.{Cause, Comes, Fits, Setting, compressor_failed, device_failed, out_of_memory, too_large, used_up}
-use Rattle.rusty_leveldb.specs.Engine.{Recalls, mode_in, options_in, scene}
+use Rattle.rusty_leveldb.specs.Engine.{Recalls, mode_in, options_in, scene, formats_of}
 use Rattle.rusty_leveldb.specs.Frame.{MayTouch, Spares}
-use Rattle.rusty_leveldb.specs.Machine.{Breaks, Refuses, Risk, Step, Writes, next_batch, risk_between}
+use Rattle.rusty_leveldb.specs.Machine.{Breaks, Refuses, Risk, Step, Writes, added_batch, risk_between}
 use Rattle.rusty_leveldb.specs.Serves.{Goes, IsSpared, Represents, refusal_of, setting_between}
 use Rattle.rusty_leveldb.specs.State as machine
 use Rattle.rusty_leveldb.specs.State.{State, done, open_mode, refused, write}
@@ -58,37 +63,60 @@ failed_later from mid to first second (inr full) = ⊎_elim
     (λ (less : from < mid). inl (omega (arith, less, second)))
     (same_or_below from mid first)
 
-module _ {E C FP F : Type 0} {B : Boxed} (env : Ghosts E F)
-    (formats : OptionsOf C FP B → Format) where
+module _ {E C FP F D P : Type 0} {B : Boxed} {keys : CmpGhosts D} {key_filters : FilterGhosts P}
+    (env : Ghosts E F) (choices : OptionsOf C FP B → TableChoices keys key_filters) where
   -- an engine makes room in its memtable, by its options
   pub record EngineMakesRoom (before : EngineOf E C FP F B) (from : E)
       (result : Result (Unit {0}) Status) (after : EngineOf E C FP F B) (to : E) : Type 0 where
-    pub makes : MakesRoom env (formats (options_in before)).order before.store from
-        (formats (options_in before)) before.options.write_buffer_size result after.store to
-    pub sound : IsSoundCall env (formats (options_in before)).order
-        (Agrees (formats (options_in before))) before.store from result after.store to
+    pub makes : MakesRoom env (choices (options_in before)).format.order before.store from
+        (choices (options_in before)) before.options.write_buffer_size result after.store to
+    pub sound : IsSoundCall env (choices (options_in before)).format.order
+        (Agrees (choices (options_in before)).format) before.store from result after.store to
     -- nothing else of the engine changes but the sink of the options' log
     pub rest : after ≡ record before {
       store = after.store;
       options = record (options_in before) { log = after.options.log };
     }
+    pub sink : is_some after.options.log ≡ is_some before.options.log
 
 -- what making room leaves of the options
-pub room_tells : {E C FP F : Type 0} {B : Boxed} (env : Ghosts E F)
-    (formats : OptionsOf C FP B → Format) (before : EngineOf E C FP F B) (from : E)
+pub room_tells : {E C FP F D P : Type 0} {B : Boxed} {keys : CmpGhosts D}
+    {key_filters : FilterGhosts P} (env : Ghosts E F)
+    (choices : OptionsOf C FP B → TableChoices keys key_filters) (before : EngineOf E C FP F B) (from : E)
     (result : Result (Unit {0}) Status) (after : EngineOf E C FP F B) (to : E)
-    → EngineMakesRoom env formats before from result after to
+    → EngineMakesRoom env choices before from result after to
     → TellsOnly (options_in before) (options_in after)
-room_tells {E} {C} {FP} {F} {B} env formats before from result after to made =
-    ap (λ (e : EngineOf E C FP F B). options_in e) made.rest
-    ∙ ap (λ (c : C). record (options_in before) { cmp = c; log = after.options.log })
-    made.makes.rest.cmp
+room_tells {E} {C} {FP} {F} {B} env choices before from result after to made = record {
+  rest = ap (λ (e : EngineOf E C FP F B). options_in e) made.rest
+      ∙ ap (λ (c : C). record (options_in before) { cmp = c; log = after.options.log })
+      made.makes.rest.cmp;
+  sink = made.sink;
+}
 
-module _ {E C FP F : Type 0} {B : Boxed} (env : Ghosts E F) (formats : OptionsOf C FP B → Format)
+-- and the batch that is written then
+pub batch_tells : {E C FP F D P : Type 0} {B : Boxed} {keys : CmpGhosts D}
+    {key_filters : FilterGhosts P} (env : Ghosts E F)
+    (choices : OptionsOf C FP B → TableChoices keys key_filters) (before : EngineOf E C FP F B) (from : E)
+    (roomy : EngineOf E C FP F B) (mid : E) → EngineMakesRoom env choices before from (Ok tt) roomy mid
+    → (value : OpenStoreValue C) → value.cmp ≡ roomy.store.cmp
+    → TellsOnly (options_in before) (options_in {E = E} {C = C} {FP = FP} {F = F} {B = B}
+    (record roomy { store = value }))
+batch_tells {C = C} env choices before from roomy mid made value same =
+    let tells = room_tells env choices before from (Ok tt) roomy mid made in
+    record {
+      rest = ap (λ (c : C). record roomy.options { cmp = c }) same ∙ tells.rest;
+      sink = tells.sink;
+    }
+
+module _ {E C FP F D P : Type 0} {B : Boxed} {keys : CmpGhosts D} {key_filters : FilterGhosts P}
+    (env : Ghosts E F) (choices : OptionsOf C FP B → TableChoices keys key_filters)
     (store : List ℕ) (meaning : Meaning) (before : EngineOf E C FP F B) (from : E) (old : State)
-    (was : Represents store meaning (Recalls formats store meaning) (Some before)
+    (was : Represents store meaning (Recalls (formats_of choices) store meaning) (Some before)
     (env.observed from).disk old) (opened : mode_in before ≡ machine.open_mode)
     (modelled : IsTrue env.models_disk) where
+  abbrev formats : OptionsOf C FP B → Format
+  formats = formats_of choices
+
   abbrev order : List ℕ → List ℕ → Ordering
   order = old.format.order
 
@@ -204,18 +232,28 @@ module _ {E C FP F : Type 0} {B : Boxed} (env : Ghosts E F) (formats : OptionsOf
         → Comes setting old (write items sync) (refusal_of status) device_failed
     by_device failed = (tt, failed)
 
+    -- no table is built of entries
+    untabled : (kept : Option Kept) → AreEntriesNotTabled (choices (options_in before)) kept status
+        → HasCause
+    untabled None never = absurd never
+    untabled (Some kept) not = ⊎_elim (λ memory. (out_of_memory, by_memory memory))
+        (λ other. ⊎_elim (λ code. (too_large, (tt, code)))
+        (λ fails. (
+          compressor_failed,
+          subst (λ (f : Format). HasCompressorError f status.code)
+              (same_format env formats store meaning before from old was opened) fails,
+        )) other)
+        (not_tabled_causes (choices (options_in before)) (map internal_pair kept.entries) status not)
+
     -- why no room is made
     room_cause : FailsToMakeRoom env (formats (options_in before)).order before.store from
-        (formats (options_in before)) status ⊎ HasFailed (env.failures from) (env.failures to)
+        (choices (options_in before)) status ⊎ HasFailed (env.failures from) (env.failures to)
         → HasCause
     room_cause (inl (inl memory)) = (out_of_memory, by_memory memory)
-    room_cause (inl (inr (inl code))) = (too_large, (tt, code))
-    room_cause (inl (inr (inr (inl fails)))) = (
-      compressor_failed,
-      subst (λ (f : Format). HasCompressorError f status.code)
-          (same_format env formats store meaning before from old was opened) fails,
-    )
-    room_cause (inl (inr (inr (inr lost)))) =
+    room_cause (inl (inr (inl few))) = (too_large, (tt, few.code))
+    room_cause (inl (inr (inr (inl recent)))) = untabled (Some before.store.recent) recent
+    room_cause (inl (inr (inr (inr (inl waiting))))) = untabled before.store.waiting waiting
+    room_cause (inl (inr (inr (inr (inr lost))))) =
         let f = same_format env formats store meaning before from old was opened in
         absurd (lost.1 modelled meaning
         (subst (λ (g : Format). Agrees g meaning) (sym f)
@@ -232,8 +270,8 @@ module _ {E C FP F : Type 0} {B : Boxed} (env : Ghosts E F) (formats : OptionsOf
     }
 
     breaks : (pending : Option (List Entry))
-        → ((pending ≡ None) ⊎ (pending ≡ Some (next_batch old items)))
-        → Breaks old None (broke pending) ⊎ Breaks old (Some (next_batch old items)) (broke pending)
+        → ((pending ≡ None) ⊎ (pending ≡ Some (added_batch old items)))
+        → Breaks old None (broke pending) ⊎ Breaks old (Some (added_batch old items)) (broke pending)
     breaks pending (inl is) = inl (record {
       state = ap (λ p. broke p) is;
       durable = inl refl;
@@ -245,7 +283,7 @@ module _ {E C FP F : Type 0} {B : Boxed} (env : Ghosts E F) (formats : OptionsOf
 
     -- refused, and the store is broken
     refuses_broken : (pending : Option (List Entry))
-        → ((pending ≡ None) ⊎ (pending ≡ Some (next_batch old items)))
+        → ((pending ≡ None) ⊎ (pending ≡ Some (added_batch old items)))
         → IsOutOfMemory status ⊎ HasFailed (env.failures from) (env.failures to)
         → Refuses setting old (write items sync) (refusal_of status) (broke pending)
     refuses_broken pending which (inl memory) = record {
@@ -263,7 +301,7 @@ module _ {E C FP F : Type 0} {B : Boxed} (env : Ghosts E F) (formats : OptionsOf
 
   module _ (ignores : (a b : OptionsOf C FP B) → TellsOnly a b → formats b ≡ formats a)
       (roomy : EngineOf E C FP F B) (mid : E) (result : Result (Unit {0}) Status)
-      (made : EngineMakesRoom env formats before from result roomy mid) where
+      (made : EngineMakesRoom env choices before from result roomy mid) where
     room_keeps : KeepsStore order meaning (Stays old) before.store (env.observed from) roomy.store
         (env.observed mid)
     room_keeps =
@@ -279,7 +317,7 @@ module _ {E C FP F : Type 0} {B : Boxed} (env : Ghosts E F) (formats : OptionsOf
 
     room_options : formats (options_in roomy) ≡ formats (options_in before)
     room_options = ignores (options_in before) (options_in roomy)
-        (room_tells env formats before from result roomy mid made)
+        (room_tells env choices before from result roomy mid made)
 
     room_bytes : AppendedAreBytes (env.observed mid).disk.files
     room_bytes = made.sound.bytes modelled was.disk_is.bytes
@@ -295,7 +333,7 @@ module _ {E C FP F : Type 0} {B : Boxed} (env : Ghosts E F) (formats : OptionsOf
   -- no room was made
   module _ (ignores : (a b : OptionsOf C FP B) → TellsOnly a b → formats b ≡ formats a)
       (after : EngineOf E C FP F B) (to : E) (items : List Item) (sync : Bool) (status : Status)
-      (made : EngineMakesRoom env formats before from (Err status) after to) where
+      (made : EngineMakesRoom env choices before from (Err status) after to) where
     keeps : KeepsStore order meaning (Stays old) before.store (env.observed from) after.store
         (env.observed to)
     keeps = room_keeps ignores after to (Err status) made
@@ -372,7 +410,7 @@ module _ {E C FP F : Type 0} {B : Boxed} (env : Ghosts E F) (formats : OptionsOf
 
   module _ (ignores : (a b : OptionsOf C FP B) → TellsOnly a b → formats b ≡ formats a)
       (roomy : EngineOf E C FP F B) (mid : E)
-      (made : EngineMakesRoom env formats before from (Ok tt) roomy mid)
+      (made : EngineMakesRoom env choices before from (Ok tt) roomy mid)
       (items : List Item) (sync : Bool) (value : OpenStoreValue C) (to : E) where
     -- the files as room was made
     abbrev here : Files
@@ -384,7 +422,7 @@ module _ {E C FP F : Type 0} {B : Boxed} (env : Ghosts E F) (formats : OptionsOf
 
     -- the batch as the store has it
     abbrev its_batch : List Entry
-    its_batch = store_batch.next_batch roomy.store items
+    its_batch = next_batch roomy.store items
 
     room_unbroken : IsUnbroken roomy.store
     room_unbroken = made.makes.usable
@@ -401,7 +439,7 @@ module _ {E C FP F : Type 0} {B : Boxed} (env : Ghosts E F) (formats : OptionsOf
     room_last : roomy.store.set.last_sequence ≡ old.last
     room_last = kept_last roomy.store mid (room_keeps ignores roomy mid (Ok tt) made) made.makes.rest
 
-    same_batch : its_batch ≡ next_batch old items
+    same_batch : its_batch ≡ added_batch old items
     same_batch = ap (λ n. placed (n + 1) items) room_last
 
     in_order : (result : Result (Unit {0}) Status)
@@ -420,9 +458,9 @@ module _ {E C FP F : Type 0} {B : Boxed} (env : Ghosts E F) (formats : OptionsOf
       end_path = ap (λ (v : OpenStoreValue C). v.set.store) writes.rest ∙ made.makes.rest.store
 
       end_options : formats (options_in after) ≡ formats (options_in before)
-      end_options = ignores (options_in before) (options_in after) (ap (λ (c : C).
-          record roomy.options { cmp = c }) (ap (λ (v : OpenStoreValue C). v.cmp) writes.rest)
-          ∙ room_tells env formats before from (Ok tt) roomy mid made)
+      end_options = ignores (options_in before) (options_in after)
+          (batch_tells env choices before from roomy mid made value
+          (ap (λ (v : OpenStoreValue C). v.cmp) writes.rest))
 
       end_bytes : AppendedAreBytes (env.observed to).disk.files
       end_bytes = sound.bytes modelled (room_bytes ignores roomy mid (Ok tt) made)
@@ -476,12 +514,12 @@ module _ {E C FP F : Type 0} {B : Boxed} (env : Ghosts E F) (formats : OptionsOf
       adds = (in_order (Ok tt) writes).adds modelled meaning (may_stay None old.store) old.history
           old.durable room_held
 
-      longer : old.history ++ its_batch ∷ [] ≡ old.history ++ next_batch old items ∷ []
+      longer : old.history ++ its_batch ∷ [] ≡ old.history ++ added_batch old items ∷ []
       longer = ap (λ b. old.history ++ b ∷ []) same_batch
 
       abbrev new : State
       new = record old {
-        history = old.history ++ next_batch old items ∷ [];
+        history = old.history ++ added_batch old items ∷ [];
         last = old.last + length items;
         durable = adds.durable_now;
       }
@@ -513,7 +551,7 @@ module _ {E C FP F : Type 0} {B : Boxed} (env : Ghosts E F) (formats : OptionsOf
       }
 
       end_run : Run (IsSpared store meaning old (record {
-        history = old.history ++ next_batch old items ∷ [];
+        history = old.history ++ added_batch old items ∷ [];
         bound = old.last + length items + 0;
         opening = None;
       })) (env.observed mid) (env.observed to)
@@ -555,16 +593,16 @@ module _ {E C FP F : Type 0} {B : Boxed} (env : Ghosts E F) (formats : OptionsOf
           (subst (λ m. Step m (setting_between meaning (env.failures from) (env.failures to)) old
           (write items sync) done new) (sym mode) (fits, wrote))
           (subst (λ p. Run (IsSpared store meaning old (record {
-            history = with_batch (old.history ++ next_batch old items ∷ []) p;
+            history = with_batch (old.history ++ added_batch old items ∷ []) p;
             bound = old.last + length items + count_of p;
             opening = None;
           })) (env.observed from) (env.observed to)) (sym nothing)
           (both_run (Ok tt) writes sound (record {
-            history = old.history ++ next_batch old items ∷ [];
+            history = old.history ++ added_batch old items ∷ [];
             bound = old.last + length items + 0;
             opening = None;
           }) refl (omega arith)
-          (spared_longer (next_batch old items) (old.last + length items + 0) (omega arith)) end_run))
+          (spared_longer (added_batch old items) (old.last + length items + 0) (omega arith)) end_run))
           (end_spares (Ok tt) writes sound) (λ never. absurd never)
 
     -- ---- it isn't written
@@ -582,7 +620,7 @@ module _ {E C FP F : Type 0} {B : Boxed} (env : Ghosts E F) (formats : OptionsOf
           old.history old.durable room_held
 
       -- what is pending, as the machine's batch
-      which : (leaves.0 ≡ None) ⊎ (leaves.0 ≡ Some (next_batch old items))
+      which : (leaves.0 ≡ None) ⊎ (leaves.0 ≡ Some (added_batch old items))
       which = ⊎_elim (λ (no : leaves.0 ≡ None). inl no)
           (λ (it : leaves.0 ≡ Some its_batch). inr (it ∙ ap (λ b. Some b) same_batch)) leaves.1
 
@@ -672,7 +710,7 @@ module _ {E C FP F : Type 0} {B : Boxed} (env : Ghosts E F) (formats : OptionsOf
           })
 
           spared_left : (pending : Option (List Entry))
-              → ((pending ≡ None) ⊎ (pending ≡ Some (next_batch old items)))
+              → ((pending ≡ None) ⊎ (pending ≡ Some (added_batch old items)))
               → IsSpared store meaning old (record {
                 history = with_batch old.history pending;
                 bound = old.last + count_of pending;
@@ -687,8 +725,8 @@ module _ {E C FP F : Type 0} {B : Boxed} (env : Ghosts E F) (formats : OptionsOf
             history = with_batch old.history p;
             bound = old.last + count_of p;
             opening = None;
-          }) files) (sym is) (spared_longer (next_batch old items)
-              (old.last + count_of (Some (next_batch old items))) (omega arith))
+          }) files) (sym is) (spared_longer (added_batch old items)
+              (old.last + count_of (Some (added_batch old items))) (omega arith))
 
       pub write_fails : Goes store meaning (Recalls formats store meaning)
           (scene env (Some before) from) (write items sync) (refused (refusal_of status))

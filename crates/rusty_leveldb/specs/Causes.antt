@@ -134,7 +134,7 @@ CompressorFails (Some format) code = HasCompressorError format code
 
 -- When a cause comes, and which code and text it has; damage is no cause, since the disk is whole.
 -- How much memory the entries take that are too large isn't in the state: the engine's clauses say
--- it (`IsFull`, `IsTooLarge`).
+-- it (`IsFull`, `FailsToPrepare`).
 abbrev pub Comes : Setting → State → Request → Refusal → Cause → Type 0
 Comes setting old request refusal out_of_memory =
     TakesMemory request × (refusal.code ≡ OutOfMemory) × (refusal.text ≡ [])

@@ -1,5 +1,5 @@
 -- What an engine has in memory, what that has to do with the disk, and what its calls return.
-use Rattle.std.specs.Prelude.{◌≡◌, ◌≢◌, ◌≤◌, ◌⊎◌, ◌↔◌, ℕ, Bool, true, false, List, [], ◌∷◌, ◌++◌, length, Option, Some, None, IsTrue, string_bytes, ◌&&◌, ◌||◌, nat_le, ◌^◌, is_some}
+use Rattle.std.specs.Prelude.{◌≡◌, ◌≢◌, ◌⊎◌, ◌↔◌, ℕ, Bool, true, false, List, [], ◌∷◌, ◌++◌, length, Option, Some, None, IsTrue, string_bytes, ◌&&◌, ◌||◌, nat_le, ◌^◌, is_some}
 use Rattle.leveldb_base.specs.declared.cmp.Cmp.{Ghosts as CmpGhosts}
 use Rattle.leveldb_base.specs.declared.error.Status.{Status}
 use Rattle.leveldb_base.specs.declared.error.StatusCode.TheVariants.{InvalidArgument, NotSupported}
@@ -16,10 +16,12 @@ use Rattle.leveldb_mem.specs.MemTable.{FailsToPrepare, IsUnion, Kept, bytes_in}
 use Rattle.leveldb_version.specs.Paths.{lock_path}
 use Rattle.leveldb_version.specs.Contents.{made}
 use Rattle.leveldb_version.specs.VersionSetValue.{ManifestState, broken}
-use Rattle.leveldb_store.specs.Format.{Format, HasCompressorError, Meaning, format_of}
+use Rattle.leveldb_store.specs.BuildTable.{TableChoices}
+use Rattle.leveldb_store.specs.Format.{Format, Meaning, format_of}
 use Rattle.leveldb_store.specs.OpenStore.{OpenStoreValue}
 use Rattle.leveldb_store.specs.Read.{IsUnreadable}
-use Rattle.leveldb_store.specs.Room.{IsFileLost, IsFull}
+use Rattle.leveldb_store.specs.Room.{AreEntriesNotTabled, IsFileLost, IsFull}
+use Rattle.leveldb_store.specs.Switch.{AreFileNumbersTooFew}
 use Rattle.leveldb_store.specs.Write.{IsLogLost}
 use Rattle.leveldb_store.specs.WriteBatch.{next_batch}
 use Rattle.leveldb_store.specs.Written.{IsWritten, Shows}
@@ -71,6 +73,17 @@ IsClosedOrBroken mode = IsClosed mode ⊎ IsBroken mode
 abbrev pub options_in : {E C FP F : Type 0} {B : Boxed} → EngineOf E C FP F B → OptionsOf C FP B
 options_in engine = record engine.options { cmp = engine.store.cmp }
 
+-- ---- the lock
+
+-- the lock of an engine is that of its store
+abbrev pub HasOwnLock : {E C FP F : Type 0} {B : Boxed} → EngineOf E C FP F B → Type 0
+HasOwnLock engine = string_bytes engine.lock ≡ lock_path engine.store.set.store
+
+-- whether an engine's lock is held
+abbrev pub holds_lock : {E C FP F : Type 0} {B : Boxed} → Ghosts E F → EngineOf E C FP F B → E
+    → Bool
+holds_lock env engine at = (env.observed at).disk.locked (string_bytes engine.lock)
+
 -- ---- memory and disk
 
 module _ {E C FP F : Type 0} {B : Boxed} (formats : OptionsOf C FP B → Format) (store : List ℕ)
@@ -94,10 +107,11 @@ module _ {E C FP F : Type 0} {B : Boxed} (formats : OptionsOf C FP B → Format)
 
 -- ---- what the calls return
 
--- where the environment's disk is observed, its moment doesn't fall
-abbrev pub TimeGoesOn : {E F : Type 0} → Ghosts E F → E → E → Type 0
-TimeGoesOn env from to = IsTrue env.models_disk
-    → (env.observed from).moment ≤ (env.observed to).moment
+-- the formats of choices
+abbrev pub formats_of : {C FP D P : Type 0} {B : Boxed} {keys : CmpGhosts D}
+    {key_filters : FilterGhosts P} → (OptionsOf C FP B → TableChoices keys key_filters)
+    → OptionsOf C FP B → Format
+formats_of choices options = (choices options).format
 
 -- no engine of these options
 abbrev pub no_engine : {E C FP F : Type 0} {B : Boxed} → OptionsOf C FP B
@@ -148,16 +162,23 @@ RefusedAsBroken mode e = IsBroken mode × IsWriterBroken e
 abbrev pub RefusedByMode : machine.Mode → Status → Type 0
 RefusedByMode mode e = RefusedAsClosed mode e ⊎ RefusedAsBroken mode e
 
-module _ {E C FP F : Type 0} {B : Boxed} (env : Ghosts E F)
-    (formats : OptionsOf C FP B → Format) (engine : EngineOf E C FP F B) (at : E) where
-  -- the format of its options
-  abbrev format_in : Format
-  format_in = formats (options_in engine)
+-- a memtable without entries
+abbrev pub empty_memtable : Kept
+empty_memtable = record { entries = []; places = 0; bytes = 0 }
+
+-- `choices` says of options with which choices a table is built
+module _ {E C FP F D P : Type 0} {B : Boxed} {keys : CmpGhosts D} {key_filters : FilterGhosts P}
+    (env : Ghosts E F) (choices : OptionsOf C FP B → TableChoices keys key_filters)
+    (engine : EngineOf E C FP F B) (at : E) where
+  -- the choices of its options
+  abbrev choices_in : TableChoices keys key_filters
+  choices_in = choices (options_in engine)
 
   -- Why a write may fail where the device didn't: the store is closed or broken, the batch is too
-  -- long, memory ran out, no numbers of entries are left, or the entries are too many in memory. And
-  -- where the memtable is full: numbers of files are used up, its entries are too large for a table,
-  -- or a compressor fails. Or a file is lost.
+  -- long, memory ran out, no numbers of entries are left, or the entries are too many in memory.
+  -- And where the memtable is full: the numbers of files are too few for two tables and a log; no
+  -- table is built of its entries, or of those that wait; or the batch is too large for an empty
+  -- one. Or a file is lost.
   abbrev pub WriteExcused : List Item → Status → Type 0
   WriteExcused items e = RefusedByMode (mode_in engine) e
       ⊎ ((e.code ≡ InvalidArgument) × IsLongBatch items)
@@ -165,8 +186,17 @@ module _ {E C FP F : Type 0} {B : Boxed} (env : Ghosts E F)
       ⊎ ((e.code ≡ NotSupported) × AreUsedUp engine.store.set.last_sequence (length items))
       ⊎ FailsToPrepare engine.store.recent (length items) (bytes_in items) e
       ⊎ (IsFull engine.options.write_buffer_size engine.store.recent
-      × ((e.code ≡ NotSupported) ⊎ HasCompressorError format_in e.code))
-      ⊎ IsFileLost env format_in.order engine.store at format_in e
+      × (AreFileNumbersTooFew engine.store.set.next_file 3 e
+      ⊎ AreEntriesNotTabled choices_in (Some engine.store.recent) e
+      ⊎ AreEntriesNotTabled choices_in engine.store.waiting e
+      ⊎ FailsToPrepare empty_memtable (length items) (bytes_in items) e))
+      ⊎ IsFileLost env choices_in.format.order engine.store at choices_in.format e
+
+module _ {E C FP F : Type 0} {B : Boxed} (env : Ghosts E F)
+    (formats : OptionsOf C FP B → Format) (engine : EngineOf E C FP F B) (at : E) where
+  -- the format of its options
+  abbrev format_in : Format
+  format_in = formats (options_in engine)
 
   -- why a flush may fail where the device didn't: the store is closed or broken, memory ran out, or
   -- the log is lost

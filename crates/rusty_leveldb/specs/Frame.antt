@@ -39,6 +39,11 @@ abbrev pub MayTouch : List ℕ → Mode → Request → List ℕ → Type 0
 MayTouch store mode request path =
     (kind : FileType) × Touches mode request kind × IsFilePath kind store path
 
+-- the same where the store's log has this path, of whatever number it is
+abbrev pub MayTouchOrLog : List ℕ → Mode → Request → List ℕ → List ℕ → Type 0
+MayTouchOrLog store mode request log path =
+    MayTouch store mode request path ⊎ (Touches mode request Log × (path ≡ log))
+
 -- ---- what stays
 
 -- a file stays as it is, or a missing one is made, empty

@@ -21,13 +21,13 @@ pub record Keeps (old new : State) : Type 0 where
   pub durable : MayGrow old.durable old.history new.durable
 
 -- the batch that a write adds: it takes the next numbers
-abbrev pub next_batch : State → List Item → List Entry
-next_batch old items = placed (old.last + 1) items
+abbrev pub added_batch : State → List Item → List Entry
+added_batch old items = placed (old.last + 1) items
 
 -- the batch is the history's last, and all is durable if that was asked for
 pub record Writes (old : State) (items : List Item) (sync : Bool) (new : State) : Type 0 where
   pub state : new ≡ record old {
-    history = old.history ++ next_batch old items ∷ [];
+    history = old.history ++ added_batch old items ∷ [];
     last = old.last + length items;
     durable = new.durable;
   }
@@ -236,7 +236,7 @@ abbrev pub LeavesRefused : Setting → State → Request → Refusal → Cause �
 LeavesRefused setting old (open_store opening) refusal cause new =
     StaysClosed setting old opening refusal cause new
 LeavesRefused setting old (write items sync) refusal cause new =
-    KeepsOrBreaks old cause (next_batch old items) new
+    KeepsOrBreaks old cause (added_batch old items) new
 LeavesRefused setting old flush refusal device_failed new = Breaks old None new
 LeavesRefused setting old flush refusal cause new =
     Keeps old new ⊎ (MayBreak cause × Breaks old None new)

@@ -3,7 +3,7 @@
 --
 -- `store` is the store's path, `meaning` what names and ids in its files mean, and `Recalls memory
 -- disk state` what the engine's memory has to do with the files and the state.
-use Rattle.std.specs.Prelude.{◌≡◌, ◌≤◌, ◌⊎◌, ◌↔◌, ℕ, Bool, List, [], Option, Some, None, Result, Ok, Err, All, false, map, IsTrue}
+use Rattle.std.specs.Prelude.{◌≡◌, ◌≤◌, ◌↔◌, ℕ, Bool, List, Option, Some, None, Result, Ok, Err, All, false, map, IsTrue}
 use Rattle.std.specs.declared.cmp.Ordering.{Ordering}
 use Rattle.leveldb_base.specs.Cmp.{bytewise}
 use Rattle.leveldb_base.specs.declared.error.Status.{Status}

@@ -1,11 +1,10 @@
 //! What a store has in memory while it is open. Each call is given the environment.
-ghost use Rattle.std.specs.Prelude.{◌≡◌, ℕ, Bool, List, OnOk, IfErr};
+ghost use Rattle.std.specs.Prelude.{◌≡◌, Bool, List, OnOk, IfErr};
 ghost use Rattle.leveldb_base.specs.History.{Item};
-ghost use Rattle.leveldb_env.specs.Env.{Disk};
-ghost use Rattle.rusty_leveldb.specs.State.{State, open_mode, write, refused};
+ghost use Rattle.rusty_leveldb.specs.State.{open_mode, write, refused};
 ghost use Rattle.rusty_leveldb.specs.Serves.{refusal_of};
-ghost use Rattle.rusty_leveldb.specs.Engine.{IsClosed, RefusedAsClosed, RefusedByMode, Recalls, AnswersStill, mode_in};
-ghost use Rattle.leveldb_store.specs.Format.{Meaning, format_of};
+ghost use Rattle.rusty_leveldb.specs.Engine.{IsClosed, RefusedAsClosed, RefusedByMode, AnswersStill, mode_in};
+ghost use Rattle.leveldb_store.specs.Format.{format_of};
 
 use leveldb_base::cmp::{Cmp, UserCmp};
 use leveldb_base::error::{Result, StatusCode, err};
@@ -43,10 +42,7 @@ pub struct Engine<E: Env, C: Cmp, FP> {
 impl<E: Env, C: UserCmp + Copy, FP: FilterPolicy + Copy> Engine<E, C, FP> {
     /// Whether it may be written to; if not, this fails as every write does.
     pub fn check_writable(&self) -> Result<()>
-        ensures ok { let formats = format_of C.Cmp FP.FilterPolicy
-            ⟦<CompressorList as Compressors>⟧.codings in
-            OnOk result ((store : List ℕ) (meaning : Meaning) (disk : Disk) (state : State)
-            → Recalls formats store meaning self.now disk state → state.mode ≡ open_mode) }
+        ensures ok { OnOk result (mode_in self.now ≡ open_mode) }
         ensures step { let formats = format_of C.Cmp FP.FilterPolicy
             ⟦<CompressorList as Compressors>⟧.codings in
             IfErr result (λ status. (items : List Item) (sync : Bool)

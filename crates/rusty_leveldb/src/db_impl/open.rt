@@ -1,17 +1,22 @@
 //! Opening a store: its lock is taken, and its files are read.
+ghost use Rattle.std.specs.Prelude.{◌≡◌, is_some};
 ghost use Rattle.rusty_leveldb.specs.Engine.{opening_of};
-ghost use Rattle.leveldb_store.specs.Format.{format_of};
+ghost use Rattle.leveldb_store.specs.BuildTable.{choices_of};
+ghost use Rattle.leveldb_store.specs.OpenStore.{IsUnbroken};
+ghost use Rattle.leveldb_store.specs.Room.{TidiesUp};
+ghost use Rattle.leveldb_store.specs.SoundCall.{TimeGoesOn};
 ghost use Rattle.rusty_leveldb.specs.Calls.{EngineOpens};
 
 use super::close::give_back;
 use super::engine::{Engine, Mode};
-use super::info_log::InfoLog;
+use super::info_log::{InfoLog, NoLog};
 use super::names::{check_name, lock_name};
-use leveldb_base::cmp::UserCmp;
+use leveldb_base::cmp::{Cmp, InternalKeyCmp, UserCmp};
 use leveldb_base::error::Result;
 use leveldb_env::compressor::{CompressorList, Compressors};
 use leveldb_env::env::Env;
-use leveldb_env::filter::FilterPolicy;
+use leveldb_env::filter::{FilterPolicy, InternalFilterPolicy};
+use leveldb_env::infolog::Logger;
 use leveldb_env::options::Options;
 use leveldb_store::open_store::OpenStore;
 use std::alloc::Global;
@@ -31,7 +36,8 @@ impl<E: Env, C: UserCmp + Copy, FP: FilterPolicy + Copy> Engine<E, C, FP> {
         options: Options<C, FP>,
     ) -> Result<Engine<E, C, FP>>
         ensures { let codings = ⟦<CompressorList as Compressors>⟧.codings in
-            EngineOpens E.Env (format_of C.Cmp FP.FilterPolicy codings) name.now options
+            EngineOpens E.Env (choices_of C.Cmp FP.FilterPolicy ⟦<InternalKeyCmp<C> as Cmp>⟧
+            ⟦<InternalFilterPolicy<FP> as FilterPolicy>⟧ codings) name.now options
             (opening_of C.Cmp FP.FilterPolicy codings options) env.old result env.new }
     {
         check_name(alloc, name)?;
@@ -42,9 +48,7 @@ impl<E: Env, C: UserCmp + Copy, FP: FilterPolicy + Copy> Engine<E, C, FP> {
         let mut options = options;
         match OpenStore::open(alloc, env, name, &options) {
             Ok(store) => {
-                let mut log = InfoLog(options.log.take());
-                store.tidy_up(env, &mut log);
-                options.log = log.0;
+                tidy_up(&store, env, &mut options.log);
                 Ok(Engine {
                     alloc,
                     options,
@@ -58,5 +62,26 @@ impl<E: Env, C: UserCmp + Copy, FP: FilterPolicy + Copy> Engine<E, C, FP> {
                 Err(status)
             }
         }
+    }
+}
+
+// Deletes the obsolete files of a store. What fails of that is a line for `log`, if it is one.
+fn tidy_up<E: Env, C: UserCmp + Copy>(
+    store: &OpenStore<E, C>,
+    env: &mut E,
+    log: &mut Option<Logger>,
+)
+    requires { IsUnbroken store.now }
+    ensures tidies { TidiesUp E.Env (C.cmp store.now.cmp) store.now env.old env.new }
+    ensures time { TimeGoesOn E.Env env.old env.new }
+    ensures sink { is_some log.new ≡ is_some log.old }
+{
+    match log.take() {
+        Some(logger) => {
+            let mut sink = InfoLog(logger);
+            store.tidy_up(env, &mut sink);
+            *log = Some(sink.0);
+        }
+        None => store.tidy_up(env, &mut NoLog),
     }
 }

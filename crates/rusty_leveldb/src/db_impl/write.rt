@@ -1,30 +1,32 @@
 //! Writing to a store: batches, and syncs of its log.
-ghost use Rattle.std.specs.Prelude.{◌≡◌, ◌∷◌, [], Some, None, false, OnOk};
+ghost use Rattle.std.specs.Prelude.{◌≡◌, ◌∷◌, [], Some, None, false, is_some};
 ghost use Rattle.leveldb_mem.specs.WriteBatch.{item_of};
 ghost use Rattle.rusty_leveldb.specs.State.{write, flush};
 ghost use Rattle.rusty_leveldb.specs.Serves.{done_or};
+ghost use Rattle.leveldb_store.specs.BuildTable.{choices_of};
 ghost use Rattle.leveldb_store.specs.Format.{Agrees, format_of};
 ghost use Rattle.leveldb_store.specs.OpenStore.{IsUnbroken};
 ghost use Rattle.leveldb_store.specs.Room.{MakesRoom};
 ghost use Rattle.leveldb_store.specs.SoundCall.{IsSoundCall};
-ghost use Rattle.rusty_leveldb.specs.Engine.{WritesIntoRoom, options_in};
+ghost use Rattle.rusty_leveldb.specs.Engine.{options_in};
 ghost use Rattle.rusty_leveldb.specs.Calls.{EngineServes};
 
 use super::engine::Engine;
-use super::info_log::InfoLog;
-use leveldb_base::cmp::UserCmp;
+use super::info_log::{InfoLog, NoLog};
+use leveldb_base::cmp::{Cmp, InternalKeyCmp, UserCmp};
 use leveldb_base::error::Result;
 use leveldb_env::compressor::{CompressorList, Compressors};
 use leveldb_env::env::Env;
-use leveldb_env::filter::FilterPolicy;
+use leveldb_env::filter::{FilterPolicy, InternalFilterPolicy};
 use leveldb_mem::write_batch::WriteBatch;
 
 impl<E: Env, C: UserCmp + Copy, FP: FilterPolicy + Copy> Engine<E, C, FP> {
     /// Gives the key this value, without a sync.
     pub fn put(&mut self, env: &mut E, key: &[u8], value: &[u8]) -> Result<()>
-        ensures { let formats = format_of C.Cmp FP.FilterPolicy
+        ensures { let choices = choices_of C.Cmp FP.FilterPolicy
+            ⟦<InternalKeyCmp<C> as Cmp>⟧ ⟦<InternalFilterPolicy<FP> as FilterPolicy>⟧
             ⟦<CompressorList as Compressors>⟧.codings in
-            EngineServes E.Env formats done_or self.old env.old
+            EngineServes E.Env choices done_or self.old env.old
             (write (item_of key.now (Some value.now) ∷ []) false) result self.new env.new }
     {
         self.check_open()?;
@@ -35,9 +37,10 @@ impl<E: Env, C: UserCmp + Copy, FP: FilterPolicy + Copy> Engine<E, C, FP> {
 
     /// Deletes the key, without a sync.
     pub fn delete(&mut self, env: &mut E, key: &[u8]) -> Result<()>
-        ensures { let formats = format_of C.Cmp FP.FilterPolicy
+        ensures { let choices = choices_of C.Cmp FP.FilterPolicy
+            ⟦<InternalKeyCmp<C> as Cmp>⟧ ⟦<InternalFilterPolicy<FP> as FilterPolicy>⟧
             ⟦<CompressorList as Compressors>⟧.codings in
-            EngineServes E.Env formats done_or self.old env.old
+            EngineServes E.Env choices done_or self.old env.old
             (write (item_of key.now None ∷ []) false) result self.new env.new }
     {
         self.check_open()?;
@@ -50,11 +53,11 @@ impl<E: Env, C: UserCmp + Copy, FP: FilterPolicy + Copy> Engine<E, C, FP> {
     /// then on. A memtable that is full becomes a table first. A failed append or sync breaks the
     /// store: the batch isn't seen, and may be there when the store is opened again.
     pub fn write(&mut self, env: &mut E, batch: WriteBatch, sync: bool) -> Result<()>
-        ensures serves { let formats = format_of C.Cmp FP.FilterPolicy
+        ensures { let choices = choices_of C.Cmp FP.FilterPolicy
+            ⟦<InternalKeyCmp<C> as Cmp>⟧ ⟦<InternalFilterPolicy<FP> as FilterPolicy>⟧
             ⟦<CompressorList as Compressors>⟧.codings in
-            EngineServes E.Env formats done_or self.old env.old (write batch.items sync) result
+            EngineServes E.Env choices done_or self.old env.old (write batch.items sync) result
             self.new env.new }
-        ensures room { OnOk result (WritesIntoRoom self.old batch.items self.new) }
     {
         self.check_open()?;
         self.make_room(env)?;
@@ -65,8 +68,10 @@ impl<E: Env, C: UserCmp + Copy, FP: FilterPolicy + Copy> Engine<E, C, FP> {
     fn make_room(&mut self, env: &mut E) -> Result<()>
         requires { IsUnbroken self.old.store }
         ensures makes { MakesRoom E.Env (C.cmp self.old.store.cmp) self.old.store env.old
-            (format_of C.Cmp FP.FilterPolicy ⟦<CompressorList as Compressors>⟧.codings
-            (options_in self.old)) self.old.options.write_buffer_size result self.new.store env.new }
+            (choices_of C.Cmp FP.FilterPolicy ⟦<InternalKeyCmp<C> as Cmp>⟧
+            ⟦<InternalFilterPolicy<FP> as FilterPolicy>⟧ ⟦<CompressorList as Compressors>⟧.codings
+            (options_in self.old)) self.old.options.write_buffer_size result self.new.store
+            env.new }
         ensures sound { IsSoundCall E.Env (C.cmp self.old.store.cmp) (Agrees (format_of C.Cmp
             FP.FilterPolicy ⟦<CompressorList as Compressors>⟧.codings (options_in self.old)))
             self.old.store env.old result self.new.store env.new }
@@ -74,19 +79,26 @@ impl<E: Env, C: UserCmp + Copy, FP: FilterPolicy + Copy> Engine<E, C, FP> {
           store = self.new.store;
           options = record (options_in self.old) { log = self.new.options.log };
         } }
+        ensures sink { is_some self.new.options.log ≡ is_some self.old.options.log }
     {
         self.options.cmp = self.store.cmp();
-        let mut log = InfoLog(self.options.log.take());
-        let made = self.store.make_room(env, &self.options, &mut log);
-        self.options.log = log.0;
-        made
+        match self.options.log.take() {
+            Some(logger) => {
+                let mut log = InfoLog(logger);
+                let made = self.store.make_room(env, &self.options, &mut log);
+                self.options.log = Some(log.0);
+                made
+            }
+            None => self.store.make_room(env, &self.options, &mut NoLog),
+        }
     }
 
     /// Makes a crash keep all batches.
     pub fn flush(&mut self, env: &mut E) -> Result<()>
-        ensures { let formats = format_of C.Cmp FP.FilterPolicy
+        ensures { let choices = choices_of C.Cmp FP.FilterPolicy
+            ⟦<InternalKeyCmp<C> as Cmp>⟧ ⟦<InternalFilterPolicy<FP> as FilterPolicy>⟧
             ⟦<CompressorList as Compressors>⟧.codings in
-            EngineServes E.Env formats done_or self.old env.old flush result self.new env.new }
+            EngineServes E.Env choices done_or self.old env.old flush result self.new env.new }
     {
         self.check_open()?;
         self.store.sync(env)

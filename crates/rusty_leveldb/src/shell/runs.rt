@@ -3,21 +3,23 @@ ghost use Rattle.std.specs.Prelude.{◌≡◌, ◌≤◌, ◌⊎◌, ◌++◌, L
 ghost use Rattle.leveldb_base.specs.Error.{IsOutOfMemory};
 ghost use Rattle.leveldb_mem.specs.WriteBatch.{with_item, IsTooLong};
 ghost use Rattle.rusty_leveldb.specs.Causes.{IsLongBatch};
-ghost use Rattle.rusty_leveldb.specs.Engine.{TimeGoesOn, Answers, opening_of};
+ghost use Rattle.rusty_leveldb.specs.Engine.{Answers, opening_of};
 ghost use Rattle.rusty_leveldb.specs.Unopened.{OpenExcused};
+ghost use Rattle.leveldb_store.specs.BuildTable.{choices_of};
 ghost use Rattle.leveldb_store.specs.Format.{format_of};
 ghost use Rattle.leveldb_store.specs.Room.{FailsFor};
+ghost use Rattle.leveldb_store.specs.SoundCall.{TimeGoesOn};
 ghost use Rattle.rusty_leveldb.specs.Serves.{done_or};
 ghost use Rattle.rusty_leveldb.specs.State as machine;
 ghost use Rattle.rusty_leveldb.specs.Shell.{HasRun, request_of, answer_of, change_of};
 
 use super::commands::{Command, Item, Reply};
 use crate::db_impl::Engine;
-use leveldb_base::cmp::UserCmp;
+use leveldb_base::cmp::{Cmp, InternalKeyCmp, UserCmp};
 use leveldb_base::error::{Result, StatusCode};
 use leveldb_env::compressor::{CompressorList, Compressors};
 use leveldb_env::env::Env;
-use leveldb_env::filter::FilterPolicy;
+use leveldb_env::filter::{FilterPolicy, InternalFilterPolicy};
 use leveldb_env::options::Options;
 use leveldb_mem::write_batch::WriteBatch;
 use std::alloc::Global;
@@ -40,8 +42,10 @@ pub fn run<E: Env, C: UserCmp + Copy, FP: FilterPolicy + Copy>(
     ensures after { (given : List Reply) × (replies.new.items ≡ replies.old.items ++ given)
         × OnOk result (length given ≡ length commands.now) }
     ensures time { TimeGoesOn E.Env env.old env.new }
-    ensures cause { FailsFor (OpenExcused E.Env name.now (opening_of C.Cmp FP.FilterPolicy
-        ⟦<CompressorList as Compressors>⟧.codings opt) env.old) (E.failures env.old)
+    ensures cause { let codings = ⟦<CompressorList as Compressors>⟧.codings in
+        FailsFor (OpenExcused E.Env name.now (choices_of C.Cmp FP.FilterPolicy
+        ⟦<InternalKeyCmp<C> as Cmp>⟧ ⟦<InternalFilterPolicy<FP> as FilterPolicy>⟧ codings opt)
+        (opening_of C.Cmp FP.FilterPolicy codings opt) env.old) (E.failures env.old)
         (E.failures env.new) result }
 {
     let alloc = *replies.allocator();

@@ -104,6 +104,7 @@ returns-clause-switches g c =
     switched g.E.Env old from more mid sync rest to (Ok c.in_ok-file.file) opening c.in_ok-file.ensures.locks _
     (ap (λ v. v.cmp) same) (ap (λ v. v.set) same) (λ i. record { number = number_is i; writer = c.new.ensures i })
     (ap (λ m. m.kept.entries) c.replace.ensures.after ∙ c.new-fresh.ensures.entries)
+    (ap (λ m. m.kept.places) c.replace.ensures.after ∙ c.new-fresh.ensures.places)
     (ap (λ m. Some m.kept) c.replace.ensures.value ∙ ap (λ v. Some v.recent) same) c.in_ok-file.ensures.cause.ok
 
 pub returns-clause-keeps : goal.returns-clause-keeps

@@ -3,6 +3,7 @@ use Rattle.std.proofs.Math.Seq.{drop-length, drop-append_seam}
 use Rattle.std.proofs.lemmas.List.{take_all}
 use Rattle.std.proofs.lemmas.Result.{err_from_is_err_and}
 use Rattle.leveldb_env.specs.contracts.compressor.CompressorListCompressors.TheImpl.{ghosts as compressors}
+use Rattle.rusty_leveldb.proofs.UnopenedLemmas.{given_back_under}
 use Rattle.rusty_leveldb.proofs.Playing.{play_first, play_more, play_end, not_opened, not_begun, commands_up_to}
 use Rattle.rusty_leveldb.specs.Engine.{opening_of}
 use Rattle.leveldb_store.specs.Format.{format_of}
@@ -21,7 +22,17 @@ returns-in_err-engine-clause-runs g c =
     rw (failed.1, failed.2) (record {
       plays = not_opened g.row.C.Denot g.row.FP.Denot g.E.Env (format_of g.C.Cmp g.FP.FilterPolicy (compressors g.dyn-2).codings) (g.met.E.Env.only_now, g.met.E.Env.counts_now) c.args.name.now c.args.opt c.args.env.now c.open.new.env (opening_of g.C.Cmp g.FP.FilterPolicy (compressors g.dyn-2).codings c.args.opt) c.args.commands.now
           (drop (length c.args.replies.now.items) c.reserve.new.self.items) c.in_err-engine.field-0.0 none c.in_err-engine.ensures.step;
-      unopened = λ modelled never. (none, c.in_err-engine.ensures.unopened modelled);
+      unopened = λ modelled never. (
+        none,
+        record {
+          lock = given_back_under g.E.Env c.args.name.now _
+              (opening_of g.C.Cmp g.FP.FilterPolicy (compressors g.dyn-2).codings c.args.opt) refl
+              c.args.env.now c.in_err-engine.field-0.0 c.open.new.env
+              (c.in_err-engine.ensures.unopened modelled);
+          files = (c.in_err-engine.ensures.never_opens modelled never).1;
+          others = c.in_err-engine.ensures.others modelled;
+        },
+      );
       misnamed = λ no. ((c.in_err-engine.ensures.misnamed no).0, none, tt);
     })
 
@@ -67,7 +78,7 @@ returns-clause-runs g c =
     rw given (record {
       plays = play_end g.row.C.Denot g.row.FP.Denot g.E.Env (format_of g.C.Cmp g.FP.FilterPolicy (compressors g.dyn-2).codings) (g.met.E.Env.only_now, g.met.E.Env.counts_now) c.args.name.now c.args.env.now c.loop-command.env c.abandon.new.env (opening_of g.C.Cmp g.FP.FilterPolicy (compressors g.dyn-2).codings c.args.opt)
           c.args.commands.now so_far.2 c.loop-command.engine c.abandon.result (rw all at so_far.5) step;
-      unopened = λ modelled never. absurd (c.in_ok-engine.ensures.never_opens modelled never);
+      unopened = λ modelled never. absurd (c.in_ok-engine.ensures.never_opens modelled never).0;
       misnamed = λ no. absurd (c.in_ok-engine.ensures.misnamed no).1;
     })
 

@@ -5,15 +5,21 @@ use Rattle.rusty_leveldb.specs.Engine.{is_store_broken, mode_in, mode_with}
 use Rattle.rusty_leveldb.specs.State.{closed}
 use Rattle.rusty_leveldb.proofs.ClosingLemmas.{abandon_answers, abandoned_closed}
 use Rattle.rusty_leveldb.proofs.EngineLemmas.{when_closed}
+use Rattle.rusty_leveldb.proofs.Others.{spares_still}
+use Rattle.rusty_leveldb.proofs.RestLemmas.{abandon_lock, abandon_others}
 use Rattle.rusty_leveldb.proofs.db_impl.engine.Engine.abandon.Goals as goal
 
 pub returns-then-eq : goal.returns-then-eq
 returns-then-eq g c =
     let is : c.args.self.mode ≡ Closed = grind arith in
+    let closed_is : mode_in c.args.self ≡ closed =
+    ap (λ m. mode_with m (is_store_broken c.args.self.store)) is in
     record {
       halted = λ closed. (refl, tt);
-      step = abandoned_closed g.E.Env _ c.args.self c.args.env.now
-          (ap (λ m. mode_with m (is_store_broken c.args.self.store)) is);
+      step = abandoned_closed g.E.Env _ c.args.self c.args.env.now closed_is;
+      others = λ modelled own. spares_still c.args.self.store.set.store (λ path. ⊥)
+          (g.E.Env.observed c.args.env.now).disk;
+      lock = λ modelled usable. absurd (usable closed_is);
       time = λ modelled. omega arith;
       cause = record { later = omega arith; ok = refl; uncounted = tt; cause = tt };
     }
@@ -28,6 +34,12 @@ returns g c =
       step = abandon_answers g.E.Env _ c.args.self c.args.env.now c.give_back.new.env open_still
           c.deref.result.now c.deref.ensures c.give_back.result c.give_back.ensures.does
           c.give_back.ensures.locks c.give_back.ensures.cause;
+      others = abandon_others g.E.Env c.args.self c.args.env.now c.give_back.new.env
+          c.give_back.result c.give_back.ensures.does c.deref.result.now c.deref.ensures
+          c.give_back.ensures.locks;
+      lock = λ modelled usable. abandon_lock g.E.Env c.args.self c.args.env.now c.give_back.new.env
+          c.give_back.result c.give_back.ensures.does c.deref.result.now c.deref.ensures
+          c.give_back.ensures.locks modelled;
       time = λ modelled. c.give_back.ensures.does.time.later;
       cause = c.give_back.ensures.cause;
     }

@@ -2,8 +2,10 @@
 use Rattle.std.proofs.Common.{◌∷◌, [], Some, false, subst, inl}
 use Rattle.std.proofs.lemmas.Result.{err_from_is_err_and}
 use Rattle.leveldb_mem.specs.WriteBatch.{item_of}
+use Rattle.leveldb_base.specs.contracts.cmp.internal.InternalKeyCmpCmp.TheImpl.{ghosts as key_order}
 use Rattle.leveldb_env.specs.contracts.compressor.CompressorListCompressors.TheImpl.{ghosts as compressors}
-use Rattle.leveldb_store.specs.Format.{format_of}
+use Rattle.leveldb_env.specs.contracts.filter.internal.InternalFilterPolicyFilterPolicy.TheImpl.{ghosts as key_policy}
+use Rattle.leveldb_store.specs.BuildTable.{choices_of}
 use Rattle.rusty_leveldb.specs.Calls.{EngineServes}
 use Rattle.rusty_leveldb.specs.Serves.{done_or}
 use Rattle.rusty_leveldb.specs.State.{write}
@@ -37,8 +39,10 @@ returns-in_err-put g c =
 
 pub returns : goal.returns
 returns g c =
+    let keys = key_order g.row.C g.C.UserCmp g.C.UserCmp-dict g.C.Cmp g.C.Cmp-dict in
+    let key_filters = key_policy g.row.FP g.FP.FilterPolicy g.FP.FilterPolicy-dict in
     subst (λ items. EngineServes g.E.Env
-    (format_of g.C.Cmp g.FP.FilterPolicy (compressors g.dyn-2).codings) done_or c.args.self.now
+    (choices_of g.C.Cmp g.FP.FilterPolicy keys key_filters (compressors g.dyn-2).codings) done_or c.args.self.now
     c.args.env.now (write items false) c.write.result c.write.new.self c.write.new.env)
     (one_change c.in_ok-batch.batch c.put.new.self (item_of c.args.key.now (Some c.args.value.now)) c.in_ok-batch.ensures.ok
-    c.in_ok-put.ensures.ok) c.write.ensures.serves
+    c.in_ok-put.ensures.ok) c.write.ensures
