@@ -4,6 +4,9 @@ pub mod CurrentLemmas
 pub mod VersionSetLemmas
 pub mod FullEditLemmas
 pub mod SummaryLemmas
+pub mod VersionLemmas
+pub mod OverlapLemmas
+pub mod FindFileLemmas
 mod NewManifestLemmas
 mod LogEditLemmas
 pub mod NumbersLemmas
