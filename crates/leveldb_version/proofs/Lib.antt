@@ -7,6 +7,7 @@ pub mod SummaryLemmas
 pub mod VersionLemmas
 pub mod OverlapLemmas
 pub mod FindFileLemmas
+pub mod OutputLevelLemmas
 mod NewManifestLemmas
 mod LogEditLemmas
 pub mod NumbersLemmas
