@@ -1,6 +1,6 @@
 -- The file of a level that has a key in its range, found by halving.
-use Rattle.std.proofs.Common.{◌≡◌, ◌≢◌, ◌∙◌, ◌∷◌, ◌-◌, ◌<◌, ◌≤◌, ◌^◌, ◌⊎◌, ℕ, zero, suc, Bool, true, false, List, [], Option, None, Some, ap, arith, get_or, inl, inr, leb, length, ltb, map, refl, subst, sym}
-use Rattle.std.proofs.lemmas.Bool.{leb-false, leb-true, ltb-true}
+use Rattle.std.proofs.Common.{◌≡◌, ◌∙◌, ◌∷◌, ◌<◌, ◌≤◌, ◌⊎◌, ℕ, zero, suc, Bool, true, false, List, [], None, Some, ap, arith, get_or, inl, inr, leb, length, map, refl, subst, sym}
+use Rattle.std.proofs.lemmas.Bool.{leb-false, leb-true}
 use Rattle.std.proofs.lemmas.Bool.Decides.{nat_tests}
 use Rattle.std.proofs.lemmas.List.{get_or-map, length-map}
 use Rattle.std.proofs.lemmas.List.Sorted.{ranks_by, sorted_far}
@@ -11,8 +11,8 @@ use Rattle.std.specs.Ordering.{is_lt, nat_cmp, ordering_then}
 use Rattle.std.specs.Prelude.{Contains}
 use Rattle.std.specs.declared.cmp.Ordering.{Ordering}
 use Rattle.std.specs.declared.cmp.Ordering.TheVariants.{Equal, Greater, Less}
-use Rattle.leveldb_base.proofs.OrderLemmas.{both, is_false, le_lt, lt_itself, lt_le, lt_turn, not_less, not_lt}
-use Rattle.leveldb_base.specs.KeyTypes.{greatest_sequence, internal_cmp, sequence_part, tag_part, user_part}
+use Rattle.leveldb_base.proofs.OrderLemmas.{both, le_lt, lt_itself, lt_le, lt_turn, not_less, not_lt}
+use Rattle.leveldb_base.specs.KeyTypes.{greatest_sequence, internal_cmp, sequence_part, user_part}
 use Rattle.leveldb_version.specs.Levels.{AreDisjoint, IsInRange}
 use Rattle.leveldb_version.specs.Overlap.{AreDisjointRanges, IsFileFor, ends_before}
 use Rattle.leveldb_version.specs.VersionEdit.{NewFile}
@@ -140,10 +140,13 @@ module _ {cmp : List ℕ → List ℕ → Ordering} (total : IsTotalOrder cmp) (
     pub found_here : (x : NewFile) → i < length xs → ((d : NewFile) → get_or xs i d ≡ x)
         → is_lt (cmp key (user_part x.smallest)) ≡ false → IsFileFor cmp xs key (Some x)
     found_here x within at begins = record {
-      has_key = (x_there, record {
-        from = not_lt (cmp key (user_part x.smallest)) begins;
-        to = not_lt (cmp (user_part x.largest) key) x_reaches;
-      });
+      has_key = (
+        x_there,
+        record {
+          from = not_lt (cmp key (user_part x.smallest)) begins;
+          to = not_lt (cmp (user_part x.largest) key) x_reaches;
+        },
+      );
       only = λ file c has. by file (ordered file c)
           (subst (λ (f : NewFile). is_lt (cmp (user_part f.smallest) (user_part x.smallest)) ≡ false) c.2
           (subst (λ (f : NewFile). is_lt (cmp (user_part (get_or xs c.0 file).smallest) (user_part f.smallest)) ≡ false) (at file)

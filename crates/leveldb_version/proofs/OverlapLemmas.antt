@@ -13,7 +13,7 @@ use Rattle.std.specs.Prelude.{◌&&◌, ◌||◌, Contains, Err, IfOk, IfSome, I
 use Rattle.std.specs.declared.cmp.Ordering.{Ordering}
 use Rattle.std.specs.declared.cmp.Ordering.TheVariants.{Less}
 use Rattle.leveldb_base.proofs.HistoryLemmas.{in_cases, in_front, in_none, in_rest}
-use Rattle.leveldb_base.proofs.OrderLemmas.{both, is_false, le_le, lt_itself, lt_le, lt_turn, not_less, not_lt}
+use Rattle.leveldb_base.proofs.OrderLemmas.{is_false, le_le, lt_itself, lt_le, lt_turn, not_less, not_lt}
 use Rattle.leveldb_base.specs.KeyTypes.{user_part}
 use Rattle.leveldb_version.specs.Overlap.{AreInputs, Covers, HasWholeFiles, IsWidened, UserRange, is_above, is_below, overlapping, overlaps, sticks_out, with_file}
 use Rattle.leveldb_version.specs.Summary.{files_of_level}
@@ -299,7 +299,7 @@ module _ {cmp : List ℕ → List ℕ → Ordering} (total : IsTotalOrder cmp) w
           let parts = and_parts (overlaps cmp range file) (sticks_out cmp range file) there.1 in
           let wide = so_far.least other covers whole in
           let out = or_parts (is_below cmp other (user_part file.smallest)) (is_above cmp other (user_part file.largest))
-              (whole file there.0 (overlaps_more range other wide file parts.0)) in
+          (whole file there.0 (overlaps_more range other wide file parts.0)) in
           record {
             begin = moved_least total other.begin range.begin (user_part file.smallest) wide.begin out.0;
             end = moved_least turned other.end range.end (user_part file.largest) wide.end out.1;

@@ -9,8 +9,8 @@ use Rattle.leveldb_base.specs.declared.types.FileMetaData.{FileMetaData}
 use Rattle.leveldb_version.specs.VersionEdit.{LevelFile, NewFile, new_file_of}
 use Rattle.leveldb_version.specs.VersionSet.{is_same_file, level_file}
 
--- The comparator of user keys; the files, each with its level; and the level and number of the file
--- that was chosen for a compaction by its seeks, if one is.
+-- The comparator of user keys; the files, each with its level; and the level and number of the
+-- file that was chosen for a compaction by its seeks, if one is.
 pub record VersionValue (C : Type 0) : Type 0 where
   pub cmp : C
   pub files : List (ℕ × FileMetaData)
@@ -63,8 +63,8 @@ with_seek at file =
     then (file.0, record file.1 { allowed_seeks = file.1.allowed_seeks - 1 })
     else file
 
--- The version after a look-up that charges this file with a seek, and whether it is chosen by that.
--- A file that has no more seeks to take is chosen if none is; any other takes the seek.
+-- The version after a look-up that charges this file with a seek, and whether it is chosen by
+-- that. A file that has at most one seek left is chosen if none is; any other takes the seek.
 abbrev pub charged : {C : Type 0} → VersionValue C → Option LevelFile → VersionValue C × Bool
 charged version None = (version, false)
 charged version (Some at) =

@@ -24,11 +24,10 @@ mod seeks;
 
 use find::file_with_key;
 use key_range::KeyRange;
+pub use order::total_size;
 use order::{part_of_level, sort_files};
 use overlap::{files_in, is_overlapped, overlap_size, widen};
 use seeks::{is_used_up, take_seek};
-
-pub use order::total_size;
 
 /// The file that a look-up charges with a seek, if one: its level and number.
 #[derive(Clone, Copy, Debug, PartialEq)]
@@ -36,7 +35,7 @@ pub struct GetStats {
     pub file: Option<(usize, FileNum)>,
 }
 
-/// The files of a store by levels: in level 0 by number, and from level 1 on by their smallest key.
+/// The files of a store by levels: in level 0 by number, and from level 1 on by smallest key.
 #[derive(Drop)]
 pub struct Version<C: Cmp> {
     cmp: C,
@@ -53,7 +52,7 @@ impl<C: Cmp> Model for Version<C> {
 
     ghost Value = { VersionValue C };
 
-    ghost view = { λ it. record { cmp = it.cmp; files = it.files.items; chosen = it.chosen; } };
+    ghost view = { λ it. record { cmp = it.cmp; files = it.files.items; chosen = it.chosen } };
 
     ghost use Rattle.std.specs.Prelude.{map};
     ghost use Rattle.leveldb_version.specs.Version.{AreInVersionOrder};
@@ -65,7 +64,7 @@ impl<C: Cmp> Model for Version<C> {
 impl<C: UserCmp> Version<C> {
     /// A version of no files.
     pub fn new(alloc: Global, cmp: C) -> Version<C>
-        ensures { result ≡ record { cmp = cmp; files = []; chosen = None; } }
+        ensures { result ≡ record { cmp = cmp; files = []; chosen = None } }
     {
         Version {
             cmp,
@@ -115,9 +114,10 @@ impl<C: UserCmp> Version<C> {
         self.files(level).len()
     }
 
-    /// Which files each level has, as `VersionSet::current_summary` says it, in the version's order.
+    /// Which files each level has, as `VersionSet::current_summary`, in the version's order.
     pub fn level_summary(&self, alloc: Global) -> Result<String>
-        ensures ok { IfOk result (λ text. string_bytes text ≡ summary_text (new_files_of self.now)) }
+        ensures ok { IfOk result (λ text.
+            string_bytes text ≡ summary_text (new_files_of self.now)) }
         ensures memory { IfErr result IsOutOfMemory }
     {
         summary_of(alloc, self.files.as_slice())
@@ -130,9 +130,14 @@ impl<C: UserCmp> Version<C> {
         self.chosen
     }
 
-    /// Whether a file of the level overlaps the range between two user keys, ends included. An empty
-    /// key is an open end.
-    pub fn overlap_in_level(&self, level: usize, smallest: UserKey<'_>, largest: UserKey<'_>) -> bool
+    /// Whether a file of the level overlaps the range between two user keys, ends included. An
+    /// empty key is an open end.
+    pub fn overlap_in_level(
+        &self,
+        level: usize,
+        smallest: UserKey<'_>,
+        largest: UserKey<'_>,
+    ) -> bool
         requires { level < 7 }
         ensures { result ≡ is_overlapped (C.cmp self.now.cmp) level
             (named_range smallest.now largest.now) (new_files_of self.now) }
@@ -142,8 +147,8 @@ impl<C: UserCmp> Version<C> {
     }
 
     /// The files of the level that overlap the range between the user keys of two internal keys,
-    /// ends included, where an empty user key is an open end. In level 0 the range is widened until
-    /// no file sticks out of it that overlaps it.
+    /// ends included, where an empty user key is an open end. In level 0 the range is widened
+    /// until no file sticks out of it that overlaps it.
     pub fn overlapping_inputs<'a>(
         &'a self,
         alloc: Global,
@@ -168,8 +173,8 @@ impl<C: UserCmp> Version<C> {
     }
 
     /// The level for the table of a memtable with these first and last user keys: level 0 if it
-    /// overlaps a file there, else down as long as the next level has none that it overlaps and the
-    /// one after it at most 20 MiB of such, to level 2 at most. An empty key is an open end.
+    /// overlaps a file there, else down as long as the next level has none that it overlaps and
+    /// the one after it at most 20 MiB of such, to level 2 at most. An empty key is an open end.
     pub fn pick_memtable_output_level(&self, min: UserKey<'_>, max: UserKey<'_>) -> usize
         ensures { result ≡ output_level (C.cmp self.now.cmp)
             (named_range min.now max.now) (new_files_of self.now) }
@@ -201,7 +206,7 @@ impl<C: UserCmp> Version<C> {
         is_overlapped(&self.cmp, self.files(level), range)
     }
 
-    /// The file of a level from 1 on that has a user key in its range, if the level's files are apart.
+    /// The file of a level from 1 on that has a user key in its range, if its files are apart.
     pub fn file_for(&self, level: usize, key: UserKey<'_>) -> Option<&(usize, FileMetaData)>
         requires { level < 7 }
         ensures { let files = files_of_level level (new_files_of self.now) in
@@ -212,8 +217,8 @@ impl<C: UserCmp> Version<C> {
         file_with_key(&self.cmp, self.files(level), key)
     }
 
-    /// Charges a file with a seek. Returns whether that chooses it for a compaction: if it has no
-    /// more seeks to take and none is chosen. Else it has one less to take from now on.
+    /// Charges a file with a seek. Returns whether that chooses it for a compaction: if it has at
+    /// most one seek left and none is chosen. Else it has one less from now on.
     pub fn update_stats(&mut self, stats: GetStats) -> bool
         ensures { (self.new, result) ≡ charged self.old stats.file }
     {

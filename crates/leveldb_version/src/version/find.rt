@@ -43,7 +43,8 @@ fn find_file<C: Cmp>(
     sequence: SequenceNumber,
 ) -> usize
     ensures bound { result ≤ length files.now }
-    ensures parts { PartsFiles (C.cmp ucmp.now) key.now sequence (map new_file_of files.now) result }
+    ensures parts { PartsFiles (C.cmp ucmp.now) key.now sequence
+        (map new_file_of files.now) result }
 {
     files.partition_point(|file| ends_before(ucmp, file, key, sequence))
 }
@@ -58,7 +59,9 @@ fn ends_before<C: Cmp>(
     ensures { result ≡ ends_before (C.cmp ucmp.now) key.now sequence (new_file_of file.now) }
 {
     let (last, its_sequence) = split_sequence(&file.1.largest);
-    ucmp.cmp(last, key).then(sequence.cmp(&its_sequence)).is_lt()
+    ucmp.cmp(last, key)
+        .then(sequence.cmp(&its_sequence))
+        .is_lt()
 }
 
 // Whether the file begins after a user key.

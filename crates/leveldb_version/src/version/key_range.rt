@@ -23,7 +23,7 @@ impl<'a> Model for KeyRange<'a> {
 
     ghost use Rattle.std.specs.Option.{option_copied};
 
-    ghost view = { λ it. record { begin = option_copied it.begin; end = option_copied it.end; } };
+    ghost view = { λ it. record { begin = option_copied it.begin; end = option_copied it.end } };
 }
 
 impl<'a> KeyRange<'a> {

@@ -24,10 +24,7 @@ pub fn total_size(files: &[(usize, FileMetaData)]) -> usize
 }
 
 /// Puts files in the order of a version.
-pub(super) fn sort_files<C: UserCmp>(
-    ucmp: &C,
-    files: &mut Vec<(usize, FileMetaData)>,
-) -> Result<()>
+pub(super) fn sort_files<C: UserCmp>(ucmp: &C, files: &mut Vec<(usize, FileMetaData)>) -> Result<()>
     ensures same_files { IsPermutation files.old.items files.new.items }
     ensures in_order { OnOk result
         (AreInVersionOrder (C.cmp ucmp.now) (map new_file_of files.new.items)) }

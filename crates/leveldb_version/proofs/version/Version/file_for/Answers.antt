@@ -16,10 +16,10 @@ returns g c = λ deep ranges.
     let same : map new_file_of c.files.result.now ≡ files_of_level c.args.level (new_files_of c.args.self.now) =
     ap (map new_file_of) c.files.ensures.files ∙ at_level_map c.args.level c.args.self.now.files in
     let here = subst (λ (v : VersionValue g.row.C.Denot).
-        IsSortedByKey (λ (f : NewFile). f.smallest) (internal_cmp (g.C.Cmp.cmp v.cmp)) (map new_file_of c.files.result.now)
-        → AreDisjointRanges (g.C.Cmp.cmp v.cmp) (map new_file_of c.files.result.now)
-        → IsFileFor (g.C.Cmp.cmp v.cmp) (map new_file_of c.files.result.now) c.args.key.now found) c.self.view_is c.file_with_key.ensures in
+    IsSortedByKey (λ (f : NewFile). f.smallest) (internal_cmp (g.C.Cmp.cmp v.cmp)) (map new_file_of c.files.result.now)
+    → AreDisjointRanges (g.C.Cmp.cmp v.cmp) (map new_file_of c.files.result.now)
+    → IsFileFor (g.C.Cmp.cmp v.cmp) (map new_file_of c.files.result.now) c.args.key.now found) c.self.view_is c.file_with_key.ensures in
     subst (λ (files : List NewFile).
-        IsSortedByKey (λ (f : NewFile). f.smallest) (internal_cmp cmp) files
-        → AreDisjointRanges cmp files → IsFileFor cmp files c.args.key.now found) same here
+    IsSortedByKey (λ (f : NewFile). f.smallest) (internal_cmp cmp) files
+    → AreDisjointRanges cmp files → IsFileFor cmp files c.args.key.now found) same here
     (keys_rise cmp c.args.level deep (new_files_of c.args.self.now) (subst (AreInVersionOrder cmp) same c.files.ensures.in_order)) ranges

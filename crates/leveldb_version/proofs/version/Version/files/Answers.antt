@@ -4,7 +4,7 @@ use Rattle.leveldb_base.specs.CmpLaws.{total_order}
 use Rattle.leveldb_base.specs.declared.types.FileMetaData.{FileMetaData}
 use Rattle.leveldb_version.specs.Summary.{files_of_level}
 use Rattle.leveldb_version.specs.Version.{AreInVersionOrder, VersionValue, at_level}
-use Rattle.leveldb_version.specs.VersionEdit.{NewFile, new_file_of}
+use Rattle.leveldb_version.specs.VersionEdit.{new_file_of}
 use Rattle.leveldb_version.proofs.VersionLemmas.{at_level_map, level_in_order, levels_rise}
 use Rattle.leveldb_version.proofs.version.Version.files.Goals as goal
 

@@ -27,9 +27,9 @@ returns-then-begins_after g c = λ rising ranges.
     let within : index < length files = omega (arith, inside, bound) in
     none_here total (map new_file_of files) c.args.key.now rising ranges index point.0 point.1
     (λ d.
-        ap (λ (f : NewFile). is_lt (g.C.Cmp.cmp c.args.ucmp.now c.args.key.now (user_part f.smallest)))
-        (get_or-map new_file_of files index c.index-files-index.result d within ∙ ap new_file_of (sym c.index-files-index.is))
-        ∙ sym c.begins_after.ensures ∙ c.if-begins_after.true)
+    ap (λ (f : NewFile). is_lt (g.C.Cmp.cmp c.args.ucmp.now c.args.key.now (user_part f.smallest)))
+    (get_or-map new_file_of files index c.index-files-index.result d within ∙ ap new_file_of (sym c.index-files-index.is))
+    ∙ sym c.begins_after.ensures ∙ c.if-begins_after.true)
 
 pub returns : goal.returns
 returns g c = λ rising ranges.

@@ -1,4 +1,4 @@
-use Rattle.std.proofs.Common.{arith, leb, ltb, rules, ℕ}
+use Rattle.std.proofs.Common.{leb, ltb, rules, ℕ}
 use Rattle.std.proofs.lemmas.List.Sorted.{IsPartitionPoint-from_clause, IsPartitionedBy-leb, IsPartitionedBy-ltb}
 use Rattle.leveldb_base.specs.declared.types.FileMetaData.{FileMetaData}
 use Rattle.leveldb_version.proofs.VersionLemmas.{part_is_level, start_before_end}

@@ -1,10 +1,5 @@
-use Rattle.std.proofs.Common.{ap, rules, ℕ}
-use Rattle.std.proofs.lemmas.List.Sorted.{ranks_by}
-use Rattle.std.specs.Ordering.{is_lt}
+use Rattle.std.proofs.Common.{rules}
 use Rattle.leveldb_base.specs.CmpLaws.{total_order}
-use Rattle.leveldb_base.specs.declared.types.FileMetaData.{FileMetaData}
-use Rattle.leveldb_version.specs.Version.{version_order}
-use Rattle.leveldb_version.specs.VersionEdit.{new_file_of}
 use Rattle.leveldb_version.proofs.VersionLemmas.{sorted_by_closure, version_total}
 use Rattle.leveldb_version.proofs.version.order.sort_files.Goals as goal
 

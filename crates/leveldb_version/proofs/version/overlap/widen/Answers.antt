@@ -3,7 +3,7 @@ use Rattle.std.specs.List.{count_by, find}
 use Rattle.std.specs.Option.{option_copied, option_map}
 use Rattle.leveldb_base.specs.CmpLaws.{total_order}
 use Rattle.leveldb_version.specs.Overlap.{UserRange, sticks_out}
-use Rattle.leveldb_version.specs.VersionEdit.{NewFile, new_file_of}
+use Rattle.leveldb_version.specs.VersionEdit.{new_file_of}
 use Rattle.leveldb_version.proofs.OverlapLemmas.{IsWidening, fewer_stick_out, is_partly_in, widening_ends, widening_goes_on, widening_starts}
 use Rattle.leveldb_version.proofs.version.overlap.widen.Goals as goal
 
