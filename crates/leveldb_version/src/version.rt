@@ -1,5 +1,5 @@
 //! A version: the files of a store by levels, and the calls on them that only look.
-ghost use Rattle.std.specs.Prelude.{◌≡◌, ◌<◌, [], None, IfOk, IfErr, length, map, string_bytes};
+ghost use Rattle.std.specs.Prelude.{◌≡◌, ◌<◌, ◌≤◌, [], None, IfOk, IfErr, length, map, string_bytes};
 ghost use Rattle.std.specs.Option.{option_copied, option_map};
 ghost use Rattle.leveldb_base.specs.Error.{IsOutOfMemory};
 ghost use Rattle.leveldb_base.specs.KeyTypes.{user_part};
@@ -176,8 +176,9 @@ impl<C: UserCmp> Version<C> {
     /// overlaps a file there, else down as long as the next level has none that it overlaps and
     /// the one after it at most 20 MiB of such, to level 2 at most. An empty key is an open end.
     pub fn pick_memtable_output_level(&self, min: UserKey<'_>, max: UserKey<'_>) -> usize
-        ensures { result ≡ output_level (C.cmp self.now.cmp)
+        ensures level { result ≡ output_level (C.cmp self.now.cmp)
             (named_range min.now max.now) (new_files_of self.now) }
+        ensures deepest { result ≤ 2 }
     {
         let range = KeyRange::named(min, max);
         if self.is_overlapped(0, &range) || !self.may_go_to(&range, 1) {

@@ -105,7 +105,10 @@ fn fewest_from<C: Cmp>(
         let span = Span { begin, end: *end };
         if may_be_widened(cmp, files, asked, span) {
             let numbers = numbers_meeting(alloc, cmp, files, 0, span)?;
-            if fewest.as_ref().is_none_or(|fewer| numbers.len() < fewer.len()) {
+            if fewest
+                .as_ref()
+                .is_none_or(|fewer| numbers.len() < fewer.len())
+            {
                 fewest = Some(numbers);
             }
         }
@@ -168,9 +171,7 @@ pub fn has_overlap<C: Cmp>(
         begin: end_named(begin),
         end: end_named(end),
     };
-    files
-        .iter()
-        .any(|file| file.0 == level && meet(cmp, span_of(&file.1), asked))
+    files.iter().any(|file| file.0 == level && meet(cmp, span_of(&file.1), asked))
 }
 
 /// How many bytes the files of the level that have keys between these user keys have together.
@@ -205,7 +206,8 @@ pub fn new_table_level<C: Cmp>(
     let mut deepest = 0;
     for level in [1, 2] {
         let free = (0..=level).all(|above| !has_overlap(cmp, files, above, begin, end));
-        let few = (1..=level).all(|above| bytes_meeting(cmp, files, above + 1, begin, end) <= 20_971_520);
+        let few = (1..=level).all(|above| bytes_meeting(cmp, files, above + 1, begin, end)
+            <= 20_971_520);
         if free && few {
             deepest = level;
         }

@@ -96,7 +96,10 @@ fn files_are_in_order(rt: HostRuntime) -> Result<()> {
 fn summary(rt: HostRuntime) -> Result<()> {
     let version = version_of(rt.alloc(), &STORE, 0)?;
     let text = version.level_summary(rt.alloc())?;
-    assert!(rt; text.as_str() == "level 0: 2 files, 483 bytes ([(1, 232), (2, 251)]); level 1: 3 files, 651 bytes ([(3, 218), (4, 216), (5, 217)]); level 2: 2 files, 468 bytes ([(6, 218), (7, 250)]); level 3: 2 files, 400 bytes ([(8, 200), (9, 200)]); ");
+    assert!(rt;
+        text.as_str()
+            == "level 0: 2 files, 483 bytes ([(1, 232), (2, 251)]); level 1: 3 files, 651 bytes ([(3, 218), (4, 216), (5, 217)]); level 2: 2 files, 468 bytes ([(6, 218), (7, 250)]); level 3: 2 files, 400 bytes ([(8, 200), (9, 200)]); "
+    );
     Ok(())
 }
 
@@ -147,11 +150,7 @@ const OVERLAPS: [(usize, &str, &str, bool); 8] = [
     (3, "", "", true),
 ];
 
-fn assert_overlap(
-    rt: &impl Abort,
-    version: &Version<DefaultCmp>,
-    row: &(usize, &str, &str, bool),
-) {
+fn assert_overlap(rt: &impl Abort, version: &Version<DefaultCmp>, row: &(usize, &str, &str, bool)) {
     let level = row.0;
     assert!(rt; level < NUM_LEVELS);
     let found = version.overlap_in_level(level, row.1.as_bytes(), row.2.as_bytes());
@@ -297,7 +296,9 @@ fn assert_same_key(
     requires { level < 7 }
 {
     let tried = files_with_key(rt.alloc(), &DefaultCmp, files, level, key.as_bytes())?;
-    let found = version.file_for(level, key.as_bytes()).map(|file| file.1.num);
+    let found = version
+        .file_for(level, key.as_bytes())
+        .map(|file| file.1.num);
     assert!(rt; found == tried.first().copied() && tried.len() < 2);
     Ok(())
 }
@@ -358,7 +359,11 @@ fn charged_files(rt: HostRuntime) -> Result<()> {
     assert!(rt; version.file_to_compact() == Some((1, 4)));
     assert!(rt; !version.update_stats(charge(1, 5)) && !version.update_stats(charge(1, 5)));
     assert!(rt; version.file_to_compact() == Some((1, 4)));
-    let seeks = version.files(1).iter().map(|file| file.1.allowed_seeks).sum::<usize>();
+    let seeks = version
+        .files(1)
+        .iter()
+        .map(|file| file.1.allowed_seeks)
+        .sum::<usize>();
     assert!(rt; seeks == 3);
     Ok(())
 }
