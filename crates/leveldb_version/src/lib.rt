@@ -2,5 +2,6 @@
 #![tactic(auto)]
 
 pub mod laws;
+pub mod version;
 pub mod version_edit;
 pub mod version_set;

@@ -19,3 +19,5 @@ mod version_edits;
 mod version_set_calls;
 #[cfg(test)]
 mod version_sets;
+#[cfg(test)]
+mod versions;
