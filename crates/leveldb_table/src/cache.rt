@@ -129,6 +129,16 @@ impl<T: Drop> Cache<T> {
         self.recent.get(key)
     }
 
+    /// The value under a key, which doesn't count as used.
+    pub fn peek(&self, key: &CacheKey) -> Option<&T>
+        ensures { option_copied result ≡ value_of key.now self.now.pairs }
+    {
+        if !self.keeps {
+            return None;
+        }
+        self.recent.peek(key)
+    }
+
     /// Takes the value under a key out.
     pub fn remove(&mut self, key: &CacheKey) -> Option<T>
         ensures value { result ≡ value_of key.now self.old.pairs }

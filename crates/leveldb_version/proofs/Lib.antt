@@ -67,3 +67,4 @@ pub mod ShownLemmas
 pub mod RecoveringLemmas
 pub mod OpeningEndLemmas
 pub mod StoreTablesLemmas
+pub mod TableCacheLemmas

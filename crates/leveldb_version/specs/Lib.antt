@@ -30,3 +30,4 @@ pub mod Writing
 pub mod Opening
 pub mod WritingLaws
 pub mod OpeningLaws
+pub mod TableCache

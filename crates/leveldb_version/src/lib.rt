@@ -2,5 +2,6 @@
 #![tactic(auto)]
 
 pub mod laws;
+pub mod table_cache;
 pub mod version_edit;
 pub mod version_set;
