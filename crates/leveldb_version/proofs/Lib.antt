@@ -68,3 +68,4 @@ pub mod RecoveringLemmas
 pub mod OpeningEndLemmas
 pub mod StoreTablesLemmas
 pub mod TableCacheLemmas
+pub mod TableCacheCallLemmas

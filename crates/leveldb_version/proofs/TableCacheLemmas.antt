@@ -1,6 +1,6 @@
 -- What a cache of open tables has after each call, and that each table is its file's.
 use Rattle.std.specs.Prelude.{IfErr, IfOk, IfSome, IsErrAnd, IsSome, IsSomeAnd, IsTrue, OnErr, OnOk}
-use Rattle.std.proofs.Common.{◌≡◌, ◌≢◌, ◌⊎◌, inl, inr, ⊎_elim, ℕ, ◌+◌, ◌<◌, ◌≤◌, ◌^◌, Bool, true, false, List, [], ◌∷◌, ◌++◌, length, take, Option, None, Some, Result, Ok, Err, refl, sym, ◌∙◌, ap, subst, arith, length-append}
+use Rattle.std.proofs.Common.{◌≡◌, ◌≢◌, ◌⊎◌, inl, inr, ⊎_elim, ℕ, zero, suc, ◌+◌, ◌<◌, ◌≤◌, ◌^◌, Bool, true, false, List, [], ◌∷◌, ◌++◌, length, take, Option, None, Some, Result, Ok, Err, refl, sym, ◌∙◌, ap, subst, arith, length-append}
 use Rattle.std.specs.declared.cmp.Ordering.{Ordering}
 use Rattle.leveldb_base.specs.BlockHandle.{Handle}
 use Rattle.leveldb_base.specs.Error.{IsOutOfMemory}
@@ -10,11 +10,14 @@ use Rattle.leveldb_base.specs.declared.error.Status.{Status}
 use Rattle.leveldb_base.specs.declared.error.StatusCode.TheVariants.{Corruption, NotSupported}
 use Rattle.leveldb_env.specs.Compressor.{Codings}
 use Rattle.leveldb_env.specs.Env.{File, bytes_of}
+use Rattle.leveldb_env.proofs.EnvLemmas.{bytes_eq-same}
 use Rattle.leveldb_env.specs.declared.env.Env.{Ghosts as EnvGhosts}
+use Rattle.leveldb_table.proofs.BlockCacheLemmas.{GainsBlocks-refl, HoldsOnlyOf-after, HoldsOnlyOf-new, HoldsOnlyOf-other, IsNumbered-after, IsNumbered-raised, looked_for_same, one_id, others_keep, put_finds}
 use Rattle.leveldb_table.proofs.FooterLemmas.{length-footer_bytes}
 use Rattle.leveldb_table.proofs.TableBlockLemmas.{KeepsDisk-refl, KeepsDisk-trans, reads_ok, reads_own, reads_refused, reads_then, reads_weaker, same_files}
 use Rattle.leveldb_table.proofs.TableReaderLemmas.{opens_not}
-use Rattle.leveldb_table.specs.Cache.{Cached}
+use Rattle.leveldb_table.specs.BlockCache.{GainsBlocks, HoldsOnlyOf, IsBlockOfFile, IsNumbered}
+use Rattle.leveldb_table.specs.Cache.{Cached, looked_for, others, put_first, value_of}
 use Rattle.leveldb_table.specs.Footer.{footer_bytes}
 use Rattle.leveldb_table.specs.OpenTable.{file_of, id_of}
 use Rattle.leveldb_table.specs.Table.{filter_key}
@@ -22,7 +25,8 @@ use Rattle.leveldb_table.specs.TableBlock.{FileHas, IsLackError, KeepsDisk, Read
 use Rattle.leveldb_table.specs.TableReader.{AreOfPolicy, EndsInFooter, IsNoTable, IsOpenedAs, LacksPart, OpensTable, no_footer, not_indexed}
 use Rattle.leveldb_table.specs.declared.block_cache.CachedBlock.{CachedBlock}
 use Rattle.leveldb_version.specs.Paths.{table_path}
-use Rattle.leveldb_version.specs.TableCache.{ForBytesAt, HasBytesAt, IsOpenedWith, IsThereAt, IsUnopened, LacksTable, OpensFile, OpensNumbered, StoreTable, TableOptions, file_at, missing, no_table, used_up}
+use Rattle.leveldb_version.specs.TableCache.{EvictsTable, ForBytesAt, GetsPair, HasBytesAt, IsNotOpened, IsOpenOrThere, IsOpenedWith, IsSameOrGone, IsThereAt, IsUnopened, IsUsedLast, KeepsOpenFiles, LacksBlockFor, LacksTable, MatchesFile, MatchesFiles, OpensFile, OpensNumbered, OpensTableAt, SomeTable, StoreTable, TableOptions, UsesTable, blocks_of, file_at, is_opened, missing, no_table, path_at, store_of, table_at, table_key, tables_of, used_up, was_open}
+use Rattle.leveldb_version.specs.declared.table_cache.TableCache.{TableCache}
 
 -- ---- empty files
 
@@ -146,3 +150,161 @@ module _ {E C FP F : Type 0} {order : CmpGhosts (InternalKeyCmp C)} (env : EnvGh
       id = tt;
       err = opens.err;
     }
+
+-- ---- the open tables
+
+-- numbers of 64 bits have keys of their own
+pub one_number : (m n : ℕ) → m < 2 ^ 64 → n < 2 ^ 64 → table_key m ≡ table_key n → m ≡ n
+one_number m n m_fits n_fits same = one_id m n 0 0 m_fits n_fits same
+
+-- where there is none, a look-up leaves all pairs as they are
+pub looked_none : {T : Type 0} (key : List ℕ) (pairs : List (List ℕ × T)) → value_of key pairs ≡ None → looked_for key pairs ≡ pairs
+looked_none key pairs none = rw (none, looked_for)
+
+-- what was put is there, where there is room for it
+pub put_there : {T : Type 0} (capacity : ℕ) (key : List ℕ) (value : T) (pairs : List (List ℕ × T)) → 0 < capacity → value_of key (put_first capacity key value pairs) ≡ Some value
+put_there zero key value pairs room = absurd (omega (arith, room))
+put_there (suc room) key value pairs some = rw (bytes_eq-same key)
+
+pub some_of : {T : Type 0} (o : Option T) → IsSome o → (value : T) × (o ≡ Some value)
+some_of None there = absurd (cc there)
+some_of (Some value) there = (value, refl)
+
+pub some_is : {T : Type 0} {o : Option T} {value : T} → o ≡ Some value → IsSome o
+some_is {o = o} is = subst IsSome (sym is) refl
+
+pub same_value : {T : Type 0} {o : Option T} {a b : T} → o ≡ Some a → o ≡ Some b → a ≡ b
+same_value p q = cc
+
+pub none_value : {T : Type 0} {o : Option T} {a : T} → o ≡ None → o ≡ Some a → ⊥
+none_value p q = cc
+
+pub on_ok : {T : Type 0} {P : Type 0} (result : Result T Status) → P → OnOk result P
+on_ok (Ok value) is = is
+on_ok (Err status) is = tt
+
+pub on_err : {T : Type 0} {P : Type 0} (result : Result T Status) → P → OnErr result P
+on_err (Ok value) is = tt
+on_err (Err status) is = is
+
+-- what holds of an error holds of no success
+pub refused_ok : {T : Type 0} (Q : Status → Type 0) (P : Type 0) (result : Result T Status) → IsErrAnd result Q → OnOk result P
+refused_ok Q P (Ok value) refused = absurd refused
+refused_ok Q P (Err status) refused = tt
+
+-- a file that has its bytes had them
+same_bytes : (old new : Option File) (bytes : List ℕ) → IsSameOrGone old new → IsSomeAnd new (λ file. bytes_of file ≡ bytes) → IsSomeAnd old (λ file. bytes_of file ≡ bytes)
+same_bytes old None bytes same there = absurd there
+same_bytes None (Some file) bytes same there = absurd same
+same_bytes (Some before) (Some file) bytes same there = same ∙ there
+
+not_changed : (o : Option File) → IsSameOrGone o o
+not_changed None = tt
+not_changed (Some file) = refl
+
+module _ {E C FP F : Type 0} {order : CmpGhosts (InternalKeyCmp C)} (env : EnvGhosts E F) where
+  -- ---- files that change
+
+  pub open_files_kept : (cache : TableCache E C FP F order) (old new : E) → KeepsDisk env old new → KeepsOpenFiles env cache old new
+  open_files_kept cache old new kept modelled number fits there =
+      subst (λ (o : Option File). IsSameOrGone (file_at env old (path_at cache number)) o) (ap (λ files. files (path_at cache number)) (sym (same_files env kept modelled)))
+      (not_changed (file_at env old (path_at cache number)))
+
+  module _ (by : TableOptions C FP) where
+    pub matches_changed : (cache : TableCache E C FP F order) (old new : E) → KeepsOpenFiles env cache old new → MatchesFiles env by old cache → MatchesFiles env by new cache
+    matches_changed cache old new kept was = record {
+      each = λ number table fits there.
+          (let is = was.each number table fits there in
+          let before : (bytes : List ℕ) → HasBytesAt env new (path_at cache number) bytes → HasBytesAt env old (path_at cache number) bytes = λ bytes has. record {
+            modelled = has.modelled;
+            there = same_bytes (file_at env old (path_at cache number)) (file_at env new (path_at cache number)) bytes (kept has.modelled number fits (some_is there)) has.there;
+            fits = has.fits;
+          } in record {
+            path = is.path;
+            opened = λ bytes has. is.opened bytes (before bytes has);
+            blocks = λ bytes has. is.blocks bytes (before bytes has);
+            given = is.given;
+          });
+      apart = was.apart;
+      ids = was.ids;
+      numbered = was.numbered;
+    }
+
+    pub matches_later : (cache : TableCache E C FP F order) {old new : E} → KeepsDisk env old new → MatchesFiles env by old cache → MatchesFiles env by new cache
+    matches_later cache {old} {new} kept was = matches_changed cache old new (open_files_kept cache old new kept) was
+
+    -- ---- a new cache
+
+    pub matches_new : (cache : TableCache E C FP F order) (state : E) → (tables_of cache).pairs ≡ [] → (blocks_of cache).pairs ≡ [] → (blocks_of cache).given ≡ 0 → MatchesFiles env by state cache
+    matches_new cache state none unread ungiven = record {
+      each = λ number table fits there. absurd (none_value (ap (value_of (table_key number)) none) there);
+      apart = λ m n a b m_fits n_fits at_m at_n same. absurd (none_value (ap (value_of (table_key m)) none) at_m);
+      ids = omega (arith, ungiven);
+      numbered = λ key held found. absurd (none_value (ap (value_of key) unread) found);
+    }
+
+    -- ---- other tables
+
+    -- the tables that are left are those that were there
+    pub matches_left : (cache : TableCache E C FP F order) (tables : Cached (StoreTable E C FP F order)) (state : E)
+        → ((number : ℕ) (table : StoreTable E C FP F order) → number < 2 ^ 64 → value_of (table_key number) tables.pairs ≡ Some table → table_at cache number ≡ Some table)
+        → MatchesFiles env by state cache → MatchesFiles env by state (record cache { tables = tables })
+    matches_left cache tables state left was = record {
+      each = λ number table fits there.
+          (let is = was.each number table fits (left number table fits there) in record { path = is.path; opened = is.opened; blocks = is.blocks; given = is.given });
+      apart = λ m n a b m_fits n_fits at_m at_n same. was.apart m n a b m_fits n_fits (left m a m_fits at_m) (left n b n_fits at_n) same;
+      ids = was.ids;
+      numbered = was.numbered;
+    }
+
+    -- a look-up leaves all
+    pub matches_looked : (cache : TableCache E C FP F order) (tables : Cached (StoreTable E C FP F order)) (state : E) (number : ℕ) → tables ≡ record (tables_of cache) { pairs = looked_for (table_key number) (tables_of cache).pairs }
+        → MatchesFiles env by state cache → MatchesFiles env by state (record cache { tables = tables })
+    matches_looked cache tables state number is was =
+        matches_left cache tables state
+        (λ n table fits there. sym (looked_for_same (table_key n) (table_key number) (tables_of cache).pairs) ∙ ap (λ (c : Cached (StoreTable E C FP F order)). value_of (table_key n) c.pairs) (sym is) ∙ there) was
+
+    -- one more table, which matches and has an id of its own
+    pub matches_put : (cache : TableCache E C FP F order) (tables : Cached (StoreTable E C FP F order)) (state : E) (number : ℕ) (table : StoreTable E C FP F order) → number < 2 ^ 64
+        → tables ≡ record (tables_of cache) { pairs = put_first (tables_of cache).capacity (table_key number) table (tables_of cache).pairs }
+        → MatchesFile env by state cache number table → ((n : ℕ) (other : StoreTable E C FP F order) → n < 2 ^ 64 → table_at cache n ≡ Some other → id_of other ≢ id_of table)
+        → MatchesFiles env by state cache → MatchesFiles env by state (record cache { tables = tables })
+    matches_put cache tables state number table fits is it apart was = record {
+      each = λ n other n_fits there. ⊎_elim
+          (λ before. (let m = was.each n other n_fits before in record { path = m.path; opened = m.opened; blocks = m.blocks; given = m.given }))
+          (λ own. subst (λ k. MatchesFile env by state (record cache { tables = tables }) k other) (sym own.0)
+          (subst (MatchesFile env by state (record cache { tables = tables }) number) own.1 (record { path = it.path; opened = it.opened; blocks = it.blocks; given = it.given })))
+          (found n other n_fits there);
+      apart = λ m n a b m_fits n_fits at_m at_n same.
+          ⊎_elim
+          (λ a_before. ⊎_elim (λ b_before. was.apart m n a b m_fits n_fits a_before b_before same)
+          (λ b_own. absurd (apart m a m_fits a_before (same ∙ ap id_of (sym b_own.1)))) (found n b n_fits at_n))
+          (λ a_own. ⊎_elim (λ b_before. absurd (apart n b n_fits b_before (sym same ∙ ap id_of (sym a_own.1))))
+          (λ b_own. a_own.0 ∙ sym b_own.0) (found n b n_fits at_n))
+          (found m a m_fits at_m);
+      ids = was.ids;
+      numbered = was.numbered;
+    }
+      where
+        found : (n : ℕ) (other : StoreTable E C FP F order) → n < 2 ^ 64 → value_of (table_key n) tables.pairs ≡ Some other → (table_at cache n ≡ Some other) ⊎ ((n ≡ number) × (table ≡ other))
+        found n other n_fits there =
+            ⊎_elim (λ before. inl before) (λ own. inr (one_number n number n_fits fits own.0, own.1))
+            (put_finds (table_key n) (tables_of cache).capacity (table_key number) table other (tables_of cache).pairs (ap (λ (c : Cached (StoreTable E C FP F order)). value_of (table_key n) c.pairs) (sym is) ∙ there))
+
+    -- ---- other blocks
+
+    -- what blocks are in memory of an open table are its file's still
+    pub matches_blocks : (cache : TableCache E C FP F order) (blocks : Cached (CachedBlock (InternalKeyCmp C) order)) (state : E) → MatchesFiles env by state cache → blocks.given < 2 ^ 64 → (blocks_of cache).given ≤ blocks.given → IsNumbered blocks
+        → ((number : ℕ) (table : StoreTable E C FP F order) → number < 2 ^ 64 → table_at cache number ≡ Some table → (bytes : List ℕ) → HasBytesAt env state (path_at cache number) bytes
+        → HoldsOnlyOf by.codings by.order (id_of table) bytes blocks)
+        → MatchesFiles env by state (record cache { blocks = blocks })
+    matches_blocks cache blocks state was ids given numbered holds = record {
+      each = λ number table fits there.
+          (let is = was.each number table fits there in record { path = is.path; opened = is.opened; blocks = λ bytes has. holds number table fits there bytes has; given = le_trans is.given given });
+      apart = was.apart;
+      ids = ids;
+      numbered = numbered;
+    }
+      where
+        le_trans : {a b c : ℕ} → a ≤ b → b ≤ c → a ≤ c
+        le_trans p q = omega (arith, p, q)

@@ -15,7 +15,7 @@ use Rattle.leveldb_env.specs.declared.compressor.CompressorList.{CompressorList}
 use Rattle.leveldb_env.specs.declared.env.Env.{Ghosts as EnvGhosts}
 use Rattle.leveldb_env.specs.declared.filter.FilterPolicy.{Ghosts as FilterGhosts}
 use Rattle.leveldb_table.specs.BlockCache.{HoldsOnlyOf, IsNumbered, cache_key}
-use Rattle.leveldb_table.specs.Cache.{Cached, put_first, value_of}
+use Rattle.leveldb_table.specs.Cache.{Cached, looked_for, put_first, value_of}
 use Rattle.leveldb_table.specs.OpenTable.{IsFilteredBy, IsOrderedBy, file_of, id_of}
 use Rattle.leveldb_table.specs.Table.{filter_key}
 use Rattle.leveldb_table.specs.TableBlock.{HasLackCode, KeepsDisk, ReadsFile}
@@ -98,6 +98,18 @@ module _ {E C FP F : Type 0} {order : CmpGhosts (InternalKeyCmp C)} where
       given = 0;
     }
 
+  -- The table of a number is used last: one that was open goes before the others, and one that is
+  -- opened is put there, so that the others stay as far as there is room for them.
+  pub data IsUsedLast (number : ℕ) (old new : TableCache E C FP F order) : Type 0 where
+    was_open : IsSome (table_at old number) → tables_of new ≡ record (tables_of old) {
+      pairs = looked_for (table_key number) (tables_of old).pairs;
+    } → IsUsedLast number old new
+    is_opened : table_at old number ≡ None → (table : StoreTable E C FP F order)
+        → tables_of new ≡ record (tables_of old) {
+      pairs =
+          put_first (tables_of old).capacity (table_key number) table (tables_of old).pairs;
+    } → IsUsedLast number old new
+
 -- ---- the files
 
 module _ {E F : Type 0} (env : EnvGhosts E F) where
@@ -156,6 +168,11 @@ module _ {E C FP F : Type 0} {order : CmpGhosts (InternalKeyCmp C)} (env : EnvGh
       IsTrue env.models_disk → (number : ℕ) → number < 2 ^ 64 → IsSome (table_at cache number)
       → IsSameOrGone (file_at env old (path_at cache number)) (file_at env new (path_at cache number))
 
+  -- a number's table is open, or its file is there
+  abbrev pub IsOpenOrThere : E → TableCache E C FP F order → ℕ → Type 0
+  IsOpenOrThere state cache number =
+      IsSome (table_at cache number) ⊎ IsThereAt env state (path_at cache number)
+
   module _ (by : TableOptions C FP) where
     -- A table is opened with these options in a file of these bytes.
     pub record IsOpenedWith (table : StoreTable E C FP F order) (bytes : List ℕ)
@@ -211,22 +228,6 @@ module _ {E C FP F : Type 0} {order : CmpGhosts (InternalKeyCmp C)} (env : EnvGh
     -- a table that is opened in a file of these bytes has this property
     abbrev pub SomeTable : List ℕ → (StoreTable E C FP F order → Type 0) → Type 0
     SomeTable bytes P = (table : StoreTable E C FP F order) × IsOpenedWith table bytes × P table
-
-    -- The table of a number is used last: the one that was open, or one that was opened. The others
-    -- stay as far as there is room for them.
-    pub record IsUsedLast (number : ℕ) (old new : TableCache E C FP F order)
-        : Type 0 where
-      pub table : StoreTable E C FP F order
-      pub same : IfSome (table_at old number) (λ there. table ≡ there)
-      pub first : tables_of new ≡ record (tables_of old) {
-        pairs =
-            put_first (tables_of old).capacity (table_key number) table (tables_of old).pairs;
-      }
-
-    -- a number's table is open, or its file is there
-    abbrev pub IsOpenOrThere : E → TableCache E C FP F order → ℕ → Type 0
-    IsOpenOrThere state cache number =
-        IsSome (table_at cache number) ⊎ IsThereAt env state (path_at cache number)
 
     -- a number's table isn't open, and isn't opened for this status
     abbrev pub IsNotOpened : E → TableCache E C FP F order → ℕ → Status → Type 0
