@@ -181,6 +181,14 @@ module _ {E C FP F : Type 0} {order : CmpGhosts (InternalKeyCmp C)} (env : EnvGh
         ids = inl (ap (λ (c : Cached (CachedBlock (InternalKeyCmp C) order)). c.given) opens.err);
       }
 
+      -- so a key isn't looked up
+      pub not_got : {key : List ℕ} (result : Result (Option Pair) Status) {status : Status} {to : E} {blocks : Cached (CachedBlock (InternalKeyCmp C) order)} → IsErrAnd result (λ other. other ≡ status)
+          → OpensNumbered env by (store_of old) number state (blocks_of old) (Err status) to blocks → GetsPair env by number key state old result to (record old { tables = tables; blocks = blocks })
+      not_got {key} result {status} refused opens = record {
+        uses = not_opened (λ other. IsNotOpened env by state old number other ⊎ LacksBlockFor env by key state old number other) result refused (λ other why. inl why) opens;
+        finds = λ bytes has. refused_if_ok (λ other. other ≡ status) _ result refused;
+      }
+
       -- it is opened, and gains blocks
       module _ (table : StoreTable E C FP F order) {mid to : E} {blocks after : Cached (CachedBlock (InternalKeyCmp C) order)} (opens : OpensNumbered env by (store_of old) number state (blocks_of old) (Ok table) mid blocks) (kept : KeepsDisk env mid to)
           (Right : ℕ → CachedBlock (InternalKeyCmp C) order → Type 0)
