@@ -106,9 +106,9 @@ module _ {E C FP F : Type 0} {order : CmpGhosts (InternalKeyCmp C)} where
     } → IsUsedLast number old new
     is_opened : table_at old number ≡ None → (table : StoreTable E C FP F order)
         → tables_of new ≡ record (tables_of old) {
-      pairs =
-          put_first (tables_of old).capacity (table_key number) table (tables_of old).pairs;
-    } → IsUsedLast number old new
+          pairs =
+              put_first (tables_of old).capacity (table_key number) table (tables_of old).pairs;
+        } → IsUsedLast number old new
 
 -- ---- the files
 
