@@ -45,8 +45,8 @@ module _ {E C FP F : Type 0} {order : CmpGhosts (InternalKeyCmp C)} (env : EnvGh
   evicted found found_is = record {
     was_open = found_is;
     closed = gone;
-    others = λ other other_fits apart. kept_other (table_key other) (bytes_eq-apart (table_key other) (table_key number) (λ same. apart (one_number other number other_fits fits same)));
-    room = ap (λ (c : Cached (StoreTable E C FP F order)). c.capacity) is;
+    tables = is;
+    others_stay = λ other other_fits apart. kept_other (table_key other) (bytes_eq-apart (table_key other) (table_key number) (λ same. apart (one_number other number other_fits fits same)));
     path = refl;
     blocks = refl;
     matches = λ by state was. matches_left env by old tables state left was;

@@ -233,16 +233,6 @@ module _ {E C FP F : Type 0} {order : CmpGhosts (InternalKeyCmp C)} (env : EnvGh
     pub matches_later : (cache : TableCache E C FP F order) {old new : E} → KeepsDisk env old new → MatchesFiles env by old cache → MatchesFiles env by new cache
     matches_later cache {old} {new} kept was = matches_changed cache old new (open_files_kept cache old new kept) was
 
-    -- ---- a new cache
-
-    pub matches_new : (cache : TableCache E C FP F order) (state : E) → (tables_of cache).pairs ≡ [] → (blocks_of cache).pairs ≡ [] → (blocks_of cache).given ≡ 0 → MatchesFiles env by state cache
-    matches_new cache state none unread ungiven = record {
-      each = λ number table fits there. absurd (none_value (ap (value_of (table_key number)) none) there);
-      apart = λ m n a b m_fits n_fits at_m at_n same. absurd (none_value (ap (value_of (table_key m)) none) at_m);
-      ids = omega (arith, ungiven);
-      numbered = λ key held found. absurd (none_value (ap (value_of key) unread) found);
-    }
-
     -- ---- other tables
 
     -- the tables that are left are those that were there

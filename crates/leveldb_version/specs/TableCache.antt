@@ -15,7 +15,7 @@ use Rattle.leveldb_env.specs.declared.compressor.CompressorList.{CompressorList}
 use Rattle.leveldb_env.specs.declared.env.Env.{Ghosts as EnvGhosts}
 use Rattle.leveldb_env.specs.declared.filter.FilterPolicy.{Ghosts as FilterGhosts}
 use Rattle.leveldb_table.specs.BlockCache.{HoldsOnlyOf, IsNumbered, cache_key}
-use Rattle.leveldb_table.specs.Cache.{Cached, looked_for, put_first, value_of}
+use Rattle.leveldb_table.specs.Cache.{Cached, looked_for, others, put_first, value_of}
 use Rattle.leveldb_table.specs.OpenTable.{IsFilteredBy, IsOrderedBy, file_of, id_of}
 use Rattle.leveldb_table.specs.Table.{filter_key}
 use Rattle.leveldb_table.specs.TableBlock.{HasLackCode, KeepsDisk, ReadsFile}
@@ -131,7 +131,7 @@ module _ {E F : Type 0} (env : EnvGhosts E F) where
   abbrev pub IsThereAt : E → List ℕ → Type 0
   IsThereAt state path = IsTrue env.models_disk → IsSome (file_at state path)
 
-  -- Opens the file at a path, and says how long it is. It fails if the file is missing or empty.
+  -- opens the file at a path, and says how long it is; a missing file and an empty one are damage
   pub record OpensFile (path : List ℕ) (old : E) (result : Result (F × ℕ) Status) (new : E)
       : Type 0 where
     pub ok : IfOk result (λ opened. IsTrue env.models_disk → (env.name_of opened.0 ≡ path)
@@ -174,7 +174,7 @@ module _ {E C FP F : Type 0} {order : CmpGhosts (InternalKeyCmp C)} (env : EnvGh
       IsSome (table_at cache number) ⊎ IsThereAt env state (path_at cache number)
 
   module _ (by : TableOptions C FP) where
-    -- A table is opened with these options in a file of these bytes.
+    -- a table is opened with these options in a file of these bytes
     pub record IsOpenedWith (table : StoreTable E C FP F order) (bytes : List ℕ)
         : Type 0 where
       -- it has what they have: the index, the filters, and where they are
@@ -207,7 +207,7 @@ module _ {E C FP F : Type 0} {order : CmpGhosts (InternalKeyCmp C)} (env : EnvGh
 
     -- ---- opening a table
 
-    -- Opens the table of a number in a store, which gets the next id.
+    -- opens the table of a number in a store, which gets the next id
     pub record OpensNumbered (store : List ℕ) (number : ℕ) (old_env : E)
         (old : Cached (CachedBlock (InternalKeyCmp C) order))
         (result : Result (StoreTable E C FP F order) Status) (new_env : E)
@@ -261,14 +261,14 @@ module _ {E C FP F : Type 0} {order : CmpGhosts (InternalKeyCmp C)} (env : EnvGh
       pub ids : ((blocks_of new).given ≡ (blocks_of old).given)
           ⊎ ((blocks_of new).given ≡ (blocks_of old).given + 1)
 
-    -- Makes sure that the table of a number is open.
+    -- makes sure that the table of a number is open, if there is room for one
     pub record OpensTableAt (number : ℕ) (old_env : E)
         (old : TableCache E C FP F order) (result : Result Unit Status) (new_env : E)
         (new : TableCache E C FP F order) : Type 0 where
       pub uses : UsesTable (IsNotOpened old_env old number) number old_env old result new_env new
       pub is_open : OnOk result (0 < (tables_of old).capacity → IsSome (table_at new number))
 
-    -- Looks a key up in the table of a number.
+    -- looks a key up in the table of a number
     pub record GetsPair (number : ℕ) (key : List ℕ) (old_env : E)
         (old : TableCache E C FP F order) (result : Result (Option Pair) Status)
         (new_env : E) (new : TableCache E C FP F order) : Type 0 where
@@ -279,14 +279,15 @@ module _ {E C FP F : Type 0} {order : CmpGhosts (InternalKeyCmp C)} (env : EnvGh
           (λ found. SomeTable bytes (λ (table : StoreTable E C FP F order).
           FindsPair by.codings by.matches table key bytes found)))
 
-  -- Closes the table of a number, and says whether it was open.
+  -- closes the table of a number, and says whether it was open
   pub record EvictsTable (number : ℕ) (old : TableCache E C FP F order) (result : Bool)
       (new : TableCache E C FP F order) : Type 0 where
     pub was_open : result ≡ is_some (table_at old number)
+    pub tables : tables_of new
+        ≡ record (tables_of old) { pairs = others (table_key number) (tables_of old).pairs }
     pub closed : table_at new number ≡ None
-    pub others : (other : ℕ) → other < 2 ^ 64 → other ≢ number
+    pub others_stay : (other : ℕ) → other < 2 ^ 64 → other ≢ number
         → table_at new other ≡ table_at old other
-    pub room : (tables_of new).capacity ≡ (tables_of old).capacity
     pub path : store_of new ≡ store_of old
     pub blocks : blocks_of new ≡ blocks_of old
     pub matches : (by : TableOptions C FP) (state : E) → MatchesFiles by state old
@@ -295,8 +296,8 @@ module _ {E C FP F : Type 0} {order : CmpGhosts (InternalKeyCmp C)} (env : EnvGh
 -- ---- a law
 
 -- A cache goes on to match files that change, if each open table's file keeps its bytes or is
--- deleted; so a table may stay open when its file is deleted, but must be closed before a file of
--- its number is made again.
+-- deleted, and so it does if none changes. So a table may stay open when its file is deleted, but
+-- must be closed before a file of its number is made again.
 pub record StayMatched {E F : Type 0} (env : EnvGhosts E F) {C : Type 0} (FP : Type 0)
     (order : CmpGhosts (InternalKeyCmp C)) : Type 0 where
   pub changed : (by : TableOptions C FP) (cache : TableCache E C FP F order)
