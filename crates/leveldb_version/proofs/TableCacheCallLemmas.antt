@@ -13,7 +13,7 @@ use Rattle.leveldb_base.specs.declared.error.Status.{Status}
 use Rattle.leveldb_env.proofs.EnvLemmas.{bytes_eq-apart}
 use Rattle.leveldb_env.specs.declared.env.Env.{Ghosts as EnvGhosts}
 use Rattle.leveldb_table.proofs.BlockCacheLemmas.{GainsBlocks-refl, HoldsOnlyOf-after, HoldsOnlyOf-new, HoldsOnlyOf-other, IsNumbered-after, IsNumbered-raised, looked_for_same, others_keep}
-use Rattle.leveldb_table.proofs.TableBlockLemmas.{KeepsDisk-refl, KeepsDisk-trans, reads_ends, reads_ok, reads_own, reads_refused, reads_then, reads_weaker}
+use Rattle.leveldb_table.proofs.TableBlockLemmas.{KeepsDisk-refl, KeepsDisk-trans, fails_ok, fails_weaker, reads_ok, reads_own, reads_refused, reads_then, reads_weaker}
 use Rattle.leveldb_table.specs.BlockCache.{GainsBlocks, HoldsOnlyOf, IsBlockOfFile, IsNumbered}
 use Rattle.leveldb_table.specs.Cache.{Cached, looked_for, others, put_first, value_of}
 use Rattle.leveldb_table.specs.OpenTable.{file_of, id_of}
@@ -23,7 +23,7 @@ use Rattle.leveldb_table.specs.TableReader.{GainsBlocksOf, HasParts, lines_of}
 use Rattle.leveldb_table.specs.TableReaderMoves.{FindsPair, LookUpInTable, LooksUp}
 use Rattle.leveldb_table.specs.declared.block_cache.CachedBlock.{CachedBlock}
 use Rattle.leveldb_version.proofs.TableCacheLemmas.{FileHas-at, HasBytesAt-before, looked_none, matches_blocks, matches_later, matches_left, matches_looked, matches_put, none_value, on_err, on_ok, one_number, put_there, refused_ok, same_value, some_is, some_of}
-use Rattle.leveldb_version.specs.TableCache.{EvictsTable, GetsPair, HasBytesAt, IsNotOpened, IsOpenedWith, IsUsedLast, LacksBlockFor, MatchesFile, MatchesFiles, OpensNumbered, OpensTableAt, SomeTable, StoreTable, TableOptions, UsesTable, blocks_of, is_opened, path_at, store_of, table_at, table_key, tables_of, was_open}
+use Rattle.leveldb_version.specs.TableCache.{EvictsTable, GetsPair, HasBytesAt, IsNotOpened, IsOpenedWith, IsUsedLast, LacksBlockFor, MatchesFile, MatchesFiles, MayFail, OpensNumbered, OpensTableAt, SomeTable, StoreTable, TableOptions, UsesTable, blocks_of, is_opened, path_at, store_of, table_at, table_key, tables_of, was_open}
 use Rattle.leveldb_version.specs.declared.table_cache.TableCache.{TableCache}
 
 -- ---- closing a table
@@ -87,77 +87,74 @@ module _ {E C FP F : Type 0} {order : CmpGhosts (InternalKeyCmp C)} (env : EnvGh
   held_by table {bytes} blocks opened holds =
       subst (λ cmp. HoldsOnlyOf by.codings cmp (id_of table) bytes blocks) (sym (ap order.cmp opened.ordered.0 ∙ order_is)) holds
 
-  module _ (old : TableCache E C FP F order) (state : E) (was : MatchesFiles env by state old) (number : ℕ) (fits : number < 2 ^ 64) where
+  module _ (old : TableCache E C FP F order) (state : E) (number : ℕ) (fits : number < 2 ^ 64) where
     -- ---- a table that is open
 
-    module _ (table : StoreTable E C FP F order) (there : table_at old number ≡ Some table) where
-      open_now : MatchesFile env by state old number table
-      open_now = was.each number table fits there
+    module _ (table : StoreTable E C FP F order) (there : table_at old number ≡ Some table) (tables : Cached (StoreTable E C FP F order)) (tables_are : tables ≡ record (tables_of old) { pairs = looked_for (table_key number) (tables_of old).pairs }) where
+      -- it is used for nothing yet
+      pub stays_open : OpensTableAt env by number state old (Ok tt) state (record old { tables = tables })
+      stays_open = record {
+        uses = record {
+          there = inl (some_is there);
+          reads = reads_ok env (KeepsDisk-refl env state) refl;
+          used = was_open (some_is there) tables_are;
+          unused = tt;
+          path = refl;
+          room = refl;
+          ids = inl refl;
+        };
+        is_open = λ room. some_is (ap (λ (c : Cached (StoreTable E C FP F order)). value_of (table_key number) c.pairs) tables_are ∙ looked_for_same (table_key number) (table_key number) (tables_of old).pairs ∙ there);
+      }
 
-      has_open : {bytes : List ℕ} → HasBytesAt env state (path_at old number) bytes → FileHas env state (file_of table) bytes
-      has_open has = FileHas-at env open_now.path (KeepsDisk-refl env state) has
-
-      gained_open : (blocks : Cached (CachedBlock (InternalKeyCmp C) order)) → GainsBlocksOf env by.codings table state (blocks_of old) blocks → MatchesFiles env by state (record old { blocks = blocks })
-      gained_open blocks gains =
-          matches_blocks env by old blocks state was (let g = gains.given in let i = was.ids in omega (arith, g, i)) (let g = gains.given in omega (arith, g)) (IsNumbered-after open_now.given gains was.numbered) holds
-        where
-          holds : (n : ℕ) (other : StoreTable E C FP F order) → n < 2 ^ 64 → table_at old n ≡ Some other → (bytes : List ℕ) → HasBytesAt env state (path_at old n) bytes
-              → HoldsOnlyOf by.codings by.order (id_of other) bytes blocks
-          holds n other n_fits at bytes has =
-              let it = was.each n other n_fits at in
-              let ids = was.ids in let given = it.given in let own_given = open_now.given in
-              ⊎_elim
-              (λ same. (let one = was.apart n number other table n_fits fits at there same.1 in
-              let here = subst (λ m. HasBytesAt env state (path_at old m) bytes) one has in
-              subst (λ i. HoldsOnlyOf by.codings by.order i bytes blocks) (sym same.1)
-              (HoldsOnlyOf-after (own_blocks table (open_now.opened bytes here) (has_open here)) gains (open_now.blocks bytes here))))
-              (λ apart. HoldsOnlyOf-other (omega (arith, own_given, ids)) (omega (arith, given, ids)) (λ same. apart.1 (sym same)) gains (it.blocks bytes has))
-              (eqb_tells (id_of other) (id_of table))
-
-      module _ (tables : Cached (StoreTable E C FP F order)) (tables_are : tables ≡ record (tables_of old) { pairs = looked_for (table_key number) (tables_of old).pairs }) where
-        used : {blocks : Cached (CachedBlock (InternalKeyCmp C) order)} → IsUsedLast number old (record old { tables = tables; blocks = blocks })
-        used = was_open (some_is there) tables_are
-
-        -- it is used for nothing yet
-        pub stays_open : OpensTableAt env by number state old (Ok tt) state (record old { tables = tables })
-        stays_open = record {
-          uses = record {
-            there = inl (some_is there);
-            reads = reads_ok env (KeepsDisk-refl env state) refl;
-            matches = matches_looked env by old tables state number tables_are was;
-            used = was_open (some_is there) tables_are;
-            unused = tt;
-            path = refl;
-            room = refl;
-            ids = inl refl;
-          };
-          is_open = λ room. some_is (ap (λ (c : Cached (StoreTable E C FP F order)). value_of (table_key number) c.pairs) tables_are ∙ looked_for_same (table_key number) (table_key number) (tables_of old).pairs ∙ there);
+      -- a key is looked up in it
+      module _ (key : List ℕ) (result : Result (Option Pair) Status) {to : E} {blocks : Cached (CachedBlock (InternalKeyCmp C) order)} (looks : LooksUp env by.codings by.matches table key state (blocks_of old) result to blocks) where
+        pub uses_open : UsesTable env (MayFail env by state old number) number state old result to (record old { tables = tables; blocks = blocks })
+        uses_open = record {
+          there = on_ok result (inl (some_is there));
+          reads = reads_weaker env result (λ status lack. inr (inl (some_is there), lack.0)) looks.reads;
+          used = on_ok result (was_open (some_is there) tables_are);
+          unused = on_err result (inr (was_open (some_is there) tables_are));
+          path = refl;
+          room = looks.gathers.capacity;
+          ids = inl looks.gathers.given;
         }
 
-        pub looked_up : (key : List ℕ) (result : Result (Option Pair) Status) {to : E} {blocks : Cached (CachedBlock (InternalKeyCmp C) order)} → LooksUp env by.codings by.matches table key state (blocks_of old) result to blocks
-            → GetsPair env by number key state old result to (record old { tables = tables; blocks = blocks })
-        looked_up key result {to} {blocks} looks = record {
-          uses = record {
-            there = on_ok result (inl (some_is there));
-            reads = reads_weaker env result (λ status lack. inr (record {
-              there = inl (some_is there);
-              code = lack.0;
-              lacks = λ bytes has.
-                  (let opened = open_now.opened bytes has in (table, opened, (lack.1 bytes (has_open has)).1 (held_by table (blocks_of old) opened (open_now.blocks bytes has))));
-            })) looks.reads;
+        module _ (was : MatchesFiles env by state old) where
+          open_now : MatchesFile env by state old number table
+          open_now = was.each number table fits there
+
+          has_open : {bytes : List ℕ} → HasBytesAt env state (path_at old number) bytes → FileHas env state (file_of table) bytes
+          has_open has = FileHas-at env open_now.path (KeepsDisk-refl env state) has
+
+          gained_open : MatchesFiles env by state (record old { blocks = blocks })
+          gained_open =
+              let gains = looks.gathers in let given = gains.given in let ids = was.ids in
+              matches_blocks env by old blocks state was (omega (arith, given, ids)) (omega (arith, given)) (IsNumbered-after open_now.given gains was.numbered) holds
+            where
+              holds : (n : ℕ) (other : StoreTable E C FP F order) → n < 2 ^ 64 → table_at old n ≡ Some other → (bytes : List ℕ) → HasBytesAt env state (path_at old n) bytes
+                  → HoldsOnlyOf by.codings by.order (id_of other) bytes blocks
+              holds n other n_fits at bytes has =
+                  let it = was.each n other n_fits at in
+                  let ids = was.ids in let given = it.given in let own_given = open_now.given in
+                  ⊎_elim
+                  (λ same. (let one = was.apart n number other table n_fits fits at there same.1 in
+                  let here = subst (λ m. HasBytesAt env state (path_at old m) bytes) one has in
+                  subst (λ i. HoldsOnlyOf by.codings by.order i bytes blocks) (sym same.1)
+                  (HoldsOnlyOf-after (own_blocks table (open_now.opened bytes here) (has_open here)) looks.gathers (open_now.blocks bytes here))))
+                  (λ apart. HoldsOnlyOf-other (omega (arith, own_given, ids)) (omega (arith, given, ids)) (λ same. apart.1 (sym same)) looks.gathers (it.blocks bytes has))
+                  (eqb_tells (id_of other) (id_of table))
+
+          pub gets_open : GetsPair env by number key state old result to (record old { tables = tables; blocks = blocks })
+          gets_open = record {
+            finds = λ bytes has.
+                (let opened = open_now.opened bytes has in
+                IfOk-weaker result (FindsPair by.codings by.matches table key bytes) (λ found. SomeTable env by bytes (λ (t : StoreTable E C FP F order). FindsPair by.codings by.matches t key bytes found))
+                (λ found it. (table, opened, it)) (looks.finds bytes (has_open has) (held_by table (blocks_of old) opened (open_now.blocks bytes has))));
+            cause = fails_weaker env result (λ status lack. inr (λ bytes has.
+                (let opened = open_now.opened bytes has in (table, opened, (lack.1 bytes (has_open has)).1 (held_by table (blocks_of old) opened (open_now.blocks bytes has)))))) looks.reads.cause;
             matches = matches_later env by (record old { tables = tables; blocks = blocks }) looks.reads.kept_disk
-                (matches_looked env by (record old { blocks = blocks }) tables state number tables_are (gained_open blocks looks.gathers));
-            used = on_ok result used;
-            unused = on_err result (inr used);
-            path = refl;
-            room = looks.gathers.capacity;
-            ids = inl looks.gathers.given;
-          };
-          finds = λ bytes has.
-              (let opened = open_now.opened bytes has in
-              IfOk-weaker result (FindsPair by.codings by.matches table key bytes) (λ found. SomeTable env by bytes (λ (t : StoreTable E C FP F order). FindsPair by.codings by.matches t key bytes found))
-              (λ found it. (table, opened, it)) (looks.finds bytes (has_open has) (held_by table (blocks_of old) opened (open_now.blocks bytes has))));
-        }
+                (matches_looked env by (record old { blocks = blocks }) tables state number tables_are gained_open);
+          }
 
     -- ---- a table that isn't open
 
@@ -165,32 +162,42 @@ module _ {E C FP F : Type 0} {order : CmpGhosts (InternalKeyCmp C)} (env : EnvGh
       same_tables : tables ≡ tables_of old
       same_tables = tables_are ∙ ap (λ ps. record (tables_of old) { pairs = ps }) (looked_none (table_key number) (tables_of old).pairs none)
 
+      put_old : (table : StoreTable E C FP F order) (put : Cached (StoreTable E C FP F order)) → put ≡ record tables { pairs = put_first tables.capacity (table_key number) table tables.pairs }
+          → put ≡ record (tables_of old) { pairs = put_first (tables_of old).capacity (table_key number) table (tables_of old).pairs }
+      put_old table put is = is ∙ ap (λ (t : Cached (StoreTable E C FP F order)). record t { pairs = put_first t.capacity (table_key number) table t.pairs }) same_tables
+
       -- and isn't opened
-      pub not_opened : {T : Type 0} (Why : Status → Type 0) (result : Result T Status) {status : Status} {to : E} {blocks : Cached (CachedBlock (InternalKeyCmp C) order)} → IsErrAnd result (λ other. other ≡ status)
-          → ((other : Status) → IsNotOpened env by state old number other → Why other) → OpensNumbered env by (store_of old) number state (blocks_of old) (Err status) to blocks
-          → UsesTable env by Why number state old result to (record old { tables = tables; blocks = blocks })
-      not_opened Why result {status} {to} {blocks} refused why opens = record {
-        there = refused_ok (λ other. other ≡ status) _ result refused;
-        reads = reads_refused env result refused (reads_weaker env (Err status) (λ other unopened. why other (none, unopened)) opens.reads);
-        matches = matches_later env by (record old { tables = tables; blocks = blocks }) opens.reads.kept_disk
-            (subst (λ b. MatchesFiles env by state (record old { tables = tables; blocks = b })) (sym opens.err) (matches_looked env by old tables state number tables_are was));
-        used = refused_ok (λ other. other ≡ status) _ result refused;
-        unused = on_err result (inl same_tables);
-        path = refl;
-        room = ap (λ (c : Cached (CachedBlock (InternalKeyCmp C) order)). c.capacity) opens.err;
-        ids = inl (ap (λ (c : Cached (CachedBlock (InternalKeyCmp C) order)). c.given) opens.err);
-      }
+      module _ {T : Type 0} (result : Result T Status) {status : Status} {to : E} {blocks : Cached (CachedBlock (InternalKeyCmp C) order)} (refused : IsErrAnd result (λ other. other ≡ status))
+          (opens : OpensNumbered env by (store_of old) number state (blocks_of old) (Err status) to blocks) where
+        pub reads_unopened : (Why : Status → Type 0) → ((other : Status) → IsNotOpened env by state old number other → Why other) → ReadsFile env Why state to result
+        reads_unopened Why why = reads_refused env result refused (reads_weaker env (Err status) (λ other unopened. why other (none, unopened)) opens.reads)
+
+        pub uses_unopened : (Why : Status → Type 0) → ((other : Status) → IsNotOpened env by state old number other → Why other) → UsesTable env Why number state old result to (record old { tables = tables; blocks = blocks })
+        uses_unopened Why why = record {
+          there = refused_ok (λ other. other ≡ status) _ result refused;
+          reads = reads_unopened Why why;
+          used = refused_ok (λ other. other ≡ status) _ result refused;
+          unused = on_err result (inl same_tables);
+          path = refl;
+          room = ap (λ (c : Cached (CachedBlock (InternalKeyCmp C) order)). c.capacity) opens.err;
+          ids = inl (ap (λ (c : Cached (CachedBlock (InternalKeyCmp C) order)). c.given) opens.err);
+        }
+
+        pub matches_unopened : MatchesFiles env by state old → MatchesFiles env by to (record old { tables = tables; blocks = blocks })
+        matches_unopened was = matches_later env by (record old { tables = tables; blocks = blocks }) opens.reads.kept_disk
+            (subst (λ b. MatchesFiles env by state (record old { tables = tables; blocks = b })) (sym opens.err) (matches_looked env by old tables state number tables_are was))
 
       -- so a key isn't looked up
-      pub not_got : {key : List ℕ} (result : Result (Option Pair) Status) {status : Status} {to : E} {blocks : Cached (CachedBlock (InternalKeyCmp C) order)} → IsErrAnd result (λ other. other ≡ status)
-          → OpensNumbered env by (store_of old) number state (blocks_of old) (Err status) to blocks → GetsPair env by number key state old result to (record old { tables = tables; blocks = blocks })
-      not_got {key} result {status} refused opens = record {
-        uses = not_opened (λ other. IsNotOpened env by state old number other ⊎ LacksBlockFor env by key state old number other) result refused (λ other why. inl why) opens;
+      pub gets_unopened : {key : List ℕ} (result : Result (Option Pair) Status) {status : Status} {to : E} {blocks : Cached (CachedBlock (InternalKeyCmp C) order)} → IsErrAnd result (λ other. other ≡ status)
+          → OpensNumbered env by (store_of old) number state (blocks_of old) (Err status) to blocks → MatchesFiles env by state old → GetsPair env by number key state old result to (record old { tables = tables; blocks = blocks })
+      gets_unopened {key} result {status} refused opens was = record {
         finds = λ bytes has. refused_if_ok (λ other. other ≡ status) _ result refused;
+        cause = (reads_unopened result refused opens (λ other. IsNotOpened env by state old number other ⊎ LacksBlockFor env by key state old number other) (λ other why. inl why)).cause;
+        matches = matches_unopened result refused opens was;
       }
 
       -- it is opened, and gains blocks
-      module _ (table : StoreTable E C FP F order) {mid to : E} {blocks after : Cached (CachedBlock (InternalKeyCmp C) order)} (opens : OpensNumbered env by (store_of old) number state (blocks_of old) (Ok table) mid blocks) (kept : KeepsDisk env mid to)
+      module _ (was : MatchesFiles env by state old) (table : StoreTable E C FP F order) {mid to : E} {blocks after : Cached (CachedBlock (InternalKeyCmp C) order)} (opens : OpensNumbered env by (store_of old) number state (blocks_of old) (Ok table) mid blocks) (kept : KeepsDisk env mid to)
           (Right : ℕ → CachedBlock (InternalKeyCmp C) order → Type 0)
           (right : (bytes : List ℕ) → IsOpenedWith env by table bytes → FileHas env mid (file_of table) bytes → (offset : ℕ) (held : CachedBlock (InternalKeyCmp C) order) → Right offset held → IsBlockOfFile by.codings by.order bytes offset held)
           (gains : GainsBlocks (id_of table) Right blocks after) where
@@ -206,7 +213,7 @@ module _ {E C FP F : Type 0} {order : CmpGhosts (InternalKeyCmp C)} (env : EnvGh
         later : MatchesFiles env by to old
         later = matches_later env by old (KeepsDisk-trans env opened_kept kept) was
 
-        pub given_after : after.given ≡ id_of table
+        given_after : after.given ≡ id_of table
         given_after = gains_raised.given
 
         -- ids of open tables were given before
@@ -222,7 +229,7 @@ module _ {E C FP F : Type 0} {order : CmpGhosts (InternalKeyCmp C)} (env : EnvGh
             HoldsOnlyOf-other own_fits (omega (arith, given, own, own_fits)) (λ same. own_id n other n_fits at (sym same)) gains_raised (it.blocks bytes has)))
 
         -- under its id nothing was held
-        pub new_holds : {bytes : List ℕ} → HoldsOnlyOf by.codings by.order (id_of table) bytes (blocks_of old)
+        new_holds : {bytes : List ℕ} → HoldsOnlyOf by.codings by.order (id_of table) bytes (blocks_of old)
         new_holds = let own = opens.id.0 in HoldsOnlyOf-new (blocks_of old) opens.id.1 (omega (arith, own)) was.numbered
 
         matches_it : MatchesFile env by to (record old { blocks = after }) number table
@@ -236,16 +243,12 @@ module _ {E C FP F : Type 0} {order : CmpGhosts (InternalKeyCmp C)} (env : EnvGh
         }
 
         -- it isn't kept
-        pub matches_unkept : MatchesFiles env by to (record old { tables = tables; blocks = after })
+        matches_unkept : MatchesFiles env by to (record old { tables = tables; blocks = after })
         matches_unkept = matches_looked env by (record old { blocks = after }) tables to number tables_are gained_new
 
         -- it is
-        module _ (put : Cached (StoreTable E C FP F order)) (put_is : put ≡ record tables { pairs = put_first tables.capacity (table_key number) table tables.pairs }) where
-          pub put_old : put ≡ record (tables_of old) { pairs = put_first (tables_of old).capacity (table_key number) table (tables_of old).pairs }
-          put_old = put_is ∙ ap (λ (t : Cached (StoreTable E C FP F order)). record t { pairs = put_first t.capacity (table_key number) table t.pairs }) same_tables
-
-          pub matches_kept : MatchesFiles env by to (record old { tables = put; blocks = after })
-          matches_kept = matches_put env by (record old { blocks = after }) put to number table fits put_old matches_it own_id gained_new
+        matches_kept : (put : Cached (StoreTable E C FP F order)) → put ≡ record tables { pairs = put_first tables.capacity (table_key number) table tables.pairs } → MatchesFiles env by to (record old { tables = put; blocks = after })
+        matches_kept put is = matches_put env by (record old { blocks = after }) put to number table fits (put_old table put is) matches_it own_id gained_new
 
       module _ (table : StoreTable E C FP F order) {mid : E} {blocks : Cached (CachedBlock (InternalKeyCmp C) order)} (opens : OpensNumbered env by (store_of old) number state (blocks_of old) (Ok table) mid blocks) where
         -- one more id is given
@@ -257,59 +260,56 @@ module _ {E C FP F : Type 0} {order : CmpGhosts (InternalKeyCmp C)} (env : EnvGh
 
         -- ---- it is opened, and put into the cache
 
-        module _ (put : Cached (StoreTable E C FP F order)) (result : Result Unit Status) (put_is : OnOk result (put ≡ record tables { pairs = put_first tables.capacity (table_key number) table tables.pairs }))
-            (unput : OnErr result (put ≡ tables)) (memory : IfErr result IsOutOfMemory) where
-          pub opened_new : OpensTableAt env by number state old result mid (record old { tables = put; blocks = blocks })
-          opened_new = go result put_is unput memory
+        module _ (put : Cached (StoreTable E C FP F order)) where
+          pub opened_new : (result : Result Unit Status) → OnOk result (put ≡ record tables { pairs = put_first tables.capacity (table_key number) table tables.pairs }) → OnErr result (put ≡ tables) → IfErr result IsOutOfMemory
+              → OpensTableAt env by number state old result mid (record old { tables = put; blocks = blocks })
+          opened_new (Ok done) is unput memory = record {
+            uses = record {
+              there = inr opens.there;
+              reads = reads_ok env opens.reads.kept_disk opens.reads.cause.ok;
+              used = is_opened none table (put_old table put is);
+              unused = tt;
+              path = refl;
+              room = same_room;
+              ids = inr more_given;
+            };
+            is_open = λ room. some_is (ap (λ (c : Cached (StoreTable E C FP F order)). value_of (table_key number) c.pairs) (put_old table put is)
+                ∙ put_there (tables_of old).capacity (table_key number) table (tables_of old).pairs room);
+          }
+          opened_new (Err status) put_is same out = record {
+            uses = record {
+              there = tt;
+              reads = reads_own env {P = IsOutOfMemory} (Err status) opens.reads.kept_disk opens.reads.cause.ok out (λ other memory. inl memory);
+              used = tt;
+              unused = inl (same ∙ same_tables);
+              path = refl;
+              room = same_room;
+              ids = inr more_given;
+            };
+            is_open = tt;
+          }
+
+          pub matches_opened : (result : Result Unit Status) → OnOk result (put ≡ record tables { pairs = put_first tables.capacity (table_key number) table tables.pairs }) → OnErr result (put ≡ tables)
+              → MatchesFiles env by state old → MatchesFiles env by mid (record old { tables = put; blocks = blocks })
+          matches_opened result is same was = go result is same
             where
               gains : GainsBlocks (id_of table) (λ offset held. ForBytesOf env mid (file_of table) (λ bytes. IsBlockOfFile by.codings (order.cmp table.cmp) bytes offset held)) blocks blocks
               gains = GainsBlocks-refl (id_of table) (λ offset held. ForBytesOf env mid (file_of table) (λ bytes. IsBlockOfFile by.codings (order.cmp table.cmp) bytes offset held)) blocks
 
-              go : (result : Result Unit Status) → OnOk result (put ≡ record tables { pairs = put_first tables.capacity (table_key number) table tables.pairs }) → OnErr result (put ≡ tables) → IfErr result IsOutOfMemory
-                  → OpensTableAt env by number state old result mid (record old { tables = put; blocks = blocks })
-              go (Ok done) is unput memory = record {
-                uses = record {
-                  there = inr opens.there;
-                  reads = reads_ok env opens.reads.kept_disk opens.reads.cause.ok;
-                  matches = matches_kept table opens (KeepsDisk-refl env mid) _ (λ bytes opened has. own_blocks table opened has) gains put is;
-                  used = is_opened none table (put_old table opens (KeepsDisk-refl env mid) _ (λ bytes opened has. own_blocks table opened has) gains put is);
-                  unused = tt;
-                  path = refl;
-                  room = same_room;
-                  ids = inr more_given;
-                };
-                is_open = λ room. some_is (ap (λ (c : Cached (StoreTable E C FP F order)). value_of (table_key number) c.pairs) (put_old table opens (KeepsDisk-refl env mid) _ (λ bytes opened has. own_blocks table opened has) gains put is)
-                    ∙ put_there (tables_of old).capacity (table_key number) table (tables_of old).pairs room);
-              }
-              go (Err status) put_is same out = record {
-                uses = record {
-                  there = tt;
-                  reads = reads_own env {P = IsOutOfMemory} (Err status) opens.reads.kept_disk opens.reads.cause.ok out (λ other memory. inl memory);
-                  matches = subst (λ t. MatchesFiles env by mid (record old { tables = t; blocks = blocks })) (sym same)
-                      (matches_unkept table opens (KeepsDisk-refl env mid) _ (λ bytes opened has. own_blocks table opened has) gains);
-                  used = tt;
-                  unused = inl (same ∙ same_tables);
-                  path = refl;
-                  room = same_room;
-                  ids = inr more_given;
-                };
-                is_open = tt;
-              }
+              go : (result : Result Unit Status) → OnOk result (put ≡ record tables { pairs = put_first tables.capacity (table_key number) table tables.pairs }) → OnErr result (put ≡ tables)
+                  → MatchesFiles env by mid (record old { tables = put; blocks = blocks })
+              go (Ok done) is unput = matches_kept was table opens (KeepsDisk-refl env mid) _ (λ bytes opened has. own_blocks table opened has) gains put is
+              go (Err status) put_is same = subst (λ t. MatchesFiles env by mid (record old { tables = t; blocks = blocks })) (sym same)
+                  (matches_unkept was table opens (KeepsDisk-refl env mid) _ (λ bytes opened has. own_blocks table opened has) gains)
 
         -- ---- it is opened, and a key is looked up in it
 
         module _ (key : List ℕ) (found : Result (Option Pair) Status) {to : E} {after : Cached (CachedBlock (InternalKeyCmp C) order)} (looks : LooksUp env by.codings by.matches table key mid blocks found to after) where
-          kept_to : KeepsDisk env mid to
-          kept_to = looks.reads.kept_disk
+          kept_to : KeepsDisk env state to
+          kept_to = KeepsDisk-trans env opens.reads.kept_disk looks.reads.kept_disk
 
           has_mid : {bytes : List ℕ} → HasBytesAt env state (path_at old number) bytes → FileHas env mid (file_of table) bytes
           has_mid has = FileHas-at env opens.path opens.reads.kept_disk has
-
-          -- under its id nothing was held
-          none_held : {bytes : List ℕ} → HasBytesAt env state (path_at old number) bytes → HoldsOnlyOf by.codings (order.cmp table.cmp) (id_of table) bytes blocks
-          none_held {bytes} has =
-              held_by table blocks (opens.opened bytes has) (subst (λ b. HoldsOnlyOf by.codings by.order (id_of table) bytes b) (sym opens.id.2)
-              (let own = opens.id.0 in HoldsOnlyOf-new (blocks_of old) opens.id.1 (omega (arith, own)) was.numbered))
 
           room_after : after.capacity ≡ (blocks_of old).capacity
           room_after = looks.gathers.capacity ∙ same_room
@@ -317,75 +317,86 @@ module _ {E C FP F : Type 0} {order : CmpGhosts (InternalKeyCmp C)} (env : EnvGh
           ids_after : after.given ≡ (blocks_of old).given + 1
           ids_after = looks.gathers.given ∙ more_given
 
-          unread : (status : Status) → IsLackError env by.codings (λ bytes other.
-              ((parts : List Part) → lines_of table ≡ map index_pair parts → order.cmp table.index.cmp ≡ order.cmp table.cmp → HasParts by.codings (order.accepts table.cmp) (order.cmp table.cmp) bytes parts → order.accepts table.cmp key ≡ true
-              → HoldsOnlyOf by.codings (order.cmp table.cmp) table.id bytes blocks → ⊥)
-              × (HoldsOnlyOf by.codings (order.cmp table.cmp) table.id bytes blocks → LookUpInTable by.codings by.matches table key bytes (Err other))) mid table.file status
-              → IsNotOpened env by state old number status ⊎ LacksBlockFor env by key state old number status
-          unread status lack = inr (record {
-            there = inr opens.there;
-            code = lack.0;
-            lacks = λ bytes has. (table, opens.opened bytes has, (lack.1 bytes (has_mid has)).1 (none_held has));
-          })
+          module _ (was : MatchesFiles env by state old) where
+            -- under its id nothing was held
+            none_held : {bytes : List ℕ} → HasBytesAt env state (path_at old number) bytes → HoldsOnlyOf by.codings (order.cmp table.cmp) (id_of table) bytes blocks
+            none_held {bytes} has =
+                held_by table blocks (opens.opened bytes has) (subst (λ b. HoldsOnlyOf by.codings by.order (id_of table) bytes b) (sym opens.id.2)
+                (let own = opens.id.0 in HoldsOnlyOf-new (blocks_of old) opens.id.1 (omega (arith, own)) was.numbered))
 
-          finds_there : {bytes : List ℕ} → HasBytesAt env state (path_at old number) bytes → IfOk found (λ pair. SomeTable env by bytes (λ (t : StoreTable E C FP F order). FindsPair by.codings by.matches t key bytes pair))
-          finds_there {bytes} has =
-              IfOk-weaker found (FindsPair by.codings by.matches table key bytes) (λ pair. SomeTable env by bytes (λ (t : StoreTable E C FP F order). FindsPair by.codings by.matches t key bytes pair))
-              (λ pair it. (table, opens.opened bytes has, it)) (looks.finds bytes (has_mid has) (none_held has))
+            finds_there : {bytes : List ℕ} → HasBytesAt env state (path_at old number) bytes → IfOk found (λ pair. SomeTable env by bytes (λ (t : StoreTable E C FP F order). FindsPair by.codings by.matches t key bytes pair))
+            finds_there {bytes} has =
+                IfOk-weaker found (FindsPair by.codings by.matches table key bytes) (λ pair. SomeTable env by bytes (λ (t : StoreTable E C FP F order). FindsPair by.codings by.matches t key bytes pair))
+                (λ pair it. (table, opens.opened bytes has, it)) (looks.finds bytes (has_mid has) (none_held has))
 
-          matches_after : MatchesFiles env by to (record old { tables = tables; blocks = after })
-          matches_after = matches_unkept table opens kept_to _ (λ bytes opened has. own_blocks table opened has) looks.gathers
+            matches_after : MatchesFiles env by to (record old { tables = tables; blocks = after })
+            matches_after = matches_unkept was table opens looks.reads.kept_disk _ (λ bytes opened has. own_blocks table opened has) looks.gathers
 
           -- the look-up fails, and the table isn't kept
-          pub look_up_failed : (result : Result (Option Pair) Status) {status : Status} → found ≡ Err status → IsErrAnd result (λ other. other ≡ status) → GetsPair env by number key state old result to (record old { tables = tables; blocks = after })
-          look_up_failed result {status} is refused = record {
-            uses = record {
+          module _ (result : Result (Option Pair) Status) {status : Status} (is : found ≡ Err status) (refused : IsErrAnd result (λ other. other ≡ status)) where
+            pub uses_failed : UsesTable env (MayFail env by state old number) number state old result to (record old { tables = tables; blocks = after })
+            uses_failed = record {
               there = refused_ok (λ other. other ≡ status) _ result refused;
-              reads = reads_then env result opens.reads.kept_disk opens.reads.cause.ok unread (refused_reads env result is refused looks.reads);
-              matches = matches_after;
+              reads = reads_then env result opens.reads.kept_disk opens.reads.cause.ok (λ other lack. inr (inr opens.there, lack.0)) (refused_reads env result is refused looks.reads);
               used = refused_ok (λ other. other ≡ status) _ result refused;
               unused = on_err result (inl same_tables);
               path = refl;
               room = room_after;
               ids = inr ids_after;
-            };
-            finds = λ bytes has. refused_if_ok (λ other. other ≡ status) _ result refused;
-          }
+            }
+
+            pub gets_failed : MatchesFiles env by state old → GetsPair env by number key state old result to (record old { tables = tables; blocks = after })
+            gets_failed was = record {
+              finds = λ bytes has. refused_if_ok (λ other. other ≡ status) _ result refused;
+              cause = (reads_then env {Why = λ other. IsNotOpened env by state old number other ⊎ LacksBlockFor env by key state old number other} result opens.reads.kept_disk opens.reads.cause.ok
+                  (λ other lack. inr (λ bytes has. (table, opens.opened bytes has, (lack.1 bytes (has_mid has)).1 (none_held was has)))) (refused_reads env result is refused looks.reads)).cause;
+              matches = matches_after was;
+            }
 
           module _ (pair : Option Pair) (found_is : found ≡ Ok pair) where
             counted : env.failures to ≡ env.failures state
             counted = subst (λ r. OnOk r (env.failures to ≡ env.failures mid)) found_is looks.reads.cause.ok ∙ opens.reads.cause.ok
 
-            -- there is no memory to keep it
-            pub not_kept : (put : Cached (StoreTable E C FP F order)) (result : Result (Option Pair) Status) {status : Status} → put ≡ tables → IsOutOfMemory status → IsErrAnd result (λ other. other ≡ status)
-                → GetsPair env by number key state old result to (record old { tables = put; blocks = after })
-            not_kept put result {status} same out refused = record {
-              uses = record {
-                there = refused_ok (λ other. other ≡ status) _ result refused;
-                reads = reads_own env {P = λ other. other ≡ status} result (KeepsDisk-trans env opens.reads.kept_disk kept_to) counted refused (λ other is. inl (subst IsOutOfMemory (sym is) out));
-                matches = subst (λ t. MatchesFiles env by to (record old { tables = t; blocks = after })) (sym same) matches_after;
-                used = refused_ok (λ other. other ≡ status) _ result refused;
-                unused = on_err result (inl (same ∙ same_tables));
-                path = refl;
-                room = room_after;
-                ids = inr ids_after;
-              };
-              finds = λ bytes has. refused_if_ok (λ other. other ≡ status) _ result refused;
-            }
+            module _ (put : Cached (StoreTable E C FP F order)) where
+              -- there is no memory to keep it
+              module _ (result : Result (Option Pair) Status) {status : Status} (same : put ≡ tables) (out : IsOutOfMemory status) (refused : IsErrAnd result (λ other. other ≡ status)) where
+                reads_unkept : (Why : Status → Type 0) → ReadsFile env Why state to result
+                reads_unkept Why = reads_own env {P = λ other. other ≡ status} result kept_to counted refused (λ other is. inl (subst IsOutOfMemory (sym is) out))
 
-            -- it is kept
-            pub looked_up_new : (put : Cached (StoreTable E C FP F order)) → put ≡ record tables { pairs = put_first tables.capacity (table_key number) table tables.pairs }
-                → GetsPair env by number key state old (Ok pair) to (record old { tables = put; blocks = after })
-            looked_up_new put is = record {
-              uses = record {
-                there = inr opens.there;
-                reads = reads_ok env (KeepsDisk-trans env opens.reads.kept_disk kept_to) counted;
-                matches = matches_kept table opens kept_to _ (λ bytes opened has. own_blocks table opened has) looks.gathers put is;
-                used = is_opened none table (put_old table opens kept_to _ (λ bytes opened has. own_blocks table opened has) looks.gathers put is);
-                unused = tt;
-                path = refl;
-                room = room_after;
-                ids = inr ids_after;
-              };
-              finds = λ bytes has. subst (λ r. IfOk r (λ p. SomeTable env by bytes (λ (t : StoreTable E C FP F order). FindsPair by.codings by.matches t key bytes p))) found_is (finds_there has);
-            }
+                pub uses_unkept : UsesTable env (MayFail env by state old number) number state old result to (record old { tables = put; blocks = after })
+                uses_unkept = record {
+                  there = refused_ok (λ other. other ≡ status) _ result refused;
+                  reads = reads_unkept (MayFail env by state old number);
+                  used = refused_ok (λ other. other ≡ status) _ result refused;
+                  unused = on_err result (inl (same ∙ same_tables));
+                  path = refl;
+                  room = room_after;
+                  ids = inr ids_after;
+                }
+
+                pub gets_unkept : MatchesFiles env by state old → GetsPair env by number key state old result to (record old { tables = put; blocks = after })
+                gets_unkept was = record {
+                  finds = λ bytes has. refused_if_ok (λ other. other ≡ status) _ result refused;
+                  cause = (reads_unkept (λ other. IsNotOpened env by state old number other ⊎ LacksBlockFor env by key state old number other)).cause;
+                  matches = subst (λ t. MatchesFiles env by to (record old { tables = t; blocks = after })) (sym same) (matches_after was);
+                }
+
+              -- it is kept
+              module _ (is : put ≡ record tables { pairs = put_first tables.capacity (table_key number) table tables.pairs }) where
+                pub uses_kept : UsesTable env (MayFail env by state old number) number state old (Ok pair) to (record old { tables = put; blocks = after })
+                uses_kept = record {
+                  there = inr opens.there;
+                  reads = reads_ok env kept_to counted;
+                  used = is_opened none table (put_old table put is);
+                  unused = tt;
+                  path = refl;
+                  room = room_after;
+                  ids = inr ids_after;
+                }
+
+                pub gets_kept : MatchesFiles env by state old → GetsPair env by number key state old (Ok pair) to (record old { tables = put; blocks = after })
+                gets_kept was = record {
+                  finds = λ bytes has. subst (λ r. IfOk r (λ p. SomeTable env by bytes (λ (t : StoreTable E C FP F order). FindsPair by.codings by.matches t key bytes p))) found_is (finds_there was has);
+                  cause = fails_ok env counted;
+                  matches = matches_kept was table opens looks.reads.kept_disk _ (λ bytes opened has. own_blocks table opened has) looks.gathers put is;
+                }

@@ -18,7 +18,7 @@ use Rattle.leveldb_table.specs.BlockCache.{HoldsOnlyOf, IsNumbered, cache_key}
 use Rattle.leveldb_table.specs.Cache.{Cached, looked_for, others, put_first, value_of}
 use Rattle.leveldb_table.specs.OpenTable.{IsFilteredBy, IsOrderedBy, file_of, id_of}
 use Rattle.leveldb_table.specs.Table.{filter_key}
-use Rattle.leveldb_table.specs.TableBlock.{HasLackCode, KeepsDisk, ReadsFile}
+use Rattle.leveldb_table.specs.TableBlock.{FailsFor, HasLackCode, KeepsDisk, ReadsFile}
 use Rattle.leveldb_table.specs.TableReader.{IsNoTable, IsOpenedAs}
 use Rattle.leveldb_table.specs.TableReaderMoves.{FindsPair, LookUpInTable}
 use Rattle.leveldb_table.specs.declared.block_cache.CachedBlock.{CachedBlock}
@@ -173,6 +173,22 @@ module _ {E C FP F : Type 0} {order : CmpGhosts (InternalKeyCmp C)} (env : EnvGh
   IsOpenOrThere state cache number =
       IsSome (table_at cache number) ⊎ IsThereAt env state (path_at cache number)
 
+  -- What a call that uses the table of a number returns and leaves, whatever it is used for.
+  pub record UsesTable {T : Type 0} (Why : Status → Type 0) (number : ℕ)
+      (old_env : E) (old : TableCache E C FP F order) (result : Result T Status)
+      (new_env : E) (new : TableCache E C FP F order) : Type 0 where
+    pub there : OnOk result (IsOpenOrThere old_env old number)
+    -- it fails out of memory, at a failure of the device, or for one of these causes; the disk
+    -- stays as it is
+    pub reads : ReadsFile env Why old_env new_env result
+    pub used : OnOk result (IsUsedLast number old new)
+    pub unused : OnErr result ((tables_of new ≡ tables_of old) ⊎ IsUsedLast number old new)
+    -- the path and the room for blocks are the same, and one more id is given at most
+    pub path : store_of new ≡ store_of old
+    pub room : (blocks_of new).capacity ≡ (blocks_of old).capacity
+    pub ids : ((blocks_of new).given ≡ (blocks_of old).given)
+        ⊎ ((blocks_of new).given ≡ (blocks_of old).given + 1)
+
   module _ (by : TableOptions C FP) where
     -- a table is opened with these options in a file of these bytes
     pub record IsOpenedWith (table : StoreTable E C FP F order) (bytes : List ℕ)
@@ -235,31 +251,18 @@ module _ {E C FP F : Type 0} {order : CmpGhosts (InternalKeyCmp C)} (env : EnvGh
         (table_at cache number ≡ None)
         × IsUnopened env by (path_at cache number) (blocks_of cache).given state status
 
-    -- a table lacks a block on the way to a key, as a status says
-    pub record LacksBlockFor (key : List ℕ) (state : E) (cache : TableCache E C FP F order)
-        (number : ℕ) (status : Status) : Type 0 where
-      pub there : IsOpenOrThere state cache number
-      pub code : HasLackCode env by.codings status
-      pub lacks : ForBytesAt env state (path_at cache number) (λ bytes. SomeTable bytes
-          (λ (table : StoreTable E C FP F order).
-          LookUpInTable by.codings by.matches table key bytes (Err status)))
+    -- why a look-up may fail, whatever bytes a file has
+    abbrev pub MayFail : E → TableCache E C FP F order → ℕ → Status → Type 0
+    MayFail state cache number status =
+        IsNotOpened state cache number status
+        ⊎ (IsOpenOrThere state cache number × HasLackCode env by.codings status)
 
-    -- What a call that uses the table of a number returns and leaves, whatever it is used for.
-    pub record UsesTable {T : Type 0} (Why : Status → Type 0) (number : ℕ)
-        (old_env : E) (old : TableCache E C FP F order) (result : Result T Status)
-        (new_env : E) (new : TableCache E C FP F order) : Type 0 where
-      pub there : OnOk result (IsOpenOrThere old_env old number)
-      -- it fails out of memory, at a failure of the device, or for one of these causes; the disk
-      -- stays as it is
-      pub reads : ReadsFile env Why old_env new_env result
-      pub matches : MatchesFiles new_env new
-      pub used : OnOk result (IsUsedLast number old new)
-      pub unused : OnErr result ((tables_of new ≡ tables_of old) ⊎ IsUsedLast number old new)
-      -- the path and the room for blocks are the same, and one more id is given at most
-      pub path : store_of new ≡ store_of old
-      pub room : (blocks_of new).capacity ≡ (blocks_of old).capacity
-      pub ids : ((blocks_of new).given ≡ (blocks_of old).given)
-          ⊎ ((blocks_of new).given ≡ (blocks_of old).given + 1)
+    -- whatever bytes the file has, its table lacks a block on the way to a key, as a status says
+    abbrev pub LacksBlockFor : List ℕ → E → TableCache E C FP F order → ℕ → Status → Type 0
+    LacksBlockFor key state cache number status =
+        ForBytesAt env state (path_at cache number) (λ bytes. SomeTable bytes
+        (λ (table : StoreTable E C FP F order).
+        LookUpInTable by.codings by.matches table key bytes (Err status)))
 
     -- makes sure that the table of a number is open, if there is room for one
     pub record OpensTableAt (number : ℕ) (old_env : E)
@@ -268,16 +271,18 @@ module _ {E C FP F : Type 0} {order : CmpGhosts (InternalKeyCmp C)} (env : EnvGh
       pub uses : UsesTable (IsNotOpened old_env old number) number old_env old result new_env new
       pub is_open : OnOk result (0 < (tables_of old).capacity → IsSome (table_at new number))
 
-    -- looks a key up in the table of a number
+    -- looks a key up in the table of a number, by a cache that matches the files
     pub record GetsPair (number : ℕ) (key : List ℕ) (old_env : E)
         (old : TableCache E C FP F order) (result : Result (Option Pair) Status)
         (new_env : E) (new : TableCache E C FP F order) : Type 0 where
-      pub uses : UsesTable (λ status. IsNotOpened old_env old number status
-          ⊎ LacksBlockFor key old_env old number status) number old_env old result new_env new
       -- it finds what a table has that is opened in the file, whatever bytes this has
       pub finds : ForBytesAt env old_env (path_at old number) (λ bytes. IfOk result
           (λ found. SomeTable bytes (λ (table : StoreTable E C FP F order).
           FindsPair by.codings by.matches table key bytes found)))
+      -- but for memory and the device it fails since the table isn't opened or lacks a block
+      pub cause : FailsFor env (λ status. IsNotOpened old_env old number status
+          ⊎ LacksBlockFor key old_env old number status) old_env new_env result
+      pub matches : MatchesFiles new_env new
 
   -- closes the table of a number, and says whether it was open
   pub record EvictsTable (number : ℕ) (old : TableCache E C FP F order) (result : Bool)

@@ -1,7 +1,7 @@
 //! The open tables of a store, each opened once and kept while there is room.
 ghost use Rattle.std.specs.Prelude.{◌≡◌, IfErr, IfOk, option_copied};
 ghost use Rattle.leveldb_base.specs.Error.{IsOutOfMemory};
-ghost use Rattle.leveldb_version.specs.TableCache.{EvictsTable, GetsPair, IsNewTableCache, MatchesFiles, OpensFile, OpensNumbered, OpensTableAt, TableOptions, table_at, table_key, table_options};
+ghost use Rattle.leveldb_version.specs.TableCache.{EvictsTable, GetsPair, IsNewTableCache, MatchesFiles, MayFail, OpensFile, OpensNumbered, OpensTableAt, TableOptions, UsesTable, table_at, table_key, table_options};
 
 use bytes::Bytes;
 use leveldb_base::cmp::{Cmp, InternalKeyCmp, UserCmp};
@@ -66,7 +66,11 @@ impl<E: Env, C: UserCmp + Copy + Drop, FP: FilterPolicy + Copy + Drop> TableCach
         number: FileNum,
         key: &[u8],
     ) -> Result<Option<(Bytes, Bytes)>>
-        ensures { let by = table_options C.Cmp FP.FilterPolicy
+        ensures uses { let by = table_options C.Cmp FP.FilterPolicy
+            ⟦<CompressorList as Compressors>⟧.codings options.now in
+            UsesTable E.Env (MayFail E.Env by env.old self.old number) number env.old self.old
+            result env.new self.new }
+        ensures gets { let by = table_options C.Cmp FP.FilterPolicy
             ⟦<CompressorList as Compressors>⟧.codings options.now in
             MatchesFiles E.Env by env.old self.old
             → GetsPair E.Env by number key.now env.old self.old result env.new self.new }
@@ -98,10 +102,12 @@ impl<E: Env, C: UserCmp + Copy + Drop, FP: FilterPolicy + Copy + Drop> TableCach
         options: &Options<C, FP>,
         number: FileNum,
     ) -> Result<()>
-        ensures { let by = table_options C.Cmp FP.FilterPolicy
+        ensures opens { let by = table_options C.Cmp FP.FilterPolicy
             ⟦<CompressorList as Compressors>⟧.codings options.now in
-            MatchesFiles E.Env by env.old self.old
-            → OpensTableAt E.Env by number env.old self.old result env.new self.new }
+            OpensTableAt E.Env by number env.old self.old result env.new self.new }
+        ensures matches { let by = table_options C.Cmp FP.FilterPolicy
+            ⟦<CompressorList as Compressors>⟧.codings options.now in
+            MatchesFiles E.Env by env.old self.old → MatchesFiles E.Env by env.new self.new }
     {
         let name = table_key(number);
         if self.tables.get(&name).is_some() {
