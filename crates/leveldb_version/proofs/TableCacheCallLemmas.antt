@@ -1,6 +1,6 @@
 -- What the calls of a cache of open tables return and leave.
-use Rattle.std.specs.Prelude.{IfErr, IfOk, IfSome, IsErrAnd, IsSome, IsSomeAnd, IsTrue, OnErr, OnOk, is_some, option_copied}
-use Rattle.std.proofs.Common.{◌≡◌, ◌≢◌, ◌⊎◌, inl, inr, ⊎_elim, ℕ, ◌+◌, ◌<◌, ◌≤◌, ◌^◌, Bool, true, false, List, map, Option, None, Some, Result, Ok, Err, Bor, refl, sym, ◌∙◌, ap, subst, arith}
+use Rattle.std.specs.Prelude.{IfErr, IfOk, IsErrAnd, IsSome, OnErr, OnOk, is_some, option_copied}
+use Rattle.std.proofs.Common.{◌≡◌, ◌≢◌, ◌⊎◌, inl, inr, ⊎_elim, ℕ, ◌+◌, ◌<◌, ◌^◌, Bool, true, false, List, Option, None, Some, Result, Ok, Err, Bor, refl, sym, ◌∙◌, ap, subst, arith}
 use Rattle.std.proofs.lemmas.Bool.Decides.{eqb_tells}
 use Rattle.std.proofs.lemmas.Result.{IfOk-weaker}
 use Rattle.std.specs.Cmp.Lexicographic.{same_text}
@@ -14,16 +14,14 @@ use Rattle.leveldb_env.proofs.EnvLemmas.{bytes_eq-apart}
 use Rattle.leveldb_env.specs.declared.env.Env.{Ghosts as EnvGhosts}
 use Rattle.leveldb_table.proofs.BlockCacheLemmas.{GainsBlocks-refl, HoldsOnlyOf-after, HoldsOnlyOf-new, HoldsOnlyOf-other, IsNumbered-after, IsNumbered-raised, looked_for_same, others_keep}
 use Rattle.leveldb_table.proofs.TableBlockLemmas.{KeepsDisk-refl, KeepsDisk-trans, fails_ok, fails_weaker, reads_ok, reads_own, reads_refused, reads_then, reads_weaker}
-use Rattle.leveldb_table.specs.BlockCache.{GainsBlocks, HoldsOnlyOf, IsBlockOfFile, IsNumbered}
+use Rattle.leveldb_table.specs.BlockCache.{GainsBlocks, HoldsOnlyOf, IsBlockOfFile}
 use Rattle.leveldb_table.specs.Cache.{Cached, looked_for, others, put_first, value_of}
 use Rattle.leveldb_table.specs.OpenTable.{file_of, id_of}
-use Rattle.leveldb_table.specs.TableBlock.{FileHas, ForBytesOf, IsLackError, KeepsDisk, ReadsFile}
-use Rattle.leveldb_table.specs.Table.{Part, index_pair}
-use Rattle.leveldb_table.specs.TableReader.{GainsBlocksOf, HasParts, lines_of}
-use Rattle.leveldb_table.specs.TableReaderMoves.{FindsPair, LookUpInTable, LooksUp}
+use Rattle.leveldb_table.specs.TableBlock.{FileHas, ForBytesOf, KeepsDisk, ReadsFile}
+use Rattle.leveldb_table.specs.TableReaderMoves.{FindsPair, LooksUp}
 use Rattle.leveldb_table.specs.declared.block_cache.CachedBlock.{CachedBlock}
-use Rattle.leveldb_version.proofs.TableCacheLemmas.{FileHas-at, HasBytesAt-before, looked_none, matches_blocks, matches_later, matches_left, matches_looked, matches_put, none_value, on_err, on_ok, one_number, put_there, refused_ok, same_value, some_is, some_of}
-use Rattle.leveldb_version.specs.TableCache.{EvictsTable, GetsPair, HasBytesAt, IsNotOpened, IsOpenedWith, IsUsedLast, LacksBlockFor, MatchesFile, MatchesFiles, MayFail, OpensNumbered, OpensTableAt, SomeTable, StoreTable, TableOptions, UsesTable, blocks_of, is_opened, path_at, store_of, table_at, table_key, tables_of, was_open}
+use Rattle.leveldb_version.proofs.TableCacheLemmas.{FileHas-at, HasBytesAt-before, looked_none, matches_blocks, matches_later, matches_left, matches_looked, matches_put, none_value, on_err, on_ok, one_number, put_there, refused_ok, some_is}
+use Rattle.leveldb_version.specs.TableCache.{EvictsTable, GetsPair, HasBytesAt, IsNotOpened, IsOpenedWith, LacksBlockFor, MatchesFile, MatchesFiles, MayFail, OpensNumbered, OpensTableAt, SomeTable, StoreTable, TableOptions, UsesTable, blocks_of, is_opened, path_at, store_of, table_at, table_key, tables_of, was_open}
 use Rattle.leveldb_version.specs.declared.table_cache.TableCache.{TableCache}
 
 -- ---- closing a table

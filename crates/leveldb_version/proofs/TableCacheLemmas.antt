@@ -1,31 +1,28 @@
 -- What a cache of open tables has after each call, and that each table is its file's.
-use Rattle.std.specs.Prelude.{IfErr, IfOk, IfSome, IsErrAnd, IsSome, IsSomeAnd, IsTrue, OnErr, OnOk}
-use Rattle.std.proofs.Common.{◌≡◌, ◌≢◌, ◌⊎◌, inl, inr, ⊎_elim, ℕ, zero, suc, ◌+◌, ◌<◌, ◌≤◌, ◌^◌, Bool, true, false, List, [], ◌∷◌, ◌++◌, length, take, Option, None, Some, Result, Ok, Err, refl, sym, ◌∙◌, ap, subst, arith, length-append}
-use Rattle.std.specs.declared.cmp.Ordering.{Ordering}
+use Rattle.std.specs.Prelude.{IfSome, IsErrAnd, IsSome, IsSomeAnd, IsTrue, OnErr, OnOk}
+use Rattle.std.proofs.Common.{◌≡◌, ◌≢◌, ◌⊎◌, inl, inr, ⊎_elim, ℕ, zero, suc, ◌+◌, ◌<◌, ◌≤◌, ◌^◌, List, [], ◌∷◌, length, Option, None, Some, Result, Ok, Err, refl, sym, ◌∙◌, ap, subst, arith, length-append}
 use Rattle.leveldb_base.specs.BlockHandle.{Handle}
-use Rattle.leveldb_base.specs.Error.{IsOutOfMemory}
 use Rattle.leveldb_base.specs.declared.cmp.Cmp.{Ghosts as CmpGhosts}
 use Rattle.leveldb_base.specs.declared.cmp.internal.InternalKeyCmp.{InternalKeyCmp}
 use Rattle.leveldb_base.specs.declared.error.Status.{Status}
 use Rattle.leveldb_base.specs.declared.error.StatusCode.TheVariants.{Corruption, NotSupported}
-use Rattle.leveldb_env.specs.Compressor.{Codings}
 use Rattle.leveldb_env.specs.Env.{File, bytes_of}
 use Rattle.leveldb_env.proofs.EnvLemmas.{bytes_eq-same}
 use Rattle.leveldb_env.specs.declared.env.Env.{Ghosts as EnvGhosts}
-use Rattle.leveldb_table.proofs.BlockCacheLemmas.{GainsBlocks-refl, HoldsOnlyOf-after, HoldsOnlyOf-new, HoldsOnlyOf-other, IsNumbered-after, IsNumbered-raised, looked_for_same, one_id, others_keep, put_finds}
+use Rattle.leveldb_table.proofs.BlockCacheLemmas.{looked_for_same, one_id, put_finds}
 use Rattle.leveldb_table.proofs.FooterLemmas.{length-footer_bytes}
-use Rattle.leveldb_table.proofs.TableBlockLemmas.{KeepsDisk-refl, KeepsDisk-trans, reads_ok, reads_own, reads_refused, reads_then, reads_weaker, same_files}
+use Rattle.leveldb_table.proofs.TableBlockLemmas.{reads_refused, reads_then, same_files}
 use Rattle.leveldb_table.proofs.TableReaderLemmas.{opens_not}
-use Rattle.leveldb_table.specs.BlockCache.{GainsBlocks, HoldsOnlyOf, IsBlockOfFile, IsNumbered}
-use Rattle.leveldb_table.specs.Cache.{Cached, looked_for, others, put_first, value_of}
+use Rattle.leveldb_table.specs.BlockCache.{HoldsOnlyOf, IsNumbered}
+use Rattle.leveldb_table.specs.Cache.{Cached, looked_for, put_first, value_of}
 use Rattle.leveldb_table.specs.Footer.{footer_bytes}
-use Rattle.leveldb_table.specs.OpenTable.{file_of, id_of}
+use Rattle.leveldb_table.specs.OpenTable.{id_of}
 use Rattle.leveldb_table.specs.Table.{filter_key}
 use Rattle.leveldb_table.specs.TableBlock.{FileHas, IsLackError, KeepsDisk, ReadsFile}
 use Rattle.leveldb_table.specs.TableReader.{AreOfPolicy, EndsInFooter, IsNoTable, IsOpenedAs, LacksPart, OpensTable, no_footer, not_indexed}
 use Rattle.leveldb_table.specs.declared.block_cache.CachedBlock.{CachedBlock}
 use Rattle.leveldb_version.specs.Paths.{table_path}
-use Rattle.leveldb_version.specs.TableCache.{EvictsTable, ForBytesAt, GetsPair, HasBytesAt, IsNotOpened, IsOpenOrThere, IsOpenedWith, IsSameOrGone, IsThereAt, IsUnopened, IsUsedLast, KeepsOpenFiles, LacksBlockFor, LacksTable, MatchesFile, MatchesFiles, OpensFile, OpensNumbered, OpensTableAt, SomeTable, StoreTable, TableOptions, UsesTable, blocks_of, file_at, is_opened, missing, no_table, path_at, store_of, table_at, table_key, tables_of, used_up, was_open}
+use Rattle.leveldb_version.specs.TableCache.{HasBytesAt, IsSameOrGone, IsThereAt, IsUnopened, KeepsOpenFiles, LacksTable, MatchesFile, MatchesFiles, OpensNumbered, StoreTable, TableOptions, blocks_of, file_at, missing, no_table, path_at, table_at, table_key, tables_of, used_up}
 use Rattle.leveldb_version.specs.declared.table_cache.TableCache.{TableCache}
 
 -- ---- empty files

@@ -1,10 +1,8 @@
 use Rattle.std.proofs.Common.{◌≡◌, ◌∙◌, Err}
-use Rattle.leveldb_base.specs.contracts.cmp.internal.InternalKeyCmpCmp.TheImpl.{ghosts as key_order}
 use Rattle.leveldb_env.specs.contracts.compressor.CompressorListCompressors.TheImpl.{ghosts as compressors}
 use Rattle.leveldb_table.proofs.TableBlockLemmas.{reads_weaker}
-use Rattle.leveldb_table.specs.OpenTable.{id_of}
 use Rattle.leveldb_version.specs.Paths.{table_path}
-use Rattle.leveldb_version.specs.TableCache.{OpensFile, table_options}
+use Rattle.leveldb_version.specs.TableCache.{table_options}
 use Rattle.leveldb_version.proofs.TableCacheLemmas.{numbered, numbered_unopened, unopened_file}
 use Rattle.leveldb_version.proofs.table_cache.open.Goals as goal
 

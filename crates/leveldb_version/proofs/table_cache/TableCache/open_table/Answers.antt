@@ -1,8 +1,8 @@
-use Rattle.std.proofs.Common.{◌≡◌, ◌∙◌, None, Some, ap, refl, subst}
+use Rattle.std.proofs.Common.{◌≡◌, ◌∙◌, None, ap, refl}
 use Rattle.std.specs.Prelude.{IsSome}
 use Rattle.leveldb_env.specs.contracts.compressor.CompressorListCompressors.TheImpl.{ghosts as compressors}
-use Rattle.leveldb_table.specs.Cache.{Cached, looked_for, put_first, value_of}
-use Rattle.leveldb_version.specs.TableCache.{table_at, table_key, table_options, tables_of}
+use Rattle.leveldb_table.specs.Cache.{looked_for, value_of}
+use Rattle.leveldb_version.specs.TableCache.{table_at, table_options, tables_of}
 use Rattle.leveldb_version.proofs.TableCacheLemmas.{matches_looked, refused_ok, some_of}
 use Rattle.leveldb_version.proofs.TableCacheCallLemmas.{borrowed_none, borrowed_there, matches_opened, matches_unopened, opened_new, stays_open, uses_unopened}
 use Rattle.leveldb_version.proofs.table_cache.TableCache.open_table.Goals as goal
