@@ -71,3 +71,5 @@ pub mod ShownLemmas
 pub mod RecoveringLemmas
 pub mod OpeningEndLemmas
 pub mod StoreTablesLemmas
+pub mod TableCacheLemmas
+pub mod TableCacheCallLemmas

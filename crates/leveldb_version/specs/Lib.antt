@@ -32,3 +32,4 @@ pub mod Writing
 pub mod Opening
 pub mod WritingLaws
 pub mod OpeningLaws
+pub mod TableCache

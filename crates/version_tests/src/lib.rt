@@ -14,6 +14,8 @@ mod store_sweeps;
 #[cfg(test)]
 mod stores;
 #[cfg(test)]
+mod table_caches;
+#[cfg(test)]
 mod version_edits;
 #[cfg(test)]
 mod version_set_calls;
