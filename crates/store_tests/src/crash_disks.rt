@@ -12,9 +12,10 @@ use rusty_leveldb::shell::{Reply, Report, live, run};
 use slow_history::BorrowedPair;
 use slow_machine::SlowStore;
 use std::alloc::{AllocError, Global};
+use std::process::Abort;
 
 /// What a store is opened with that differs from the defaults.
-#[derive(Clone, Copy, Debug)]
+#[derive(Clone, Copy)]
 pub struct Setting {
     pub write_buffer_size: usize,
     /// Whether the last log and the manifest are used on.
@@ -36,7 +37,7 @@ pub fn options_of(setting: Setting) -> Options<DefaultCmp, BloomPolicy> {
 }
 
 /// Lives of one store, one after another, and what it is opened with.
-#[derive(Clone, Copy, Debug)]
+#[derive(Clone, Copy)]
 pub struct Script {
     pub setting: Setting,
     pub lives: &'static [&'static [Step]],
@@ -168,6 +169,15 @@ fn reply_to_open(opened: Result<()>) -> Reply {
     }
 }
 
+fn add_call(calls: &mut Vec<Call>, step: Step, reply: Reply, moment: u64) -> Result<()> {
+    calls.push(Call {
+        step,
+        reply,
+        moment,
+    })?;
+    Ok(())
+}
+
 /// The calls of a life that began and ended at these moments. Its first reply shows when its opening returned.
 pub fn add_calls(
     calls: &mut Vec<Call>,
@@ -181,25 +191,11 @@ pub fn add_calls(
         Some(first) => start.saturating_add(first.0),
         None => end,
     };
-    calls.push(Call {
-        step: Step::Open,
-        reply: reply_to_open(opened),
-        moment: returned,
-    })?;
+    add_call(calls, Step::Open, reply_to_open(opened), returned)?;
     for (step, (moment, reply)) in steps.iter().zip(replies) {
-        let moment = start.saturating_add(moment);
-        calls.push(Call {
-            step: *step,
-            reply,
-            moment,
-        })?;
+        add_call(calls, *step, reply, start.saturating_add(moment))?;
     }
-    calls.push(Call {
-        step: Step::Abandon,
-        reply: Reply::Done,
-        moment: end,
-    })?;
-    Ok(())
+    add_call(calls, Step::Abandon, Reply::Done, end)
 }
 
 fn record_life(alloc: Global, recorded: &mut Recorded, steps: &[Step]) -> Result<()> {
@@ -260,7 +256,7 @@ pub fn judge_crash(alloc: Global, calls: &[Call], moment: u64) -> Result<SlowSto
 }
 
 /// How many crashes there were where the slow store allows more than one map, and how many of them left the shortest history and the longest.
-#[derive(Debug, Drop)]
+#[derive(Clone, Copy, Debug)]
 pub struct Tally {
     pub open: usize,
     pub shortest: usize,
@@ -289,4 +285,9 @@ impl Tally {
         }
         maps.iter().any(|map| is_map(map, found))
     }
+}
+
+/// Asserts what is to be so of the crashes that were counted.
+pub fn assert_tally(rt: &impl Abort, tally: Tally, is_right: bool) {
+    assert!(rt; is_right, "{tally:?}");
 }

@@ -1,5 +1,5 @@
 //! Lives of a store with a crash after each, reported by `lives`.
-use crate::crash_disks::{Tally, add_calls, judge_crash};
+use crate::crash_disks::{Tally, add_calls, assert_tally, judge_crash};
 use crate::replies::{bytes_of, look_ups};
 use crate::steps::{Call, Step, commands_of};
 use leveldb_base::cmp::DefaultCmp;
@@ -10,7 +10,6 @@ use leveldb_env::options::Options;
 use rusty_leveldb::shell::{Command, Life, Reply, Report, lives};
 use std::alloc::Global;
 use std::process::Abort;
-use std::test::Fail;
 
 /// It begins with a look-up, whose reply shows when the opening returned.
 const STEPS: [Step; 8] = [
@@ -88,20 +87,28 @@ fn last_moment(alloc: Global) -> Result<u64> {
     Ok(last.map_or(0, |reply| reply.0))
 }
 
-/// Where a batch may be lost, it is, but at the two moments of the close that come after its sync.
-#[test]
-fn a_crash_at_each_moment(rt: HostRuntime) -> std::result::Result<(), Fail> {
+/// Crashes at each moment of the life of all steps.
+fn crash_at_each(rt: &impl Abort, alloc: Global) -> Result<Tally> {
     let mut tally = Tally::new();
-    for moment in 0..=last_moment(rt.alloc())? {
-        let reports = crash_and_look(rt.alloc(), moment)?;
+    for moment in 0..=last_moment(alloc)? {
+        let reports = crash_and_look(alloc, moment)?;
         assert!(rt;
-            is_allowed(rt.alloc(), reports, moment, &mut tally)?,
+            is_allowed(alloc, reports, moment, &mut tally)?,
             "at {moment}"
         );
     }
-    assert!(rt;
-        tally.open > 5 && tally.open.saturating_sub(tally.shortest) == 2 && tally.longest == 2,
-        "{tally:?}"
+    Ok(tally)
+}
+
+/// Where a batch may be lost, it is, but at the two moments of the close that come after its sync.
+#[test]
+fn a_crash_at_each_moment(rt: HostRuntime) -> Result<()> {
+    let tally = crash_at_each(&rt, rt.alloc())?;
+    let kept = tally.open.saturating_sub(tally.shortest);
+    assert_tally(
+        &rt,
+        tally,
+        tally.open > 5 && kept == 2 && tally.longest == 2,
     );
     Ok(())
 }

@@ -94,7 +94,7 @@ pub fn crash_everywhere(
     kind: Tails,
 ) -> Result<Tally> {
     let recorded = record(alloc, script)?;
-    assert!(rt; judge_all(alloc, &recorded.calls)?.is_possible());
+    assert!(rt; is_possible(alloc, &recorded)?);
     pass_on_memory(&recorded)?;
     let mut tally = Tally::new();
     let mut looked = nothing_looked_at(alloc)?;
@@ -154,6 +154,23 @@ fn crash_again(rt: &impl Abort, alloc: Global, reopened: &Reopened, kind: Tails)
     Ok(())
 }
 
+/// Opens the store on this disk, where this was found before.
+fn reopen_found(
+    alloc: Global,
+    mut env: RecordEnv,
+    setting: Setting,
+    found: Vec<Reply>,
+) -> Result<Reopened> {
+    let start = env.moment();
+    reopen(alloc, &mut env, options_of(setting))?;
+    Ok(Reopened {
+        setting,
+        env,
+        start,
+        found,
+    })
+}
+
 /// A crash on this side of a moment, and, if it leaves another disk than the last one, a second crash at each moment of the reopening.
 fn crash_twice_on(
     rt: &impl Abort,
@@ -169,14 +186,7 @@ fn crash_twice_on(
     }
     let mut left = crash(alloc, &recorded.env, side, kinds.0)?;
     let found = find_all(alloc, &mut left, recorded.setting)?;
-    let start = env.moment();
-    reopen(alloc, &mut env, options_of(recorded.setting))?;
-    let reopened = Reopened {
-        setting: recorded.setting,
-        env,
-        start,
-        found,
-    };
+    let reopened = reopen_found(alloc, env, recorded.setting, found)?;
     crash_again(rt, alloc, &reopened, kinds.1)
 }
 
@@ -252,6 +262,18 @@ fn reopen_at_the_end(rt: &impl Abort, alloc: Global, recorded: &mut Recorded) ->
     Ok(())
 }
 
+/// Runs a script with one call of the device failing.
+fn record_failing(alloc: Global, script: Script, nth: u64, done: bool) -> Result<Recorded> {
+    let mut env = RecordEnv::new(alloc);
+    env.fail(nth, done);
+    record_on(alloc, env, script)
+}
+
+/// Whether the slow store allows all that was returned.
+fn is_possible(alloc: Global, recorded: &Recorded) -> Result<bool> {
+    Ok(judge_all(alloc, &recorded.calls)?.is_possible())
+}
+
 /// A script with one call of the device failing, and then a crash, or a reopening.
 fn fail_once(
     rt: &impl Abort,
@@ -261,12 +283,9 @@ fn fail_once(
     done: bool,
     tally: &mut Tally,
 ) -> Result<()> {
-    let mut env = RecordEnv::new(alloc);
-    env.fail(nth, done);
-    let mut recorded = record_on(alloc, env, script)?;
-    assert!(rt; recorded.calls.iter().all(has_cause), "call {nth}, {done}");
-    let is_possible = judge_all(alloc, &recorded.calls)?.is_possible();
-    assert!(rt; is_possible, "call {nth}, {done}");
+    let mut recorded = record_failing(alloc, script, nth, done)?;
+    let is_right = is_possible(alloc, &recorded)? && recorded.calls.iter().all(has_cause);
+    assert!(rt; is_right, "call {nth}, {done}");
     pass_on_memory(&recorded)?;
     crash_at_the_end(rt, alloc, &recorded, Tails::Nothing, tally)?;
     crash_at_the_end(rt, alloc, &recorded, Tails::Whole, tally)?;
