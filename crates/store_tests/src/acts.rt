@@ -113,7 +113,10 @@ fn is_right(alloc: Global, env: &mut MemEnv, act: &Act) -> Result<bool> {
         Act::HasFiles(wanted) => has_files(alloc, env, wanted),
         Act::Holds(wanted) => holds(alloc, env, wanted),
         Act::EndsWith(name, end) => ends_with(alloc, env, name, end),
-        _ => change(alloc, env, act).map(|()| true),
+        _ => {
+            change(alloc, env, act)?;
+            Ok(true)
+        }
     }
 }
 

@@ -1,5 +1,5 @@
 //! Crashes of a recording device: which tails they leave, and what is then found and allowed.
-use crate::replies::{is_map, look_ups};
+use crate::replies::{is_any_map, is_map, look_ups};
 use crate::steps::{Call, Step, commands_of, crash_inside, judge};
 use leveldb_base::cmp::DefaultCmp;
 use leveldb_base::error::{Result, Status, StatusCode};
@@ -133,17 +133,22 @@ pub fn bytes_on(alloc: Global, env: &mut RecordEnv) -> Result<Vec<u8>> {
     Ok(all)
 }
 
-/// Out of memory, if a call was.
-pub fn pass_on_memory(recorded: &Recorded) -> Result<()> {
-    let mut replies = recorded.calls.iter().map(|call| &call.reply);
-    if replies.any(is_out_of_memory) {
-        return Err(Status::from(AllocError));
+/// Out of memory, if the reply is that.
+fn check_memory(reply: &Reply) -> Result<()> {
+    match reply {
+        Reply::Refused(status) if status.code == StatusCode::OutOfMemory => {
+            Err(Status::from(AllocError))
+        }
+        _ => Ok(()),
     }
-    Ok(())
 }
 
-fn is_out_of_memory(reply: &Reply) -> bool {
-    matches!(reply, Reply::Refused(status) if status.code == StatusCode::OutOfMemory)
+/// Out of memory, if a call was.
+pub fn pass_on_memory(recorded: &Recorded) -> Result<()> {
+    for call in &recorded.calls {
+        check_memory(&call.reply)?;
+    }
+    Ok(())
 }
 
 /// What a store replies to a look-up of each key, which is opened for that.
@@ -156,8 +161,8 @@ pub fn find_all(alloc: Global, env: &mut RecordEnv, setting: Setting) -> Result<
         &look_ups(alloc)?,
         &mut replies,
     )?;
-    if replies.iter().any(is_out_of_memory) {
-        return Err(Status::from(AllocError));
+    for reply in &replies {
+        check_memory(reply)?;
     }
     Ok(replies)
 }
@@ -283,7 +288,7 @@ impl Tally {
                 .longest
                 .saturating_add(usize::from(is_map(last, found)));
         }
-        maps.iter().any(|map| is_map(map, found))
+        is_any_map(maps, found)
     }
 }
 

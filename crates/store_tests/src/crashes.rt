@@ -1,6 +1,6 @@
 //! A store in memory after each of a dozen batches, and a crash that leaves each prefix of its log's unsynced bytes, or all of them with
 //! the last byte changed: the map that is found is that of a prefix of the batches with all durable ones, and the store goes on from there.
-use crate::replies::{bytes_of, is_map, is_same, look_ups};
+use crate::replies::{are_same, bytes_of, is_any_map, look_ups};
 use leveldb_base::cmp::DefaultCmp;
 use leveldb_base::error::Result;
 use rusty_leveldb::env::Env;
@@ -123,16 +123,11 @@ fn pick(alloc: Global, tail: &[u8]) -> Result<Pick> {
 
 /// Whether the later replies are the earlier ones, but for the last key, which now has this value.
 fn has_only_changed_last(before: &[Reply], after: &[Reply], value: &[u8]) -> bool {
-    let Some((last, others)) = after.split_last() else {
+    let (Some((_, before)), Some((last, after))) = (before.split_last(), after.split_last()) else {
         return false;
     };
-    let are_same = before
-        .iter()
-        .zip(others)
-        .all(|(before, after)| is_same(before, after));
-    are_same
-        && before.len() == after.len()
-        && matches!(last, Reply::Value(found) if found.as_slice() == value)
+    let is_changed = matches!(last, Reply::Value(found) if found.as_slice() == value);
+    is_changed && are_same(before, after)
 }
 
 /// Gives the store one synced batch, in which the last key has a new value, and returns whether it was written.
@@ -166,10 +161,12 @@ fn crash_and_go_on(
 ) -> Result<()> {
     let mut left = env.crashed(alloc, &pick(alloc, tail)?)?;
     let found = look_up_all(alloc, &mut left)?;
-    let is_allowed = maps.iter().any(|map| is_map(map, &found));
-    assert!(rt; is_allowed, "a tail of {}", tail.len());
-    let goes_on = goes_on(alloc, &mut left, &found)?;
-    assert!(rt; goes_on, "after a tail of {}", tail.len());
+    assert!(rt; is_any_map(maps, &found), "a tail of {}", tail.len());
+    assert!(rt;
+        goes_on(alloc, &mut left, &found)?,
+        "after a tail of {}",
+        tail.len()
+    );
     Ok(())
 }
 

@@ -120,7 +120,10 @@ fn call<E: Env>(alloc: Global, db: &mut Opened<'_, E>, act: Act) -> Result<()> {
         Act::Put(key, value) => db.put(key, value),
         Act::Delete(key) => db.delete(key),
         Act::Write(key, value) => db.write(pair(alloc, key, value)?, true),
-        Act::Get(key) => db.get(key).map(drop),
+        Act::Get(key) => {
+            db.get(key)?;
+            Ok(())
+        }
         Act::Flush => db.flush(),
         Act::Close => db.close(),
         Act::Shows(_) => Ok(()),

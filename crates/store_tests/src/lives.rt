@@ -2,6 +2,7 @@
 use crate::crash_disks::{Tally, add_calls, assert_tally, judge_crash};
 use crate::replies::{bytes_of, look_ups};
 use crate::steps::{Call, Step, commands_of};
+use crate::stores::{failed_with, failed_with as has_failed};
 use leveldb_base::cmp::DefaultCmp;
 use leveldb_base::error::{Result, StatusCode};
 use leveldb_env::filter::BloomPolicy;
@@ -118,8 +119,8 @@ fn a_crash_at_each_moment(rt: HostRuntime) -> Result<()> {
 fn a_moment_to_come(rt: HostRuntime) -> Result<()> {
     let last = last_moment(rt.alloc())?;
     assert!(rt; crash_and_look(rt.alloc(), last).is_ok());
-    let refusal = crash_and_look(rt.alloc(), last.saturating_add(1)).map(drop);
-    assert!(rt; matches!(&refusal, Err(status) if status.code == StatusCode::InvalidArgument));
+    let later = crash_and_look(rt.alloc(), last.saturating_add(1));
+    assert!(rt; failed_with(later, StatusCode::InvalidArgument)?);
     Ok(())
 }
 
@@ -131,7 +132,7 @@ const FAILING: [Step; 4] = [
     Step::Put("c", "3"),
 ];
 
-fn failed_with(reply: &Reply, wanted: StatusCode) -> bool {
+fn is_refusal(reply: &Reply, wanted: StatusCode) -> bool {
     matches!(reply, Reply::Refused(status) if status.code == wanted)
 }
 
@@ -154,7 +155,7 @@ fn fail_and_look(alloc: Global, moment: u64, nth: u64) -> Result<Vec<Report>> {
 fn are_of_a_failed_sync(replies: &[Reply]) -> bool {
     match replies {
         [Reply::Done, write, Reply::Nothing, put] => {
-            failed_with(write, StatusCode::IOError) && failed_with(put, StatusCode::IOError)
+            is_refusal(write, StatusCode::IOError) && is_refusal(put, StatusCode::IOError)
         }
         _ => false,
     }

@@ -106,7 +106,10 @@ fn is_right(slow: &mut SlowStore, alloc: Global, row: &Row) -> Result<bool> {
         Row::IsPossible => Ok(slow.is_possible()),
         Row::IsImpossible => Ok(!slow.is_possible()),
         Row::MayShow(maps) => may_show(slow, maps),
-        _ => happen(slow, alloc, row).map(|()| true),
+        _ => {
+            happen(slow, alloc, row)?;
+            Ok(true)
+        }
     }
 }
 

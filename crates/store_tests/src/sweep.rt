@@ -4,7 +4,7 @@ use crate::crash_disks::{
     Recorded, Script, Setting, Side, Tails, Tally, bytes_on, crash, find_all, judge_all,
     judge_crash, options_of, pass_on_memory, record, record_on, sides_of,
 };
-use crate::replies::{are_same, is_map};
+use crate::replies::{are_same, is_any_map};
 use crate::steps::{Call, Step};
 use crate::stores::reopen;
 use leveldb_base::cmp::DefaultCmp;
@@ -233,6 +233,15 @@ fn has_cause(call: &Call) -> bool {
     }
 }
 
+fn have_causes(calls: &[Call]) -> bool {
+    for call in calls {
+        if !has_cause(call) {
+            return false;
+        }
+    }
+    true
+}
+
 fn crash_at_the_end(
     rt: &impl Abort,
     alloc: Global,
@@ -255,7 +264,7 @@ fn reopen_at_the_end(rt: &impl Abort, alloc: Global, recorded: &mut Recorded) ->
     slow.opened()?;
     let maps = slow.maps(&DefaultCmp)?;
     let is_right = match find_all(alloc, &mut recorded.env, recorded.setting) {
-        Ok(found) => maps.iter().any(|map| is_map(map, &found)),
+        Ok(found) => is_any_map(&maps, &found),
         Err(status) => status.code == StatusCode::LockError,
     };
     assert!(rt; is_right);
@@ -284,7 +293,7 @@ fn fail_once(
     tally: &mut Tally,
 ) -> Result<()> {
     let mut recorded = record_failing(alloc, script, nth, done)?;
-    let is_right = is_possible(alloc, &recorded)? && recorded.calls.iter().all(has_cause);
+    let is_right = is_possible(alloc, &recorded)? && have_causes(&recorded.calls);
     assert!(rt; is_right, "call {nth}, {done}");
     pass_on_memory(&recorded)?;
     crash_at_the_end(rt, alloc, &recorded, Tails::Nothing, tally)?;
