@@ -1,5 +1,5 @@
 //! Crashes of a recording device: which tails they leave, and what is then found and allowed.
-use crate::replies::{is_map, look_ups};
+use crate::replies::{is_any_map, is_map, look_ups};
 use crate::steps::{Call, Step, commands_of, crash_inside, judge};
 use leveldb_base::cmp::DefaultCmp;
 use leveldb_base::error::{Result, Status, StatusCode};
@@ -12,9 +12,10 @@ use rusty_leveldb::shell::{Reply, Report, live, run};
 use slow_history::BorrowedPair;
 use slow_machine::SlowStore;
 use std::alloc::{AllocError, Global};
+use std::process::Abort;
 
 /// What a store is opened with that differs from the defaults.
-#[derive(Clone, Copy, Debug)]
+#[derive(Clone, Copy)]
 pub struct Setting {
     pub write_buffer_size: usize,
     /// Whether the last log and the manifest are used on.
@@ -36,7 +37,7 @@ pub fn options_of(setting: Setting) -> Options<DefaultCmp, BloomPolicy> {
 }
 
 /// Lives of one store, one after another, and what it is opened with.
-#[derive(Clone, Copy, Debug)]
+#[derive(Clone, Copy)]
 pub struct Script {
     pub setting: Setting,
     pub lives: &'static [&'static [Step]],
@@ -132,17 +133,22 @@ pub fn bytes_on(alloc: Global, env: &mut RecordEnv) -> Result<Vec<u8>> {
     Ok(all)
 }
 
-/// Out of memory, if a call was.
-pub fn pass_on_memory(recorded: &Recorded) -> Result<()> {
-    let mut replies = recorded.calls.iter().map(|call| &call.reply);
-    if replies.any(is_out_of_memory) {
-        return Err(Status::from(AllocError));
+/// Out of memory, if the reply is that.
+fn check_memory(reply: &Reply) -> Result<()> {
+    match reply {
+        Reply::Refused(status) if status.code == StatusCode::OutOfMemory => {
+            Err(Status::from(AllocError))
+        }
+        _ => Ok(()),
     }
-    Ok(())
 }
 
-fn is_out_of_memory(reply: &Reply) -> bool {
-    matches!(reply, Reply::Refused(status) if status.code == StatusCode::OutOfMemory)
+/// Out of memory, if a call was.
+pub fn pass_on_memory(recorded: &Recorded) -> Result<()> {
+    for call in &recorded.calls {
+        check_memory(&call.reply)?;
+    }
+    Ok(())
 }
 
 /// What a store replies to a look-up of each key, which is opened for that.
@@ -155,8 +161,8 @@ pub fn find_all(alloc: Global, env: &mut RecordEnv, setting: Setting) -> Result<
         &look_ups(alloc)?,
         &mut replies,
     )?;
-    if replies.iter().any(is_out_of_memory) {
-        return Err(Status::from(AllocError));
+    for reply in &replies {
+        check_memory(reply)?;
     }
     Ok(replies)
 }
@@ -166,6 +172,15 @@ fn reply_to_open(opened: Result<()>) -> Reply {
         Ok(()) => Reply::Done,
         Err(status) => Reply::Refused(status),
     }
+}
+
+fn add_call(calls: &mut Vec<Call>, step: Step, reply: Reply, moment: u64) -> Result<()> {
+    calls.push(Call {
+        step,
+        reply,
+        moment,
+    })?;
+    Ok(())
 }
 
 /// The calls of a life that began and ended at these moments. Its first reply shows when its opening returned.
@@ -181,25 +196,11 @@ pub fn add_calls(
         Some(first) => start.saturating_add(first.0),
         None => end,
     };
-    calls.push(Call {
-        step: Step::Open,
-        reply: reply_to_open(opened),
-        moment: returned,
-    })?;
+    add_call(calls, Step::Open, reply_to_open(opened), returned)?;
     for (step, (moment, reply)) in steps.iter().zip(replies) {
-        let moment = start.saturating_add(moment);
-        calls.push(Call {
-            step: *step,
-            reply,
-            moment,
-        })?;
+        add_call(calls, *step, reply, start.saturating_add(moment))?;
     }
-    calls.push(Call {
-        step: Step::Abandon,
-        reply: Reply::Done,
-        moment: end,
-    })?;
-    Ok(())
+    add_call(calls, Step::Abandon, Reply::Done, end)
 }
 
 fn record_life(alloc: Global, recorded: &mut Recorded, steps: &[Step]) -> Result<()> {
@@ -260,7 +261,7 @@ pub fn judge_crash(alloc: Global, calls: &[Call], moment: u64) -> Result<SlowSto
 }
 
 /// How many crashes there were where the slow store allows more than one map, and how many of them left the shortest history and the longest.
-#[derive(Debug, Drop)]
+#[derive(Clone, Copy, Debug)]
 pub struct Tally {
     pub open: usize,
     pub shortest: usize,
@@ -287,6 +288,11 @@ impl Tally {
                 .longest
                 .saturating_add(usize::from(is_map(last, found)));
         }
-        maps.iter().any(|map| is_map(map, found))
+        is_any_map(maps, found)
     }
+}
+
+/// Asserts what is to be so of the crashes that were counted.
+pub fn assert_tally(rt: &impl Abort, tally: Tally, is_right: bool) {
+    assert!(rt; is_right, "{tally:?}");
 }

@@ -1,108 +1,119 @@
 //! Which files openings leave, and what they hold.
+use crate::acts::{Act, Setting, play};
 use crate::crash_disks::{Side, Tails, crash};
 use crate::stores::{
-    DefaultEngine, STORE, buffered, contents_of, cut_file, file_bytes, has_files, holds, put_all,
-    put_log, reopen, reusing, store_of,
+    DefaultEngine, STORE, contents_of, file_bytes, has_files, reopen, reusing, store_of,
 };
 use leveldb_base::error::Result;
-use leveldb_env::env::Env;
-use leveldb_env::mem_env::{MemEnv, Pick, RecordEnv};
+use leveldb_env::mem_env::{Pick, RecordEnv};
 use leveldb_env::options::Options;
 use std::alloc::Global;
-use std::process::Abort;
 
 /// The record of a new store's manifest: its comparator, a log number of 0, the next file's number 2 and a last number of 0.
+/// The manifest has 7 bytes before it.
 const NEW_MANIFEST: &[u8] = b"\x01\x1aleveldb.BytewiseComparator\x02\0\x03\x02\x04\0";
+
+const NEW_STORE: &[Act] = &[
+    Act::Open(Setting::Defaults),
+    Act::HasFiles("000003.log:0 CURRENT:16 LOCK:0 MANIFEST-000001:41 "),
+    Act::EndsWith("CURRENT", b"MANIFEST-000001\n"),
+    Act::EndsWith("MANIFEST-000001", NEW_MANIFEST),
+    Act::Holds("0:"),
+];
 
 #[test]
 fn new_store(rt: HostRuntime) -> Result<()> {
-    let mut env = store_of(rt.alloc(), &[])?;
-    let wanted = "000003.log:0 CURRENT:16 LOCK:0 MANIFEST-000001:41 ";
-    assert!(rt; has_files(rt.alloc(), &mut env, wanted)?);
-    let current = file_bytes(rt.alloc(), &mut env, "CURRENT")?;
-    assert!(rt; current.as_slice() == b"MANIFEST-000001\n".as_slice());
-    let manifest = file_bytes(rt.alloc(), &mut env, "MANIFEST-000001")?;
-    assert!(rt; manifest.ends_with(NEW_MANIFEST) && NEW_MANIFEST.len() == 34);
-    assert!(rt; holds(rt.alloc(), &mut env, "0:")?);
-    Ok(())
+    assert!(rt; NEW_MANIFEST.len() == 34);
+    play(&rt, rt.alloc(), NEW_STORE)
 }
+
+const USED_ON: &[Act] = &[
+    Act::Put(Setting::Defaults, &[("a", "1")]),
+    Act::Open(Setting::Defaults),
+    Act::HasFiles("000003.log:24 CURRENT:16 LOCK:0 MANIFEST-000001:41 "),
+    Act::Put(Setting::Defaults, &[("b", "2")]),
+    Act::Holds("2: 1a 2b"),
+];
 
 /// Where the last log and the manifest are used on, an opening changes no file.
 #[test]
 fn used_on(rt: HostRuntime) -> Result<()> {
-    let mut env = store_of(rt.alloc(), &[("a", "1")])?;
-    reopen(rt.alloc(), &mut env, Options::default())?;
-    let wanted = "000003.log:24 CURRENT:16 LOCK:0 MANIFEST-000001:41 ";
-    assert!(rt; has_files(rt.alloc(), &mut env, wanted)?);
-    put_all(rt.alloc(), &mut env, Options::default(), &[("b", "2")])?;
-    assert!(rt; holds(rt.alloc(), &mut env, "2: 1a 2b")?);
-    Ok(())
+    play(&rt, rt.alloc(), USED_ON)
 }
+
+const NEITHER_USED_ON: &[Act] = &[
+    Act::Put(Setting::Defaults, &[("a", "1")]),
+    Act::Open(Setting::Reuses(false, false)),
+    Act::HasFiles("000005.ldb:177 000006.log:0 CURRENT:16 LOCK:0 MANIFEST-000004:75 "),
+    Act::Holds("1: 1a"),
+    Act::Put(Setting::Defaults, &[("b", "2")]),
+    Act::Holds("2: 1a 2b"),
+];
 
 /// Where neither is, the new manifest's number is given first, then the table's, then the log's.
 #[test]
 fn neither_used_on(rt: HostRuntime) -> Result<()> {
-    let mut env = store_of(rt.alloc(), &[("a", "1")])?;
-    reopen(rt.alloc(), &mut env, reusing(false, false))?;
-    let wanted = "000005.ldb:177 000006.log:0 CURRENT:16 LOCK:0 MANIFEST-000004:75 ";
-    assert!(rt; has_files(rt.alloc(), &mut env, wanted)?);
-    assert!(rt; holds(rt.alloc(), &mut env, "1: 1a")?);
-    put_all(rt.alloc(), &mut env, Options::default(), &[("b", "2")])?;
-    assert!(rt; holds(rt.alloc(), &mut env, "2: 1a 2b")?);
-    Ok(())
+    play(&rt, rt.alloc(), NEITHER_USED_ON)
 }
+
+const ONE_USED_ON: &[Act] = &[
+    Act::Put(Setting::Defaults, &[("a", "1")]),
+    Act::Open(Setting::Reuses(false, true)),
+    Act::HasFiles("000004.ldb:177 000005.log:0 CURRENT:16 LOCK:0 MANIFEST-000001:81 "),
+    Act::Open(Setting::FileSize(81)),
+    Act::HasFiles("000004.ldb:177 000005.log:0 CURRENT:16 LOCK:0 MANIFEST-000007:75 "),
+];
 
 /// A log that isn't used on becomes a table, and a manifest of `max_file_size` bytes or more is made anew.
 #[test]
 fn one_used_on(rt: HostRuntime) -> Result<()> {
-    let mut env = store_of(rt.alloc(), &[("a", "1")])?;
-    reopen(rt.alloc(), &mut env, reusing(false, true))?;
-    let wanted = "000004.ldb:177 000005.log:0 CURRENT:16 LOCK:0 MANIFEST-000001:81 ";
-    assert!(rt; has_files(rt.alloc(), &mut env, wanted)?);
-    let mut options = Options::default();
-    options.max_file_size = 81;
-    reopen(rt.alloc(), &mut env, options)?;
-    let wanted = "000004.ldb:177 000005.log:0 CURRENT:16 LOCK:0 MANIFEST-000007:75 ";
-    assert!(rt; has_files(rt.alloc(), &mut env, wanted)?);
-    Ok(())
+    play(&rt, rt.alloc(), ONE_USED_ON)
 }
+
+const SEVERAL_LOGS: &[Act] = &[
+    Act::Put(Setting::Defaults, &[("a", "1")]),
+    Act::Log("000004.log", &[(2, "b"), (3, "a")]),
+    Act::Log("000006.log", &[(5, "c")]),
+    Act::Put(Setting::Defaults, &[("d", "4")]),
+    Act::HasFiles(
+        "000006.log:48 000007.ldb:177 000008.ldb:190 CURRENT:16 LOCK:0 MANIFEST-000001:106 ",
+    ),
+    Act::Holds("6: 1a 3a 2b 5c 6d"),
+];
 
 /// The last log is used on, and all entries of those before it come to tables, one for each.
 #[test]
 fn several_logs(rt: HostRuntime) -> Result<()> {
-    let mut env = store_of(rt.alloc(), &[("a", "1")])?;
-    put_log(rt.alloc(), &mut env, "000004.log", &[(2, "b"), (3, "a")])?;
-    put_log(rt.alloc(), &mut env, "000006.log", &[(5, "c")])?;
-    put_all(rt.alloc(), &mut env, Options::default(), &[("d", "4")])?;
-    let wanted =
-        "000006.log:48 000007.ldb:177 000008.ldb:190 CURRENT:16 LOCK:0 MANIFEST-000001:106 ";
-    assert!(rt; has_files(rt.alloc(), &mut env, wanted)?);
-    assert!(rt; holds(rt.alloc(), &mut env, "6: 1a 3a 2b 5c 6d")?);
-    Ok(())
+    play(&rt, rt.alloc(), SEVERAL_LOGS)
 }
+
+const TORN_LOG: &[Act] = &[
+    Act::Put(Setting::Defaults, &[("a", "1"), ("b", "2")]),
+    Act::Cut("000003.log", 47),
+    Act::Open(Setting::Defaults),
+    Act::HasFiles("000004.ldb:177 000005.log:0 CURRENT:16 LOCK:0 MANIFEST-000001:81 "),
+    Act::Holds("1: 1a"),
+];
 
 /// A log that ends badly isn't used on.
 #[test]
 fn torn_log(rt: HostRuntime) -> Result<()> {
-    let mut env = store_of(rt.alloc(), &[("a", "1"), ("b", "2")])?;
-    cut_file(rt.alloc(), &mut env, "000003.log", 47)?;
-    reopen(rt.alloc(), &mut env, Options::default())?;
-    let wanted = "000004.ldb:177 000005.log:0 CURRENT:16 LOCK:0 MANIFEST-000001:81 ";
-    assert!(rt; has_files(rt.alloc(), &mut env, wanted)?);
-    assert!(rt; holds(rt.alloc(), &mut env, "1: 1a")?);
-    Ok(())
+    play(&rt, rt.alloc(), TORN_LOG)
 }
+
+const SMALL_MEMTABLE: &[Act] = &[
+    Act::Put(Setting::Defaults, &[("a", "1"), ("b", "2"), ("c", "3")]),
+    Act::Open(Setting::Buffer(250)),
+    Act::HasFiles(
+        "000004.ldb:190 000005.ldb:177 000006.log:0 CURRENT:16 LOCK:0 MANIFEST-000001:106 ",
+    ),
+    Act::Holds("3: 1a 2b 3c"),
+];
 
 /// A log that fills a memtable goes to tables.
 #[test]
 fn small_memtable(rt: HostRuntime) -> Result<()> {
-    let mut env = store_of(rt.alloc(), &[("a", "1"), ("b", "2"), ("c", "3")])?;
-    reopen(rt.alloc(), &mut env, buffered(250))?;
-    let wanted =
-        "000004.ldb:190 000005.ldb:177 000006.log:0 CURRENT:16 LOCK:0 MANIFEST-000001:106 ";
-    assert!(rt; has_files(rt.alloc(), &mut env, wanted)?);
-    assert!(rt; holds(rt.alloc(), &mut env, "3: 1a 2b 3c")?);
-    Ok(())
+    play(&rt, rt.alloc(), SMALL_MEMTABLE)
 }
 
 /// What a crash without tails leaves of a store that was opened, and not synced before.
@@ -124,18 +135,17 @@ fn found_is_durable(rt: HostRuntime) -> Result<()> {
     Ok(())
 }
 
+const LEFT_OVER_FILES: &[Act] = &[
+    Act::Make("MANIFEST-000001", b"x"),
+    Act::Make("000007.dbtmp", b"x"),
+    Act::Open(Setting::Defaults),
+    Act::HasFiles("000008.log:0 CURRENT:16 LOCK:0 MANIFEST-000001:41 "),
+];
+
 /// A folder with a manifest and a temporary file alone has no store: one is made, and the temporary file is deleted.
 #[test]
 fn left_over_files(rt: HostRuntime) -> Result<()> {
-    let mut env = MemEnv::new(rt.alloc());
-    for path in &["db/MANIFEST-000001", "db/000007.dbtmp"] {
-        let mut file = env.open_writable_file(*path)?;
-        env.append(&mut file, b"x")?;
-    }
-    reopen(rt.alloc(), &mut env, Options::default())?;
-    let wanted = "000008.log:0 CURRENT:16 LOCK:0 MANIFEST-000001:41 ";
-    assert!(rt; has_files(rt.alloc(), &mut env, wanted)?);
-    Ok(())
+    play(&rt, rt.alloc(), LEFT_OVER_FILES)
 }
 
 /// What `CURRENT` names after a crash without tails at this moment, and then the value of k.

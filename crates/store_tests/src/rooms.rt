@@ -13,11 +13,13 @@ use std::cell::Cell;
 use std::process::Abort;
 use std::rc::Rc;
 
+type RecordEngine = DefaultEngine<RecordEnv>;
+
 /// The key's value, or `none`.
-fn value_of<E: Env>(
+fn value_of(
     alloc: Global,
-    env: &mut E,
-    engine: &mut DefaultEngine<E>,
+    env: &mut RecordEnv,
+    engine: &mut RecordEngine,
     key: &str,
 ) -> Result<String> {
     let found = engine.get(env, key.as_bytes())?;
@@ -29,7 +31,7 @@ fn value_of<E: Env>(
 }
 
 /// The values of the keys a, b and c.
-fn values_of<E: Env>(alloc: Global, env: &mut E, engine: &mut DefaultEngine<E>) -> Result<String> {
+fn values_of(alloc: Global, env: &mut RecordEnv, engine: &mut RecordEngine) -> Result<String> {
     let a = value_of(alloc, env, engine, "a")?;
     let b = value_of(alloc, env, engine, "b")?;
     let c = value_of(alloc, env, engine, "c")?;
@@ -37,7 +39,7 @@ fn values_of<E: Env>(alloc: Global, env: &mut E, engine: &mut DefaultEngine<E>) 
 }
 
 /// The values of the three keys in a store that is opened for that.
-fn found_in<E: Env>(alloc: Global, env: &mut E) -> Result<String> {
+fn found_in(alloc: Global, env: &mut RecordEnv) -> Result<String> {
     let mut engine = DefaultEngine::open(alloc, STORE, env, Options::default())?;
     let found = values_of(alloc, env, &mut engine)?;
     engine.abandon(env)?;
@@ -45,158 +47,226 @@ fn found_in<E: Env>(alloc: Global, env: &mut E) -> Result<String> {
 }
 
 /// Whether these are the values of the three keys.
-fn finds<E: Env>(
+fn finds(
     alloc: Global,
-    env: &mut E,
-    engine: &mut DefaultEngine<E>,
+    env: &mut RecordEnv,
+    engine: &mut RecordEngine,
     wanted: &str,
 ) -> Result<bool> {
     Ok(values_of(alloc, env, engine)?.as_str() == wanted)
 }
 
-/// Puts these pairs, each in a batch of its own.
-fn put_pairs<E: Env>(
-    env: &mut E,
-    engine: &mut DefaultEngine<E>,
-    pairs: &[(&str, &str)],
+/// Whether this is the key's value.
+fn finds_one(
+    alloc: Global,
+    env: &mut RecordEnv,
+    engine: &mut RecordEngine,
+    key: &str,
+    wanted: &str,
+) -> Result<bool> {
+    Ok(value_of(alloc, env, engine, key)?.as_str() == wanted)
+}
+
+/// What is done to an open store and its files, or asked of them.
+#[derive(Clone, Copy)]
+enum Act {
+    Put(&'static str, &'static str),
+    /// A put of this key fails since the device failed, or since the store is broken.
+    PutFails(&'static str),
+    Delete(&'static str),
+    /// Writes an empty batch.
+    WriteNothing,
+    /// Deletes the file at this path.
+    Lose(&'static str),
+    /// The nth call of the device from now on fails.
+    Fail(u64),
+    /// The values of the keys a, b and c are these.
+    Finds(&'static str),
+    /// The value of this key is this one, or `none`.
+    FindsOne(&'static str, &'static str),
+    /// A look-up of this key finds damage.
+    FindsDamage(&'static str),
+    /// The names of the store's folder and the sizes of its files are these.
+    HasFiles(&'static str),
+    /// The slow store reads this.
+    Holds(&'static str),
+}
+
+fn change(alloc: Global, env: &mut RecordEnv, engine: &mut RecordEngine, act: &Act) -> Result<()> {
+    match act {
+        Act::Put(key, value) => engine.put(env, key.as_bytes(), value.as_bytes()),
+        Act::Delete(key) => engine.delete(env, key.as_bytes()),
+        Act::WriteNothing => engine.write(env, WriteBatch::new(alloc)?, false),
+        Act::Lose(path) => env.delete(path),
+        _ => Ok(()),
+    }
+}
+
+fn put_fails(env: &mut RecordEnv, engine: &mut RecordEngine, key: &str) -> Result<bool> {
+    failed_with(engine.put(env, key.as_bytes(), b"2"), StatusCode::IOError)
+}
+
+fn finds_damage(env: &mut RecordEnv, engine: &mut RecordEngine, key: &str) -> Result<bool> {
+    failed_with(engine.get(env, key.as_bytes()), StatusCode::Corruption)
+}
+
+/// Does what is to be done, and returns whether what is asked is so.
+fn is_right(
+    alloc: Global,
+    env: &mut RecordEnv,
+    engine: &mut RecordEngine,
+    act: &Act,
+) -> Result<bool> {
+    match act {
+        Act::PutFails(key) => put_fails(env, engine, key),
+        Act::Fail(nth) => {
+            env.fail(*nth, false);
+            Ok(true)
+        }
+        Act::Finds(wanted) => finds(alloc, env, engine, wanted),
+        Act::FindsOne(key, wanted) => finds_one(alloc, env, engine, key, wanted),
+        Act::FindsDamage(key) => finds_damage(env, engine, key),
+        Act::HasFiles(wanted) => has_files(alloc, env, wanted),
+        Act::Holds(wanted) => holds(alloc, env, wanted),
+        _ => {
+            change(alloc, env, engine, act)?;
+            Ok(true)
+        }
+    }
+}
+
+/// Does and asks all this, one after another.
+fn play_on(
+    rt: &impl Abort,
+    alloc: Global,
+    env: &mut RecordEnv,
+    engine: &mut RecordEngine,
+    acts: &[Act],
 ) -> Result<()> {
-    for (key, value) in pairs {
-        engine.put(env, key.as_bytes(), value.as_bytes())?;
+    for (at, act) in acts.iter().enumerate() {
+        assert!(rt; is_right(alloc, env, engine, act)?, "row {at}");
     }
     Ok(())
 }
 
-/// Puts a pair, and returns whether the store has these files then.
-fn put_leaves<E: Env>(
-    alloc: Global,
-    env: &mut E,
-    engine: &mut DefaultEngine<E>,
-    pair: (&str, &str),
-    wanted: &str,
-) -> Result<bool> {
-    engine.put(env, pair.0.as_bytes(), pair.1.as_bytes())?;
-    has_files(alloc, env, wanted)
+/// The device of a store with a memtable of one byte, for which all this was done, and which gave back its lock.
+fn played(rt: &impl Abort, alloc: Global, acts: &[Act]) -> Result<RecordEnv> {
+    let mut env = RecordEnv::new(alloc);
+    let mut engine = DefaultEngine::open(alloc, STORE, &mut env, buffered(1))?;
+    play_on(rt, alloc, &mut env, &mut engine, acts)?;
+    engine.abandon(&mut env)?;
+    Ok(env)
 }
+
+/// Does and asks all this, and then finds these values of the three keys when the store is opened again.
+fn play(rt: &impl Abort, alloc: Global, acts: &[Act], found: &str) -> Result<()> {
+    let mut env = played(rt, alloc, acts)?;
+    assert!(rt; found_in(alloc, &mut env)?.as_str() == found);
+    Ok(())
+}
+
+const ONE_TABLE: &[Act] = &[
+    Act::Put("a", "1"),
+    Act::Put("b", "2"),
+    Act::HasFiles("000004.log:24 000005.ldb:177 CURRENT:16 LOCK:0 MANIFEST-000001:81 "),
+    Act::Holds("2: 1a 2b"),
+];
 
 /// The batch before is a table of level 0 then, its log is deleted, and the manifest has one more edit.
 #[test]
 fn a_table_of_the_batch_before(rt: HostRuntime) -> Result<()> {
-    let mut env = MemEnv::new(rt.alloc());
-    put_all(rt.alloc(), &mut env, buffered(1), &[("a", "1"), ("b", "2")])?;
-    let wanted = "000004.log:24 000005.ldb:177 CURRENT:16 LOCK:0 MANIFEST-000001:81 ";
-    assert!(rt; has_files(rt.alloc(), &mut env, wanted)?);
-    assert!(rt; holds(rt.alloc(), &mut env, "2: 1a 2b")?);
-    assert!(rt; found_in(rt.alloc(), &mut env)?.as_str() == "1 2 none");
-    Ok(())
+    play(&rt, rt.alloc(), ONE_TABLE, "1 2 none")
 }
 
-const PAIRS: [(&str, &str); 5] = [("a", "1"), ("b", "2"), ("a", "3"), ("a", "4"), ("c", "5")];
+const NEWEST_FIRST: &[Act] = &[
+    Act::Put("a", "1"),
+    Act::Put("b", "2"),
+    Act::Put("a", "3"),
+    Act::Put("a", "4"),
+    Act::Put("c", "5"),
+    Act::Finds("4 2 5"),
+    Act::Delete("b"),
+    Act::Put("c", "6"),
+    Act::Finds("4 none 6"),
+];
 
 /// Of several tables of level 0 the newest one that has the key decides, and a deletion is an entry like any other.
 #[test]
 fn the_newest_table_first(rt: HostRuntime) -> Result<()> {
-    let mut env = MemEnv::new(rt.alloc());
-    let mut engine = DefaultEngine::open(rt.alloc(), STORE, &mut env, buffered(1))?;
-    put_pairs(&mut env, &mut engine, &PAIRS)?;
-    assert!(rt; finds(rt.alloc(), &mut env, &mut engine, "4 2 5")?);
-    engine.delete(&mut env, b"b")?;
-    put_pairs(&mut env, &mut engine, &[("c", "6")])?;
-    assert!(rt; finds(rt.alloc(), &mut env, &mut engine, "4 none 6")?);
-    engine.abandon(&mut env)?;
-    assert!(rt; found_in(rt.alloc(), &mut env)?.as_str() == "4 none 6");
-    Ok(())
+    play(&rt, rt.alloc(), NEWEST_FIRST, "4 none 6")
 }
 
-fn write_nothing<E: Env>(alloc: Global, env: &mut E, engine: &mut DefaultEngine<E>) -> Result<()> {
-    engine.write(env, WriteBatch::new(alloc)?, false)
-}
+const EMPTY_BATCHES: &[Act] = &[
+    Act::WriteNothing,
+    Act::WriteNothing,
+    Act::HasFiles("000003.log:38 CURRENT:16 LOCK:0 MANIFEST-000001:41 "),
+    Act::Put("a", "1"),
+    Act::HasFiles("000003.log:62 CURRENT:16 LOCK:0 MANIFEST-000001:41 "),
+    Act::Holds("1: 1a"),
+];
 
 /// An empty batch comes to the log, and doesn't make the memtable full.
 #[test]
 fn empty_batches(rt: HostRuntime) -> Result<()> {
-    let alloc = rt.alloc();
-    let mut env = MemEnv::new(alloc);
-    let mut engine = DefaultEngine::open(alloc, STORE, &mut env, buffered(1))?;
-    write_nothing(alloc, &mut env, &mut engine)?;
-    write_nothing(alloc, &mut env, &mut engine)?;
-    let wanted = "000003.log:38 CURRENT:16 LOCK:0 MANIFEST-000001:41 ";
-    assert!(rt; has_files(alloc, &mut env, wanted)?);
-    let wanted = "000003.log:62 CURRENT:16 LOCK:0 MANIFEST-000001:41 ";
-    assert!(rt; put_leaves(alloc, &mut env, &mut engine, ("a", "1"), wanted)?);
-    assert!(rt; holds(alloc, &mut env, "1: 1a")?);
-    Ok(())
+    play(&rt, rt.alloc(), EMPTY_BATCHES, "1 none none")
 }
+
+const LOST_TABLE: &[Act] = &[
+    Act::Put("a", "1"),
+    Act::Put("a", "2"),
+    Act::Put("b", "3"),
+    Act::Lose("db/000007.ldb"),
+    Act::FindsDamage("a"),
+    Act::FindsOne("b", "3"),
+    Act::FindsOne("c", "none"),
+];
 
 /// A table that can't be read is an error, and never passed over; keys outside its range are found all the same.
 #[test]
 fn a_table_that_is_lost(rt: HostRuntime) -> Result<()> {
-    let mut env = MemEnv::new(rt.alloc());
-    let mut engine = DefaultEngine::open(rt.alloc(), STORE, &mut env, buffered(1))?;
-    put_pairs(&mut env, &mut engine, &[("a", "1"), ("a", "2"), ("b", "3")])?;
-    env.delete("db/000007.ldb")?;
-    assert!(rt; failed_with(engine.get(&mut env, b"a"), StatusCode::Corruption)?);
-    assert!(rt; value_of(rt.alloc(), &mut env, &mut engine, "b")?.as_str() == "3");
-    assert!(rt; value_of(rt.alloc(), &mut env, &mut engine, "c")?.as_str() == "none");
+    played(&rt, rt.alloc(), LOST_TABLE)?;
     Ok(())
 }
 
-/// An engine with 1 for a, whose next write makes a table. The nth call of the device from then on fails.
-fn about_to_switch(
-    alloc: Global,
-    env: &mut RecordEnv,
-    options: DefaultOptions,
-    nth: u64,
-) -> Result<DefaultEngine<RecordEnv>> {
-    let mut engine = DefaultEngine::open(alloc, STORE, env, options)?;
-    engine.put(env, b"a", b"1")?;
-    env.fail(nth, false);
-    Ok(engine)
-}
-
-/// Whether a put of this key fails since the device failed, or since the store is broken.
-fn put_fails(
-    env: &mut RecordEnv,
-    engine: &mut DefaultEngine<RecordEnv>,
-    key: &str,
-) -> Result<bool> {
-    failed_with(engine.put(env, key.as_bytes(), b"2"), StatusCode::IOError)
-}
+const WAITING: &[Act] = &[
+    Act::Put("a", "1"),
+    Act::Fail(3),
+    Act::PutFails("b"),
+    Act::Finds("1 none none"),
+    Act::Put("b", "2"),
+    Act::HasFiles("000003.log:24 000004.log:24 CURRENT:16 LOCK:0 MANIFEST-000001:41 "),
+    Act::Put("c", "3"),
+    Act::HasFiles(
+        "000006.ldb:177 000007.log:24 000008.ldb:177 CURRENT:16 LOCK:0 MANIFEST-000001:121 ",
+    ),
+    Act::Finds("1 2 3"),
+];
 
 /// Where no table is made, the entries wait, and are found. They come to a table before the next switch.
 #[test]
 fn entries_that_wait(rt: HostRuntime) -> Result<()> {
-    let alloc = rt.alloc();
-    let mut env = RecordEnv::new(alloc);
-    let mut engine = about_to_switch(alloc, &mut env, buffered(1), 3)?;
-    assert!(rt; put_fails(&mut env, &mut engine, "b")?);
-    assert!(rt; finds(alloc, &mut env, &mut engine, "1 none none")?);
-    let wanted = "000003.log:24 000004.log:24 CURRENT:16 LOCK:0 MANIFEST-000001:41 ";
-    assert!(rt; put_leaves(alloc, &mut env, &mut engine, ("b", "2"), wanted)?);
-    let wanted =
-        "000006.ldb:177 000007.log:24 000008.ldb:177 CURRENT:16 LOCK:0 MANIFEST-000001:121 ";
-    assert!(rt; put_leaves(alloc, &mut env, &mut engine, ("c", "3"), wanted)?);
-    assert!(rt; finds(alloc, &mut env, &mut engine, "1 2 3")?);
-    Ok(())
+    play(&rt, rt.alloc(), WAITING, "1 2 3")
 }
 
 /// A write whose nth call fails breaks the store, which is read on and finds the same when it is opened again.
 fn break_at(rt: &impl Abort, alloc: Global, nth: u64) -> Result<()> {
-    let mut env = RecordEnv::new(alloc);
-    let mut engine = about_to_switch(alloc, &mut env, buffered(1), nth)?;
-    assert!(rt; put_fails(&mut env, &mut engine, "b")?);
-    assert!(rt; put_fails(&mut env, &mut engine, "c")?);
-    assert!(rt; finds(alloc, &mut env, &mut engine, "1 none none")?);
-    engine.abandon(&mut env)?;
-    assert!(rt; found_in(alloc, &mut env)?.as_str() == "1 none none");
-    Ok(())
+    let acts = [
+        Act::Put("a", "1"),
+        Act::Fail(nth),
+        Act::PutFails("b"),
+        Act::PutFails("c"),
+        Act::Finds("1 none none"),
+    ];
+    play(rt, alloc, &acts, "1 none none")
 }
 
 /// The sync of the log at a switch, and the append and the sync of the edit.
 #[test]
 fn switches_that_break_the_store(rt: HostRuntime) -> Result<()> {
-    break_at(&rt, rt.alloc(), 1)?;
-    break_at(&rt, rt.alloc(), 6)?;
-    break_at(&rt, rt.alloc(), 7)
+    for nth in &[1, 6, 7] {
+        break_at(&rt, rt.alloc(), *nth)?;
+    }
+    Ok(())
 }
 
 /// A sink that counts its lines.
@@ -217,18 +287,31 @@ fn counted(alloc: Global, lines: &Rc<Cell<usize>>) -> Result<DefaultOptions> {
     Ok(options)
 }
 
+const LOG_LEFT: &[Act] = &[
+    Act::Put("b", "2"),
+    Act::HasFiles(
+        "000003.log:24 000004.log:24 000005.ldb:177 CURRENT:16 LOCK:0 MANIFEST-000001:81 ",
+    ),
+];
+
+const LOG_DELETED: &[Act] = &[
+    Act::Put("c", "3"),
+    Act::HasFiles(
+        "000005.ldb:177 000006.log:24 000007.ldb:177 CURRENT:16 LOCK:0 MANIFEST-000001:121 ",
+    ),
+];
+
 /// A folder that can't be listed, or an obsolete log that can't be deleted, is a line for the sink and no error; the next switch
 /// deletes what is left.
 fn leave_a_log(rt: &impl Abort, alloc: Global, nth: u64) -> Result<()> {
     let lines = Rc::new(alloc, Cell::new(0))?;
     let mut env = RecordEnv::new(alloc);
-    let mut engine = about_to_switch(alloc, &mut env, counted(alloc, &lines)?, nth)?;
-    let wanted = "000003.log:24 000004.log:24 000005.ldb:177 CURRENT:16 LOCK:0 MANIFEST-000001:81 ";
-    assert!(rt; put_leaves(alloc, &mut env, &mut engine, ("b", "2"), wanted)?);
+    let mut engine = DefaultEngine::open(alloc, STORE, &mut env, counted(alloc, &lines)?)?;
+    engine.put(&mut env, b"a", b"1")?;
+    env.fail(nth, false);
+    play_on(rt, alloc, &mut env, &mut engine, LOG_LEFT)?;
     assert!(rt; lines.get() == 1);
-    let wanted =
-        "000005.ldb:177 000006.log:24 000007.ldb:177 CURRENT:16 LOCK:0 MANIFEST-000001:121 ";
-    assert!(rt; put_leaves(alloc, &mut env, &mut engine, ("c", "3"), wanted)?);
+    play_on(rt, alloc, &mut env, &mut engine, LOG_DELETED)?;
     assert!(rt; lines.get() == 1);
     Ok(())
 }

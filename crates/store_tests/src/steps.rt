@@ -9,7 +9,7 @@ use std::alloc::Global;
 pub type Change = (&'static str, Option<&'static str>);
 
 /// What is asked of a store.
-#[derive(Clone, Copy, Debug)]
+#[derive(Clone, Copy)]
 pub enum Step {
     Open,
     Put(&'static str, &'static str),
@@ -22,7 +22,7 @@ pub enum Step {
 }
 
 /// A call that returned, and the moment at which it did.
-#[derive(Debug, Drop)]
+#[derive(Drop)]
 pub struct Call {
     pub step: Step,
     pub reply: Reply,

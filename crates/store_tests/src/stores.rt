@@ -10,6 +10,7 @@ use leveldb_env::options::Options;
 use leveldb_mem::log::LogWriter;
 use leveldb_mem::write_batch::WriteBatch;
 use rusty_leveldb::db_impl::Engine;
+use slow_history::Entry;
 use slow_store::read_store;
 use std::alloc::Global;
 
@@ -61,15 +62,20 @@ pub fn store_of(alloc: Global, pairs: &[(&str, &str)]) -> Result<MemEnv> {
     Ok(env)
 }
 
+/// A file's name and its size.
+fn line_of<E: Env>(alloc: Global, env: &mut E, name: &str) -> Result<String> {
+    let path = format!(in alloc; "{STORE}/{name}")?;
+    let size = env.size_of(&path)?;
+    Ok(format!(in alloc; "{name}:{size} ")?)
+}
+
 /// The names of the store's folder and the sizes of its files, in the order of names.
 pub fn files_of<E: Env>(alloc: Global, env: &mut E) -> Result<String> {
     let mut names = env.children(alloc, STORE)?;
     names.sort()?;
     let mut text = String::new(alloc);
     for name in &names {
-        let path = format!(in alloc; "{STORE}/{name}")?;
-        let line = format!(in alloc; "{name}:{} ", env.size_of(&path)?)?;
-        text.push_str(&line)?;
+        text.push_str(&line_of(alloc, env, name)?)?;
     }
     Ok(text)
 }
@@ -79,6 +85,12 @@ pub fn has_files<E: Env>(alloc: Global, env: &mut E, wanted: &str) -> Result<boo
     Ok(files_of(alloc, env)?.as_str() == wanted)
 }
 
+/// A number and its key.
+fn word_of(alloc: Global, entry: &Entry) -> Result<String> {
+    let key = std::str::from_utf8(entry.key.as_slice()).unwrap_or("?");
+    Ok(format!(in alloc; " {}{key}", entry.sequence)?)
+}
+
 /// What the slow store reads: the last number, and each number with its key.
 pub fn contents_of<E: Env>(alloc: Global, env: &mut E) -> Result<String> {
     let Some(contents) = read_store(alloc, env, &DefaultCmp, STORE)? else {
@@ -86,9 +98,7 @@ pub fn contents_of<E: Env>(alloc: Global, env: &mut E) -> Result<String> {
     };
     let mut text = format!(in alloc; "{}:", contents.last)?;
     for entry in &contents.entries {
-        let key = std::str::from_utf8(entry.key.as_slice()).unwrap_or("?");
-        let line = format!(in alloc; " {}{key}", entry.sequence)?;
-        text.push_str(&line)?;
+        text.push_str(&word_of(alloc, entry)?)?;
     }
     Ok(text)
 }
@@ -143,17 +153,4 @@ pub fn failed_with<T: Drop>(answer: Result<T>, code: StatusCode) -> Result<bool>
         return Err(status);
     }
     Ok(status.code == code)
-}
-
-/// Whether an opening fails with this code, and gives back the lock.
-pub fn is_refused(
-    alloc: Global,
-    env: &mut MemEnv,
-    options: DefaultOptions,
-    code: StatusCode,
-) -> Result<bool> {
-    let is_right = failed_with(Engine::open(alloc, STORE, env, options), code)?;
-    env.lock("db/LOCK")?;
-    env.unlock("db/LOCK")?;
-    Ok(is_right)
 }

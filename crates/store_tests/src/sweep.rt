@@ -4,7 +4,7 @@ use crate::crash_disks::{
     Recorded, Script, Setting, Side, Tails, Tally, bytes_on, crash, find_all, judge_all,
     judge_crash, options_of, pass_on_memory, record, record_on, sides_of,
 };
-use crate::replies::{are_same, is_map};
+use crate::replies::{are_same, is_any_map};
 use crate::steps::{Call, Step};
 use crate::stores::reopen;
 use leveldb_base::cmp::DefaultCmp;
@@ -94,7 +94,7 @@ pub fn crash_everywhere(
     kind: Tails,
 ) -> Result<Tally> {
     let recorded = record(alloc, script)?;
-    assert!(rt; judge_all(alloc, &recorded.calls)?.is_possible());
+    assert!(rt; is_possible(alloc, &recorded)?);
     pass_on_memory(&recorded)?;
     let mut tally = Tally::new();
     let mut looked = nothing_looked_at(alloc)?;
@@ -154,6 +154,23 @@ fn crash_again(rt: &impl Abort, alloc: Global, reopened: &Reopened, kind: Tails)
     Ok(())
 }
 
+/// Opens the store on this disk, where this was found before.
+fn reopen_found(
+    alloc: Global,
+    mut env: RecordEnv,
+    setting: Setting,
+    found: Vec<Reply>,
+) -> Result<Reopened> {
+    let start = env.moment();
+    reopen(alloc, &mut env, options_of(setting))?;
+    Ok(Reopened {
+        setting,
+        env,
+        start,
+        found,
+    })
+}
+
 /// A crash on this side of a moment, and, if it leaves another disk than the last one, a second crash at each moment of the reopening.
 fn crash_twice_on(
     rt: &impl Abort,
@@ -169,14 +186,7 @@ fn crash_twice_on(
     }
     let mut left = crash(alloc, &recorded.env, side, kinds.0)?;
     let found = find_all(alloc, &mut left, recorded.setting)?;
-    let start = env.moment();
-    reopen(alloc, &mut env, options_of(recorded.setting))?;
-    let reopened = Reopened {
-        setting: recorded.setting,
-        env,
-        start,
-        found,
-    };
+    let reopened = reopen_found(alloc, env, recorded.setting, found)?;
     crash_again(rt, alloc, &reopened, kinds.1)
 }
 
@@ -223,6 +233,15 @@ fn has_cause(call: &Call) -> bool {
     }
 }
 
+fn have_causes(calls: &[Call]) -> bool {
+    for call in calls {
+        if !has_cause(call) {
+            return false;
+        }
+    }
+    true
+}
+
 fn crash_at_the_end(
     rt: &impl Abort,
     alloc: Global,
@@ -245,11 +264,23 @@ fn reopen_at_the_end(rt: &impl Abort, alloc: Global, recorded: &mut Recorded) ->
     slow.opened()?;
     let maps = slow.maps(&DefaultCmp)?;
     let is_right = match find_all(alloc, &mut recorded.env, recorded.setting) {
-        Ok(found) => maps.iter().any(|map| is_map(map, &found)),
+        Ok(found) => is_any_map(&maps, &found),
         Err(status) => status.code == StatusCode::LockError,
     };
     assert!(rt; is_right);
     Ok(())
+}
+
+/// Runs a script with one call of the device failing.
+fn record_failing(alloc: Global, script: Script, nth: u64, done: bool) -> Result<Recorded> {
+    let mut env = RecordEnv::new(alloc);
+    env.fail(nth, done);
+    record_on(alloc, env, script)
+}
+
+/// Whether the slow store allows all that was returned.
+fn is_possible(alloc: Global, recorded: &Recorded) -> Result<bool> {
+    Ok(judge_all(alloc, &recorded.calls)?.is_possible())
 }
 
 /// A script with one call of the device failing, and then a crash, or a reopening.
@@ -261,12 +292,9 @@ fn fail_once(
     done: bool,
     tally: &mut Tally,
 ) -> Result<()> {
-    let mut env = RecordEnv::new(alloc);
-    env.fail(nth, done);
-    let mut recorded = record_on(alloc, env, script)?;
-    assert!(rt; recorded.calls.iter().all(has_cause), "call {nth}, {done}");
-    let is_possible = judge_all(alloc, &recorded.calls)?.is_possible();
-    assert!(rt; is_possible, "call {nth}, {done}");
+    let mut recorded = record_failing(alloc, script, nth, done)?;
+    let is_right = is_possible(alloc, &recorded)? && have_causes(&recorded.calls);
+    assert!(rt; is_right, "call {nth}, {done}");
     pass_on_memory(&recorded)?;
     crash_at_the_end(rt, alloc, &recorded, Tails::Nothing, tally)?;
     crash_at_the_end(rt, alloc, &recorded, Tails::Whole, tally)?;

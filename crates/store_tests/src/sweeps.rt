@@ -1,8 +1,8 @@
 //! A store of one log on a recording device, and crashes and failures at each moment and call of its script.
-use crate::crash_disks::{DEFAULTS, Script, Tails};
+use crate::crash_disks::{DEFAULTS, Script, Tails, assert_tally};
 use crate::steps::Step;
 use crate::sweep::{crash_everywhere, crash_twice_everywhere, fail_everywhere};
-use std::test::Fail;
+use leveldb_base::error::Result;
 
 /// Three lives of one store, the first closed, the others abandoned. Each begins with a look-up, whose reply shows when its opening returned.
 const FIRST: &[Step] = &[
@@ -49,73 +49,77 @@ const TWO_LIVES: Script = Script {
 /// Nothing is left of what isn't durable: where a batch may be lost, it is, but at the two moments of the close that come after its sync,
 /// before and inside the call that gives back the lock, of which the second counts twice.
 #[test]
-fn crashes_without_tails(rt: HostRuntime) -> std::result::Result<(), Fail> {
+fn crashes_without_tails(rt: HostRuntime) -> Result<()> {
     let tally = crash_everywhere(&rt, rt.alloc(), TWO_LIVES, Tails::Nothing)?;
-    assert!(rt;
-        tally.open > 20 && tally.open.saturating_sub(tally.shortest) == 3 && tally.longest == 3,
-        "{tally:?}"
+    let kept = tally.open.saturating_sub(tally.shortest);
+    assert_tally(
+        &rt,
+        tally,
+        tally.open > 20 && kept == 3 && tally.longest == 3,
     );
     Ok(())
 }
 
 /// The third opening makes durable what the second life left without a sync.
 #[test]
-fn crashes_without_tails_in_three_lives(rt: HostRuntime) -> std::result::Result<(), Fail> {
+fn crashes_without_tails_in_three_lives(rt: HostRuntime) -> Result<()> {
     let tally = crash_everywhere(&rt, rt.alloc(), SCRIPT, Tails::Nothing)?;
-    assert!(rt; tally.shortest > 20 && tally.longest > 0, "{tally:?}");
+    assert_tally(&rt, tally, tally.shortest > 20 && tally.longest > 0);
     Ok(())
 }
 
 #[test]
-fn crashes_with_whole_tails(rt: HostRuntime) -> std::result::Result<(), Fail> {
+fn crashes_with_whole_tails(rt: HostRuntime) -> Result<()> {
     let tally = crash_everywhere(&rt, rt.alloc(), SCRIPT, Tails::Whole)?;
-    assert!(rt; tally.open > 20 && tally.longest > 20, "{tally:?}");
+    assert_tally(&rt, tally, tally.open > 20 && tally.longest > 20);
     Ok(())
 }
 
 /// A torn batch is lost whole, and those before it are found.
 #[test]
-fn crashes_without_the_last_byte(rt: HostRuntime) -> std::result::Result<(), Fail> {
+fn crashes_without_the_last_byte(rt: HostRuntime) -> Result<()> {
     let tally = crash_everywhere(&rt, rt.alloc(), SCRIPT, Tails::WithoutLast)?;
-    assert!(rt;
+    assert_tally(
+        &rt,
+        tally,
         tally.shortest > 0 && tally.shortest < tally.open,
-        "{tally:?}"
     );
     Ok(())
 }
 
 #[test]
-fn crashes_with_a_wrong_byte(rt: HostRuntime) -> std::result::Result<(), Fail> {
+fn crashes_with_a_wrong_byte(rt: HostRuntime) -> Result<()> {
     let tally = crash_everywhere(&rt, rt.alloc(), SCRIPT, Tails::WrongLogBytes)?;
-    assert!(rt;
+    assert_tally(
+        &rt,
+        tally,
         tally.shortest > 0 && tally.shortest < tally.open,
-        "{tally:?}"
     );
     Ok(())
 }
 
 #[test]
-fn second_crashes_without_tails(rt: HostRuntime) -> std::result::Result<(), Fail> {
+fn second_crashes_without_tails(rt: HostRuntime) -> Result<()> {
     let kinds = (Tails::WithoutLast, Tails::Nothing);
-    Ok(crash_twice_everywhere(&rt, rt.alloc(), SCRIPT, kinds)?)
+    crash_twice_everywhere(&rt, rt.alloc(), SCRIPT, kinds)
 }
 
 #[test]
-fn second_crashes_without_the_last_byte(rt: HostRuntime) -> std::result::Result<(), Fail> {
+fn second_crashes_without_the_last_byte(rt: HostRuntime) -> Result<()> {
     let kinds = (Tails::WrongLogBytes, Tails::WithoutLast);
-    Ok(crash_twice_everywhere(&rt, rt.alloc(), SCRIPT, kinds)?)
+    crash_twice_everywhere(&rt, rt.alloc(), SCRIPT, kinds)
 }
 
 #[test]
-fn failures_without_their_change(rt: HostRuntime) -> std::result::Result<(), Fail> {
+fn failures_without_their_change(rt: HostRuntime) -> Result<()> {
     let tally = fail_everywhere(&rt, rt.alloc(), SCRIPT, false)?;
-    assert!(rt; tally.shortest > 20 && tally.longest > 20, "{tally:?}");
+    assert_tally(&rt, tally, tally.shortest > 20 && tally.longest > 20);
     Ok(())
 }
 
 #[test]
-fn failures_with_their_change(rt: HostRuntime) -> std::result::Result<(), Fail> {
+fn failures_with_their_change(rt: HostRuntime) -> Result<()> {
     let tally = fail_everywhere(&rt, rt.alloc(), SCRIPT, true)?;
-    assert!(rt; tally.shortest > 20 && tally.longest > 20, "{tally:?}");
+    assert_tally(&rt, tally, tally.shortest > 20 && tally.longest > 20);
     Ok(())
 }

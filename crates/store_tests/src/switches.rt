@@ -1,9 +1,9 @@
 //! A store with a memtable of 300 bytes on a recording device: logs are switched and tables are made. Crashes and failures come at each
 //! moment and call of its script.
-use crate::crash_disks::{Script, Setting, Tails};
+use crate::crash_disks::{Script, Setting, Tails, assert_tally};
 use crate::steps::Step;
 use crate::sweep::{crash_everywhere, crash_twice_everywhere, fail_everywhere};
-use std::test::Fail;
+use leveldb_base::error::Result;
 
 /// Two lives of one store, the first closed, the second abandoned. Each begins with a look-up, whose reply shows when its opening returned.
 /// Three entries fill the memtable, and the next write makes a table of them; most of these weren't durable before. If the last table
@@ -56,92 +56,94 @@ const ANEW: Script = Script {
 
 /// Where a switch has synced the log, a crash loses less than it may.
 #[test]
-fn crashes_without_tails(rt: HostRuntime) -> std::result::Result<(), Fail> {
+fn crashes_without_tails(rt: HostRuntime) -> Result<()> {
     let tally = crash_everywhere(&rt, rt.alloc(), REUSING, Tails::Nothing)?;
-    assert!(rt;
+    assert_tally(
+        &rt,
+        tally,
         tally.shortest > 20 && tally.shortest < tally.open,
-        "{tally:?}"
     );
     Ok(())
 }
 
 #[test]
-fn crashes_with_whole_tails(rt: HostRuntime) -> std::result::Result<(), Fail> {
+fn crashes_with_whole_tails(rt: HostRuntime) -> Result<()> {
     let tally = crash_everywhere(&rt, rt.alloc(), REUSING, Tails::Whole)?;
-    assert!(rt; tally.longest > 20, "{tally:?}");
+    assert_tally(&rt, tally, tally.longest > 20);
     Ok(())
 }
 
 #[test]
-fn crashes_without_the_last_byte(rt: HostRuntime) -> std::result::Result<(), Fail> {
+fn crashes_without_the_last_byte(rt: HostRuntime) -> Result<()> {
     let tally = crash_everywhere(&rt, rt.alloc(), REUSING, Tails::WithoutLast)?;
-    assert!(rt; tally.shortest > 20, "{tally:?}");
+    assert_tally(&rt, tally, tally.shortest > 20);
     Ok(())
 }
 
 #[test]
-fn crashes_with_wrong_bytes(rt: HostRuntime) -> std::result::Result<(), Fail> {
+fn crashes_with_wrong_bytes(rt: HostRuntime) -> Result<()> {
     let tally = crash_everywhere(&rt, rt.alloc(), REUSING, Tails::WrongBytes)?;
-    assert!(rt; tally.shortest > 20, "{tally:?}");
+    assert_tally(&rt, tally, tally.shortest > 20);
     Ok(())
 }
 
 #[test]
-fn crashes_of_new_manifests(rt: HostRuntime) -> std::result::Result<(), Fail> {
+fn crashes_of_new_manifests(rt: HostRuntime) -> Result<()> {
     let tally = crash_everywhere(&rt, rt.alloc(), ANEW, Tails::Nothing)?;
-    assert!(rt;
+    assert_tally(
+        &rt,
+        tally,
         tally.shortest > 20 && tally.shortest < tally.open,
-        "{tally:?}"
     );
     Ok(())
 }
 
 #[test]
-fn crashes_of_new_manifests_with_tails(rt: HostRuntime) -> std::result::Result<(), Fail> {
+fn crashes_of_new_manifests_with_tails(rt: HostRuntime) -> Result<()> {
     let tally = crash_everywhere(&rt, rt.alloc(), ANEW, Tails::Whole)?;
-    assert!(rt; tally.longest > 20, "{tally:?}");
+    assert_tally(&rt, tally, tally.longest > 20);
     let tally = crash_everywhere(&rt, rt.alloc(), ANEW, Tails::WrongBytes)?;
-    assert!(rt; tally.shortest > 20, "{tally:?}");
+    assert_tally(&rt, tally, tally.shortest > 20);
     Ok(())
 }
 
 #[test]
-fn second_crashes(rt: HostRuntime) -> std::result::Result<(), Fail> {
+fn second_crashes(rt: HostRuntime) -> Result<()> {
     let kinds = (Tails::WithoutLast, Tails::Nothing);
-    Ok(crash_twice_everywhere(&rt, rt.alloc(), REUSING, kinds)?)
+    crash_twice_everywhere(&rt, rt.alloc(), REUSING, kinds)
 }
 
 #[test]
-fn second_crashes_with_wrong_bytes(rt: HostRuntime) -> std::result::Result<(), Fail> {
+fn second_crashes_with_wrong_bytes(rt: HostRuntime) -> Result<()> {
     let kinds = (Tails::Whole, Tails::WrongBytes);
-    Ok(crash_twice_everywhere(&rt, rt.alloc(), REUSING, kinds)?)
+    crash_twice_everywhere(&rt, rt.alloc(), REUSING, kinds)
 }
 
 #[test]
-fn second_crashes_of_new_manifests(rt: HostRuntime) -> std::result::Result<(), Fail> {
+fn second_crashes_of_new_manifests(rt: HostRuntime) -> Result<()> {
     let kinds = (Tails::Nothing, Tails::WithoutLast);
-    Ok(crash_twice_everywhere(&rt, rt.alloc(), ANEW, kinds)?)
+    crash_twice_everywhere(&rt, rt.alloc(), ANEW, kinds)
 }
 
 #[test]
-fn failures_without_their_change(rt: HostRuntime) -> std::result::Result<(), Fail> {
+fn failures_without_their_change(rt: HostRuntime) -> Result<()> {
     let tally = fail_everywhere(&rt, rt.alloc(), REUSING, false)?;
-    assert!(rt; tally.shortest > 20 && tally.longest > 20, "{tally:?}");
+    assert_tally(&rt, tally, tally.shortest > 20 && tally.longest > 20);
     Ok(())
 }
 
 #[test]
-fn failures_with_their_change(rt: HostRuntime) -> std::result::Result<(), Fail> {
+fn failures_with_their_change(rt: HostRuntime) -> Result<()> {
     let tally = fail_everywhere(&rt, rt.alloc(), REUSING, true)?;
-    assert!(rt; tally.shortest > 20 && tally.longest > 20, "{tally:?}");
+    assert_tally(&rt, tally, tally.shortest > 20 && tally.longest > 20);
     Ok(())
 }
 
 #[test]
-fn failures_of_new_manifests(rt: HostRuntime) -> std::result::Result<(), Fail> {
+fn failures_of_new_manifests(rt: HostRuntime) -> Result<()> {
     let tally = fail_everywhere(&rt, rt.alloc(), ANEW, false)?;
-    assert!(rt; tally.shortest > 20 && tally.longest > 20, "{tally:?}");
+    assert_tally(&rt, tally, tally.shortest > 20 && tally.longest > 20);
     let tally = fail_everywhere(&rt, rt.alloc(), ANEW, true)?;
-    assert!(rt; tally.shortest > 20 && tally.longest > 20, "{tally:?}");
+    assert_tally(&rt, tally, tally.shortest > 20 && tally.longest > 20);
     Ok(())
 }
