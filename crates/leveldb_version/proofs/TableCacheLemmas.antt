@@ -22,7 +22,7 @@ use Rattle.leveldb_table.specs.TableBlock.{FileHas, IsLackError, KeepsDisk, Read
 use Rattle.leveldb_table.specs.TableReader.{AreOfPolicy, EndsInFooter, IsNoTable, IsOpenedAs, LacksPart, OpensTable, no_footer, not_indexed}
 use Rattle.leveldb_table.specs.declared.block_cache.CachedBlock.{CachedBlock}
 use Rattle.leveldb_version.specs.Paths.{table_path}
-use Rattle.leveldb_version.specs.TableCache.{HasBytesAt, IsSameOrGone, IsThereAt, IsUnopened, KeepsOpenFiles, LacksTable, MatchesFile, MatchesFiles, OpensNumbered, StoreTable, TableOptions, blocks_of, file_at, missing, no_table, path_at, table_at, table_key, tables_of, used_up}
+use Rattle.leveldb_version.specs.TableCache.{HasBytesAt, IsSameOrGone, IsThereAt, IsTableUnopened, KeepsOpenFiles, IsNoStoreTable, MatchesFile, MatchesFiles, OpensNumbered, StoreTable, TableOptions, blocks_of, file_at, missing, no_table, path_at, table_at, table_key, tables_of, used_up}
 use Rattle.leveldb_version.specs.declared.table_cache.TableCache.{TableCache}
 
 -- ---- empty files
@@ -36,7 +36,7 @@ ends_none [] meta index none ends =
 ends_none (b ∷ bytes) meta index none ends = cc
 
 -- so they are no table
-pub no_bytes : {C FP : Type 0} (by : TableOptions C FP) (bytes : List ℕ) (status : Status) → bytes ≡ [] → status.code ≡ Corruption → LacksTable by bytes status
+pub no_bytes : {C FP : Type 0} (by : TableOptions C FP) (bytes : List ℕ) (status : Status) → bytes ≡ [] → status.code ≡ Corruption → IsNoStoreTable by bytes status
 no_bytes by bytes status none code = (opens_not part, part)
   where
     part : LacksPart by.codings by.order (filter_key by.policy_name) bytes (length bytes) status
@@ -81,10 +81,10 @@ module _ {E F : Type 0} (env : EnvGhosts E F) where
 
   -- a file that isn't opened is missing, or it is empty and no table
   module _ {C FP : Type 0} (by : TableOptions C FP) (path : List ℕ) (given : ℕ) (state : E) where
-    pub unopened_file : (status : Status) → (status.code ≡ Corruption) × (IsTrue env.models_disk → IfSome (file_at env state path) (λ file. bytes_of file ≡ [])) → IsUnopened env by path given state status
+    pub unopened_file : (status : Status) → (status.code ≡ Corruption) × (IsTrue env.models_disk → IfSome (file_at env state path) (λ file. bytes_of file ≡ [])) → IsTableUnopened env by path given state status
     unopened_file status why = go (file_at env state path) refl
       where
-        go : (o : Option File) → file_at env state path ≡ o → IsUnopened env by path given state status
+        go : (o : Option File) → file_at env state path ≡ o → IsTableUnopened env by path given state status
         go None is = missing (λ modelled. is) why.0
         go (Some file) is = no_table (λ modelled. subst (λ (o : Option File). IsSome o) (sym is) refl) (inl why.0)
             (λ bytes has. no_bytes by bytes status
@@ -95,7 +95,7 @@ module _ {E F : Type 0} (env : EnvGhosts E F) where
 module _ {E C FP F : Type 0} {order : CmpGhosts (InternalKeyCmp C)} (env : EnvGhosts E F) (by : TableOptions C FP) (store : List ℕ) (number : ℕ) (old mid : E) (blocks : Cached (CachedBlock (InternalKeyCmp C) order)) where
   -- no file is opened
   pub numbered_unopened : {T : Type 0} (result : Result (StoreTable E C FP F order) Status) {status : Status} → IsErrAnd result (λ other. other ≡ status)
-      → ReadsFile env {T = T} (IsUnopened env by (table_path store number) blocks.given old) old mid (Err status) → OpensNumbered env by store number old blocks result mid blocks
+      → ReadsFile env {T = T} (IsTableUnopened env by (table_path store number) blocks.given old) old mid (Err status) → OpensNumbered env by store number old blocks result mid blocks
   numbered_unopened (Ok table) same reads = absurd same
   numbered_unopened {T = T} (Err other) same reads = record {
     reads = reads_refused env {T = T} (Err other) same reads;
@@ -119,7 +119,7 @@ module _ {E C FP F : Type 0} {order : CmpGhosts (InternalKeyCmp C)} (env : EnvGh
     is_there modelled = some_there (λ f. size ≡ length (bytes_of f)) (file_at env old (table_path store number)) (named modelled).1
 
     why : (status : Status) → ((status.code ≡ NotSupported) × (blocks.given + 1 ≡ 2 ^ 64))
-        ⊎ IsLackError env by.codings (IsNoTable by.codings by.order (filter_key by.policy_name) size) mid file status → IsUnopened env by (table_path store number) blocks.given old status
+        ⊎ IsLackError env by.codings (IsNoTable by.codings by.order (filter_key by.policy_name) size) mid file status → IsTableUnopened env by (table_path store number) blocks.given old status
     why status (inl full) = used_up full.1 full.0
     why status (inr lack) = no_table is_there lack.0
         (λ bytes has. subst (λ n. IsNoTable by.codings by.order (filter_key by.policy_name) n bytes status) (sized has) (lack.1 bytes (has_mid has)))

@@ -26,8 +26,8 @@ use Rattle.leveldb_table.specs.declared.table_reader.Table.{Table}
 use Rattle.leveldb_version.specs.Paths.{table_path}
 use Rattle.leveldb_version.specs.declared.table_cache.TableCache.{TableCache}
 
--- What tables are opened with, of a store's options: the compressors by their ids, the comparator of
--- internal keys with its order, and the filter policy with its name; and whether an internal key
+-- What tables are opened with, of a store's options: the compressors by their ids, the comparator
+-- of internal keys with its order, and the filter policy with its name; and whether an internal key
 -- matches a filter.
 pub record TableOptions (C FP : Type 0) : Type 0 where
   pub codings : Codings
@@ -132,7 +132,7 @@ module _ {E F : Type 0} (env : EnvGhosts E F) where
   IsThereAt state path = IsTrue env.models_disk → IsSome (file_at state path)
 
   -- opens the file at a path, and says how long it is; a missing file and an empty one are damage
-  pub record OpensFile (path : List ℕ) (old : E) (result : Result (F × ℕ) Status) (new : E)
+  pub record OpensTableFile (path : List ℕ) (old : E) (result : Result (F × ℕ) Status) (new : E)
       : Type 0 where
     pub ok : IfOk result (λ opened. IsTrue env.models_disk → (env.name_of opened.0 ≡ path)
         × IsSomeAnd (file_at old path) (λ file. opened.1 ≡ length (bytes_of file)))
@@ -140,21 +140,21 @@ module _ {E F : Type 0} (env : EnvGhosts E F) where
         → IfSome (file_at old path) (λ file. bytes_of file ≡ []))) old new result
 
 -- bytes are no table of these options, and a status says why
-abbrev pub LacksTable : {C FP : Type 0} → TableOptions C FP → List ℕ → Status → Type 0
-LacksTable by bytes status =
+abbrev pub IsNoStoreTable : {C FP : Type 0} → TableOptions C FP → List ℕ → Status → Type 0
+IsNoStoreTable by bytes status =
     IsNoTable by.codings by.order (filter_key by.policy_name) (length bytes) bytes status
 
 module _ {E F : Type 0} (env : EnvGhosts E F) {C FP : Type 0} (by : TableOptions C FP) where
   -- Why the table at a path isn't opened: its file is missing, no more ids can be given, or the
   -- file is no table.
-  pub data IsUnopened (path : List ℕ) (given : ℕ) (state : E) (status : Status) : Type 0 where
+  pub data IsTableUnopened (path : List ℕ) (given : ℕ) (state : E) (status : Status) : Type 0 where
     missing : (IsTrue env.models_disk → file_at env state path ≡ None)
-        → status.code ≡ Corruption → IsUnopened path given state status
+        → status.code ≡ Corruption → IsTableUnopened path given state status
     used_up : given + 1 ≡ 2 ^ 64 → status.code ≡ NotSupported
-        → IsUnopened path given state status
+        → IsTableUnopened path given state status
     no_table : IsThereAt env state path → HasLackCode env by.codings status
-        → ForBytesAt env state path (λ bytes. LacksTable by bytes status)
-        → IsUnopened path given state status
+        → ForBytesAt env state path (λ bytes. IsNoStoreTable by bytes status)
+        → IsTableUnopened path given state status
 
 -- a file has the bytes that it had, or is gone
 abbrev pub IsSameOrGone : Option File → Option File → Type 0
@@ -166,7 +166,8 @@ module _ {E C FP F : Type 0} {order : CmpGhosts (InternalKeyCmp C)} (env : EnvGh
   abbrev pub KeepsOpenFiles : TableCache E C FP F order → E → E → Type 0
   KeepsOpenFiles cache old new =
       IsTrue env.models_disk → (number : ℕ) → number < 2 ^ 64 → IsSome (table_at cache number)
-      → IsSameOrGone (file_at env old (path_at cache number)) (file_at env new (path_at cache number))
+      → IsSameOrGone (file_at env old (path_at cache number))
+      (file_at env new (path_at cache number))
 
   -- a number's table is open, or its file is there
   abbrev pub IsOpenOrThere : E → TableCache E C FP F order → ℕ → Type 0
@@ -228,8 +229,9 @@ module _ {E C FP F : Type 0} {order : CmpGhosts (InternalKeyCmp C)} (env : EnvGh
         (old : Cached (CachedBlock (InternalKeyCmp C) order))
         (result : Result (StoreTable E C FP F order) Status) (new_env : E)
         (new : Cached (CachedBlock (InternalKeyCmp C) order)) : Type 0 where
-      pub reads : ReadsFile env (IsUnopened env by (table_path store number) old.given old_env) old_env
-          new_env result
+      pub reads : ReadsFile env
+          (IsTableUnopened env by (table_path store number) old.given old_env) old_env new_env
+          result
       pub there : OnOk result (IsThereAt env old_env (table_path store number))
       pub path : IfOk result (λ table. IsTrue env.models_disk
           → env.name_of (file_of table) ≡ table_path store number)
@@ -249,7 +251,7 @@ module _ {E C FP F : Type 0} {order : CmpGhosts (InternalKeyCmp C)} (env : EnvGh
     abbrev pub IsNotOpened : E → TableCache E C FP F order → ℕ → Status → Type 0
     IsNotOpened state cache number status =
         (table_at cache number ≡ None)
-        × IsUnopened env by (path_at cache number) (blocks_of cache).given state status
+        × IsTableUnopened env by (path_at cache number) (blocks_of cache).given state status
 
     -- why a look-up may fail, whatever bytes a file has
     abbrev pub MayFail : E → TableCache E C FP F order → ℕ → Status → Type 0

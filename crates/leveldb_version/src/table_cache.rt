@@ -1,7 +1,7 @@
 //! The open tables of a store, each opened once and kept while there is room.
 ghost use Rattle.std.specs.Prelude.{◌≡◌, IfErr, IfOk, option_copied};
 ghost use Rattle.leveldb_base.specs.Error.{IsOutOfMemory};
-ghost use Rattle.leveldb_version.specs.TableCache.{EvictsTable, GetsPair, IsNewTableCache, MatchesFiles, MayFail, OpensFile, OpensNumbered, OpensTableAt, TableOptions, UsesTable, table_at, table_key, table_options};
+ghost use Rattle.leveldb_version.specs.TableCache.{EvictsTable, GetsPair, IsNewTableCache, MatchesFiles, MayFail, OpensTableFile, OpensNumbered, OpensTableAt, TableOptions, UsesTable, table_at, table_key, table_options};
 
 use bytes::Bytes;
 use leveldb_base::cmp::{Cmp, InternalKeyCmp, UserCmp};
@@ -163,7 +163,7 @@ fn open<E: Env, C: UserCmp + Copy + Drop, FP: FilterPolicy + Copy + Drop>(
 // Opens the file at this path, and returns how many bytes it has. `Corruption` if it is missing or
 // has none.
 fn open_file<E: Env>(alloc: Global, env: &mut E, path: &str) -> Result<(E::File, usize)>
-    ensures { OpensFile E.Env path.now env.old result env.new }
+    ensures { OpensTableFile E.Env path.now env.old result env.new }
 {
     let size = found(alloc, path, env.size_of(path))?;
     if size == 0 {
