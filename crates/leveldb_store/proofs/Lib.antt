@@ -5,6 +5,7 @@ mod OpeningCausesLemmas
 mod OpeningSyncsLemmas
 pub mod SwitchLemmas
 pub mod RemoveLemmas
+mod LevelForLemmas
 pub mod TableKeepsLemmas
 pub mod TableWaitingLemmas
 pub mod NotTabledLemmas

@@ -71,7 +71,7 @@ module _ {E F C : Type 0} (env : Ghosts E F) (cmp : List ℕ → List ℕ → Or
       ⊎ AreEntriesNotTabled choices old.waiting status ⊎ IsFileLost choices.format status
 
   -- Room is made in the memtable of a store that isn't broken: a memtable that is full becomes a
-  -- table of level 0, and a new log is begun.
+  -- table, and a new log is begun.
   pub record MakesRoom {D FP : Type 0} {order : CmpGhosts D} {filters : FilterGhosts FP}
       (choices : TableChoices order filters) (limit : ℕ) (result : Result (Unit {0}) Status)
       (new : OpenStoreValue C) (to : E) : Type 0 where

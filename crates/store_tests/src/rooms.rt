@@ -1,6 +1,7 @@
 //! A store with a memtable of one byte: each write but the first makes a table of the batch before.
 use crate::stores::{
-    DefaultEngine, DefaultOptions, STORE, buffered, failed_with, has_files, holds, put_all, reopen,
+    DefaultEngine, DefaultOptions, STORE, buffered, failed_with, has_files, has_levels, holds,
+    put_all, reopen,
 };
 use leveldb_base::error::{Result, StatusCode};
 use leveldb_env::env::Env;
@@ -88,6 +89,8 @@ enum Act {
     FindsDamage(&'static str),
     /// The names of the store's folder and the sizes of its files are these.
     HasFiles(&'static str),
+    /// The store's tables are in these levels.
+    HasLevels(&'static str),
     /// The slow store reads this.
     Holds(&'static str),
 }
@@ -127,6 +130,7 @@ fn is_right(
         Act::FindsOne(key, wanted) => finds_one(alloc, env, engine, key, wanted),
         Act::FindsDamage(key) => finds_damage(env, engine, key),
         Act::HasFiles(wanted) => has_files(alloc, env, wanted),
+        Act::HasLevels(wanted) => has_levels(alloc, env, wanted),
         Act::Holds(wanted) => holds(alloc, env, wanted),
         _ => {
             change(alloc, env, engine, act)?;
@@ -169,10 +173,11 @@ const ONE_TABLE: &[Act] = &[
     Act::Put("a", "1"),
     Act::Put("b", "2"),
     Act::HasFiles("000004.log:24 000005.ldb:177 CURRENT:16 LOCK:0 MANIFEST-000001:81 "),
+    Act::HasLevels("level 2: 1 files, 177 bytes ([(5, 177)]); "),
     Act::Holds("2: 1a 2b"),
 ];
 
-/// The batch before is a table of level 0 then, its log is deleted, and the manifest has one more edit.
+/// The batch before is a table then, of level 2 where no other file is; its log is deleted, and the manifest has one more edit.
 #[test]
 fn a_table_of_the_batch_before(rt: HostRuntime) -> Result<()> {
     play(&rt, rt.alloc(), ONE_TABLE, "1 2 none")
@@ -188,12 +193,46 @@ const NEWEST_FIRST: &[Act] = &[
     Act::Delete("b"),
     Act::Put("c", "6"),
     Act::Finds("4 none 6"),
+    Act::HasLevels(
+        "level 0: 1 files, 177 bytes ([(11, 177)]); level 1: 2 files, 353 bytes ([(9, 177), (15, 176)]); \
+        level 2: 3 files, 531 bytes ([(5, 177), (7, 177), (13, 177)]); ",
+    ),
 ];
 
-/// Of several tables of level 0 the newest one that has the key decides, and a deletion is an entry like any other.
+/// Of tables in several levels the newest one that has the key decides, and a deletion is an entry like any other.
 #[test]
 fn the_newest_table_first(rt: HostRuntime) -> Result<()> {
     play(&rt, rt.alloc(), NEWEST_FIRST, "4 none 6")
+}
+
+const ONE_KEY: &[Act] = &[
+    Act::Put("a", "1"),
+    Act::Put("a", "2"),
+    Act::Put("a", "3"),
+    Act::HasLevels(
+        "level 1: 1 files, 177 bytes ([(7, 177)]); level 2: 1 files, 177 bytes ([(5, 177)]); ",
+    ),
+    Act::FindsOne("a", "3"),
+];
+
+const ONE_KEY_ON: &[Act] = &[
+    Act::Put("a", "1"),
+    Act::Put("a", "2"),
+    Act::Put("a", "3"),
+    Act::Put("a", "4"),
+    Act::Put("a", "5"),
+    Act::HasLevels(
+        "level 0: 2 files, 354 bytes ([(9, 177), (11, 177)]); level 1: 1 files, 177 bytes ([(7, 177)]); \
+        level 2: 1 files, 177 bytes ([(5, 177)]); ",
+    ),
+    Act::FindsOne("a", "5"),
+];
+
+/// Each table of one key is in a level above the ones before it, and in level 0 once that has one.
+#[test]
+fn tables_above_what_they_overlap(rt: HostRuntime) -> Result<()> {
+    play(&rt, rt.alloc(), ONE_KEY, "3 none none")?;
+    play(&rt, rt.alloc(), ONE_KEY_ON, "5 none none")
 }
 
 const EMPTY_BATCHES: &[Act] = &[

@@ -9,6 +9,7 @@ use leveldb_env::mem_env::MemEnv;
 use leveldb_env::options::Options;
 use leveldb_mem::log::LogWriter;
 use leveldb_mem::write_batch::WriteBatch;
+use leveldb_version::version_set::VersionSet;
 use rusty_leveldb::db_impl::Engine;
 use slow_history::Entry;
 use slow_store::read_store;
@@ -83,6 +84,18 @@ pub fn files_of<E: Env>(alloc: Global, env: &mut E) -> Result<String> {
 /// Whether these are the names of the store's folder and the sizes of its files.
 pub fn has_files<E: Env>(alloc: Global, env: &mut E, wanted: &str) -> Result<bool> {
     Ok(files_of(alloc, env)?.as_str() == wanted)
+}
+
+/// Which levels the live files of the store's manifest are in. No file changes.
+fn levels_of<E: Env>(alloc: Global, env: &mut E) -> Result<String> {
+    let mut set = VersionSet::new(alloc, STORE, &DefaultCmp)?;
+    let _ = set.recover(env, &reusing(false, false))?;
+    set.current_summary()
+}
+
+/// Whether the live files are in these levels.
+pub fn has_levels<E: Env>(alloc: Global, env: &mut E, wanted: &str) -> Result<bool> {
+    Ok(levels_of(alloc, env)?.as_str() == wanted)
 }
 
 /// A number and its key.

@@ -43,10 +43,10 @@ impl<E: Env, C: UserCmp + Copy> OpenStore<E, C> {
 
 impl<E: Env, C: UserCmp + Copy + Drop> OpenStore<E, C> {
     /// Makes room in the memtable, if its entries take `write_buffer_size` bytes or more. They wait
-    /// while batches go to a new log, and become a table of level 0. Where they wait already, since
-    /// a call before made no table of them, they become one before anything else, so that one
-    /// memtable waits at most. Obsolete files are deleted after each table; what fails of that is a
-    /// line for `log`.
+    /// while batches go to a new log, and become a table. Where they wait already, since a call
+    /// before made no table of them, they become one before anything else, so that one memtable
+    /// waits at most. Obsolete files are deleted after each table; what fails of that is a line for
+    /// `log`.
     ///
     /// After an Err no entry is lost: the memtable is full still, or its entries wait. The next
     /// call goes on from there, unless the store broke.
