@@ -1,5 +1,5 @@
 //! A store with a small memtable, whose calls are made again where they find no memory. `tools/refuse` refuses each allocation in turn.
-use crate::stores::{DefaultEngine, DefaultOptions, STORE, reusing};
+use crate::stores::{DefaultEngine, DefaultOptions, STORE, reusing, text_of};
 use leveldb_base::error::{Result, Status, StatusCode};
 use leveldb_env::env::Env;
 use leveldb_env::mem_env::MemEnv;
@@ -96,12 +96,10 @@ impl Trial {
     }
 
     fn find_once(&mut self, engine: &mut DefaultEngine<MemEnv>, key: &str) -> Result<String> {
-        let found = engine.get(&mut self.env, key.as_bytes())?;
-        let text = match &found {
-            None => "none",
-            Some(value) => std::str::from_utf8(value.as_slice()).unwrap_or("?"),
-        };
-        Ok(String::from_str(self.alloc, text)?)
+        match &engine.get(&mut self.env, key.as_bytes())? {
+            None => Ok(String::from_str(self.alloc, "none")?),
+            Some(value) => text_of(self.alloc, value.as_slice()),
+        }
     }
 
     fn find(&mut self, engine: &mut DefaultEngine<MemEnv>, key: &str) -> Result<String> {

@@ -1,7 +1,7 @@
 //! A store with a memtable of one byte: each write but the first makes a table of the batch before.
 use crate::stores::{
     DefaultEngine, DefaultOptions, STORE, buffered, failed_with, has_files, has_levels, holds,
-    put_all, reopen,
+    put_all, reopen, text_of,
 };
 use leveldb_base::error::{Result, StatusCode};
 use leveldb_env::env::Env;
@@ -23,12 +23,10 @@ fn value_of(
     engine: &mut RecordEngine,
     key: &str,
 ) -> Result<String> {
-    let found = engine.get(env, key.as_bytes())?;
-    let text = match &found {
-        None => "none",
-        Some(value) => std::str::from_utf8(value.as_slice()).unwrap_or("?"),
-    };
-    Ok(String::from_str(alloc, text)?)
+    match &engine.get(env, key.as_bytes())? {
+        None => Ok(String::from_str(alloc, "none")?),
+        Some(value) => text_of(alloc, value.as_slice()),
+    }
 }
 
 /// The values of the keys a, b and c.

@@ -63,6 +63,12 @@ pub fn store_of(alloc: Global, pairs: &[(&str, &str)]) -> Result<MemEnv> {
     Ok(env)
 }
 
+/// These bytes as a text.
+pub fn text_of(alloc: Global, bytes: &[u8]) -> Result<String> {
+    let text = std::str::from_utf8(bytes).unwrap_or("?");
+    Ok(String::from_str(alloc, text)?)
+}
+
 /// A file's name and its size.
 fn line_of<E: Env>(alloc: Global, env: &mut E, name: &str) -> Result<String> {
     let path = format!(in alloc; "{STORE}/{name}")?;
