@@ -1,4 +1,5 @@
 pub mod EnvLemmas
+pub mod AppendedLemmas
 pub mod EnvFileLemmas
 pub mod SinkLemmas
 pub mod SourceLemmas

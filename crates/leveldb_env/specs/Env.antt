@@ -109,6 +109,11 @@ lock_set name held locked = λ other. if bytes_eq name other then held else lock
 abbrev pub AreBytes : List ℕ → Type 0
 AreBytes bytes = (i : ℕ) → slice_index bytes i < 256
 
+-- what was appended to each file are bytes
+abbrev pub AppendedAreBytes : Files → Type 0
+AppendedAreBytes files =
+    (name : List ℕ) (file : File) → files name ≡ Some file → AreBytes file.since
+
 -- of a file: its kept bytes and after them any, at most as many as were appended since; then all
 -- are kept
 abbrev pub FileCrashesTo : Option File → Option File → Type 0

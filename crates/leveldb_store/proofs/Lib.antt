@@ -5,6 +5,7 @@ mod OpeningCausesLemmas
 mod OpeningSyncsLemmas
 pub mod SwitchLemmas
 pub mod RemoveLemmas
+mod LevelForLemmas
 pub mod TableKeepsLemmas
 pub mod TableWaitingLemmas
 pub mod NotTabledLemmas
@@ -26,6 +27,7 @@ mod BatchHistoryLemmas
 mod WriteBatchLemmas
 mod SoundWriteLemmas
 mod OpeningFindLemmas
+pub mod FoundLogsLemmas
 mod ReplayAllLemmas
 mod ReplayDamageLemmas
 mod ReplayMoreLemmas
@@ -40,6 +42,7 @@ mod OpeningNumbersLemmas
 mod OpeningSameLemmas
 mod OpeningRecoveredLemmas
 mod OpeningFrontLemmas
+mod FoundNumbersLemmas
 mod OpeningRecoverLemmas
 mod OpeningOpenLemmas
 mod OpeningBeginLemmas

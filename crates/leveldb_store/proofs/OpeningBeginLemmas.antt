@@ -25,9 +25,9 @@ use Rattle.leveldb_version.specs.LogEdit.{LogEditResult}
 use Rattle.leveldb_version.specs.Opening.{tables_edit}
 use Rattle.leveldb_version.specs.Paths.{IsFilePath, log_path, table_path}
 use Rattle.leveldb_version.specs.StoreSteps.{KeepsHistory}
-use Rattle.leveldb_version.specs.VersionSetValue.{ManifestState, OpenManifest, VersionSetValue, broken, in_use, unmade}
-use Rattle.leveldb_store.proofs.NotTabledLemmas.{not_tabled_causes}
-use Rattle.leveldb_store.proofs.OpeningBytesLemmas.{all_bytes, bytes_then, failed_bytes, log_bytes, logging_bytes, made_keys_bytes, opened_bytes}
+use Rattle.leveldb_version.specs.VersionSetValue.{AreFileNumbersUsedUp, ManifestState, OpenManifest, VersionSetValue, broken, in_use, unmade}
+use Rattle.leveldb_store.proofs.FoundLogsLemmas.{lacks_one_more}
+use Rattle.leveldb_store.proofs.OpeningBytesLemmas.{log_bytes, logging_bytes, made_keys_bytes}
 use Rattle.leveldb_store.proofs.OpeningEndLemmas.{IsOpenValue, edit_logged, log_spared, logged_manifest, logging_keeps, logging_spares, made_levels_fit, went_on}
 use Rattle.leveldb_store.proofs.OpeningFrontLemmas.{keeps_found_then}
 use Rattle.leveldb_store.proofs.OpeningLogLemmas.{HasLogOpen, IsReplayedWith, log_opened, log_opening_keeps, replayed_recovered, replaying_keeps}
@@ -36,13 +36,14 @@ use Rattle.leveldb_store.proofs.OpeningSameLemmas.{spares_then}
 use Rattle.leveldb_store.proofs.TableKeepsLemmas.{is_log_path, is_table_path, types_apart}
 use Rattle.leveldb_store.specs.BuildTable.{TableChoices}
 use Rattle.leveldb_store.specs.Format.{Agrees, Format, Meaning}
+use Rattle.leveldb_store.specs.FoundLogs.{HasLogNotKept, LacksNumbersFor, LogsBeginWith}
 use Rattle.leveldb_store.specs.OpenStore.{HasOwnManifest, OpenStoreValue}
 use Rattle.leveldb_store.specs.Opening.{SameButTables}
 use Rattle.leveldb_store.specs.OpeningSteps.{AreDamagedLogs, BeginsWriting, LogsIfWanted, MayBeWritten, OpensLog, ReplaysLogs, WasRecovered, WhyNotBegun, WhyNotReplayed, entries_to_write, files_to_write, made_files, number_to_write, set_to_write, size_to_write}
 use Rattle.leveldb_store.specs.OpensStore.{IsOpenedAs, KeepsFound, SameBesideOwn}
 use Rattle.leveldb_store.specs.ReplayLog.{HasCauseOr}
 use Rattle.leveldb_store.specs.Room.{IsFull}
-use Rattle.leveldb_store.specs.SoundCall.{BytesAreAppended, OpensWithBytes}
+use Rattle.leveldb_store.specs.SoundCall.{BytesAreAppended}
 use Rattle.leveldb_store.specs.Written.{IsTableOf}
 use Rattle.leveldb_store.specs.declared.open_store.OpenLog.{OpenLog}
 use Rattle.leveldb_store.specs.declared.opening.replay.Replay.{Replay}
@@ -101,10 +102,10 @@ module _ {E F D FP : Type 0} (env : Ghosts E F) {order : CmpGhosts D} {filters :
   first = (env.observed from).disk.files
 
   abbrev Begins : (C : Type 0) → Result (OpenStoreValue C) Status → E → Type 0
-  Begins C result to = BeginsWriting env format store set logs from limit result to
+  Begins C result to = BeginsWriting env choices store set logs from limit result to
 
   abbrev Why : Status → Type 0
-  Why = WhyNotBegun env format store set logs from
+  Why = WhyNotBegun env choices store set logs from
 
   -- what keeps each history of a store that was recovered
   abbrev Keeps : E → Type 0
@@ -113,7 +114,7 @@ module _ {E F D FP : Type 0} (env : Ghosts E F) {order : CmpGhosts D} {filters :
 
   -- an error at any of the steps
   refused_at : (C : Type 0) (to : E) (status : Status) → (IsTrue env.models_disk → Keeps to) → (IsTrue env.models_disk → Run (SameBesideOwn store first) (env.observed from) (env.observed to))
-      → OpensWithBytes env store from {T = OpenStoreValue C} (Err status) to
+      → BytesAreAppended env from to
       → SameLocks env.models_disk (env.observed from) (env.observed to) → HasCauseOr {T = OpenStoreValue C} Why (env.failures from) (env.failures to) (Err status) → Begins C (Err status) to
   refused_at C to status keeps spares bytes locks cause = record {
     path = tt;
@@ -131,7 +132,7 @@ module _ {E F D FP : Type 0} (env : Ghosts E F) {order : CmpGhosts D} {filters :
   pub nothing_begun : (C : Type 0) (status : Status) → IsOutOfMemory status → Begins C (Err status) from
   nothing_begun C status memory = refused_at C from status
       (λ modelled meaning agrees contents was allowed there can bound reached. begun (env.observed from) (record { now = λ history c. c; crash = λ durable history s. s }))
-      (λ modelled. begun (env.observed from) (λ path other. refl)) (all_bytes env store (Err status) from from (λ modelled before. before)) (λ modelled. refl)
+      (λ modelled. begun (env.observed from) (λ path other. refl)) (λ modelled before. before) (λ modelled. refl)
       (record { later = omega arith; ok = tt; uncounted = λ why. refl; cause = inl (inl memory) })
 
   -- ---- the logs are replayed
@@ -160,14 +161,13 @@ module _ {E F D FP : Type 0} (env : Ghosts E F) {order : CmpGhosts D} {filters :
     keeps1 modelled meaning agrees contents was allowed there can bound reached =
         replaying_keeps env modelled store format.order meaning contents set set1 logs from e1 was.1 replays.spares allowed bound
 
-    why_not_replayed : (status : Status) → WhyNotReplayed env choices set.store first logs status → IsOutOfMemory status ⊎ Why status
-    why_not_replayed status (inl (inl used_up)) = inr (inr (inr used_up))
-    why_not_replayed status (inl (inr (entries, not))) = ⊎_elim (λ memory. inl memory) (λ other. inr (inr (⊎_elim (λ used_up. inr used_up) (λ compressor. inl compressor) other)))
-        (not_tabled_causes choices _ status not)
-    why_not_replayed status (inr damaged) = inr (inl (damaged.0, λ modelled. subst (λ s. AreDamagedLogs s first logs) may.path (damaged.1 modelled)))
+    why_not_replayed : (status : Status) → WhyNotReplayed env choices set.store first logs set.next_file status → IsOutOfMemory status ⊎ Why status
+    why_not_replayed status (inl lacks) = inr (inl (subst (λ s. LacksNumbersFor env.models_disk s first logs set.next_file 1 status) may.path (lacks_one_more env.models_disk set.store first logs set.next_file 0 status lacks)))
+    why_not_replayed status (inr (inl kept)) = inr (inr (inl (subst (λ s. (log : HasLogNotKept choices env.models_disk s first status) × Contains logs log.number) may.path kept)))
+    why_not_replayed status (inr (inr damaged)) = inr (inr (inr (damaged.0, λ modelled. subst (λ s. AreDamagedLogs s first logs) may.path (damaged.1 modelled))))
 
   pub replay_refused : {C : Type 0} (status : Status) (set1 : VersionSetValue) (e1 : E) → ReplaysLogs env choices {C = C} limit set logs from (Err status) set1 e1 → Begins C (Err status) e1
-  replay_refused {C} status set1 e1 replays = refused_at C e1 status (keeps1 (Err status) set1 e1 replays) (spares1 (Err status) set1 e1 replays) (all_bytes env store (Err status) from e1 replays.spares.bytes) replays.spares.locks
+  replay_refused {C} status set1 e1 replays = refused_at C e1 status (keeps1 (Err status) set1 e1 replays) (spares1 (Err status) set1 e1 replays) replays.spares.bytes replays.spares.locks
       (cause_of_step (env.failures from) (env.failures from) (env.failures e1) status refl (why_not_replayed (Err status) set1 e1 replays status) replays.cause)
 
   -- ---- the log to write is opened
@@ -231,9 +231,24 @@ module _ {E F D FP : Type 0} (env : Ghosts E F) {order : CmpGhosts D} {filters :
           path_of_log : List ℕ
           path_of_log = log_path store (number_to_write replay.used set2.next_file)
 
+    -- there is no number for a new log
+    no_number : (status : Status) → AreFileNumbersUsedUp set2.next_file status → Why status
+    no_number status used = inl (record {
+      batches = replays.few.0;
+      begin = λ modelled. subst (λ s. LogsBeginWith s first logs replays.few.0) may.path (replays.few.1 modelled);
+      too_few = record {
+        code = used.code;
+        too_few =
+            let few = replays.few.2 in
+            let next = ap (λ (s : VersionSetValue). s.next_file) set2_is in
+            let last = used.last in
+            omega (arith, few, next, last);
+      };
+    })
+
     pub log_refused : (cmp : C) (status : Status) (set3 : VersionSetValue) (e2 : E) → OpensLog env store cmp replay.used set2 e1 (Err status) set3 e2 → Begins C (Err status) e2
-    log_refused cmp status set3 e2 opens = refused_at C e2 status (keeps2 cmp (Err status) set3 e2 opens) (spares2 cmp (Err status) set3 e2 opens) (all_bytes env store (Err status) from e2 (bytes2 cmp (Err status) set3 e2 opens)) (locks2 cmp (Err status) set3 e2 opens)
-        (cause_of_step (env.failures from) (env.failures e1) (env.failures e2) status replays.cause.ok (λ used_up. inr (inr (inr used_up))) opens.cause)
+    log_refused cmp status set3 e2 opens = refused_at C e2 status (keeps2 cmp (Err status) set3 e2 opens) (spares2 cmp (Err status) set3 e2 opens) (bytes2 cmp (Err status) set3 e2 opens) (locks2 cmp (Err status) set3 e2 opens)
+        (cause_of_step (env.failures from) (env.failures e1) (env.failures e2) status replays.cause.ok (λ used. inr (no_number status used)) opens.cause)
 
     -- ---- an edit is logged where one is wanted
 
@@ -307,11 +322,10 @@ module _ {E F D FP : Type 0} (env : Ghosts E F) {order : CmpGhosts D} {filters :
                 let before = spares2 cmp (Ok pair) set3 e2 opens modelled in
                 Run-trans before (λ now spares. spares_then store first (env.observed e2).disk.files now before.has spares) (spares3 wanted logged modelled)
 
-            all_opens_bytes : OpensWithBytes env store from result e3
-            all_opens_bytes = bytes_then env store result from e2 e3 (bytes2 cmp (Ok pair) set3 e2 opens)
-                (subst (λ s. OpensWithBytes env s e2 result e3) path3
-                (logging_bytes env made set3 N e2 e3 set4
-                (λ modelled. made_keys_bytes format set first logs replay set1 replayed_files (replays.ok modelled)) wanted result logged))
+            all_bytes : BytesAreAppended env from e3
+            all_bytes modelled before = logging_bytes env made set3 N e2 e3 set4
+                (λ modelled. made_keys_bytes format set first logs replay set1 replayed_files (replays.ok modelled)) wanted result logged
+                modelled (bytes2 cmp (Ok pair) set3 e2 opens modelled before)
 
             all_locks : SameLocks env.models_disk (env.observed from) (env.observed e3)
             all_locks modelled = locks modelled ∙ locks2 cmp (Ok pair) set3 e2 opens modelled
@@ -335,10 +349,10 @@ module _ {E F D FP : Type 0} (env : Ghosts E F) {order : CmpGhosts D} {filters :
           edit_cause : LogEditResult env.models_disk set3 (tables_edit N (made_files made)) (env.observed e2) (env.failures e2) (Err status) set4 (env.observed e3) (env.failures e3) → (state : ManifestState)
               → set3.manifest ≡ state → Cause
           edit_cause logs unmade is = lost_cause (IsLostUnobserved env.models_disk (temp_path set3.store set3.manifest_number) (env.failures e2) (env.failures e3))
-              (λ e lost. ⊎_elim (λ memory. inl memory) (λ it. inr (inl (it.0.code, λ modelled. absurd (it.1 modelled)), it.2)) lost) (λ e memory. inl memory)
+              (λ e lost. ⊎_elim (λ memory. inl memory) (λ it. inr (inr (inr (it.0.code, λ modelled. absurd (it.1 modelled))), it.2)) lost) (λ e memory. inl memory)
               (logs.not_made (made_levels_fit N made) is).cause
           edit_cause logs (in_use manifest) is = lost_cause (IsLost env.models_disk manifest.path (env.observed e2) (env.failures e2) (env.failures e3))
-              (λ e lost. ⊎_elim (λ memory. inl memory) (λ it. inr (inl (it.0.code, λ modelled. absurd (there3 modelled manifest is (it.1 modelled))), it.2)) lost) (λ e memory. inl memory)
+              (λ e lost. ⊎_elim (λ memory. inl memory) (λ it. inr (inr (inr (it.0.code, λ modelled. absurd (there3 modelled manifest is (it.1 modelled)))), it.2)) lost) (λ e memory. inl memory)
               (logs.used (made_levels_fit N made) manifest is).cause
           edit_cause logs broken is = absurd (unbroken3 is)
 
@@ -354,7 +368,7 @@ module _ {E F D FP : Type 0} (env : Ghosts E F) {order : CmpGhosts D} {filters :
 
           pub edit_refused : LogsIfWanted env wanted N made set3 e2 (Err status) set4 e3 → SameLocks env.models_disk (env.observed e2) (env.observed e3) → Begins C (Err status) e3
           edit_refused logged locks = refused_at C e3 status (all_keep (Err status) set4 e3 logged locks) (all_spare (Err status) set4 e3 logged locks)
-              (failed_bytes env store status from e3 (all_opens_bytes (Err status) set4 e3 logged locks)) (all_locks (Err status) set4 e3 logged locks)
+              (all_bytes (Err status) set4 e3 logged locks) (all_locks (Err status) set4 e3 logged locks)
               (cause_of_step (env.failures from) (env.failures e2) (env.failures e3) status (opens.cause.ok ∙ replays.cause.ok) (λ why. inr why) (logged_cause wanted logged))
 
         -- ---- the store is open
@@ -445,7 +459,7 @@ module _ {E F D FP : Type 0} (env : Ghosts E F) {order : CmpGhosts D} {filters :
                   keeps = all_keep (Ok done) set4 e3 logged locks;
                   opens = opened_by wanted refl logged;
                   others = all_spare (Ok done) set4 e3 logged locks;
-                  bytes = opened_bytes env store done value from e3 (all_opens_bytes (Ok done) set4 e3 logged locks);
+                  bytes = all_bytes (Ok done) set4 e3 logged locks;
                   locks = all_locks (Ok done) set4 e3 logged locks;
                   cause = record { later = omega (arith, count); ok = count; uncounted = tt; cause = tt };
                 }

@@ -1,36 +1,31 @@
 -- What is appended to files while a store is opened are bytes.
-use Rattle.std.specs.Prelude.{◌≢◌, Contains, IsTrue}
-use Rattle.std.proofs.Common.{◌≡◌, ◌∙◌, inl, inr, ⊎_elim, ℕ, Bool, true, false, List, [], ◌∷◌, Option, None, Some, Ok, Err, Result, ap, refl, subst, sym}
-use Rattle.std.specs.Cmp.Lexicographic.{bytes_decides}
-use Rattle.std.specs.Str.{bytes_eq}
+use Rattle.std.specs.Prelude.{Contains, IsTrue}
+use Rattle.std.proofs.Common.{◌≡◌, inl, inr, ⊎_elim, ℕ, Bool, true, false, List, [], ◌∷◌, Option, None, Some, Result, refl, subst, sym}
 use Rattle.leveldb_base.proofs.EntriesLemmas.{in_map}
 use Rattle.leveldb_base.specs.KeyTypes.{user_part}
 use Rattle.leveldb_base.specs.declared.error.Status.{Status}
 use Rattle.leveldb_base.specs.declared.types.FileMetaData.{FileMetaData}
-use Rattle.leveldb_env.proofs.EnvLemmas.{Run-call, bytes_eq-apart}
-use Rattle.leveldb_env.specs.Env.{AreBytes, BeforeOrAfter, File, Files, Run, created, deleted, in_folder, kept_file, with_file}
+use Rattle.leveldb_env.proofs.AppendedLemmas.{emptied_bytes, synced_bytes}
+use Rattle.leveldb_env.proofs.EnvLemmas.{Run-call}
+use Rattle.leveldb_env.specs.Env.{BeforeOrAfter, Files, Run, created, in_folder}
 use Rattle.leveldb_env.specs.declared.env.Env.{Ghosts}
 use Rattle.leveldb_mem.specs.Log.Writer.{frame}
 use Rattle.leveldb_mem.specs.MemTable.{MemTableState}
-use Rattle.leveldb_version.proofs.BytesLemmas.{bytes_stay, fine_kept, with_fine}
+use Rattle.leveldb_version.proofs.BytesLemmas.{bytes_stay}
 use Rattle.leveldb_version.proofs.EditRecordLemmas.{KeysAreBytes, tables_record_bytes}
 use Rattle.leveldb_version.proofs.LogKeepsLemmas.{framed_are_bytes}
-use Rattle.leveldb_version.specs.Current.{current_text}
-use Rattle.leveldb_version.specs.CurrentFile.{temp_path}
 use Rattle.leveldb_version.specs.Levels.{LiveTable}
-use Rattle.leveldb_version.specs.LogEdit.{LogEditResult, edit_record, new_records}
-use Rattle.leveldb_version.specs.NewManifest.{MakingManifest, manifest_bytes, with_manifest}
-use Rattle.leveldb_version.specs.NewStore.{first_manifest}
+use Rattle.leveldb_version.specs.LogEdit.{LogEditResult, edit_record}
 use Rattle.leveldb_version.specs.Opening.{tables_edit}
-use Rattle.leveldb_version.specs.Paths.{current_path, log_path, manifest_path}
+use Rattle.leveldb_version.specs.Paths.{log_path}
 use Rattle.leveldb_version.specs.StoreSteps.{AppendedAreBytes}
 use Rattle.leveldb_version.specs.VersionEdit.{Edit, NewFile}
 use Rattle.leveldb_version.specs.VersionSetValue.{ManifestState, VersionSetValue, broken, in_use, unmade}
 use Rattle.leveldb_store.proofs.OpeningEndLemmas.{made_levels_fit}
-use Rattle.leveldb_store.proofs.SoundLemmas.{appending_bytes, empty_bytes, sync_bytes}
+use Rattle.leveldb_store.proofs.SoundLemmas.{appending_bytes}
 use Rattle.leveldb_store.specs.Format.{Agrees, Format, Meaning}
-use Rattle.leveldb_store.specs.OpeningSteps.{AreBeingKept, FindsStore, HasReplayedLogs, IsBeingMade, LogsIfWanted, OpensLog, RecoversSet, files_to_write, made_files, with_log_kept, with_logs_kept}
-use Rattle.leveldb_store.specs.SoundCall.{BytesAreAppended, OpensWithBytes}
+use Rattle.leveldb_store.specs.OpeningSteps.{AreBeingKept, HasReplayedLogs, LogsIfWanted, OpensLog, RecoversSet, files_to_write, made_files, with_log_kept, with_logs_kept}
+use Rattle.leveldb_store.specs.SoundCall.{BytesAreAppended}
 use Rattle.leveldb_store.specs.declared.open_store.OpenLog.{OpenLog}
 use Rattle.leveldb_store.specs.declared.opening.logs.RecoveredSet.{RecoveredSet}
 use Rattle.leveldb_store.specs.declared.opening.replay.Replay.{Replay}
@@ -61,36 +56,6 @@ module _ (store : List ℕ) where
       (λ made. subst AppendedAreBytes (sym made.3)
       ((bytes_stay (with_logs_kept store being.front files) before).make (log_path store made.0)))
       being.now
-
-  -- a new manifest is kept, and `CURRENT` that names it
-  manifest_kept_bytes : (n : ℕ) (bytes : List ℕ) (files : Files) → AppendedAreBytes files
-      → AppendedAreBytes (with_manifest store n bytes files)
-  manifest_kept_bytes n bytes files are =
-      let path = manifest_path store n in
-      let made = with_file path (Some (kept_file bytes)) files in
-      let made_are = with_fine path (Some (kept_file bytes)) files are (fine_kept bytes) in
-      with_fine (current_path store) (Some (kept_file (current_text n)))
-      (deleted (temp_path store n) made)
-      ((bytes_stay made made_are).delete (temp_path store n)) (fine_kept (current_text n))
-
-  -- on the way to it all other files have bytes
-  making_bytes : (n : ℕ) (bytes : List ℕ) (files now : Files)
-      → MakingManifest store n bytes files now → AppendedAreBytes files → (path : List ℕ)
-      (file : File) → path ≢ manifest_path store n → path ≢ temp_path store n
-      → now path ≡ Some file → AreBytes file.since
-  making_bytes n bytes files now making are path file not_manifest not_temp is =
-      by (bytes_eq (current_path store) path) refl
-    where
-      by : (b : Bool) → bytes_eq (current_path store) path ≡ b → AreBytes file.since
-      by false e = are path file
-          (sym (making.others path
-          (bytes_eq-apart (manifest_path store n) path (λ same. not_manifest (sym same)))
-          (bytes_eq-apart (temp_path store n) path (λ same. not_temp (sym same))) e) ∙ is)
-      by true e =
-          let at : now (current_path store) ≡ Some file =
-          ap now ((bytes_decides (current_path store) path).0 e) ∙ is in
-          ⊎_elim (λ still. are (current_path store) file (sym still ∙ at))
-          (λ named. fine_kept (current_text n) file (sym named.0 ∙ at)) making.current
 
 -- ---- tables that were made
 
@@ -126,81 +91,13 @@ module _ {E F : Type 0} (env : Ghosts E F) where
   files_at at = (env.observed at).disk.files
 
   module _ (store : List ℕ) where
-    -- all are bytes
-    pub all_bytes : {T : Type 0} (result : Result T Status) (from to : E)
-        → BytesAreAppended env from to → OpensWithBytes env store from result to
-    all_bytes (Ok value) from to are = record {
-      done = are;
-      beside = (0, λ modelled before path file a b is. are modelled before path file is);
-    }
-    all_bytes (Err status) from to are = record {
-      done = tt;
-      beside = (0, λ modelled before path file a b is. are modelled before path file is);
-    }
-
-    -- a call after others
-    pub bytes_then : {T : Type 0} (result : Result T Status) (from at to : E)
-        → BytesAreAppended env from at → OpensWithBytes env store at result to
-        → OpensWithBytes env store from result to
-    bytes_then (Ok value) from at to first second = record {
-      done = λ modelled before. second.done modelled (first modelled before);
-      beside = (
-        second.beside.0,
-        λ modelled before. second.beside.1 modelled (first modelled before),
-      );
-    }
-    bytes_then (Err status) from at to first second = record {
-      done = tt;
-      beside = (
-        second.beside.0,
-        λ modelled before. second.beside.1 modelled (first modelled before),
-      );
-    }
-
-    -- an error that is handed on
-    pub failed_bytes : {T U : Type 0} (status : Status) (from to : E)
-        → OpensWithBytes env store from {T = T} (Err status) to
-        → OpensWithBytes env store from {T = U} (Err status) to
-    failed_bytes status from to bytes = record { done = tt; beside = bytes.beside }
-
-    -- and another value
-    pub opened_bytes : {T U : Type 0} (value : T) (other : U) (from to : E)
-        → OpensWithBytes env store from (Ok value) to
-        → OpensWithBytes env store from (Ok other) to
-    opened_bytes value other from to bytes = record { done = bytes.done; beside = bytes.beside }
-
-    -- a store is found or made
-    pub finding_bytes : (comparator : List ℕ) (create_if_missing error_if_exists : Bool) (from : E)
-        (result : Result (Unit {0}) Status) (to : E)
-        → FindsStore env store comparator create_if_missing error_if_exists from result to
-        → OpensWithBytes env store from result to
-    finding_bytes comparator create_if_missing error_if_exists from (Ok done) to finds =
-        all_bytes (Ok done) from to (λ modelled before. ⊎_elim
-        (λ there. subst AppendedAreBytes (sym there.1) before)
-        (λ made. subst AppendedAreBytes (sym made.made)
-        (manifest_kept_bytes store 1 (first_manifest comparator) (files_at from) before))
-        (finds.ok modelled))
-    finding_bytes comparator create_if_missing error_if_exists from (Err status) to finds = record {
-      done = tt;
-      beside = (
-        1,
-        λ modelled before path file not_manifest not_temp is. ⊎_elim
-            (λ (same : files_at to ≡ files_at from). before path file
-            (ap (λ (f : Files). f path) (sym same) ∙ is))
-            (λ (being : IsBeingMade store comparator (files_at from) (files_at to)).
-            making_bytes store 1 (first_manifest comparator) (files_at from) (files_at to)
-            being.making before path file not_manifest not_temp is)
-            (finds.run modelled).has,
-      );
-    }
-
     -- its set is recovered
     pub set_bytes : (format : Format) (reuse : Bool) (limit : ℕ) (from : E)
         (result : Result (RecoveredSet E F) Status) (to : E)
         → RecoversSet env format reuse limit store from result to → BytesAreAppended env from to
     set_bytes format reuse limit from result to sets modelled before =
         let leaves = sets.files modelled in
-        sync_bytes (in_folder store leaves.manifest) (files_at from) (files_at to) leaves.run.has
+        synced_bytes (in_folder store leaves.manifest) (files_at from) (files_at to) leaves.run.has
         before
 
     -- its logs are kept
@@ -223,7 +120,7 @@ module _ {E F : Type 0} (env : Ghosts E F) where
             → BeforeOrAfter (files_to_write log store old.next_file) (files_at from) (files_at to)
             → AppendedAreBytes (files_at to)
         by None passes =
-            empty_bytes (log_path store old.next_file) (files_at from) (files_at to) passes before
+            emptied_bytes (log_path store old.next_file) (files_at from) (files_at to) passes before
         by (Some log) (inl same) = subst AppendedAreBytes (sym same) before
         by (Some log) (inr is) = subst AppendedAreBytes (sym is)
             ((bytes_stay (files_at from) before).make (log_path store log.number))
@@ -241,42 +138,23 @@ module _ {E F : Type 0} (env : Ghosts E F) where
         result new (env.observed to) (env.failures to)
 
     edit_bytes_by : (state : ManifestState) → set.manifest ≡ state
-        → (result : Result (Unit {0}) Status) → Logs result
-        → OpensWithBytes env set.store from result to
-    edit_bytes_by unmade is (Ok done) logs =
-        let begins = logs.not_made (made_levels_fit log made) is in
-        all_bytes set.store (Ok done) from to (λ modelled before. subst AppendedAreBytes
-        (sym ((begins.does modelled).ok modelled))
-        (manifest_kept_bytes set.store set.manifest_number (manifest_bytes (new_records set plain))
-        (files_at from) before))
-    edit_bytes_by unmade is (Err status) logs =
-        let begins = logs.not_made (made_levels_fit log made) is in
-        record {
-          done = tt;
-          beside = (
-            set.manifest_number,
-            λ modelled before. making_bytes set.store set.manifest_number
-                (manifest_bytes (new_records set plain)) (files_at from) (files_at to)
-                ((begins.does modelled).now modelled) before,
-          );
-        }
+        → (result : Result (Unit {0}) Status) → Logs result → BytesAreAppended env from to
+    edit_bytes_by unmade is result logs = (logs.not_made (made_levels_fit log made) is).bytes
     edit_bytes_by (in_use manifest) is result logs =
         let appends = logs.used (made_levels_fit log made) manifest is in
-        all_bytes set.store result from to (λ modelled before. appending_bytes manifest.path
+        λ modelled before. appending_bytes manifest.path
         (frame manifest.writer (edit_record set plain))
         (framed_are_bytes manifest.writer.size (edit_record set plain) manifest.writer.offset
         (tables_record_bytes set log (made_files made) (keys modelled)))
-        (files_at from) (files_at to) ((appends.does modelled).now modelled) before)
-    edit_bytes_by broken is result logs =
-        all_bytes set.store result from to (λ modelled before. subst AppendedAreBytes
-        (sym (logs.broken_before is).2.has) before)
+        (files_at from) (files_at to) ((appends.does modelled).now modelled) before
+    edit_bytes_by broken is result logs = λ modelled before. subst AppendedAreBytes
+        (sym (logs.broken_before is).2.has) before
 
     -- where one is wanted
     pub logging_bytes : (wanted : Bool) (result : Result (Unit {0}) Status)
-        → LogsIfWanted env wanted log made set from result new to
-        → OpensWithBytes env set.store from result to
-    logging_bytes true result (inl none) = all_bytes set.store result from to
-        (λ modelled before. subst (λ e. AppendedAreBytes (files_at e)) (sym none.2) before)
+        → LogsIfWanted env wanted log made set from result new to → BytesAreAppended env from to
+    logging_bytes true result (inl none) = λ modelled before.
+        subst (λ e. AppendedAreBytes (files_at e)) (sym none.2) before
     logging_bytes true result (inr logs) = edit_bytes_by set.manifest refl result logs
-    logging_bytes false result same = all_bytes set.store result from to
-        (λ modelled before. subst (λ e. AppendedAreBytes (files_at e)) (sym same.1) before)
+    logging_bytes false result same = λ modelled before.
+        subst (λ e. AppendedAreBytes (files_at e)) (sym same.1) before

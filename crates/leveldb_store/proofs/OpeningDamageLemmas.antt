@@ -35,7 +35,7 @@ use Rattle.leveldb_version.specs.Store.{HasEdits, HasTable, IsManagedBy, LogIsRe
 use Rattle.leveldb_version.specs.VersionEdit.{Edit, IsEdit, NewFile}
 use Rattle.leveldb_version.specs.VersionSet.{IsKeyRange, level_file, live_after}
 use Rattle.leveldb_store.specs.Format.{Format, Meaning}
-use Rattle.leveldb_store.specs.OpeningSteps.{HasMisnamedLog, IsReplayed, LacksTable}
+use Rattle.leveldb_store.specs.OpeningSteps.{HasMisnamedLog, IsReplayed, LacksTable, IsUnsupported}
 use Rattle.leveldb_store.specs.OpensStore.{HasOtherComparator, IsDamaged, IsOrderFor}
 use Rattle.leveldb_store.specs.Written.{IsTableOf}
 
@@ -191,7 +191,7 @@ module _ (modelled : Type 0) (store : List ℕ) (format : Format) (exact : IsExa
   -- the comparator is another, or the files are damaged, or it isn't supported
   abbrev pub WhyNoUse : Status → Type 0
   WhyNoUse status = ((status.code ≡ InvalidArgument) × (modelled → HasOtherComparator store format files))
-      ⊎ ((status.code ≡ Corruption) × (modelled → IsDamaged store format files)) ⊎ (status.code ≡ NotSupported)
+      ⊎ ((status.code ≡ Corruption) × (modelled → IsDamaged store format files)) ⊎ ((status.code ≡ NotSupported) × (modelled → IsUnsupported store format files))
 
   damage : (status : Status) → status.code ≡ Corruption
       → ((meaning : Meaning) (order : List ℕ → List ℕ → Ordering) (contents : Contents) → IsOrderFor store format contents.store order
@@ -242,4 +242,4 @@ module _ (modelled : Type 0) (store : List ℕ) (format : Format) (exact : IsExa
       none (range_there meaning order file it.0 (order_is meaning order contents named m for) it.2 it.3))
   no_use status (overlapping code named a b are overlap) = damage status code (λ meaning order contents for m.
       no_overlap meaning order contents (order_is meaning order contents named m for) m a b are overlap)
-  no_use status (shared_user_key code a b are share) = inr (inr code)
+  no_use status (shared_user_key code a b are share) = inr (inr (code, λ m. inl (record { edits = edits; has_edits = has m; a = a; b = b; beside = are; share = share })))

@@ -24,6 +24,7 @@ use Rattle.leveldb_version.specs.NewManifest.{MakingManifest, with_manifest}
 use Rattle.leveldb_version.specs.NewStore.{MakeStoreResult, first_edit, first_manifest}
 use Rattle.leveldb_version.specs.Paths.{current_path}
 use Rattle.leveldb_version.specs.Store.{HasNoStore}
+use Rattle.leveldb_version.specs.StoreSteps.{AppendedAreBytes}
 use Rattle.leveldb_version.specs.VersionEdit.{FieldFits, IsEncodable, comparator_is, file_order, last_sequence_is, log_is, next_file_is}
 use Rattle.leveldb_store.specs.OpeningSteps.{FindsStore, HasTableOrLog, IsBeingMade, IsMade, WhyNotFound}
 use Rattle.leveldb_store.specs.OpensStore.{IsForbidden, LacksCurrent}
@@ -170,6 +171,7 @@ module _ {E F : Type 0} (env : Ghosts E F) (store comparator : List ℕ) (create
       ok = found_there result there;
       stays = λ modelled is. (never modelled is, Run-call modelled does);
       run = λ modelled. Run-mono (λ files same. inl same) (Run-call modelled does);
+      bytes = λ modelled. subst AppendedAreBytes (sym (does.now modelled));
       locks = locks;
       cause = cause;
     }
@@ -250,6 +252,7 @@ module _ {E F : Type 0} (env : Ghosts E F) (store comparator : List ℕ) (create
             });
             stays = λ modelled is. absurd (may_make modelled is);
             run = λ modelled. run_made (Ok done) (makes.does modelled) modelled;
+            bytes = λ modelled before. makes.bytes modelled (subst AppendedAreBytes (sym (does.now modelled)) before);
             locks = λ modelled. makes.locks modelled ∙ locks modelled;
             cause = cause_or (Ok done) uncounted lost_is_why (λ e memory. inl memory) makes.cause;
           }
@@ -257,6 +260,7 @@ module _ {E F : Type 0} (env : Ghosts E F) (store comparator : List ℕ) (create
             ok = tt;
             stays = λ modelled is. absurd (may_make modelled is);
             run = λ modelled. run_made (Err status) (makes.does modelled) modelled;
+            bytes = λ modelled before. makes.bytes modelled (subst AppendedAreBytes (sym (does.now modelled)) before);
             locks = λ modelled. makes.locks modelled ∙ locks modelled;
             cause = cause_or (Err status) uncounted lost_is_why (λ e memory. inl memory) makes.cause;
           }

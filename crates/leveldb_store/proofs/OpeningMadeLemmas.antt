@@ -1,5 +1,5 @@
 -- A store that an opening makes where none is: what is read of it, and that it is sound.
-use Rattle.std.specs.Prelude.{◌≢◌, Contains, IsTrue}
+use Rattle.std.specs.Prelude.{◌≢◌, Contains, IsSomeAnd, IsTrue}
 use Rattle.std.proofs.Common.{◌≡◌, ◌⊎◌, ◌∙◌, ◌∷◌, ◌<◌, ◌^◌, inl, inr, ⊎_elim, ℕ, Bool, true, false, List, [], None, Some, ap, append-nil, arith, refl, subst, sym}
 use Rattle.std.proofs.lemmas.List.Elements.{All-cons, All-nil}
 use Rattle.std.specs.Cmp.Lexicographic.{bytes_decides}
@@ -9,20 +9,21 @@ use Rattle.leveldb_base.proofs.HistoryLemmas.{in_cases, in_none}
 use Rattle.leveldb_base.proofs.NamesLemmas.{made_name}
 use Rattle.leveldb_base.specs.Names.{IsFileName, file_name}
 use Rattle.leveldb_base.specs.Types.{Pair}
+use Rattle.leveldb_base.specs.declared.types.FileType.{FileType}
 use Rattle.leveldb_base.specs.declared.types.FileType.TheVariants.{Current, Descriptor, Log, Temp}
 use Rattle.leveldb_env.proofs.EnvLemmas.{at_other, at_same}
-use Rattle.leveldb_env.specs.Env.{Files, deleted, in_folder, kept_file, with_file}
+use Rattle.leveldb_env.specs.Env.{Files, bytes_of, deleted, in_folder, kept_file, with_file}
 use Rattle.leveldb_version.proofs.FirstCurrentLemmas.{new_managed}
 use Rattle.leveldb_version.proofs.HistoriesLemmas.{matches_nothing}
 use Rattle.leveldb_version.proofs.KeptLemmas.{kept_safe}
 use Rattle.leveldb_version.proofs.LogKeepsLemmas.{bytes_of_some}
-use Rattle.leveldb_version.proofs.ManagedLemmas.{kinds_apart}
+use Rattle.leveldb_version.proofs.ManagedLemmas.{kinds_apart, numbers_apart}
 use Rattle.leveldb_version.proofs.NewManifestKeepsLemmas.{framed_is_manifest, manifest_named, step_three_is, temp_named, three_bytes, to_manifest}
 use Rattle.leveldb_version.proofs.NewStoreLemmas.{new_store_is_kept}
 use Rattle.leveldb_version.proofs.SafeLemmas.{some_is}
 use Rattle.leveldb_version.proofs.VersionEditLemmas.{written_is_read}
 use Rattle.leveldb_version.proofs.VersionSetLemmas.{none_is_some}
-use Rattle.leveldb_version.proofs.CurrentLemmas.{written_current}
+use Rattle.leveldb_version.proofs.CurrentLemmas.{one_current, written_current}
 use Rattle.leveldb_version.specs.Contents.{Contents, Store, made}
 use Rattle.leveldb_version.specs.Current.{IsCurrentText, current_text}
 use Rattle.leveldb_version.specs.CurrentFile.{temp_path}
@@ -30,6 +31,7 @@ use Rattle.leveldb_version.specs.Holds.{MatchesHistory}
 use Rattle.leveldb_version.specs.NewManifest.{with_manifest}
 use Rattle.leveldb_version.specs.NewStore.{first_edit, first_manifest}
 use Rattle.leveldb_version.specs.Paths.{current_path, manifest_path}
+use Rattle.leveldb_version.specs.Recover.{IsNamed}
 use Rattle.leveldb_version.specs.Store.{HasEdits, HasNoStore, IsManaged, IsManifest, LastNumbersFit, contents_of}
 use Rattle.leveldb_version.specs.StoreSteps.{AppendedAreBytes, IsAllKept, IsNew, KeepsHistory}
 use Rattle.leveldb_version.specs.VersionEdit.{Edit, IsEncodable, edit_bytes}
@@ -110,6 +112,34 @@ module _ (store comparator : List ℕ) (files now : Files) (is : IsMade store co
       ∙ at_other (temp_path store 1) None there (in_folder store name) (kinds_apart store (file_name Temp 1) name 1 k Temp Log (temp_named store 1 first_fits) is_log (λ d. cc))
       ∙ at_other (manifest_path store 1) (Some (kept_file bytes)) files (in_folder store name)
       (kinds_apart store (file_name Descriptor 1) name 1 k Descriptor Log (manifest_named store 1 first_fits) is_log (λ d. cc)) ∙ is.bare.no_log name k is_log
+
+  -- the manifest that is named is its first one
+  pub named_manifest : (name : List ℕ) (number : ℕ) → IsNamed store now name number → now (in_folder store name) ≡ Some (kept_file bytes)
+  named_manifest name number named =
+      let current : now (current_path store) ≡ Some (kept_file (current_text 1))
+      = ap (λ (f : Files). f (current_path store)) is.made ∙ at_same (current_path store) (Some (kept_file (current_text 1))) (deleted (temp_path store 1) there) in
+      let text : IsCurrentText (current_text 1) name number
+      = subst (λ b. IsCurrentText b name number) (append-nil (current_text 1)) (subst (λ file. IsSomeAnd file (λ f. IsCurrentText (bytes_of f) name number)) current named) in
+      let same : name ≡ file_name Descriptor 1 = (one_current (current_text 1) name (file_name Descriptor 1) number 1 text (written_current 1 first_fits)).0 in
+      ap (λ n. now (in_folder store n)) same ∙ ap (λ (f : Files). f (manifest_path store 1)) is.made
+      ∙ at_other (current_path store) (Some (kept_file (current_text 1))) (deleted (temp_path store 1) there) (manifest_path store 1) (to_manifest store 1 first_fits)
+      ∙ at_other (temp_path store 1) None there (manifest_path store 1)
+      (kinds_apart store (file_name Temp 1) (file_name Descriptor 1) 1 1 Temp Descriptor (temp_named store 1 first_fits) (manifest_named store 1 first_fits) (λ d. cc))
+      ∙ at_same (manifest_path store 1) (Some (kept_file bytes)) files
+
+  -- no log is there
+  pub made_no_log_there : (name : List ℕ) (k : ℕ) → IsFileName name k Log → now (in_folder store name) ≡ None
+  made_no_log_there name k is_log = ap (λ (f : Files). f (in_folder store name)) is.made ∙ made_no_log name k is_log
+
+  -- a file with a greater number is as it was
+  pub there_before : (name : List ℕ) (n : ℕ) (kind : FileType) → IsFileName name n kind → 2 < n → now (in_folder store name) ≡ files (in_folder store name)
+  there_before name n kind named more =
+      ap (λ (f : Files). f (in_folder store name)) is.made
+      ∙ at_other (current_path store) (Some (kept_file (current_text 1))) (deleted (temp_path store 1) there) (in_folder store name)
+      (numbers_apart store (file_name Current 0) name 0 n Current kind (made_name Current 0 refl) named (λ e. omega (arith, e, more)))
+      ∙ at_other (temp_path store 1) None there (in_folder store name) (numbers_apart store (file_name Temp 1) name 1 n Temp kind (temp_named store 1 first_fits) named (λ e. omega (arith, e, more)))
+      ∙ at_other (manifest_path store 1) (Some (kept_file bytes)) files (in_folder store name)
+      (numbers_apart store (file_name Descriptor 1) name 1 n Descriptor kind (manifest_named store 1 first_fits) named (λ e. omega (arith, e, more)))
 
   abbrev is_new : IsNew (live_after made_edits)
   is_new = record { comparator = comparator; comparator_is = refl; log_is = refl; next_file_is = refl; last_is = refl; no_table = λ file live. none_is_some live }

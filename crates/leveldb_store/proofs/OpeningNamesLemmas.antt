@@ -1,9 +1,10 @@
 -- Names of a store's folder, one after another, and what is read of them.
-use Rattle.std.specs.Prelude.{Contains, OnOk, IsTrue, string_bytes, String, ◌↔◌, ◌≢◌, ◌^◌}
+use Rattle.std.specs.Prelude.{Contains, IfErr, OnOk, IsTrue, string_bytes, String, ◌↔◌, ◌≢◌, ◌^◌}
 use Rattle.std.specs.declared.alloc.Global.{Global}
 use Rattle.std.proofs.Common.{◌≡◌, ◌⊎◌, inl, inr, ⊎_elim, ℕ, ◌≤◌, ◌<◌, ◌+◌, Bool, true, false, List, [], ◌∷◌, ◌++◌, length, map, take, drop, get_or, Ok, Err, Result, refl, sym, ◌∙◌, ap, subst, arith}
 use Rattle.std.proofs.lemmas.List.{map_more, map-append, take-append-drop, take_all}
 use Rattle.std.proofs.lemmas.List.Elements.{Contains-append_left, Contains-push, Contains-push_cases}
+use Rattle.std.proofs.lemmas.Bool.{cases_lt}
 use Rattle.std.proofs.lemmas.Cmp.{nat_cmp_total}
 use Rattle.std.proofs.lemmas.Map.Lookups.{exact_unsigned}
 use Rattle.std.proofs.lemmas.Map.Views.{btree_set_contains_iff}
@@ -20,9 +21,9 @@ use Rattle.leveldb_base.specs.declared.error.Status.{Status}
 use Rattle.leveldb_base.specs.declared.error.StatusCode.TheVariants.{Corruption}
 use Rattle.leveldb_base.specs.declared.types.FileType.{FileType}
 use Rattle.leveldb_base.specs.declared.types.FileType.TheVariants.{Log, Table}
-use Rattle.leveldb_version.specs.VersionSetValue.{VersionSetValue, with_numbers_used}
+use Rattle.leveldb_version.specs.VersionSetValue.{AreFileNumbersUsedUp, VersionSetValue, with_numbers_used}
 use Rattle.leveldb_store.specs.Opening.{GivesNumbers}
-use Rattle.leveldb_store.specs.OpeningSteps.{AddsLog, AreReplayedLogs, HasMisnamedLog, IsReplayed, MarksNames}
+use Rattle.leveldb_store.specs.OpeningSteps.{AddsLog, AreReplayedLogs, HasMisnamedLog, HasNumber, IsReplayed, MarksNames}
 use Rattle.leveldb_store.specs.OpensStore.{IsTableOrLog}
 
 -- ---- one more name
@@ -42,6 +43,13 @@ name_is_one names i name inside is =
     let split : texts_of names ≡ texts_of (take (i + 1) names) ++ texts_of (drop (i + 1) names) =
     ap texts_of (sym (take-append-drop (i + 1) names)) ∙ map-append string_bytes (take (i + 1) names) (drop (i + 1) names) in
     subst P (sym split) (Contains-append_left (texts_of (take (i + 1) names)) (texts_of (drop (i + 1) names)) (string_bytes name) front)
+
+-- a name among those before is among those with one more, and so is that one
+among_more : (names : List (String Global)) (i : ℕ) (name : String Global) → i < length names → name ≡ get_or names i name → (a : List ℕ) → Contains (texts_of (take i names)) a → Contains (texts_of (take (i + 1) names)) a
+among_more names i name inside is a there = subst (λ ns. Contains ns a) (sym (names_more names i name inside is)) (Contains-append_left (texts_of (take i names)) (string_bytes name ∷ []) a there)
+
+last_of_more : (names : List (String Global)) (i : ℕ) (name : String Global) → i < length names → name ≡ get_or names i name → Contains (texts_of (take (i + 1) names)) (string_bytes name)
+last_of_more names i name inside is = subst (λ ns. Contains ns (string_bytes name)) (sym (names_more names i name inside is)) (Contains-push (texts_of (take i names)) (string_bytes name))
 
 -- what holds of each name before the first one
 pub none_yet : (P : List ℕ → Type 0) (names : List (String Global)) (name : List ℕ) → Contains (texts_of (take 0 names)) name → P name
@@ -93,14 +101,25 @@ no_log name n kind is not m other = not ((one_reading name n m kind Log is other
 -- the numbers of one more name are used
 pub marks_more : (old mid new : VersionSetValue) (names : List (String Global)) (i : ℕ) (name : String Global) → i < length names → name ≡ get_or names i name
     → MarksNames old (texts_of (take i names)) mid → GivesNumbers mid new
-    → ((n : ℕ) (kind : FileType) → IsFileName (string_bytes name) n kind → n < new.next_file) → MarksNames old (texts_of (take (i + 1) names)) new
-marks_more old mid new names i name inside is marks gives used = record {
+    → ((n : ℕ) (kind : FileType) → IsFileName (string_bytes name) n kind → n < new.next_file)
+    → (new.next_file ≡ mid.next_file) ⊎ ((n : ℕ) × (kind : FileType) × IsFileName (string_bytes name) n kind × (new.next_file ≡ n + 1))
+    → MarksNames old (texts_of (take (i + 1) names)) new
+marks_more old mid new names i name inside is marks gives used next = record {
   gives = record {
     set = let moved : VersionSetValue → VersionSetValue = λ set. record set { next_file = new.next_file; given = new.given } in gives.set ∙ ap moved marks.gives.set;
     rises = omega (arith, marks.gives.rises, gives.rises);
   };
   used = λ a n kind there is_name. each_name_more (λ a. (n : ℕ) (kind : FileType) → IsFileName a n kind → n < new.next_file) names i name inside is
       (λ a there n kind is_name. let below = marks.used a n kind there is_name in omega (arith, below, gives.rises)) used a there n kind is_name;
+  reached = ⊎_elim
+      (λ (same : new.next_file ≡ mid.next_file). ⊎_elim
+      (λ (old_same : mid.next_file ≡ old.next_file). inl (same ∙ old_same))
+      (λ (it : (n : ℕ) × HasNumber (texts_of (take i names)) n × (mid.next_file ≡ n + 1)).
+      inr (it.0, (it.1.0, it.1.1, among_more names i name inside is it.1.0 it.1.2, it.1.3), same ∙ it.2))
+      marks.reached)
+      (λ (it : (n : ℕ) × (kind : FileType) × IsFileName (string_bytes name) n kind × (new.next_file ≡ n + 1)).
+      inr (it.0, (string_bytes name, it.1, last_of_more names i name inside is, it.2), it.3))
+      next;
 }
 
 -- none is there at first
@@ -108,6 +127,7 @@ pub marks_none : (set : VersionSetValue) (names : List (String Global)) → Mark
 marks_none set names = record {
   gives = record { set = refl; rises = omega arith };
   used = λ name n kind there is_name. absurd (in_none name there);
+  reached = inl refl;
 }
 
 -- the keys of a set with one more
@@ -159,7 +179,7 @@ adds_none log previous name numbers none = record {
   rising = λ before. before;
 }
 
-sorted_none : IsStrictlySortedBy nat_cmp []
+pub sorted_none : IsStrictlySortedBy nat_cmp []
 unfolding IsStrictlySortedBy
 sorted_none = tt
 
@@ -217,6 +237,24 @@ marked_used (Ok done) name number kind old new is marked = λ n other read.
     let next = ap (λ set. set.next_file) marked in
     rw same (rw next (omega arith))
 marked_used (Err status) name number kind old new is marked = tt
+
+-- the next number is the old one, or comes after it
+pub marked_reached : (result : Result (Unit {0}) Status) (name : List ℕ) (number : ℕ) (kind : FileType) (old new : VersionSetValue) → IsFileName name number kind
+    → OnOk result (new ≡ with_numbers_used old number)
+    → OnOk result ((new.next_file ≡ old.next_file) ⊎ ((n : ℕ) × (other : FileType) × IsFileName name n other × (new.next_file ≡ n + 1)))
+marked_reached (Ok done) name number kind old new is marked =
+    let next = ap (λ (set : VersionSetValue). set.next_file) marked in
+    ⊎_elim
+    (λ (less : old.next_file < number + 1). inr (number, kind, is, omega (arith, next, less)))
+    (λ (more : number + 1 ≤ old.next_file). inl (omega (arith, next, more)))
+    (cases_lt old.next_file (number + 1))
+marked_reached (Err status) name number kind old new is marked = tt
+
+-- and where it can't be, the number is the last one
+pub marked_used_up : (result : Result (Unit {0}) Status) (name : List ℕ) (number : ℕ) (kind : FileType) → IsFileName name number kind
+    → IfErr result (AreFileNumbersUsedUp number) → IfErr result (λ status. (n : ℕ) × (other : FileType) × IsFileName name n other × AreFileNumbersUsedUp n status)
+marked_used_up (Ok done) name number kind is used = tt
+marked_used_up (Err status) name number kind is used = (number, kind, is, used)
 
 -- why a log's name was refused
 pub misnamed_alone : (log previous : ℕ) (name : List ℕ) (n : ℕ) (status : Status) → IsFileName name n Log → IsReplayed log previous n

@@ -1,59 +1,90 @@
 -- A store is recovered and then written: what opening it returns and leaves.
 use Rattle.std.specs.Prelude.{IsTrue, Result, Ok, Err}
 use Rattle.std.proofs.Common.{◌∙◌, inl, inr, ℕ, Bool, List, arith, refl}
+use Rattle.leveldb_base.specs.declared.cmp.Cmp.{Ghosts as CmpGhosts}
 use Rattle.leveldb_base.specs.declared.error.Status.{Status}
 use Rattle.leveldb_env.proofs.EnvLemmas.{Run-trans}
-use Rattle.leveldb_env.specs.Env.{Files}
+use Rattle.leveldb_env.specs.Env.{Files, HasCause}
 use Rattle.leveldb_env.specs.declared.env.Env.{Ghosts}
+use Rattle.leveldb_env.specs.declared.filter.FilterPolicy.{Ghosts as FilterGhosts}
 use Rattle.leveldb_version.specs.Contents.{Contents}
-use Rattle.leveldb_store.proofs.OpeningBytesLemmas.{bytes_then, failed_bytes}
 use Rattle.leveldb_store.proofs.OpeningFrontLemmas.{keeps_found_then}
 use Rattle.leveldb_store.proofs.OpeningRecoverLemmas.{cause_of_step}
 use Rattle.leveldb_store.proofs.OpeningSameLemmas.{spares_then}
+use Rattle.leveldb_store.proofs.FoundLogsLemmas.{logs_same}
+use Rattle.leveldb_store.specs.BuildTable.{TableChoices}
+use Rattle.leveldb_store.specs.FoundLogs.{LacksNumbersFor}
 use Rattle.leveldb_store.specs.Format.{Agrees, Format, Meaning}
 use Rattle.leveldb_store.specs.OpenStore.{OpenStoreValue}
 use Rattle.leveldb_store.specs.OpeningState.{with_comparator}
 use Rattle.leveldb_store.specs.OpeningSteps.{BeginsWriting, RecoversStore, WasRecovered, WhyNotBegun}
-use Rattle.leveldb_store.specs.OpensStore.{IsOpenedAs, IsSound, KeepsFound, OpensStore, WhyNotOpened}
-use Rattle.leveldb_store.specs.SoundCall.{OpensWithBytes}
+use Rattle.leveldb_store.specs.OpensStore.{FailsToOpen, IsOpenedAs, IsSound, KeepsFound, LacksNumbers, OpensStore, WhyNotOpened}
+use Rattle.leveldb_store.specs.SoundCall.{BytesAreAppended}
 use Rattle.leveldb_store.specs.declared.opening.logs.RecoveredSet.{RecoveredSet}
 
-module _ {E F : Type 0} (env : Ghosts E F) (format : Format) (store : List ℕ) (create_if_missing error_if_exists : Bool) (from : E) (limit : ℕ) where
+module _ {E F C : Type 0} (env : Ghosts E F) (format : Format) (store : List ℕ) (create_if_missing error_if_exists : Bool) (from : E) (limit : ℕ) where
+  -- a store that isn't recovered isn't opened
+  pub recover_refused : (to : E) (status : Status) → RecoversStore env format store create_if_missing error_if_exists from (Err status) to → OpensStore env store format create_if_missing error_if_exists from {C = C} limit (Err status) to
+  recover_refused to status recovers = record {
+    path = tt;
+    unbroken = tt;
+    room = tt;
+    keeps = recovers.keeps;
+    opens = λ modelled meaning agrees contents sound. tt;
+    stays = recovers.stays;
+    others = recovers.others;
+    locks = recovers.locks;
+  }
+
+module _ {E F D FP : Type 0} (env : Ghosts E F) {keys : CmpGhosts D} {filters : FilterGhosts FP} (choices : TableChoices keys filters) (store : List ℕ) (create_if_missing error_if_exists : Bool) (from : E) (limit : ℕ) where
+  abbrev format : Format
+  format = choices.format
+
   module _ {C : Type 0} where
+    abbrev pub Causes : Result (OpenStoreValue C) Status → E → Type 0
+    Causes result to = HasCause (FailsToOpen env store choices create_if_missing error_if_exists from to) (env.failures from) (env.failures to) result
+
     abbrev pub Opens : Result (OpenStoreValue C) Status → E → Type 0
     Opens = OpensStore env store format create_if_missing error_if_exists from limit
 
-    -- a store that isn't recovered isn't opened
-    pub recover_refused : (to : E) (status : Status) → RecoversStore env format store create_if_missing error_if_exists from (Err status) to → Opens (Err status) to
-    recover_refused to status recovers = record {
-      path = tt;
-      unbroken = tt;
-      room = tt;
-      keeps = recovers.keeps;
-      opens = λ modelled meaning agrees contents sound. tt;
-      stays = recovers.stays;
-      others = recovers.others;
-      locks = recovers.locks;
-      cause = cause_of_step (env.failures from) (env.failures from) (env.failures to) status refl (λ why. inr why) recovers.cause;
-    }
-
-    -- what it appends are bytes
-    pub refused_bytes : (to : E) (status : Status) → RecoversStore env format store create_if_missing error_if_exists from (Err status) to → OpensWithBytes env store from {T = OpenStoreValue C} (Err status) to
-    refused_bytes to status recovers = failed_bytes env store status from to recovers.bytes
+    -- why a store that isn't recovered isn't opened
+    pub recover_caused : (to : E) (status : Status) → RecoversStore env format store create_if_missing error_if_exists from (Err status) to → Causes (Err status) to
+    recover_caused to status recovers = cause_of_step (env.failures from) (env.failures from) (env.failures to) status refl (λ why. inr (inl why)) recovers.cause
 
   module _ (it : RecoveredSet E F) (mid : E) (recovers : RecoversStore env format store create_if_missing error_if_exists from (Ok it) mid) (to : E) where
     was_recovered : IsTrue env.models_disk → (meaning : Meaning) → Agrees format meaning → (contents : Contents) → IsSound format.order meaning store (env.observed from).disk.files contents
         → WasRecovered env format store it.versions it.logs.keys mid meaning (with_comparator format.order_name contents)
     was_recovered modelled meaning agrees contents sound = (refl, recovers.ok.recovered modelled meaning agrees contents sound)
 
-    why_not_opened : (status : Status) → WhyNotBegun env format store it.versions it.logs.keys mid status → WhyNotOpened env store format create_if_missing error_if_exists from status
-    why_not_opened status (inl damaged) = inr (inr (inr (inl (damaged.0, λ modelled. recovers.ok.damage modelled (damaged.1 modelled)))))
-    why_not_opened status (inr (inl compressor)) = inr (inr (inr (inr (inl compressor))))
-    why_not_opened status (inr (inr used_up)) = inr (inr (inr (inr (inr used_up))))
+    -- after the set that was recovered the numbers are too few
+    lacking : IsTrue env.models_disk → (status : Status) → LacksNumbersFor env.models_disk store (env.observed mid).disk.files it.logs.keys it.versions.next_file 1 status → LacksNumbers store (env.observed from).disk.files
+    lacking modelled status lacks =
+        let after = recovers.ok.numbers modelled in
+        record {
+          logs = it.logs.keys;
+          rising = recovers.ok.rising;
+          batches = lacks.batches;
+          begin = logs_same store (env.observed mid).disk.files store (env.observed from).disk.files it.logs.keys (λ n batches there begins. recovers.ok.logs modelled n batches there begins) lacks.batches (lacks.begin modelled);
+          few = record {
+            last = after.1.0;
+            is_found = after.1.1;
+            too_few = let few = lacks.too_few.too_few in let next = after.2 in let last = after.1.2 in omega (arith, few, next, last);
+          };
+        }
+
+    why_not_opened : (status : Status) → WhyNotBegun env choices store it.versions it.logs.keys mid status → WhyNotOpened env store choices create_if_missing error_if_exists from status
+    why_not_opened status (inl lacks) = inl (inr (inr (inr (inr (lacks.too_few.code, λ modelled. inr (inr (lacking modelled status lacks)))))))
+    why_not_opened status (inr (inl (log, there))) = inr (record {
+      number = log.number;
+      batches = log.batches;
+      begins = λ modelled. recovers.ok.logs modelled log.number log.batches there (log.begins modelled);
+      fails = log.fails;
+    })
+    why_not_opened status (inr (inr damaged)) = inl (inr (inr (inr (inl (damaged.0, λ modelled. recovers.ok.damage modelled (damaged.1 modelled))))))
 
     module _ {C : Type 0} where
       abbrev Begins : Result (OpenStoreValue C) Status → Type 0
-      Begins result = BeginsWriting env format store it.versions it.logs.keys mid limit result to
+      Begins result = BeginsWriting env choices store it.versions it.logs.keys mid limit result to
 
       -- open with the contents of the store that it is by now, it is so with those that were there
       opened_as : (meaning : Meaning) (contents : Contents) (value : OpenStoreValue C) (files : Files)
@@ -73,8 +104,8 @@ module _ {E F : Type 0} (env : Ghosts E F) (format : Format) (store : List ℕ) 
             (begins.keeps modelled meaning agrees (with_comparator format.order_name contents) (was_recovered modelled meaning agrees contents sound))
 
       -- what is appended are bytes
-      pub recovered_bytes : (result : Result (OpenStoreValue C) Status) → Begins result → OpensWithBytes env store from result to
-      recovered_bytes result begins = bytes_then env store result from mid to recovers.bytes.done begins.bytes
+      pub recovered_bytes : (result : Result (OpenStoreValue C) Status) → Begins result → BytesAreAppended env from to
+      recovered_bytes result begins modelled before = begins.bytes modelled (recovers.bytes modelled before)
 
       -- one that is recovered is opened, if it is written then
       pub recovered_then : (result : Result (OpenStoreValue C) Status) → Begins result → Opens result to
@@ -88,7 +119,6 @@ module _ {E F : Type 0} (env : Ghosts E F) (format : Format) (store : List ℕ) 
         stays = λ modelled which. absurd (recovers.stays modelled which).0;
         others = λ modelled. let run = recovers.others modelled in Run-trans run (λ now spares. spares_then store (env.observed from).disk.files (env.observed mid).disk.files now run.has spares) (begins.others modelled);
         locks = λ modelled. begins.locks modelled ∙ recovers.locks modelled;
-        cause = record { later = omega (arith, begins.cause.ok, recovers.cause.ok); ok = begins.cause.ok ∙ recovers.cause.ok; uncounted = tt; cause = tt };
       }
       recovered_then (Err status) begins = record {
         path = tt;
@@ -99,5 +129,9 @@ module _ {E F : Type 0} (env : Ghosts E F) (format : Format) (store : List ℕ) 
         stays = λ modelled which. absurd (recovers.stays modelled which).0;
         others = λ modelled. let run = recovers.others modelled in Run-trans run (λ now spares. spares_then store (env.observed from).disk.files (env.observed mid).disk.files now run.has spares) (begins.others modelled);
         locks = λ modelled. begins.locks modelled ∙ recovers.locks modelled;
-        cause = cause_of_step (env.failures from) (env.failures mid) (env.failures to) status recovers.cause.ok (λ why. inr (why_not_opened status why)) begins.cause;
       }
+
+      -- and why it isn't
+      pub recovered_caused : (result : Result (OpenStoreValue C) Status) → Begins result → Causes result to
+      recovered_caused (Ok value) begins = record { later = omega (arith, begins.cause.ok, recovers.cause.ok); ok = begins.cause.ok ∙ recovers.cause.ok; uncounted = tt; cause = tt }
+      recovered_caused (Err status) begins = cause_of_step (env.failures from) (env.failures mid) (env.failures to) status recovers.cause.ok (λ why. inr (why_not_opened status why)) begins.cause

@@ -1,26 +1,30 @@
 -- What recovering a store returns and leaves, by what its steps do.
-use Rattle.std.specs.Prelude.{◌≢◌, IsTrue, Result, Ok, Err}
-use Rattle.std.proofs.Common.{◌≡◌, ◌⊎◌, ◌∙◌, inl, inr, ⊎_elim, ℕ, Bool, List, None, Some, ap, arith, refl, subst, sym}
+use Rattle.std.specs.Prelude.{◌≢◌, Contains, IsTrue, Result, Ok, Err}
+use Rattle.std.proofs.Common.{◌≡◌, ◌⊎◌, ◌∙◌, ◌+◌, ◌≤◌, inl, inr, ⊎_elim, ℕ, Bool, List, [], None, Some, ap, arith, refl, subst, sym}
 use Rattle.leveldb_base.specs.Error.{IsOutOfMemory}
 use Rattle.leveldb_base.specs.declared.error.Status.{Status}
 use Rattle.leveldb_env.proofs.EnvLemmas.{Run-mono, Run-trans}
 use Rattle.leveldb_env.specs.Env.{Files, FilesUnchanged, HasCause, Run, SameLocks}
 use Rattle.leveldb_env.specs.declared.env.Env.{Ghosts}
+use Rattle.leveldb_mem.specs.WriteBatch.{Batch}
 use Rattle.leveldb_version.proofs.ManifestLemmas.{managed_of}
 use Rattle.leveldb_version.specs.Contents.{Contents, made}
 use Rattle.leveldb_version.specs.Paths.{current_path}
 use Rattle.leveldb_version.specs.Store.{HasEdits}
-use Rattle.leveldb_store.proofs.OpeningBytesLemmas.{all_bytes, failed_bytes, finding_bytes, keeping_bytes, set_bytes}
+use Rattle.leveldb_store.proofs.FoundNumbersLemmas.{found_before, log_before, unsupported_before}
+use Rattle.leveldb_store.proofs.OpeningBytesLemmas.{keeping_bytes, set_bytes}
 use Rattle.leveldb_store.proofs.OpeningFrontLemmas.{IsFoundOrMade, current_is_there, damaged_before, found_is_sound, keeps_found_then, lacking_is_damaged, other_before}
 use Rattle.leveldb_store.proofs.OpeningMadeLemmas.{making_keeps, making_spares}
-use Rattle.leveldb_store.proofs.OpeningRecoveredLemmas.{comparator_is, edits_read, have_numbers, in_use_is, is_read, is_recovered, leaving_keeps, logs_read, logs_there, manifest_below, manifest_there, own_is, path_is, then_bytes, unbroken_is}
+use Rattle.leveldb_store.proofs.OpeningNamesLemmas.{sorted_none}
+use Rattle.leveldb_store.proofs.OpeningRecoveredLemmas.{comparator_is, edits_read, have_numbers, in_use_is, is_read, is_recovered, leaving_keeps, log_was, logs_read, logs_there, manifest_below, manifest_there, numbers_after, own_is, path_is, then_bytes, unbroken_is}
 use Rattle.leveldb_store.proofs.OpeningSameLemmas.{keeping_keeps, keeping_spares, spares_then}
+use Rattle.leveldb_store.specs.FoundLogs.{LogBeginsWith}
 use Rattle.leveldb_store.specs.Format.{Format, Meaning}
 use Rattle.leveldb_store.specs.OpeningState.{IsRecoveredWith, with_comparator}
-use Rattle.leveldb_store.specs.OpeningSteps.{AreBeingKept, AreDamagedLogs, FindsStore, IsBeingMade, RecoversSet, RecoversStore, WhyNotFound, WhyNotRecovered, with_logs_kept}
-use Rattle.leveldb_store.specs.OpensStore.{IsDamaged, IsForbidden, IsSound, KeepsFound, LacksCurrent, LacksUsableEdits, SameBesideOwn, WhyNotOpened}
+use Rattle.leveldb_store.specs.OpeningSteps.{AreBeingKept, AreDamagedLogs, ComesAfterFound, FindsStore, IsBeingMade, IsUnsupported, RecoversSet, RecoversStore, WhyNotFound, WhyNotRecovered, with_logs_kept}
+use Rattle.leveldb_store.specs.OpensStore.{HasHugeManifest, HasSharedUserKey, IsDamaged, IsForbidden, IsSound, KeepsFound, LacksCurrent, LacksNumbers, LacksUsableEdits, SameBesideOwn, WhyNotOpenable}
 use Rattle.leveldb_store.specs.ReplayLog.{HasCauseOr}
-use Rattle.leveldb_store.specs.SoundCall.{BytesAreAppended, OpensWithBytes}
+use Rattle.leveldb_store.specs.SoundCall.{BytesAreAppended}
 use Rattle.leveldb_store.specs.Written.{IsTableOf}
 use Rattle.leveldb_store.specs.declared.opening.logs.RecoveredSet.{RecoveredSet}
 
@@ -58,7 +62,7 @@ module _ {E F : Type 0} (env : Ghosts E F) (format : Format) (store : List ℕ) 
   Recovers = RecoversStore env format store create_if_missing error_if_exists from
 
   abbrev Why : Status → Type 0
-  Why = WhyNotOpened env store format create_if_missing error_if_exists from
+  Why = WhyNotOpenable env store format create_if_missing error_if_exists from
 
   abbrev Finds : Result (Unit {0}) Status → E → Type 0
   Finds = FindsStore env store format.order_name create_if_missing error_if_exists from
@@ -91,9 +95,6 @@ module _ {E F : Type 0} (env : Ghosts E F) (format : Format) (store : List ℕ) 
         same now (inl is) = is
         same now (inr being) = absurd (there being.bare.no_current)
 
-    found_bytes : OpensWithBytes env store from result mid
-    found_bytes = finding_bytes env store format.order_name create_if_missing error_if_exists from result mid finds
-
   pub find_refused : (mid : E) (status : Status) → Finds (Err status) mid → Recovers (Err status) mid
   find_refused mid status finds = record {
     ok = tt;
@@ -109,10 +110,16 @@ module _ {E F : Type 0} (env : Ghosts E F) (format : Format) (store : List ℕ) 
           which,
     );
     others = found_spares (Err status) mid finds;
-    bytes = failed_bytes env store status from mid (found_bytes (Err status) mid finds);
+    bytes = finds.bytes;
     locks = finds.locks;
     cause = cause_of_step (env.failures from) (env.failures from) (env.failures mid) status refl (λ why. inr (why_not_found status why)) finds.cause;
   }
+
+  -- no log is needed for numbers to be too few
+  unsupported : (files : Files) → IsUnsupported store format files → HasSharedUserKey store files format.order ⊎ HasHugeManifest store files format.order_name ⊎ LacksNumbers store files
+  unsupported files (inl shared) = inl shared
+  unsupported files (inr (inl huge)) = inr (inl huge)
+  unsupported files (inr (inr few)) = inr (inr (record { logs = []; rising = sorted_none; batches = []; begin = refl; few = few }))
 
   module _ (done : Unit {0}) (mid : E) (finds : Finds (Ok done) mid) where
     found : IsTrue env.models_disk → IsFoundOrMade store format.order_name first (env.observed mid).disk.files
@@ -132,7 +139,7 @@ module _ {E F : Type 0} (env : Ghosts E F) (format : Format) (store : List ℕ) 
       why_not_recovered status (inl bare) = inl (bare.0, λ modelled. absurd (current_is_there store format first (env.observed mid).disk.files (found modelled) (bare.1 modelled)))
       why_not_recovered status (inr (inl other)) = inr (inr (inl (other.0, λ modelled. other_before store format first (env.observed mid).disk.files (found modelled) (other.1 modelled))))
       why_not_recovered status (inr (inr (inl damaged))) = inr (inr (inr (inl (damaged.0, λ modelled. damaged_before store format first (env.observed mid).disk.files (found modelled) (damaged.1 modelled)))))
-      why_not_recovered status (inr (inr (inr used_up))) = inr (inr (inr (inr (inr used_up))))
+      why_not_recovered status (inr (inr (inr not))) = inr (inr (inr (inr (not.0, λ modelled. unsupported first (unsupported_before store format first (env.observed mid).disk.files (found modelled) (not.1 modelled))))))
 
       module _ (result : Result (RecoveredSet E F) Status) (then : E) (sets : Sets result then) where
         set_keeps : IsTrue env.models_disk → (meaning : Meaning) (contents : Contents) → IsSound format.order meaning store (env.observed mid).disk.files contents
@@ -146,7 +153,7 @@ module _ {E F : Type 0} (env : Ghosts E F) (format : Format) (store : List ℕ) 
             Run-trans run (λ now spares. spares_then store first (env.observed mid).disk.files now run.has spares) (sets.others modelled)
 
         both_bytes : BytesAreAppended env from then
-        both_bytes modelled before = set_bytes env store format reuse limit mid result then sets modelled ((found_bytes (Ok done) mid finds).done modelled before)
+        both_bytes modelled before = set_bytes env store format reuse limit mid result then sets modelled (finds.bytes modelled before)
 
         -- where the store has no usable edits, all files stay
         both_same : IsTrue env.models_disk → LacksUsableEdits store format first → Run (FilesUnchanged first) (env.observed from) (env.observed then)
@@ -172,7 +179,7 @@ module _ {E F : Type 0} (env : Ghosts E F) (format : Format) (store : List ℕ) 
               which,
         );
         others = both_spare (Err status) then sets;
-        bytes = all_bytes env store (Err status) from then (both_bytes (Err status) then sets);
+        bytes = both_bytes (Err status) then sets;
         locks = λ modelled. sets.locks modelled ∙ finds.locks modelled;
         cause = cause_of_step (env.failures from) (env.failures mid) (env.failures then) status finds.cause.ok (λ why. inr (why_not_recovered status why)) sets.cause;
       }
@@ -230,7 +237,7 @@ module _ {E F : Type 0} (env : Ghosts E F) (format : Format) (store : List ℕ) 
             keeps = λ modelled meaning agrees contents sound. all_keep modelled meaning contents sound;
             stays = λ modelled which. absurd (is_usable modelled which);
             others = all_spare;
-            bytes = all_bytes env store (Err status) from to three_bytes;
+            bytes = three_bytes;
             locks = all_locks;
             cause = cause_of_step (env.failures from) (env.failures then) (env.failures to) status (sets.cause.ok ∙ finds.cause.ok) (λ never. absurd never)
                 (memory_cause (env.failures then) (env.failures to) status cause);
@@ -256,6 +263,16 @@ module _ {E F : Type 0} (env : Ghosts E F) (format : Format) (store : List ℕ) 
                     → now ≡ with_comparator format.order_name contents
                 like now is (inl same) = named now is ∙ ap (with_comparator format.order_name) same
                 like now is (inr new) = new
+
+            numbers : IsTrue env.models_disk → (next : ℕ) × ComesAfterFound store first next × (it.versions.next_file ≤ next + 1)
+            numbers modelled =
+                let after = numbers_after env format reuse limit store mid then it.is_anew it.versions logs sets.ok modelled in
+                (after.0, (after.1.0, found_before store format first (env.observed mid).disk.files (found modelled) after.1.0 after.1.1, after.1.2), after.2)
+
+            logs_were : IsTrue env.models_disk → (n : ℕ) (batches : List Batch) → Contains logs n → LogBeginsWith store (env.observed to).disk.files n batches → LogBeginsWith store first n batches
+            logs_were modelled n batches there begins =
+                log_before store format first (env.observed mid).disk.files (found modelled) n (have_numbers env format reuse limit store mid then it.is_anew it.versions logs sets.ok n there) batches
+                (log_was env format reuse limit store mid then it.is_anew it.versions logs sets.ok modelled n batches (subst (λ f. LogBeginsWith store f n batches) (kept modelled) begins))
 
             damage : IsTrue env.models_disk → AreDamagedLogs store (env.observed to).disk.files logs → IsDamaged store format first
             damage modelled damaged = damaged_before store format first (env.observed mid).disk.files (found modelled) at_mid
@@ -283,12 +300,15 @@ module _ {E F : Type 0} (env : Ghosts E F) (format : Format) (store : List ℕ) 
                       (manifest_there env format reuse limit store mid then it.is_anew it.versions logs sets.ok modelled manifest used);
                 };
                 recovered = λ modelled meaning agrees contents sound. all_recovered modelled meaning contents sound;
+                numbers = numbers;
+                logs = logs_were;
+                rising = sets.ok.logs_are.rising;
                 damage = damage;
               };
               keeps = λ modelled meaning agrees contents sound. all_keep modelled meaning contents sound;
               stays = λ modelled which. absurd (is_usable modelled which);
               others = all_spare;
-              bytes = all_bytes env store (Ok it) from to three_bytes;
+              bytes = three_bytes;
               locks = all_locks;
               cause = record {
                 later = omega (arith, cause.ok, sets.cause.ok, finds.cause.ok);

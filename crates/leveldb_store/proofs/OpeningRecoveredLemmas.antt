@@ -1,6 +1,6 @@
 -- A store whose set an opening recovers, and whose logs it syncs.
 use Rattle.std.specs.Prelude.{◌≢◌, Contains, IsSome, IsTrue}
-use Rattle.std.proofs.Common.{◌≡◌, ◌⊎◌, ◌∙◌, ◌<◌, ◌≤◌, ◌^◌, inl, inr, ⊎_elim, ℕ, Bool, true, false, List, Option, None, Some, ap, arith, refl, subst, sym}
+use Rattle.std.proofs.Common.{◌≡◌, ◌⊎◌, ◌∙◌, ◌+◌, ◌<◌, ◌≤◌, ◌^◌, inl, inr, ⊎_elim, ℕ, Bool, true, false, List, Option, None, Some, ap, arith, refl, subst, sym}
 use Rattle.std.proofs.lemmas.Bool.{cases_lt}
 use Rattle.std.specs.declared.cmp.Ordering.{Ordering}
 use Rattle.leveldb_base.proofs.NamesLemmas.{made_name}
@@ -11,9 +11,10 @@ use Rattle.leveldb_env.proofs.EnvLemmas.{Run-mono}
 use Rattle.leveldb_env.specs.Env.{BeforeOrAfter, Files, Run, in_folder, synced}
 use Rattle.leveldb_env.specs.declared.env.Env.{Ghosts}
 use Rattle.leveldb_mem.specs.Log.{End, bad, clean}
+use Rattle.leveldb_mem.specs.WriteBatch.{Batch}
 use Rattle.leveldb_version.proofs.CurrentKeptLemmas.{current_kept}
 use Rattle.leveldb_version.proofs.KeepsLemmas.{sync_keeps}
-use Rattle.leveldb_version.proofs.ManagedLemmas.{gone_again, log_on}
+use Rattle.leveldb_version.proofs.ManagedLemmas.{found_again, gone_again, log_on}
 use Rattle.leveldb_version.proofs.ManifestLemmas.{managed_of}
 use Rattle.leveldb_version.proofs.TracksLemmas.{next_is_above, not_unmade, one_in_use}
 use Rattle.leveldb_version.proofs.RecoveringLemmas.{recovered_sets_track, safe_stores_keep_tables, stores_are_recovered}
@@ -21,7 +22,7 @@ use Rattle.leveldb_version.specs.Contents.{Contents, Store, made}
 use Rattle.leveldb_version.specs.Opening.{IsRecoveredBut}
 use Rattle.leveldb_version.specs.OpeningLaws.{RecoveredIsTracked}
 use Rattle.leveldb_version.specs.Paths.{log_path}
-use Rattle.leveldb_version.specs.Recover.{IsRead, IsReusable, LeavesFiles, ReadManifest, set_going_on, set_starting_anew}
+use Rattle.leveldb_version.specs.Recover.{IsRead, IsReusable, LeavesFiles, ReadManifest, next_number_after, set_going_on, set_starting_anew}
 use Rattle.leveldb_version.specs.Store.{IsManagedBy, LogIsReplayed, ReplayedLog}
 use Rattle.leveldb_version.specs.StoreSteps.{AppendedAreBytes, KeepsHistory}
 use Rattle.leveldb_version.specs.VersionEdit.{Edit}
@@ -35,7 +36,9 @@ use Rattle.leveldb_store.specs.OpeningState.{IsRecoveredWith}
 use Rattle.leveldb_store.proofs.TableKeepsLemmas.{KeepsHistory-refl}
 use Rattle.leveldb_store.specs.Format.{Format, Meaning}
 use Rattle.leveldb_store.specs.OpenStore.{HasOwnManifest}
-use Rattle.leveldb_store.specs.OpeningSteps.{AreDamagedLogs, IsRecoveredSet, with_logs_kept}
+use Rattle.leveldb_store.proofs.FoundNumbersLemmas.{edits_after}
+use Rattle.leveldb_store.specs.FoundLogs.{BeginsWithBatches, LogBeginsWith}
+use Rattle.leveldb_store.specs.OpeningSteps.{AreDamagedLogs, ComesAfterFound, IsRecoveredSet, with_logs_kept}
 use Rattle.leveldb_store.specs.OpensStore.{IsSound}
 use Rattle.leveldb_store.specs.Written.{IsTableOf}
 
@@ -113,6 +116,21 @@ module _ {E F : Type 0} (env : Ghosts E F) (format : Format) (reuse : Bool) (lim
         (λ (it : GoesOn). subst (λ (s : VersionSetValue). s.manifest_number < s.next_file) (sym it.1) (next_is_above r.marked manifest.edits manifest.number).1)
         (λ (it : StartsAnew). subst (λ (s : VersionSetValue). s.manifest_number < s.next_file) (sym it.1) (omega arith)) outcome
 
+    pub is_read : IsTrue env.models_disk → IsRead store first manifest
+    is_read modelled = subst (λ s. IsRead s first manifest) marked_store (r.recovers.read modelled)
+
+    -- at most one number was given after those that were found
+    pub numbers_after : IsTrue env.models_disk → (next : ℕ) × ComesAfterFound store first next × (set.next_file ≤ next + 1)
+    numbers_after modelled =
+        let read = is_read modelled in
+        let next = next_number_after r.marked manifest.edits manifest.number in (
+          next,
+          edits_after store first r.marked manifest.edits manifest.number read.has_edits read.number (r.after_names modelled),
+          ⊎_elim
+              (λ (it : GoesOn). let same : set.next_file ≡ next = ap (λ (s : VersionSetValue). s.next_file) it.1 in omega (arith, same))
+              (λ (it : StartsAnew). let same : set.next_file ≡ next + 1 = ap (λ (s : VersionSetValue). s.next_file) it.1 in omega (arith, same)) outcome,
+        )
+
     -- its numbers are those that the edits leave
     set_numbers : NumbersAre (live_after edits_read) set.log_number set.previous_log
     set_numbers = ⊎_elim
@@ -134,9 +152,6 @@ module _ {E F : Type 0} (env : Ghosts E F) (format : Format) (reuse : Bool) (lim
     have_numbers n c = (r.logs_are.each n c).2
 
     -- ---- the files
-
-    pub is_read : IsTrue env.models_disk → IsRead store first manifest
-    is_read modelled = subst (λ s. IsRead s first manifest) marked_store (r.recovers.read modelled)
 
     -- its manifest is in use, unless it starts anew
     pub in_use_is : anew ≡ false → (it : OpenManifest) × (set.manifest ≡ in_use it)
@@ -193,6 +208,12 @@ module _ {E F : Type 0} (env : Ghosts E F) (format : Format) (reuse : Bool) (lim
       -- all that is read is as it was
       pub last_text : SameText first last
       last_text = SameText-trans first then_files last same_text (logs_same_text store logs then_files logs_there)
+
+      -- a log began with the same batches
+      pub log_was : (n : ℕ) (batches : List Batch) → LogBeginsWith store last n batches → LogBeginsWith store first n batches
+      log_was n batches begins =
+          let was = found_again (last (log_path store n)) (first (log_path store n)) begins.0 (sym (last_text (log_path store n))) begins.1 in
+          (was.now, was.there, subst (λ text. BeginsWithBatches text batches) (sym was.bytes) begins.2)
 
       -- its manifest in use is there
       pub manifest_there : (it : OpenManifest) → set.manifest ≡ in_use it → last it.path ≢ None

@@ -1,5 +1,5 @@
 -- How a version set is recovered at an opening, a step at a time.
-use Rattle.std.specs.Prelude.{◌≢◌, ◌^◌, Contains, IfOk, IfSome, IsTrue, codes, fold}
+use Rattle.std.specs.Prelude.{◌≢◌, ◌≤◌, ◌^◌, Contains, IfOk, IfSome, IsSomeAnd, IsTrue, codes, fold, length}
 use Rattle.std.proofs.Common.{◌≡◌, ◌⊎◌, inl, inr, ⊎_elim, ℕ, ◌<◌, Bool, true, List, [], Option, None, Some, Ok, Err, Result, refl, sym, ◌∙◌, ap, subst, arith}
 use Rattle.std.specs.BTreeSet.{BTreeSet}
 use Rattle.std.specs.Option.{unwrap_or}
@@ -19,13 +19,14 @@ use Rattle.leveldb_version.proofs.UsableLemmas.{full_of_all}
 use Rattle.leveldb_version.specs.Current.{IsCurrentText}
 use Rattle.leveldb_version.specs.FullEdit.{full_after}
 use Rattle.leveldb_version.specs.Paths.{current_path}
-use Rattle.leveldb_version.specs.Recover.{HasRecordOfNoEdit, IsNamed, IsRead, LeavesFiles, RecoverResult, Recovers, WhyUnrecovered, lost, no_edit, set_going_on, set_starting_anew, too_long, unread, unusable, used_up}
+use Rattle.leveldb_version.specs.Recover.{HasRecordOfNoEdit, IsNamed, IsRead, LeavesFiles, RecoverResult, Recovers, WhyUnrecovered, lost, next_number_after, no_edit, set_going_on, set_starting_anew, too_long, unread, unusable, used_up}
 use Rattle.leveldb_version.specs.Store.{HasEdits}
 use Rattle.leveldb_version.specs.VersionEdit.{Edit, NewFile, empty_edit}
 use Rattle.leveldb_version.specs.VersionSet.{level_file, live_after}
-use Rattle.leveldb_version.specs.VersionSetValue.{VersionSetValue, new_version_set}
+use Rattle.leveldb_version.specs.VersionSetValue.{AreFileNumbersUsedUp, VersionSetValue, new_version_set}
 use Rattle.leveldb_store.specs.Format.{Format}
-use Rattle.leveldb_store.specs.OpeningSteps.{AreReplayedLogs, HasMisnamedLog, IsRecoveredSet, LacksTable, MarksNames, RecoversSet, WhyNotRecovered}
+use Rattle.leveldb_store.proofs.FoundNumbersLemmas.{edits_after, few_after_name, few_after_next, names_after}
+use Rattle.leveldb_store.specs.OpeningSteps.{AreReplayedLogs, ComesAfterFound, HasMisnamedLog, HasNumber, IsRecoveredSet, IsUnsupported, LacksTable, MarksNames, RecoversSet, WhyNotRecovered}
 use Rattle.leveldb_store.specs.OpensStore.{HasOtherComparator, IsDamaged, SameBesideOwn}
 use Rattle.leveldb_store.proofs.OpeningSameLemmas.{naming_spares}
 use Rattle.leveldb_store.specs.ReplayLog.{HasCauseOr}
@@ -108,9 +109,10 @@ module _ (models_disk : Bool) (format : Format) (exact : IsExactOrder format.ord
   WhyNoSet store status = ((status.code ≡ Corruption) × (IsTrue models_disk → files (current_path store) ≡ None))
       ⊎ ((status.code ≡ InvalidArgument) × (IsTrue models_disk → HasOtherComparator store format files))
       ⊎ ((status.code ≡ Corruption) × (IsTrue models_disk → IsDamaged store format files))
-      ⊎ (status.code ≡ NotSupported)
+      ⊎ ((status.code ≡ NotSupported) × (IsTrue models_disk → IsUnsupported store format files))
 
-  module _ (old : VersionSetValue) (at : Observed) (same_files : IsTrue models_disk → at.disk.files ≡ files) where
+  module _ (old : VersionSetValue) (at : Observed) (same_files : IsTrue models_disk → at.disk.files ≡ files)
+      (marked : IsTrue models_disk → ComesAfterFound old.store files old.next_file) where
     damaged : (status : Status) → status.code ≡ Corruption → (IsTrue models_disk → IsDamaged old.store format files) → WhyNoSet old.store status
     damaged status code why = inr (inr (inl (code, why)))
 
@@ -138,7 +140,18 @@ module _ (models_disk : Bool) (format : Format) (exact : IsExactOrder format.ord
       damaged status gone.0.code (λ modelled. manifest_lost old.store format files name n (there (λ f. IsNamed old.store f name n) named modelled) (there (λ f. f (in_folder old.store name) ≡ None) gone.1 modelled)),
       gone.2,
     )
-    why_no_set f0 f1 status (too_long name n same named huge) = inr (inr (inr (inr huge.0)), same)
+    why_no_set f0 f1 status (too_long name n same named huge) = inr (
+      inr (inr (inr (
+        huge.0,
+        λ modelled. inr (inl (inl (
+          name,
+          n,
+          there (λ f. IsNamed old.store f name n) named modelled,
+          there (λ f. IsSomeAnd (f (in_folder old.store name)) (λ file. 2 ^ 64 ≤ length (bytes_of file))) huge.1 modelled,
+        ))),
+      ))),
+      same,
+    )
     why_no_set f0 f1 status (no_edit name n same code it) = inr (
       damaged status code (λ modelled. let both = there (λ f. IsNamed old.store f name n × HasRecordOfNoEdit old.store f name) it modelled in record_damaged old.store format files name n both.0 both.1),
       same,
@@ -147,7 +160,16 @@ module _ (models_disk : Bool) (format : Format) (exact : IsExactOrder format.ord
       inr (no_use (IsTrue models_disk) old.store format exact files manifest.edits (there (λ f. HasEdits old.store f manifest.edits) (λ modelled. (read modelled).has_edits)) status why),
       same,
     )
-    why_no_set f0 f1 status (used_up manifest same code read many) = inr (inr (inr (inr code)), same)
+    why_no_set f0 f1 status (used_up manifest same code read many) = inr (
+      inr (inr (inr (
+        code,
+        λ modelled.
+            let found = there (λ f. IsRead old.store f manifest) read modelled in
+            inr (inr (few_after_next old.store files (next_number_after old manifest.edits manifest.number)
+            (edits_after old.store files old manifest.edits manifest.number found.has_edits found.number (marked modelled)) many)),
+      ))),
+      same,
+    )
 
     pub no_set_cause : {T U : Type 0} (store : List ℕ) → old.store ≡ store → (f0 f1 f2 : ℕ) (status : Status) → f1 ≡ f0
         → HasCause {T = T} (WhyUnrecovered models_disk format.order format.order_name reuse limit old at f1 f2) f1 f2 (Err status)
@@ -217,8 +239,18 @@ module _ {E F : Type 0} (env : Ghosts E F) (format : Format) (exact : IsExactOrd
     pub out_of_memory : (status : Status) → IsOutOfMemory status → Recovered (Err status) mid
     out_of_memory status memory = not_begun status (record { later = omega (arith, uncounted); ok = tt; uncounted = λ why. uncounted; cause = inl (inl memory) })
 
-    pub numbers_used_up : (status : Status) → status.code ≡ NotSupported → Recovered (Err status) mid
-    numbers_used_up status code = not_begun status (record { later = omega (arith, uncounted); ok = tt; uncounted = λ why. uncounted; cause = inl (inr (inr (inr (inr code)), uncounted)) })
+    module _ (names : List (List ℕ)) (lists : IsTrue env.models_disk → ListsChildren (env.observed from).disk.files store names) where
+      -- a name's number is the last one
+      pub numbers_used_up : (status : Status) → (n : ℕ) × HasNumber names n × AreFileNumbersUsedUp n status → Recovered (Err status) mid
+      numbers_used_up status (n, has, used) = not_begun status (record {
+        later = omega (arith, uncounted);
+        ok = tt;
+        uncounted = λ why. uncounted;
+        cause = inl (inr (
+          inr (inr (inr (used.code, λ modelled. inr (inr (few_after_name store (env.observed from).disk.files names (lists modelled) n has used.last))))),
+          uncounted,
+        ));
+      })
 
     module _ (names : List (List ℕ)) (lists : IsTrue env.models_disk → ListsChildren (env.observed from).disk.files store names)
         (marked : VersionSetValue) (marks : MarksNames (new_version_set store format.order_name) names marked) (then : E) where
@@ -227,6 +259,10 @@ module _ {E F : Type 0} (env : Ghosts E F) (format : Format) (exact : IsExactOrd
 
       same_files : IsTrue env.models_disk → (env.observed mid).disk.files ≡ (env.observed from).disk.files
       same_files modelled = (still modelled).has
+
+      -- the next number comes after one of a name
+      after_names : IsTrue env.models_disk → ComesAfterFound store (env.observed from).disk.files marked.next_file
+      after_names modelled = names_after store (env.observed from).disk.files format.order_name names (lists modelled) marked marks
 
       abbrev Made : Result Bool Status → VersionSetValue → Type 0
       Made result set = RecoverResult env.models_disk format.order format.order_name reuse limit marked (env.observed mid) (env.failures mid) result set (env.observed then) (env.failures then)
@@ -239,7 +275,8 @@ module _ {E F : Type 0} (env : Ghosts E F) (format : Format) (exact : IsExactOrd
         others = λ modelled. leaves_spare env.models_disk format reuse limit store (env.observed from) (env.observed then)
             (leaves_after env.models_disk format reuse limit marked store (env.observed from) (env.observed mid) (env.observed then) in_store (still modelled) (made.files modelled));
         locks = λ modelled. made.locks modelled ∙ locks modelled;
-        cause = no_set_cause env.models_disk format exact reuse limit (env.observed from).disk.files marked (env.observed mid) same_files store in_store
+        cause = no_set_cause env.models_disk format exact reuse limit (env.observed from).disk.files marked (env.observed mid) same_files
+            (λ modelled. subst (λ s. ComesAfterFound s (env.observed from).disk.files marked.next_file) (sym in_store) (after_names modelled)) store in_store
             (env.failures from) (env.failures mid) (env.failures then) status uncounted made.cause;
       }
 
@@ -322,6 +359,7 @@ module _ {E F : Type 0} (env : Ghosts E F) (format : Format) (exact : IsExactOrd
             marked = marked;
             gives = marks.gives;
             below = λ modelled name n kind is some. marks.used name n kind (listed store (env.observed from).disk.files names (lists modelled) name (no_slash_in_name name n kind is) some) is;
+            after_names = after_names;
             recovers = recovers_here;
             fits = fits;
             names = names;

@@ -1,6 +1,6 @@
 -- What is replayed of logs, one after another.
 use Rattle.std.specs.Prelude.{Contains}
-use Rattle.std.proofs.Common.{◌≡◌, ◌∙◌, ⊎_elim, [], ◌∷◌, ap, arith, subst, sym}
+use Rattle.std.proofs.Common.{◌≡◌, ◌≢◌, ◌∙◌, inl, inr, ⊎_elim, [], ◌∷◌, ap, arith, refl, subst, sym}
 use Rattle.std.proofs.lemmas.List.{append-nil}
 use Rattle.leveldb_base.proofs.HistoryLemmas.{in_cases, in_none}
 use Rattle.leveldb_env.specs.declared.env.Env.{Ghosts}
@@ -26,11 +26,12 @@ module _ {E F C : Type 0} (env : Ghosts E F) (format : Format) (log : ReplayedLo
       rising = λ i j d less within. absurd (omega (arith, within));
     };
     entries = λ entry. (λ c. absurd (in_none entry c), λ c. subst (λ es. Contains es entry) none c);
+    few = inl refl;
   }
 
   -- they are in one that was made
-  pub TablesAll-made : (new : ReplayedLog C) (now : VersionSetValue) (at : E) → TablesRest env format log set new now at → TablesAll env format log set (table_files new) now at
-  TablesAll-made new now at made = record {
+  pub TablesAll-made : log.rest.kept.entries ≢ [] → (new : ReplayedLog C) (now : VersionSetValue) (at : E) → TablesRest env format log set new now at → TablesAll env format log set (table_files new) now at
+  TablesAll-made some new now at made = record {
     tables = made.table ∷ [];
     files_are = made.files;
     made_tables = λ modelled meaning agrees. record {
@@ -45,6 +46,7 @@ module _ {E F C : Type 0} (env : Ghosts E F) (format : Format) (log : ReplayedLo
       λ c. subst (λ es. Contains es entry) is c,
       λ c. subst (λ es. Contains es entry) (sym is) c,
     );
+    few = inr (some, ap (λ (v : VersionSetValue). v.next_file) made.given);
   }
     where
       only : (table : LiveTable) → Contains (made.table ∷ []) table → made.table ≡ table

@@ -1,7 +1,8 @@
 -- What each step of a replay makes of what was replayed before it, and why it fails.
 use Rattle.std.specs.Prelude.{◌↔◌, AllPairs, Contains, IfErr, IfSome, IsErrAnd, IsTrue, max}
-use Rattle.std.proofs.Common.{◌≡◌, ◌≢◌, ◌∙◌, ◌⊎◌, inl, inr, ⊎_elim, ℕ, zero, suc, ◌+◌, ◌-◌, ◌<◌, ◌≤◌, ◌^◌, List, [], ◌∷◌, ◌++◌, Option, None, Result, Ok, Err, Some, ap, append-nil, arith, length, map, refl, subst, sym}
+use Rattle.std.proofs.Common.{◌≡◌, ◌≢◌, ◌∙◌, ◌⊎◌, inl, inr, ⊎_elim, ℕ, zero, suc, ◌+◌, ◌-◌, ◌<◌, ◌≤◌, ◌^◌, ◌*◌, List, [], ◌∷◌, ◌++◌, Option, None, Result, Ok, Err, Some, ap, append-nil, append_assoc, arith, length, length-append, map, refl, subst, sym}
 use Rattle.std.proofs.lemmas.List.{map_push}
+use Rattle.std.proofs.lemmas.List.Sums.{sum_by-append}
 use Rattle.std.proofs.lemmas.List.Elements.{All-push, Contains-append_cases, Contains-append_left, Contains-append_right, Contains-push_cases}
 use Rattle.std.proofs.lemmas.List.Kept.{AllPairs-cons}
 use Rattle.std.proofs.lemmas.List.Concat.{flat_map-append}
@@ -16,7 +17,7 @@ use Rattle.leveldb_base.specs.KeyTypes.{greatest_sequence, user_part}
 use Rattle.leveldb_base.specs.Types.{Pair}
 use Rattle.leveldb_base.specs.declared.cmp.Cmp.{Ghosts as CmpGhosts}
 use Rattle.leveldb_base.specs.declared.error.Status.{Status}
-use Rattle.leveldb_base.specs.declared.error.StatusCode.TheVariants.{Corruption}
+use Rattle.leveldb_base.specs.declared.error.StatusCode.TheVariants.{Corruption, NotSupported}
 use Rattle.leveldb_base.specs.declared.types.FileMetaData.{FileMetaData}
 use Rattle.leveldb_base.specs.declared.types.FileType.TheVariants.{Table}
 use Rattle.leveldb_env.specs.Compressor.{Coding, Decodes, decoded_under}
@@ -24,7 +25,7 @@ use Rattle.leveldb_env.specs.Env.{Files}
 use Rattle.leveldb_env.specs.declared.env.Env.{Ghosts}
 use Rattle.leveldb_env.specs.declared.filter.FilterPolicy.{Ghosts as FilterGhosts}
 use Rattle.leveldb_mem.proofs.EntryLemmas.{all_fit, none_fit, placed_from}
-use Rattle.leveldb_mem.specs.MemTable.{IsUnion, MemTableState}
+use Rattle.leveldb_mem.specs.MemTable.{FailsToPrepare, GrowsByAll, IsUnion, MemTableState, bytes_in, entry_key, memory_of_entries}
 use Rattle.leveldb_mem.specs.WriteBatch.{Batch, IsBatch}
 use Rattle.leveldb_mem.specs.WriteBatchLaws.{BatchOf-one}
 use Rattle.leveldb_version.proofs.LogsLemmas.{all_append, order_append}
@@ -40,10 +41,11 @@ use Rattle.leveldb_version.specs.Store.{IsInternalPair}
 use Rattle.leveldb_version.specs.StoreSteps.{IsKept}
 use Rattle.leveldb_version.specs.VersionEdit.{NewFile, new_file_of}
 use Rattle.leveldb_version.specs.VersionSetValue.{AreFileNumbersUsedUp, VersionSetValue, with_number_given}
-use Rattle.leveldb_store.specs.BuildTable.{MakesTable, TableChoices}
+use Rattle.leveldb_store.specs.BuildTable.{IsNotTabled, MakesTable, TableChoices}
 use Rattle.leveldb_store.specs.Format.{Agrees, Format, Meaning}
+use Rattle.leveldb_store.specs.FoundLogs.{AreLastEntries, FailsToKeep, FailsToTable}
 use Rattle.leveldb_store.specs.Opening.{IsMadeTable, SameButTables}
-use Rattle.leveldb_store.specs.ReplayLog.{TakesBatch, FailsToTable, Follows, HasReplayed, IsNoNextBatch, IsNotFull, MakesRestTable, MakesTablesOnly, TablesRest, TakesRecord, table_files}
+use Rattle.leveldb_store.specs.ReplayLog.{TakesBatch, FailsAtRecord, FailsToTableRest, Follows, HasReplayed, IsNoNextBatch, IsNotFull, MakesRestTable, MakesTablesOnly, TablesRest, TakesRecord, table_files}
 use Rattle.leveldb_store.specs.Written.{IsTableOf}
 use Rattle.leveldb_store.specs.declared.opening.replay_log.ReplayedLog.{ReplayedLog}
 use Rattle.leveldb_store.proofs.ReplayFilesLemmas.{GivesNumbers-refl, GivesNumbers-trans, MakesTablesOnly-made, MakesTablesOnly-none, same_store}
@@ -101,20 +103,39 @@ last_of_none low first (item ∷ items) none = absurd (omega (arith, none))
 
 -- ---- a batch is added
 
+length-placed : (first : ℕ) (items : List Item) → length (placed first items) ≡ length items
+length-placed first [] = refl
+length-placed first (item ∷ items) = ap (λ n. suc n) (length-placed (first + 1) items)
+
+-- room that was taken for a batch is used up by it, where there was none before
+pub no_room_left : (before mid after first : ℕ) (items : List Item)
+    → mid ≡ max before (length items) → mid ≡ after + length (placed first items) → before ≡ 0
+    → after ≡ 0
+no_room_left before mid after first items made taken none =
+    let same = length-placed first items in omega (arith, made, taken, none, same)
+
 module _ {C : Type 0} (old : ReplayedLog C) (batch : Batch) (rest : MemTableState C)
     (mid : List Entry) (first : ℕ) (follows : Follows old.last batch) (is_first : first ≡ batch.first)
     (same : mid ≡ old.rest.kept.entries)
     (gains : IsUnion mid (placed first batch.items) rest.kept.entries)
+    (grows : GrowsByAll mid (placed first batch.items) rest.kept.entries)
+    (places : old.rest.kept.places ≡ 0 → rest.kept.places ≡ 0)
     (cmp : rest.cmp ≡ old.rest.cmp) where
   gained : IsUnion old.rest.kept.entries (batch_entries batch) rest.kept.entries
   gained = subst (λ es. IsUnion es (batch_entries batch) rest.kept.entries) same
       (subst (λ n. IsUnion mid (placed n batch.items) rest.kept.entries) is_first gains)
+
+  grown : GrowsByAll old.rest.kept.entries (batch_entries batch) rest.kept.entries
+  grown = subst (λ es. GrowsByAll es (batch_entries batch) rest.kept.entries) same
+      (subst (λ n. GrowsByAll mid (placed n batch.items) rest.kept.entries) is_first grows)
 
   pub TakesBatch-some : (last : ℕ) → 0 < length batch.items
       → last ≡ batch.first + (length batch.items - 1)
       → TakesBatch old batch (record old { rest = rest; last = last })
   TakesBatch-some last some is = record {
     gains = gained;
+    grows = grown;
+    places = places;
     last = is ∙ last_of_some old.last batch.first batch.items follows.above some;
     rest = refl;
     cmp = cmp;
@@ -123,17 +144,14 @@ module _ {C : Type 0} (old : ReplayedLog C) (batch : Batch) (rest : MemTableStat
   pub TakesBatch-none : length batch.items ≤ 0 → TakesBatch old batch (record old { rest = rest })
   TakesBatch-none none = record {
     gains = gained;
+    grows = grown;
+    places = places;
     last = last_of_none old.last batch.first batch.items none;
     rest = refl;
     cmp = cmp;
   }
 
--- ---- batches
-
-all_more : (batches : List Batch) (batch : Batch)
-    → all_entries (batches ++ batch ∷ []) ≡ all_entries batches ++ batch_entries batch
-all_more batches batch = all_append batches (batch ∷ [])
-    ∙ ap (λ es. all_entries batches ++ es) (append-nil (batch_entries batch))
+-- ---- tables
 
 tables_more : (tables : List LiveTable) (table : LiveTable)
     → table_entries (tables ++ table ∷ []) ≡ table_entries tables ++ table.entries
@@ -160,12 +178,121 @@ IsMadeTable-stays cmp meaning store set now before after table is_store below sa
       made.3,
     )
 
+-- ---- batches
+
+all_more : (batches : List Batch) (batch : Batch)
+    → all_entries (batches ++ batch ∷ []) ≡ all_entries batches ++ batch_entries batch
+all_more batches batch = all_append batches (batch ∷ [])
+    ∙ ap (λ es. all_entries batches ++ es) (append-nil (batch_entries batch))
+
+-- ---- the entries of the last batches
+
+-- of no batch there is none
+pub last_none : (batches : List Batch) (entries : List Entry) → entries ≡ []
+    → AreLastEntries batches entries
+last_none batches entries none = record {
+  front = batches;
+  last = [];
+  parts = sym (append-nil batches);
+  are = subst (λ es. IsUnion [] [] es) (sym none) (λ entry. (λ c. c, λ c. c));
+  grows = subst (λ es. GrowsByAll [] [] es) (sym none) (record { count = refl; memory = refl });
+}
+
+-- one batch more
+pub last_more : (batches : List Batch) (old new : List Entry) (batch : Batch)
+    → AreLastEntries batches old → IsUnion old (batch_entries batch) new
+    → GrowsByAll old (batch_entries batch) new → AreLastEntries (batches ++ batch ∷ []) new
+last_more batches old new batch was gains grows = record {
+  front = was.front;
+  last = was.last ++ batch ∷ [];
+  parts = ap (λ bs. bs ++ batch ∷ []) was.parts ∙ append_assoc was.front was.last (batch ∷ []);
+  are = λ entry. (
+    λ c. subst (λ es. Contains es entry) (sym (all_more was.last batch)) (⊎_elim
+        (λ (before : Contains old entry). Contains-append_left (all_entries was.last)
+        (batch_entries batch) entry ((was.are entry).0 before))
+        (λ (come : Contains (batch_entries batch) entry). Contains-append_right
+        (all_entries was.last) (batch_entries batch) entry come)
+        (Contains-append_cases old (batch_entries batch) entry ((gains entry).0 c))),
+    λ c. (gains entry).1 (⊎_elim
+        (λ (before : Contains (all_entries was.last) entry). Contains-append_left old
+        (batch_entries batch) entry ((was.are entry).1 before))
+        (λ (come : Contains (batch_entries batch) entry). Contains-append_right old
+        (batch_entries batch) entry come)
+        (Contains-append_cases (all_entries was.last) (batch_entries batch) entry
+        (subst (λ es. Contains es entry) (all_more was.last batch) c))),
+  );
+  grows = subst (λ es. GrowsByAll [] es new) (sym (all_more was.last batch))
+      (record {
+        count =
+            let long = length-append (all_entries was.last) (batch_entries batch) in
+            omega (arith, long, grows.count, was.grows.count);
+        memory =
+            let long = length-append (all_entries was.last) (batch_entries batch) in
+            let size = sum_by-append (λ entry. length (entry_key entry)) (all_entries was.last)
+            (batch_entries batch) in
+            omega (arith, long, size, grows.memory, was.grows.memory);
+      });
+}
+
+-- the memory that counts for them
+last_memory : (batches : List Batch) (entries : List Entry) (are : AreLastEntries batches entries)
+    → memory_of_entries entries ≡ memory_of_entries (all_entries are.last)
+last_memory batches entries are = let grows = are.grows.memory in omega (arith, grows)
+
+-- some entries are of some batch
+pub some_last : (batches : List Batch) (entries : List Entry) (are : AreLastEntries batches entries)
+    → entries ≢ [] → length are.front + 1 ≤ length batches
+some_last batches entries are some = by are.last refl
+  where
+    empty : (es : List Entry) → length es ≡ 0 → es ≡ []
+    empty [] none = refl
+    empty (e ∷ es) none = absurd (omega (arith, none))
+
+    by : (last : List Batch) → are.last ≡ last → length are.front + 1 ≤ length batches
+    by [] is = absurd (some (empty entries
+        (are.grows.count ∙ ap (λ bs. 0 + length (all_entries bs)) is)))
+    by (batch ∷ more) is =
+        let long = ap length are.parts ∙ length-append are.front are.last in
+        let least = ap length is in
+        omega (arith, long, least)
+
+module _ {D FP : Type 0} {order : CmpGhosts D} {filters : FilterGhosts FP}
+    (choices : TableChoices order filters) (batches : List Batch) (entries : List Entry)
+    (are : AreLastEntries batches entries) where
+  -- the next batch isn't taken
+  pub fails_with : (places : ℕ) (batch : Batch) (status : Status) → places ≡ 0
+      → (status.code ≡ NotSupported) × (2 ^ 31 ≤ memory_of_entries entries
+      + (64 * (places + length batch.items) + bytes_in batch.items))
+      → FailsToKeep choices (batches ++ batch ∷ []) status
+  fails_with places batch status none large = inl (record {
+    code = large.0;
+    front = are.front;
+    kept = are.last;
+    batch = batch;
+    parts = ap (λ bs. bs ++ batch ∷ []) are.parts ∙ append_assoc are.front are.last (batch ∷ []);
+    too_large = let same = last_memory batches entries are in let most = large.1 in
+        omega (arith, most, same, none);
+  })
+
+  -- no table is made of them
+  pub fails_of_rest : (first now : ℕ) → now ≤ first + length are.front → entries ≢ []
+      → (status : Status)
+      → AreFileNumbersUsedUp now status ⊎ IsNotTabled choices (map internal_pair entries) status
+      → FailsToTable choices first batches status
+  fails_of_rest first now few some status (inl used) = inl (record {
+    code = used.code;
+    too_few = let more = some_last batches entries are some in let last = used.last in
+        omega (arith, few, more, last);
+  })
+  fails_of_rest first now few some status (inr not) = inr (inr (entries, are, not))
+
 module _ {E F : Type 0} (env : Ghosts E F) (format : Format) {C : Type 0} where
   -- nothing is replayed yet
   pub HasReplayed-none : (set : VersionSetValue) (last : ℕ) (log : ReplayedLog C) (at : E)
-      → log.tables.items ≡ [] → log.rest.kept.entries ≡ [] → log.last ≡ last
-      → HasReplayed env format set last [] log set at
-  HasReplayed-none set last log at no_tables none is = record {
+      → log.tables.items ≡ [] → log.rest.kept.entries ≡ [] → log.rest.kept.places ≡ 0
+      → log.last ≡ last → HasReplayed env format set last [] log set at
+  unfolding last_none
+  HasReplayed-none set last log at no_tables none places is = record {
     in_order = tt;
     last_is = omega (arith, is);
     numbers = GivesNumbers-refl set;
@@ -181,6 +308,9 @@ module _ {E F : Type 0} (env : Ghosts E F) (format : Format) {C : Type 0} where
       λ c. absurd (in_none entry c),
     );
     newer = λ a b c d. absurd (in_none a c);
+    in_memory = last_none [] log.rest.kept.entries none;
+    places = places;
+    few = omega arith;
   }
 
   -- no entry is past the last number
@@ -198,6 +328,7 @@ module _ {E F : Type 0} (env : Ghosts E F) (format : Format) {C : Type 0} where
       {old new : ReplayedLog C} {at : E} → HasReplayed env format first last batches old set at
       → (batch : Batch) → Follows old.last batch → TakesBatch old batch new
       → HasReplayed env format first last (batches ++ batch ∷ []) new set at
+  unfolding last_more
   HasReplayed-added {first} {set} {last} {batches} {old} {new} {at} was batch follows adds = record {
     in_order = order_append last old.last batches (batch ∷ []) (omega (arith, was.last_is))
         (omega (arith, was.last_is)) was.in_order
@@ -253,15 +384,21 @@ module _ {E F : Type 0} (env : Ghosts E F) (format : Format) {C : Type 0} where
         let is = was.last_is in let above = follows.above in
         omega (arith, most, least, is, above))
         (Contains-append_cases old.rest.kept.entries (batch_entries batch) b ((adds.gains b).0 d));
+    in_memory = last_more batches old.rest.kept.entries new.rest.kept.entries batch was.in_memory
+        adds.gains adds.grows;
+    places = adds.places was.places;
+    few = was.few;
   }
 
   -- ---- a table is made
 
   pub HasReplayed-tabled : {first set now : VersionSetValue} {last : ℕ} {batches : List Batch}
       {old new : ReplayedLog C} {at to : E} → HasReplayed env format first last batches old set at
-      → MakesTablesOnly env set at now to → TablesRest env format old set new now to
+      → old.rest.kept.entries ≢ [] → MakesTablesOnly env set at now to
+      → TablesRest env format old set new now to
       → HasReplayed env format first last batches new now to
-  HasReplayed-tabled {first} {set} {now} {last} {batches} {old} {new} {at} {to} was spares made = record {
+  unfolding last_none
+  HasReplayed-tabled {first} {set} {now} {last} {batches} {old} {new} {at} {to} was some spares made = record {
     in_order = was.in_order;
     last_is = ap (λ (log : ReplayedLog C). log.last) made.rest ∙ was.last_is;
     numbers = GivesNumbers-trans was.numbers spares.numbers;
@@ -313,6 +450,14 @@ module _ {E F : Type 0} (env : Ghosts E F) (format : Format) {C : Type 0} where
         ∙ ap (λ es. table_entries was.tables ++ es) made.entries))
         was.entries;
     newer = λ a b c d. absurd (in_none b (subst (λ es. Contains es b) made.none_left d));
+    in_memory = last_none batches new.rest.kept.entries made.none_left;
+    places = made.places;
+    few =
+        let next : now.next_file ≡ set.next_file + 1 =
+        ap (λ (v : VersionSetValue). v.next_file) made.given in
+        let more = some_last batches old.rest.kept.entries was.in_memory some in
+        let few = was.few in
+        omega (arith, next, more, few);
   }
 
 -- ---- a table of the entries in memory
@@ -344,7 +489,7 @@ module _ {E F D FP C : Type 0} (env : Ghosts E F) {order : CmpGhosts D} {filters
       later = omega arith;
       ok = tt;
       uncounted = λ excused. refl;
-      cause = inl (inr (inl used.code, refl));
+      cause = inl (inr (inl used, refl));
     };
   }
 
@@ -376,7 +521,7 @@ module _ {E F D FP C : Type 0} (env : Ghosts E F) {order : CmpGhosts D} {filters
         cause = ⊎_elim
             (λ excused. ⊎_elim (λ (memory : IsOutOfMemory status). inl (inl memory))
             (λ other. inl (inr (
-              inr (old.rest.kept.entries, ⊎_elim (λ not. not) (λ never. absurd never) other.0),
+              inr (⊎_elim (λ not. not) (λ never. absurd never) other.0),
               ap env.failures other.1,
             ))) excused)
             (λ counted. inr counted) makes.cause.cause;
@@ -431,10 +576,10 @@ module _ {E F D FP C : Type 0} (env : Ghosts E F) {order : CmpGhosts D} {filters
 
       pub MakesRestTable-done : (tables : Vec FileMetaData) (rest : MemTableState C)
           → tables.items ≡ old.tables.items ++ file ∷ [] → rest.kept.entries ≡ []
-          → rest.cmp ≡ old.rest.cmp
+          → rest.kept.places ≡ 0 → rest.cmp ≡ old.rest.cmp
           → MakesRestTable env choices old set from (Ok tt)
           (record old { tables = tables; rest = rest }) (with_number_given set) to
-      MakesRestTable-done tables rest items none cmp = record {
+      MakesRestTable-done tables rest items none places cmp = record {
         spares = made_only makes;
         ok = record {
           table = table;
@@ -446,6 +591,7 @@ module _ {E F D FP C : Type 0} (env : Ghosts E F) {order : CmpGhosts D} {filters
           files = ap (map (λ (f : FileMetaData). new_file_of (0, f))) items
               ∙ map_push (λ (f : FileMetaData). new_file_of (0, f)) old.tables.items file;
           none_left = none;
+          places = places;
           rest = refl;
           cmp = cmp;
         };
@@ -474,7 +620,7 @@ module _ {E F D FP C : Type 0} (env : Ghosts E F) {order : CmpGhosts D} {filters
     (set : VersionSetValue) where
   -- before a table is made
   pub TakesRecord-refused : (at : E) (status : Status)
-      → IsOutOfMemory status ⊎ (FailsToTable choices status
+      → IsOutOfMemory status ⊎ (FailsAtRecord env choices text old set at status
       ⊎ ((status.code ≡ Corruption) × IsNoNextBatch old.last text)) → (new : ReplayedLog C)
       → TakesRecord env choices limit text old set at (Err status) new set at
   TakesRecord-refused at status why new = record {
@@ -492,6 +638,19 @@ module _ {E F D FP C : Type 0} (env : Ghosts E F) {order : CmpGhosts D} {filters
     };
   }
 
+  -- a batch is too large for the memtable
+  pub fails_to_add : (at : E) (status : Status) (batch : Batch) → IsRecordOf text batch
+      → FailsToPrepare old.rest.kept (length batch.items) (bytes_in batch.items) status
+      → IsOutOfMemory status ⊎ (FailsAtRecord env choices text old set at status
+      ⊎ ((status.code ≡ Corruption) × IsNoNextBatch old.last text))
+  fails_to_add at status batch is (inl large) = inr (inl (λ first last batches was. (
+    batch,
+    is,
+    inr (fails_with choices batches old.rest.kept.entries was.in_memory old.rest.kept.places batch
+        status was.places large),
+  )))
+  fails_to_add at status batch is (inr memory) = inl memory
+
   module _ (batch : Batch) (is : IsRecordOf text batch) (follows : Follows old.last batch)
       (mid : ReplayedLog C) (adds : TakesBatch old batch mid) where
     -- no table is made
@@ -508,18 +667,30 @@ module _ {E F D FP C : Type 0} (env : Ghosts E F) {order : CmpGhosts D} {filters
       cause = record { later = omega arith; ok = refl; uncounted = tt; cause = tt };
     }
 
+    -- none can be made
+    fails_to_make : mid.rest.kept.entries ≢ [] → (at : E) (status : Status)
+        → FailsToTableRest env choices mid set status
+        → FailsAtRecord env choices text old set at status
+    fails_to_make some at status why = λ first last batches was.
+        let added = HasReplayed-added env choices.format was batch follows adds in (
+          batch,
+          is,
+          fails_of_rest choices (batches ++ batch ∷ []) mid.rest.kept.entries added.in_memory
+              first.next_file set.next_file added.few some status why,
+        )
+
     -- one is made, or an error comes of it
-    pub TakesRecord-tabled : {from to : E} {new : ReplayedLog C} {now : VersionSetValue}
-        (result : Result (Unit {0}) Status)
+    pub TakesRecord-tabled : mid.rest.kept.entries ≢ [] → {from to : E} {new : ReplayedLog C}
+        {now : VersionSetValue} (result : Result (Unit {0}) Status)
         → MakesRestTable env choices mid set from result new now to
         → TakesRecord env choices limit text old set from result new now to
-    TakesRecord-tabled {new = new} (Ok done) makes = record {
+    TakesRecord-tabled some {new = new} (Ok done) makes = record {
       spares = makes.spares;
       ok = λ first last batches was. (
         batch,
         is,
         HasReplayed-tabled env choices.format
-            (HasReplayed-added env choices.format was batch follows adds) makes.spares makes.ok,
+            (HasReplayed-added env choices.format was batch follows adds) some makes.spares makes.ok,
       );
       room = inl makes.ok.none_left;
       cmp = makes.ok.cmp ∙ adds.cmp;
@@ -534,7 +705,7 @@ module _ {E F D FP C : Type 0} (env : Ghosts E F) {order : CmpGhosts D} {filters
         cause = tt;
       };
     }
-    TakesRecord-tabled (Err status) makes = record {
+    TakesRecord-tabled some {from = from} (Err status) makes = record {
       spares = makes.spares;
       ok = tt;
       room = tt;
@@ -549,7 +720,7 @@ module _ {E F D FP C : Type 0} (env : Ghosts E F) {order : CmpGhosts D} {filters
             (λ other. other.1) excused;
         cause = ⊎_elim
             (λ excused. inl (⊎_elim (λ (memory : IsOutOfMemory status). inl memory)
-            (λ other. inr (inl other.0, other.1)) excused))
+            (λ other. inr (inl (fails_to_make some from status other.0), other.1)) excused))
             (λ counted. inr counted) makes.cause.cause;
       };
     }

@@ -1,8 +1,9 @@
 -- The replay of logs one after another, up to the last one.
-use Rattle.std.specs.Prelude.{IfSome, IsSome, IsTrue}
-use Rattle.std.proofs.Common.{◌≡◌, ◌∙◌, ◌⊎◌, inl, inr, ⊎_elim, ◌≤◌, ℕ, Bool, true, false, List, [], ◌∷◌, ◌++◌, None, Option, Some, Ok, Err, ap, append_assoc, arith, map, refl, subst, sym}
+use Rattle.std.specs.Prelude.{Contains, IfSome, IsSome, IsTrue}
+use Rattle.std.proofs.Common.{◌≡◌, ◌∙◌, ◌⊎◌, inl, inr, ⊎_elim, ◌≤◌, ℕ, Bool, true, false, List, [], ◌∷◌, ◌++◌, None, Option, Some, Ok, Err, ap, append_assoc, arith, length-append, map, refl, subst, sym}
+use Rattle.std.proofs.lemmas.List.Elements.{Contains-append_right}
 use Rattle.std.proofs.lemmas.Option.{IfSome_then}
-use Rattle.leveldb_base.proofs.HistoryLemmas.{in_none}
+use Rattle.leveldb_base.proofs.HistoryLemmas.{in_front, in_none}
 use Rattle.leveldb_base.specs.Error.{IsOutOfMemory}
 use Rattle.leveldb_base.specs.History.{AreUpTo}
 use Rattle.leveldb_base.specs.KeyTypes.{user_part}
@@ -14,16 +15,21 @@ use Rattle.leveldb_env.specs.Env.{HasCause}
 use Rattle.leveldb_env.specs.declared.env.Env.{Ghosts}
 use Rattle.leveldb_env.specs.declared.filter.FilterPolicy.{Ghosts as FilterGhosts}
 use Rattle.leveldb_version.proofs.RecoverLemmas.{cause_of_error}
+use Rattle.leveldb_mem.specs.WriteBatch.{Batch}
+use Rattle.leveldb_version.specs.Paths.{log_path}
 use Rattle.leveldb_version.specs.VersionEdit.{new_file_of}
 use Rattle.leveldb_version.specs.VersionSetValue.{VersionSetValue}
 use Rattle.leveldb_store.specs.BuildTable.{TableChoices}
 use Rattle.leveldb_store.specs.Format.{Agrees, Format, Meaning}
-use Rattle.leveldb_store.specs.OpeningSteps.{AreDamagedLogs, AreTabledBut, DamagesLogs, HasReplayedLogs, ReplaysLogs, ReplaysNext, entries_to_write}
-use Rattle.leveldb_store.specs.ReplayLog.{FailsToTable, MakesTablesOnly}
+use Rattle.leveldb_store.specs.FoundLogs.{LogBeginsWith, LogsBeginWith}
+use Rattle.leveldb_store.specs.OpeningSteps.{AreDamagedLogs, AreTabledBut, DamagesLogs, HasReplayedLogs, MakeFewTables, ReplaysLogs, ReplaysNext, WhyNotReplayed, entries_to_write}
+use Rattle.leveldb_store.specs.ReplayLog.{FailsAtLog, MakesTablesOnly}
 use Rattle.leveldb_store.specs.Room.{IsFull}
 use Rattle.leveldb_store.specs.declared.opening.replay.Replay.{Replay}
 use Rattle.leveldb_store.specs.declared.opening.replay.UsedLog.{UsedLog}
-use Rattle.leveldb_store.proofs.ReplayFilesLemmas.{GivesNumbers-refl, MakesTablesOnly-none, MakesTablesOnly-trans}
+use Rattle.leveldb_store.proofs.FoundLogsLemmas.{log_same, logs_before, logs_then}
+use Rattle.leveldb_store.proofs.ReplayDamageLemmas.{log_stays}
+use Rattle.leveldb_store.proofs.ReplayFilesLemmas.{GivesNumbers-refl, MakesTablesOnly-none, MakesTablesOnly-trans, same_store}
 
 -- each format has a meaning of names and ids
 abbrev meaning_of : Format → Meaning
@@ -53,6 +59,7 @@ module _ {E F D FP C : Type 0} (env : Ghosts E F) {order : CmpGhosts D} {filters
     pub is_last : IsSome replay.used → rest ≡ []
     pub up_to : AreUpTo replay.last (entries_to_write replay.used)
     pub room : IfSome replay.used (λ used. IsFull limit used.entries.kept → ⊥)
+    pub few : MakeFewTables env front set from now
 
   -- none is replayed yet
   pub IsReplaying-none : (replay : Replay C) → replay.tables.items ≡ [] → replay.used ≡ None
@@ -91,6 +98,7 @@ module _ {E F D FP C : Type 0} (env : Ghosts E F) {order : CmpGhosts D} {filters
     up_to = subst (AreUpTo replay.last) (sym (ap entries_to_write unused))
         (λ entry c. absurd (in_none entry c));
     room = subst (λ used. IfSome used (λ it. IsFull limit it.entries.kept → ⊥)) (sym unused) tt;
+    few = ([], λ modelled. refl, omega arith);
   }
     where
       no_part : {X : Type 0} (front : List X) (one : X) (later : List X)
@@ -103,6 +111,17 @@ module _ {E F D FP C : Type 0} (env : Ghosts E F) {order : CmpGhosts D} {filters
       (replaying : IsReplaying replay left now at) where
     so_far : IsReplaying replay (number ∷ rest) now at
     so_far = subst (λ ns. IsReplaying replay ns now at) first replaying
+
+    -- a log begins with the batches with which it began at first
+    began : IsTrue env.models_disk → (n : ℕ) (batches : List Batch)
+        → LogBeginsWith now.store (env.observed at).disk.files n batches
+        → LogBeginsWith set.store (env.observed from).disk.files n batches
+    began modelled n batches = log_same now.store set.store (env.observed at).disk.files
+        (env.observed from).disk.files n
+        (sym (log_stays set now (env.observed from).disk.files (env.observed at).disk.files
+        (so_far.spares.run modelled).has n)
+        ∙ ap (λ s. (env.observed at).disk.files (log_path s n))
+        (sym (same_store so_far.spares.numbers))) batches
 
     log_number_still : now.log_number ≡ set.log_number
     log_number_still = ap (λ (v : VersionSetValue). v.log_number) so_far.spares.numbers.set
@@ -125,6 +144,15 @@ module _ {E F D FP C : Type 0} (env : Ghosts E F) {order : CmpGhosts D} {filters
         is_last = λ some. last_of new.used next.used some;
         up_to = next.up_to;
         room = next.room;
+        few = (
+          so_far.few.0 ++ next.few.0,
+          λ modelled. logs_then set.store (env.observed from).disk.files so_far.front so_far.few.0
+              (so_far.few.1 modelled) number next.few.0
+              (began modelled number next.few.0 (next.few.1 modelled)),
+          let before = so_far.few.2 in let more = next.few.2 in
+              let long = length-append so_far.few.0 next.few.0 in
+              omega (arith, before, more, long),
+        );
       }
         where
           last_of : (used : Option (UsedLog C))
@@ -142,10 +170,11 @@ module _ {E F D FP C : Type 0} (env : Ghosts E F) {order : CmpGhosts D} {filters
         from_log = tt;
         up_to = tt;
         room = tt;
+        few = tt;
         cause = cause_of_error status
             (λ why. ⊎_elim (λ memory. inl memory)
             (λ it. inr (
-              ⊎_elim (λ table. inl table) (λ torn. inr (torn.0, damaged torn.1)) it.0,
+              ⊎_elim (λ fails. not_kept fails) (λ torn. inr (inr (torn.0, damaged torn.1))) it.0,
               it.1 ∙ so_far.counted,
             )) why)
             (λ why. ⊎_elim (λ memory. inl (inl memory)) (λ it. inr it.1) why)
@@ -155,8 +184,40 @@ module _ {E F D FP C : Type 0} (env : Ghosts E F) {order : CmpGhosts D} {filters
       }
         where
           Why : Status → Type 0
-          Why e = FailsToTable choices e ⊎ ((e.code ≡ Corruption)
+          Why e = FailsAtLog env choices now number at e ⊎ ((e.code ≡ Corruption)
               × (IsTrue env.models_disk → DamagesLogs env choices number replay now at))
+
+          not_kept : FailsAtLog env choices now number at status
+              → WhyNotReplayed env choices set.store (env.observed from).disk.files numbers
+              set.next_file status
+          not_kept (batches, begins, inl few) = inl (record {
+            batches = so_far.few.0 ++ batches;
+            begin = λ modelled. subst
+                (λ ns. LogsBeginWith set.store (env.observed from).disk.files ns
+                (so_far.few.0 ++ batches))
+                (append_assoc so_far.front (number ∷ []) rest ∙ so_far.numbers_are)
+                (logs_before set.store (env.observed from).disk.files
+                (so_far.front ++ number ∷ []) rest (so_far.few.0 ++ batches)
+                (logs_then set.store (env.observed from).disk.files so_far.front so_far.few.0
+                (so_far.few.1 modelled) number batches
+                (began modelled number batches (begins modelled))));
+            too_few = record {
+              code = few.code;
+              too_few = let before = so_far.few.2 in let more = few.too_few in
+                  let long = length-append so_far.few.0 batches in
+                  omega (arith, before, more, long);
+            };
+          })
+          not_kept (batches, begins, inr fails) = inr (inl (
+            record {
+              number = number;
+              batches = batches;
+              begins = λ modelled. began modelled number batches (begins modelled);
+              fails = fails;
+            },
+            subst (λ ns. Contains ns number) so_far.numbers_are
+                (Contains-append_right so_far.front (number ∷ rest) number (in_front number rest)),
+          ))
 
           damaged : (IsTrue env.models_disk → DamagesLogs env choices number replay now at)
               → IsTrue env.models_disk

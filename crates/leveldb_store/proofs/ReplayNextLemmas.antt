@@ -1,6 +1,6 @@
 -- What replaying one more log returns and leaves, by what its replay and its tables do.
 use Rattle.std.specs.Prelude.{IfSome, IsTrue}
-use Rattle.std.proofs.Common.{◌≡◌, ◌∙◌, ◌⊎◌, inl, inr, ⊎_elim, ◌<◌, ◌≤◌, ℕ, Bool, true, false, List, [], ◌++◌, None, Some, Ok, Err, ap, arith, map, subst, sym}
+use Rattle.std.proofs.Common.{◌≡◌, ◌≢◌, ◌∙◌, ◌⊎◌, inl, inr, ⊎_elim, ◌+◌, ◌<◌, ◌≤◌, ℕ, Bool, true, false, List, [], ◌++◌, None, Some, Ok, Err, ap, arith, length, map, refl, subst, sym}
 use Rattle.leveldb_base.proofs.HistoryLemmas.{in_none}
 use Rattle.leveldb_base.specs.Error.{IsOutOfMemory}
 use Rattle.leveldb_base.specs.History.{AreUpTo}
@@ -16,13 +16,15 @@ use Rattle.leveldb_version.proofs.RecoverLemmas.{cause_of_error}
 use Rattle.leveldb_version.specs.VersionEdit.{new_file_of}
 use Rattle.leveldb_version.specs.VersionSetValue.{VersionSetValue}
 use Rattle.leveldb_store.specs.BuildTable.{TableChoices}
-use Rattle.leveldb_store.specs.OpeningSteps.{ReplaysNext, TablesAll, entries_to_write}
-use Rattle.leveldb_store.specs.ReplayLog.{FailsToTable, HasCauseOr, IsNotFull, MakesTablesOnly, ReplaysFile}
+use Rattle.leveldb_store.specs.OpeningSteps.{MakesFewTables, ReplaysNext, TablesAll, entries_to_write}
+use Rattle.leveldb_store.specs.ReplayLog.{FailsAtLog, FailsToTableRest, HasCauseOr, IsNotFull, KeepsBatches, MakesTablesOnly, ReplaysFile}
 use Rattle.leveldb_store.specs.Room.{IsFull}
 use Rattle.leveldb_store.specs.declared.opening.replay.Replay.{Replay}
 use Rattle.leveldb_store.specs.declared.opening.replay.UsedLog.{UsedLog}
 use Rattle.leveldb_store.specs.declared.opening.replay_log.ReplayedLog.{ReplayedLog}
+use Rattle.leveldb_store.proofs.FoundLogsLemmas.{front_few}
 use Rattle.leveldb_store.proofs.ReplayFilesLemmas.{MakesTablesOnly-trans}
+use Rattle.leveldb_store.proofs.ReplayLogLemmas.{fails_of_rest, some_last}
 use Rattle.leveldb_store.proofs.ReplayMoreLemmas.{HasReplayedLogs-tabled, HasReplayedLogs-used, damaged_after, missing_after, torn_after}
 
 -- whether the logs end cleanly, with one more: they do, and it does
@@ -71,6 +73,7 @@ module _ {E F D FP C : Type 0} (env : Ghosts E F) {order : CmpGhosts D} {filters
     used = tt;
     up_to = tt;
     room = tt;
+    few = tt;
     cause = cause_of_error status
         (λ why. ⊎_elim
         (λ lost. ⊎_elim
@@ -85,7 +88,7 @@ module _ {E F D FP C : Type 0} (env : Ghosts E F) {order : CmpGhosts D} {filters
           missing.2,
         )) lost)
         (λ other. inr (
-          ⊎_elim (λ table. inl table)
+          ⊎_elim (λ fails. inl fails)
               (λ torn. inr (
                 torn.0,
                 λ modelled meaning agrees first start numbers later was.
@@ -100,6 +103,29 @@ module _ {E F D FP C : Type 0} (env : Ghosts E F) {order : CmpGhosts D} {filters
 
   module _ (log : ReplayedLog C) {mid : VersionSetValue} {at : E}
       (replays : ReplaysFile env choices limit set old.last number from (Ok log) mid at) where
+    -- there is at most a table for each batch of it, with the one of its rest
+    few_made : (now : VersionSetValue) → (now.next_file ≡ mid.next_file)
+        ⊎ ((log.rest.kept.entries ≢ []) × (now.next_file ≡ mid.next_file + 1))
+        → MakesFewTables env number set from now
+    few_made now more = (replays.batches.batches, replays.batches.begins, by more)
+      where
+        kept : KeepsBatches env set number from log mid
+        kept = replays.batches
+
+        by : (now.next_file ≡ mid.next_file)
+            ⊎ ((log.rest.kept.entries ≢ []) × (now.next_file ≡ mid.next_file + 1))
+            → now.next_file ≤ set.next_file + length kept.batches
+        by (inl same) =
+            let least = front_few kept.batches kept.in_memory.front kept.in_memory.last
+            kept.in_memory.parts in
+            let few = kept.few in
+            omega (arith, same, least, few)
+        by (inr one) =
+            let least = some_last kept.batches log.rest.kept.entries kept.in_memory one.0 in
+            let few = kept.few in
+            let next = one.1 in
+            omega (arith, next, least, few)
+
     -- one before it ends badly, and it isn't empty
     pub ReplaysNext-torn : old.is_clean ≡ false → 0 < log.size → (status : Status)
         → status.code ≡ Corruption → (new : Replay C)
@@ -110,6 +136,7 @@ module _ {E F D FP C : Type 0} (env : Ghosts E F) {order : CmpGhosts D} {filters
       used = tt;
       up_to = tt;
       room = tt;
+      few = tt;
       cause = record {
         later = replays.cause.later;
         ok = tt;
@@ -154,6 +181,7 @@ module _ {E F D FP C : Type 0} (env : Ghosts E F) {order : CmpGhosts D} {filters
                 (subst (λ n. AreUpTo n log.rest.kept.entries) (sym last) replays.up_to);
             room = subst (λ it. IfSome it (λ some. IsFull limit some.entries.kept → ⊥))
                 (sym used_is) (not_full limit log replays.room used.entries.kept entries_is);
+            few = few_made mid (inl refl);
             cause = record {
               later = replays.cause.later;
               ok = replays.cause.ok;
@@ -168,9 +196,24 @@ module _ {E F D FP C : Type 0} (env : Ghosts E F) {order : CmpGhosts D} {filters
         abbrev both : MakesTablesOnly env set from now to
         both = MakesTablesOnly-trans env replays.spares spares
 
-        -- no table is made of it
+        -- why no table is made of it
+        abbrev Untabled : Status → Type 0
+        Untabled status =
+            (log.rest.kept.entries ≢ []) × FailsToTableRest env choices log mid status
+
+        fails_at_log : (status : Status) → Untabled status
+            → FailsAtLog env choices set number from status
+        fails_at_log status why =
+            let kept = replays.batches in (
+              kept.batches,
+              kept.begins,
+              fails_of_rest choices kept.batches log.rest.kept.entries kept.in_memory set.next_file
+                  mid.next_file kept.few why.0 status why.1,
+            )
+
+        -- none is made
         pub ReplaysNext-untabled : {T : Type 0} (status : Status)
-            → HasCauseOr {T = T} (FailsToTable choices) (env.failures at) (env.failures to)
+            → HasCauseOr {T = T} Untabled (env.failures at) (env.failures to)
             (Err status) → (new : Replay C)
             → ReplaysNext env choices limit number may_go_on old set from (Err status) new now to
         ReplaysNext-untabled {T} status cause new = record {
@@ -179,11 +222,13 @@ module _ {E F D FP C : Type 0} (env : Ghosts E F) {order : CmpGhosts D} {filters
           used = tt;
           up_to = tt;
           room = tt;
+          few = tt;
           cause = cause_of_error status
-              (λ why. ⊎_elim (λ memory. inl memory) (λ it. inr (inl it.0, it.1)) why)
+              (λ why. ⊎_elim (λ memory. inl memory)
+              (λ it. inr (inl (fails_at_log status it.0), it.1)) why)
               (λ why. ⊎_elim (λ memory. inl (inl memory)) (λ it. inr it.1) why)
               (subst (λ count. HasCause {T = T} (λ e. IsOutOfMemory e
-              ⊎ (FailsToTable choices e × (env.failures to ≡ count))) count (env.failures to)
+              ⊎ (Untabled e × (env.failures to ≡ count))) count (env.failures to)
               (Err status)) replays.cause.ok cause);
         }
 
@@ -197,6 +242,7 @@ module _ {E F D FP C : Type 0} (env : Ghosts E F) {order : CmpGhosts D} {filters
             used = tt;
             up_to = tt;
             room = tt;
+            few = tt;
             cause = record {
               later = let later = replays.cause.later in omega (arith, later, counted);
               ok = tt;
@@ -228,6 +274,7 @@ module _ {E F D FP C : Type 0} (env : Ghosts E F) {order : CmpGhosts D} {filters
                 (λ entry c. absurd (in_none entry c));
             room = subst (λ it. IfSome it (λ some. IsFull limit some.entries.kept → ⊥))
                 (sym unused) tt;
+            few = few_made now all.few;
             cause = record {
               later = let later = replays.cause.later in omega (arith, later, counted);
               ok = counted ∙ replays.cause.ok;

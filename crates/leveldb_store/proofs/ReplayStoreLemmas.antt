@@ -13,12 +13,14 @@ use Rattle.leveldb_env.specs.WholeFiles.{IsLost}
 use Rattle.leveldb_env.specs.declared.env.Env.{Ghosts}
 use Rattle.leveldb_env.specs.declared.filter.FilterPolicy.{Ghosts as FilterGhosts}
 use Rattle.leveldb_mem.specs.Log.{IsLogFile, bad, clean}
+use Rattle.leveldb_mem.specs.WriteBatch.{Batch}
 use Rattle.leveldb_version.specs.Batches.{all_entries}
 use Rattle.leveldb_version.specs.Levels.{table_entries}
 use Rattle.leveldb_version.specs.Paths.{log_path}
 use Rattle.leveldb_version.specs.Store.{ReplayedLog as StoreLog}
 use Rattle.leveldb_version.specs.VersionSetValue.{VersionSetValue}
 use Rattle.leveldb_store.specs.BuildTable.{TableChoices}
+use Rattle.leveldb_store.specs.FoundLogs.{BeginsWithBatches, FailsToTable, LogBeginsWith}
 use Rattle.leveldb_store.specs.ReplayLog.{HasReplayedText, IsDamagedLog, IsDamagedText, MakesTablesOnly, ReplaysFile, ReplaysText}
 use Rattle.leveldb_store.specs.declared.opening.replay_log.ReplayedLog.{ReplayedLog}
 use Rattle.leveldb_store.proofs.ReplayFilesLemmas.{MakesTablesOnly-none, MakesTablesOnly-still, MakesTablesOnly-trans}
@@ -67,6 +69,7 @@ module _ {E F D FP : Type 0} (env : Ghosts E F) {order : CmpGhosts D} {filters :
     replays = λ modelled meaning agrees. tt;
     room = tt;
     up_to = tt;
+    batches = tt;
     cause = record {
       later = omega arith;
       ok = tt;
@@ -100,6 +103,7 @@ module _ {E F D FP : Type 0} (env : Ghosts E F) {order : CmpGhosts D} {filters :
           replays = λ modelled meaning agrees. tt;
           room = tt;
           up_to = tt;
+          batches = tt;
           cause = record {
             later = why.later;
             ok = tt;
@@ -121,6 +125,15 @@ module _ {E F D FP : Type 0} (env : Ghosts E F) {order : CmpGhosts D} {filters :
           text (subst (λ p. IsSomeAnd ((env.observed from).disk.files p) (λ file. text ≡ bytes_of file))
           named (bytes modelled))
 
+      log_begins : IsReadFile ((env.observed from).disk.files (log_path set.store number)) text
+          → (batches : List Batch) → BeginsWithBatches text batches
+          → LogBeginsWith set.store (env.observed from).disk.files number batches
+      log_begins file batches begins = (
+        file.found,
+        file.there,
+        subst (λ b. BeginsWithBatches b batches) file.bytes begins,
+      )
+
       refused : {C : Type 0} {now : VersionSetValue} {to : E} (status : Status)
           → ReplaysText env choices limit {C = C} set last text mid (Err status) now to
           → ReplaysFile env choices limit {C = C} set last number from (Err status) now to
@@ -129,6 +142,7 @@ module _ {E F D FP : Type 0} (env : Ghosts E F) {order : CmpGhosts D} {filters :
         replays = λ modelled meaning agrees. tt;
         room = tt;
         up_to = tt;
+        batches = tt;
         cause = record {
           later = omega (arith, replays.cause.later, counted);
           ok = tt;
@@ -140,7 +154,13 @@ module _ {E F D FP : Type 0} (env : Ghosts E F) {order : CmpGhosts D} {filters :
           cause = ⊎_elim
               (λ excused. inl (⊎_elim (λ (memory : IsOutOfMemory status). inl (inl memory))
               (λ other. inr (
-                ⊎_elim (λ table. inl table)
+                ⊎_elim
+                    (λ (fails : (batches : List Batch) × BeginsWithBatches text batches
+                    × FailsToTable choices set.next_file batches status). inl (
+                      fails.0,
+                      λ modelled. log_begins (file_read modelled) fails.0 fails.1,
+                      fails.2,
+                    ))
                     (λ torn. inr (
                       torn.0,
                       λ modelled. damaged_file set.store
@@ -204,6 +224,12 @@ module _ {E F D FP : Type 0} (env : Ghosts E F) {order : CmpGhosts D} {filters :
             };
         room = replays.ok.room;
         up_to = rest_up_to log replays.ok;
+        batches = record {
+          batches = replays.ok.batches;
+          begins = λ modelled. log_begins (file_read modelled) replays.ok.batches replays.ok.begins;
+          in_memory = replays.ok.replayed.in_memory;
+          few = replays.ok.replayed.few;
+        };
         cause = record {
           later = omega (arith, replays.cause.later, counted);
           ok = replays.cause.ok ∙ counted;

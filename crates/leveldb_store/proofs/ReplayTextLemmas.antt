@@ -1,11 +1,10 @@
 -- The records of a log, taken one after another, and what its replay returns in the end.
 use Rattle.std.specs.Prelude.{if◌then◌else◌, max}
-use Rattle.std.proofs.Common.{◌≡◌, ◌∙◌, ◌⊎◌, inl, inr, ⊎_elim, ℕ, ◌+◌, ◌<◌, true, false, Bool, List, [], ◌∷◌, ◌++◌, Result, Ok, Err, ap, append_assoc, arith, length, length-append, refl, subst, sym}
+use Rattle.std.proofs.Common.{◌≡◌, ◌∙◌, ◌⊎◌, inl, inr, ⊎_elim, ℕ, ◌+◌, ◌^◌, ◌<◌, true, false, Bool, List, [], ◌∷◌, ◌++◌, Result, Ok, Err, ap, append_assoc, arith, length, length-append, refl, subst, sym}
 use Rattle.leveldb_base.specs.Error.{IsOutOfMemory}
 use Rattle.leveldb_base.specs.History.{greatest}
 use Rattle.leveldb_base.specs.declared.cmp.Cmp.{Ghosts as CmpGhosts}
 use Rattle.leveldb_base.specs.declared.error.Status.{Status}
-use Rattle.leveldb_base.specs.declared.error.StatusCode.TheVariants.{Corruption}
 use Rattle.leveldb_env.proofs.SourceLemmas.{GivesAll-seen, GivesSome-first, GivesSome-seen, GivesUp-seen}
 use Rattle.leveldb_env.specs.Env.{HasCause}
 use Rattle.leveldb_env.specs.Source.{GivesAll, GivesSome, ReadFails}
@@ -22,7 +21,8 @@ use Rattle.leveldb_version.proofs.LogsLemmas.{order_after}
 use Rattle.leveldb_version.specs.Batches.{AreInOrder, Each, IsRecordOf, all_entries}
 use Rattle.leveldb_version.specs.VersionSetValue.{VersionSetValue}
 use Rattle.leveldb_store.specs.BuildTable.{TableChoices}
-use Rattle.leveldb_store.specs.ReplayLog.{FailsToTable, HasReplayed, IsDamagedText, IsNoNextBatch, IsNotFull, MakesTablesOnly, ReplaysText, TakesRecord}
+use Rattle.leveldb_store.specs.FoundLogs.{BeginsWithBatches}
+use Rattle.leveldb_store.specs.ReplayLog.{FailsAtRecord, FailsAtText, HasReplayed, IsDamagedText, IsNoNextBatch, IsNotFull, MakesTablesOnly, ReplaysText, TakesRecord}
 use Rattle.leveldb_store.specs.declared.opening.replay_log.ReplayedLog.{ReplayedLog}
 use Rattle.leveldb_store.proofs.ReplayFilesLemmas.{MakesTablesOnly-none, MakesTablesOnly-trans}
 use Rattle.leveldb_store.proofs.ReplayLogLemmas.{HasReplayed-none}
@@ -144,11 +144,29 @@ module _ {S : Type 0} (left : S → List ℕ) where
 
 -- ---- the loop
 
--- why a replay of bytes failed, beside out of memory
-abbrev WhyText : {D FP : Type 0} {order : CmpGhosts D} {filters : FilterGhosts FP}
-    → TableChoices order filters → ℕ → List ℕ → Status → Type 0
-WhyText choices last text status =
-    FailsToTable choices status ⊎ ((status.code ≡ Corruption) × IsDamagedText last text)
+-- what was read is at the beginning
+whole_so_far : {S : Type 0} (left : S → List ℕ) (begin source : S) (records : List (List ℕ))
+    (core : ReaderState)
+    (read : ReadSoFar (first_given left) true log_block_size begin records core source)
+    → left begin ≡ read.front ++ (core.unread ++ left source)
+whole_so_far left begin source records core read =
+    GivesSome-first left read.come.reads
+    ∙ ap (λ bytes. bytes ++ left source) (sym read.come.bytes_are)
+    ∙ append_assoc read.front core.unread (left source)
+
+-- and so are the batches of its records
+begins_so_far : {S : Type 0} (left : S → List ℕ) (begin source : S) (records : List (List ℕ))
+    (batches : List Batch) (core : ReaderState)
+    → ReadSoFar (first_given left) true log_block_size begin records core source
+    → Each IsRecordOf records batches → BeginsWithBatches (left begin) batches
+begins_so_far left begin source records batches core read each = record {
+  records = records;
+  front = read.front;
+  rest = core.unread ++ left source;
+  parts = whole_so_far left begin source records core read;
+  read = read.log;
+  each = each;
+}
 
 -- how many bytes are still to be read
 abbrev pub unread_count : {S : Type 0} → (S → List ℕ) → ReaderState → S → ℕ
@@ -174,10 +192,10 @@ module _ {E F D FP C S : Type 0} (env : Ghosts E F) {order : CmpGhosts D}
 
   -- no record is read
   pub Replaying-none : (cmp : C) (log : ReplayedLog C) → log.tables.items ≡ []
-      → log.rest.kept.entries ≡ [] → log.last ≡ last → log.rest.cmp ≡ cmp
-      → log.size ≡ length (left begin) → log.is_clean ≡ false → (core : ReaderState)
+      → log.rest.kept.entries ≡ [] → log.rest.kept.places ≡ 0 → log.last ≡ last
+      → log.rest.cmp ≡ cmp → log.size ≡ length (left begin) → log.is_clean ≡ false → (core : ReaderState)
       → core ≡ new_reader true log_block_size → Replaying cmp log core begin set from
-  Replaying-none cmp log tables rest is cmp_is size ended core new = record {
+  Replaying-none cmp log tables rest places is cmp_is size ended core new = record {
     spares = MakesTablesOnly-none env set from;
     counted = refl;
     records = [];
@@ -185,7 +203,7 @@ module _ {E F D FP C S : Type 0} (env : Ghosts E F) {order : CmpGhosts D}
     read = subst (λ c. ReadSoFar (first_given left) true log_block_size begin [] c begin) (sym new)
         (ReadSoFar-none (first_given left) true log_block_size usual_size begin);
     each = tt;
-    replayed = HasReplayed-none env choices.format set last log from tables rest is;
+    replayed = HasReplayed-none env choices.format set last log from tables rest places is;
     room = inl rest;
     cmp_is = cmp_is;
     size = size;
@@ -231,6 +249,11 @@ module _ {E F D FP C S : Type 0} (env : Ghosts E F) {order : CmpGhosts D}
           not_ended = takes.bad ∙ so_far.not_ended;
         }
 
+    -- the batches that were replayed are at the beginning
+    begins : BeginsWithBatches (left begin) so_far.batches
+    begins =
+        begins_so_far left begin source so_far.records so_far.batches core so_far.read so_far.each
+
     -- a record that isn't the next batch shows damage
     damaged : {text : List ℕ} {next : ReaderState} {to : S}
         → FindsRecord (first_given left) core source text next to → IsNoNextBatch log.last text
@@ -239,14 +262,29 @@ module _ {E F D FP C S : Type 0} (env : Ghosts E F) {order : CmpGhosts D}
         let more = ReadSoFar-more (first_given left) true log_block_size usual_size begin
         so_far.records core source so_far.read next to text found in
         let whole : left begin ≡ more.front ++ (next.unread ++ left to) =
-        GivesSome-first left more.come.reads ∙ ap (λ bytes. bytes ++ left to)
-        (sym more.come.bytes_are) ∙ append_assoc more.front next.unread (left to) in
+        whole_so_far left begin to (so_far.records ++ text ∷ []) next more in
         let cut = cut_log true log_block_size usual_size.most 0 more.front
         (next.unread ++ left to) records (so_far.records ++ text ∷ []) other.end clean
         (subst (λ bytes. IsLogFile bytes records other.end) whole read) more.log in
         no_order last log.last so_far.records so_far.batches text cut.0 other.batches so_far.each
         so_far.replayed.last_is never
         (subst (λ rs. Each IsRecordOf rs other.batches) cut.1 each) in_order
+
+    -- its batch doesn't come to memory and to tables
+    not_kept : {text : List ℕ} {next : ReaderState} {to : S}
+        → FindsRecord (first_given left) core source text next to → (status : Status)
+        → FailsAtRecord env choices text log now at status
+        → FailsAtText env choices set last (left begin) status
+    not_kept {text} {next} {to} found status fails =
+        let more = ReadSoFar-more (first_given left) true log_block_size usual_size begin
+        so_far.records core source so_far.read next to text found in
+        let this = fails set last so_far.batches so_far.replayed in inl (
+          so_far.batches ++ this.0 ∷ [],
+          begins_so_far left begin to (so_far.records ++ text ∷ []) (so_far.batches ++ this.0 ∷ [])
+              next more
+              (each_more IsRecordOf so_far.records so_far.batches text this.0 so_far.each this.1),
+          this.2,
+        )
 
     -- its record isn't taken
     pub ReplaysText-refused : {text : List ℕ} {next : ReaderState} {to : S}
@@ -258,7 +296,8 @@ module _ {E F D FP C S : Type 0} (env : Ghosts E F) {order : CmpGhosts D}
       spares = MakesTablesOnly-trans env so_far.spares takes.spares;
       ok = tt;
       cause = subst (λ count. HasCause {T = ReplayedLog C}
-          (λ e. IsOutOfMemory e ⊎ (WhyText choices last (left begin) e × (env.failures after ≡ count)))
+          (λ e. IsOutOfMemory e
+          ⊎ (FailsAtText env choices set last (left begin) e × (env.failures after ≡ count)))
           count (env.failures after) (Err status)) so_far.counted
           (record {
             later = takes.cause.later;
@@ -269,7 +308,7 @@ module _ {E F D FP C S : Type 0} (env : Ghosts E F) {order : CmpGhosts D}
             cause = ⊎_elim
                 (λ excused. inl (⊎_elim (λ (memory : IsOutOfMemory status). inl memory)
                 (λ other. inr (
-                  ⊎_elim (λ table. inl table)
+                  ⊎_elim (λ fails. not_kept found status fails)
                       (λ torn. inr (torn.0, damaged found torn.1)) other.0,
                   other.1,
                 )) excused))
@@ -278,10 +317,10 @@ module _ {E F D FP C S : Type 0} (env : Ghosts E F) {order : CmpGhosts D}
     }
 
     -- reading stops
-    pub ReplaysText-stopped : (status : Status) {to : S}
+    pub ReplaysText-stopped : length (left begin) < 2 ^ 64 → (status : Status) {to : S}
         → StopsReading (first_given left) source status to
         → ReplaysText env choices limit {C = C} set last (left begin) from (Err status) now at
-    ReplaysText-stopped status stops = record {
+    ReplaysText-stopped short status stops = record {
       spares = so_far.spares;
       ok = tt;
       cause = record {
@@ -293,12 +332,21 @@ module _ {E F D FP C S : Type 0} (env : Ghosts E F) {order : CmpGhosts D}
     }
       where
         why : {to : S} → StopsReading (first_given left) source status to → IsOutOfMemory status
-            ⊎ (WhyText choices last (left begin) status × (env.failures at ≡ env.failures from))
+            ⊎ (FailsAtText env choices set last (left begin) status
+            × (env.failures at ≡ env.failures from))
         why {to} (inl up) = ⊎_elim
             (λ (fails : ReadFails (first_given left) up.mid status to).
             absurd (let never = fails.1.ok in cc))
             (λ (memory : (to ≡ up.mid) × IsOutOfMemory status). inl memory.1) up.why
-        why (inr much) = inr (inl (inl much.code), so_far.counted)
+        why {to} (inr much) =
+            let here = ap length (GivesSome-first left much.given_before) in
+            let given = length-append much.bytes (left to) in
+            let whole = ap length
+            (whole_so_far left begin source so_far.records core so_far.read) in
+            let front = length-append so_far.read.front (core.unread ++ left source) in
+            let rest = length-append core.unread (left source) in
+            let many = much.many in
+            absurd (omega (arith, short, here, given, whole, front, rest, many))
 
     -- ---- the end
 
@@ -318,6 +366,9 @@ module _ {E F D FP C S : Type 0} (env : Ghosts E F) {order : CmpGhosts D}
           made_tables = was.made_tables;
           entries = was.entries;
           newer = was.newer;
+          in_memory = was.in_memory;
+          places = was.places;
+          few = was.few;
         }
 
     pub ReplaysText-clean : {next : ReaderState} {to : S}
@@ -332,6 +383,7 @@ module _ {E F D FP C S : Type 0} (env : Ghosts E F) {order : CmpGhosts D}
             core source so_far.read next to found);
         batches = so_far.batches;
         each = so_far.each;
+        begins = begins;
         replayed = has_ended true;
         room = so_far.room;
         size = so_far.size;
@@ -355,6 +407,7 @@ module _ {E F D FP C S : Type 0} (env : Ghosts E F) {order : CmpGhosts D}
             (sym so_far.not_ended) (HoldsOfRest-first left shows);
         batches = so_far.batches;
         each = so_far.each;
+        begins = begins;
         replayed = so_far.replayed;
         room = so_far.room;
         size = so_far.size;

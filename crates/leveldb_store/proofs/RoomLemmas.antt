@@ -1,8 +1,9 @@
 -- How the steps to room in the memtable follow each other, and why each fails.
-use Rattle.std.specs.Prelude.{◌≢◌, IsTrue, OnErr, OnOk}
-use Rattle.std.proofs.Common.{◌≡◌, ◌⊎◌, ◌∙◌, ◌≤◌, inl, inr, ⊎_elim, ℕ, Bool, true, false, List, [], None, Ok, Err, Result, ap, arith, refl, subst, sym}
+use Rattle.std.specs.Prelude.{◌≢◌, IsTrue, OnErr, OnOk, map}
+use Rattle.std.proofs.Common.{◌≡◌, ◌⊎◌, ◌∙◌, ◌≤◌, ◌+◌, inl, inr, ⊎_elim, ℕ, Bool, true, false, List, [], Option, None, Some, Ok, Err, Result, ap, arith, refl, subst, sym}
 use Rattle.std.specs.declared.cmp.Ordering.{Ordering}
-use Rattle.leveldb_base.specs.Types.{Pair}
+use Rattle.leveldb_base.specs.Entries.{internal_pair}
+use Rattle.leveldb_base.specs.Error.{IsOutOfMemory}
 use Rattle.leveldb_base.specs.declared.cmp.Cmp.{Ghosts as CmpGhosts}
 use Rattle.leveldb_base.specs.declared.error.Status.{Status}
 use Rattle.leveldb_base.specs.declared.types.FileType.{FileType}
@@ -12,21 +13,21 @@ use Rattle.leveldb_env.specs.Env.{Files, HasCause, Observed, Run}
 use Rattle.leveldb_env.specs.WholeFiles.{IsLost}
 use Rattle.leveldb_env.specs.declared.env.Env.{Ghosts}
 use Rattle.leveldb_env.specs.declared.filter.FilterPolicy.{Ghosts as FilterGhosts}
+use Rattle.leveldb_mem.specs.MemTable.{Kept}
 use Rattle.leveldb_version.specs.StoreSteps.{KeepsHistory}
-use Rattle.leveldb_version.specs.VersionSetValue.{OpenManifest, VersionSetValue, in_use}
+use Rattle.leveldb_version.specs.VersionSetValue.{AreFileNumbersUsedUp, OpenManifest, VersionSetValue, in_use}
 use Rattle.leveldb_version.specs.Writing.{IsObsolete}
-use Rattle.leveldb_store.proofs.NotTabledLemmas.{not_tabled_causes}
 use Rattle.leveldb_store.proofs.SoundLemmas.{failed_later, failed_once, goes_on_then, never_broken, nothing_goes_on, sound_ok, written_log, written_manifest}
 use Rattle.leveldb_store.proofs.TableKeepsLemmas.{KeepsHistory-trans}
 use Rattle.leveldb_store.proofs.TableWaitingLemmas.{keeps_nothing}
-use Rattle.leveldb_store.specs.BuildTable.{TableChoices}
+use Rattle.leveldb_store.specs.BuildTable.{IsNotTabled, TableChoices}
 use Rattle.leveldb_store.specs.Format.{Agrees, Format, Meaning}
 use Rattle.leveldb_store.specs.OpenStore.{IsUnbroken, OpenLogValue, OpenStoreValue}
-use Rattle.leveldb_store.specs.Room.{FailsFor, FailsToMakeRoom, IsFull, MakesRoom, TidiesUp}
-use Rattle.leveldb_store.specs.RoomSteps.{IsStepToRoom}
+use Rattle.leveldb_store.specs.Room.{AreEntriesNotTabled, FailsFor, FailsToMakeRoom, IsFileLost, IsFull, MakesRoom, TidiesUp}
+use Rattle.leveldb_store.specs.RoomSteps.{FailsToTableIfWaiting, IsStepToRoom}
 use Rattle.leveldb_store.specs.SoundCall.{BytesAreAppended, IsSoundCall, TimeGoesOn, any_meaning}
 use Rattle.leveldb_store.specs.Switch.{FailsToSwitch, FailsToTableWaiting, IsObsoletePath, RemovesNoOther, SwitchesLog, TablesWaiting}
-use Rattle.leveldb_store.specs.Written.{IsData, IsDataPath, IsTableOf, IsWritten, KeepsWritten, SparesRest}
+use Rattle.leveldb_store.specs.Written.{IsData, IsDataPath, IsTableOf, IsWritten, KeepsWritten, SparesRest, waiting_entries}
 
 -- ---- why a call fails
 
@@ -115,15 +116,13 @@ usable_switched env old from unbroken (Err status) new to s = tt
 
 module _ {E F C : Type 0} (env : Ghosts E F) (cmp : List ℕ → List ℕ → Ordering)
     (format : Format) where
-  abbrev Step : OpenStoreValue C → E → Result (Unit {0}) Status → OpenStoreValue C → E → Type 0
+  abbrev Step : (Status → Type 0) → OpenStoreValue C → E → Result (Unit {0}) Status
+      → OpenStoreValue C → E → Type 0
   Step = IsStepToRoom env cmp format
 
-  abbrev Fails : OpenStoreValue C → E → Status → Type 0
-  Fails old from = FailsToMakeRoom env cmp old from format
-
   -- nothing is done
-  pub step_of_none : (old : OpenStoreValue C) (from : E) → IsUnbroken old
-      → Step old from (Ok tt) old from
+  pub step_of_none : {P : Status → Type 0} (old : OpenStoreValue C) (from : E) → IsUnbroken old
+      → Step P old from (Ok tt) old from
   step_of_none old from unbroken = record {
     keeps = λ modelled meaning agrees. keeps_nothing cmp meaning old (env.observed from);
     usable = unbroken;
@@ -139,9 +138,9 @@ module _ {E F C : Type 0} (env : Ghosts E F) (cmp : List ℕ → List ℕ → Or
   }
 
   -- obsolete files are deleted
-  pub step_of_tidying : (old : OpenStoreValue C) (from to : E) → IsUnbroken old
-      → TidiesUp env cmp old from to → TimeGoesOn env from to → BytesAreAppended env from to
-      → Step old from (Ok tt) old to
+  pub step_of_tidying : {P : Status → Type 0} (old : OpenStoreValue C) (from to : E)
+      → IsUnbroken old → TidiesUp env cmp old from to → TimeGoesOn env from to
+      → BytesAreAppended env from to → Step P old from (Ok tt) old to
   step_of_tidying old from to unbroken tidied time bytes = record {
     keeps = λ modelled meaning agrees. tidied.keeps modelled meaning;
     usable = unbroken;
@@ -157,36 +156,60 @@ module _ {E F C : Type 0} (env : Ghosts E F) (cmp : List ℕ → List ℕ → Or
     sound = sound_ok env cmp (Agrees format) old from tt old to (time, bytes);
   }
 
+  -- an excuse of which less is said
+  pub step_for : {P Q : Status → Type 0} → ((status : Status) → P status → Q status)
+      → (old : OpenStoreValue C) (from : E) (result : Result (Unit {0}) Status)
+      (new : OpenStoreValue C) (to : E) → Step P old from result new to
+      → Step Q old from result new to
+  step_for so old from (Ok unit) new to step = record {
+    keeps = step.keeps;
+    usable = step.usable;
+    rest = step.rest;
+    cause = record { later = step.cause.later; cause = tt };
+    sound = step.sound;
+  }
+  step_for so old from (Err status) new to step = record {
+    keeps = step.keeps;
+    usable = step.usable;
+    rest = step.rest;
+    cause = record {
+      later = step.cause.later;
+      cause = ⊎_elim (λ excused. inl (so status excused)) (λ counted. inr counted)
+          step.cause.cause;
+    };
+    sound = step.sound;
+  }
+
   -- ---- one step after the other
 
-  module _ (old mid : OpenStoreValue C) (from at : E) (first : Step old from (Ok tt) mid at) where
+  module _ {O : Status → Type 0} (old mid : OpenStoreValue C) (from at : E)
+      (first : Step O old from (Ok tt) mid at) where
     written_on : IsTrue env.models_disk → (meaning : Meaning) → Agrees format meaning
         → IsWritten cmp meaning old (env.observed from).disk.files
         → IsWritten cmp meaning mid (env.observed at).disk.files
     written_on modelled meaning agrees w =
         (first.keeps modelled meaning agrees (λ store. true) w).written first.usable
 
-    -- why the second fails, said of the store before the first
-    fails_before : (status : Status) → Fails mid at status → Fails old from status
-    fails_before status (inl memory) = inl memory
-    fails_before status (inr (inl code)) = inr (inl code)
-    fails_before status (inr (inr (inl compressor))) = inr (inr (inl compressor))
-    fails_before status (inr (inr (inr lost))) = inr (inr (inr (
+    -- a file that is lost then was lost before
+    pub lost_before : (status : Status) → IsFileLost env cmp mid at format status
+        → IsFileLost env cmp old from format status
+    lost_before status lost = (
       lost.0,
       λ modelled meaning agrees w.
           lost.1 modelled meaning agrees (written_on modelled meaning agrees w),
-    )))
+    )
 
-    cause_then : (result : Result (Unit {0}) Status) (to : E)
-        → FailsFor (Fails mid at) (env.failures at) (env.failures to) result
-        → FailsFor (Fails old from) (env.failures from) (env.failures to) result
-    cause_then (Ok unit) to cause = record {
+    cause_then : {P Q : Status → Type 0} → ((status : Status) → P status → Q status)
+        → (result : Result (Unit {0}) Status) (to : E)
+        → FailsFor P (env.failures at) (env.failures to) result
+        → FailsFor Q (env.failures from) (env.failures to) result
+    cause_then so (Ok unit) to cause = record {
       later = omega (arith, first.cause.later, cause.later);
       cause = tt;
     }
-    cause_then (Err status) to cause = record {
+    cause_then so (Err status) to cause = record {
       later = omega (arith, first.cause.later, cause.later);
-      cause = ⊎_elim (λ excused. inl (fails_before status excused))
+      cause = ⊎_elim (λ excused. inl (so status excused))
           (λ counted. inr (failed_later (env.failures from) (env.failures at) (env.failures to)
           first.cause.later cause.later counted)) cause.cause;
     }
@@ -210,30 +233,37 @@ module _ {E F C : Type 0} (env : Ghosts E F) (cmp : List ℕ → List ℕ → Or
               (second.breaks modelled meaning agrees (written_on modelled meaning agrees w));
         }
 
-    pub step_then : (result : Result (Unit {0}) Status) (new : OpenStoreValue C) (to : E)
-        → Step mid at result new to → Step old from result new to
-    step_then result new to second = record {
+    -- `so` says of the store before the first why the second fails
+    pub step_then : {P Q : Status → Type 0} → ((status : Status) → P status → Q status)
+        → (result : Result (Unit {0}) Status) (new : OpenStoreValue C) (to : E)
+        → Step P mid at result new to → Step Q old from result new to
+    step_then so result new to second = record {
       keeps = λ modelled meaning agrees. keeps_then cmp meaning old mid new (env.observed from)
           (env.observed at) (env.observed to) (first.keeps modelled meaning agrees) first.usable
           first.rest.store first.rest.last (second.keeps modelled meaning agrees);
       usable = second.usable;
       rest = spares_then first.rest second.rest;
-      cause = cause_then result to second.cause;
+      cause = cause_then so result to second.cause;
       sound = sound_then result new to second.cause.later second.sound;
     }
 
   -- ---- a switch of the log
 
+  -- why the log isn't switched
+  abbrev pub FailsAtSwitch : OpenStoreValue C → E → Status → Type 0
+  FailsAtSwitch old from status = IsOutOfMemory status
+      ⊎ AreFileNumbersUsedUp old.set.next_file status ⊎ IsFileLost env cmp old from format status
+
   module _ (old : OpenStoreValue C) (from : E) (unbroken : IsUnbroken old) where
     fails_to_switch : (to : E) (status : Status) → FailsToSwitch env old from to status
-        → Fails old from status
-    fails_to_switch to status (inl used) = inr (inl used.code)
+        → FailsAtSwitch old from status
+    fails_to_switch to status (inl used) = inr (inl used)
     fails_to_switch to status (inr (inl (inl memory))) = inl memory
-    fails_to_switch to status (inr (inl (inr missing))) = inr (inr (inr (
+    fails_to_switch to status (inr (inl (inr missing))) = inr (inr (
       missing.0.code,
       λ modelled meaning agrees w. written_log cmp meaning old (env.observed from).disk.files w
           (missing.1 modelled),
-    )))
+    ))
     fails_to_switch to status (inr (inr broke)) =
         let never : true ≡ false = sym broke.0 ∙ unbroken.log in absurd (cc never)
 
@@ -242,7 +272,7 @@ module _ {E F C : Type 0} (env : Ghosts E F) (cmp : List ℕ → List ℕ → Or
         → (IsTrue env.models_disk → (meaning : Meaning)
         → KeepsWritten cmp meaning old (env.observed from) new (env.observed to))
         → IsSoundCall env cmp any_meaning old from result new to
-        → Step old from result new to
+        → Step (FailsAtSwitch old from) old from result new to
     step_of_switch result new to s keeps sound = record {
       keeps = λ modelled meaning agrees. keeps modelled meaning;
       usable = usable_switched env old from unbroken result new to s;
@@ -257,23 +287,39 @@ module _ {E F C : Type 0} (env : Ghosts E F) (cmp : List ℕ → List ℕ → Or
 
 -- a step in the order of a comparator that stays
 pub step_in_order : {E F C : Type 0} (env : Ghosts E F) (order : C → List ℕ → List ℕ → Ordering)
-    (format : Format) (old : OpenStoreValue C) (from : E) (result : Result (Unit {0}) Status)
+    (format : Format) (Excused : (List ℕ → List ℕ → Ordering) → Status → Type 0)
+    (old : OpenStoreValue C) (from : E) (result : Result (Unit {0}) Status)
     (new : OpenStoreValue C) (to : E) {before now : C} → before ≡ now
-    → IsStepToRoom env (order before) format old from result new to
-    → IsStepToRoom env (order now) format old from result new to
-step_in_order env order format old from result new to same =
-    subst (λ cmp. IsStepToRoom env (order cmp) format old from result new to) same
+    → IsStepToRoom env (order before) format (Excused (order before)) old from result new to
+    → IsStepToRoom env (order now) format (Excused (order now)) old from result new to
+step_in_order env order format Excused old from result new to same =
+    subst (λ cmp. IsStepToRoom env (order cmp) format (Excused (order cmp)) old from result new to)
+    same
 
 -- ---- a table of the entries that wait
 
+-- a memtable that waits is there
+pub not_tabled_waiting : {D FP : Type 0} {order : CmpGhosts D} {filters : FilterGhosts FP}
+    (choices : TableChoices order filters) (waiting : Option Kept) (status : Status)
+    → waiting ≢ None → IsNotTabled choices (map internal_pair (waiting_entries waiting)) status
+    → AreEntriesNotTabled choices waiting status
+not_tabled_waiting choices None status waits is = absurd (waits refl)
+not_tabled_waiting choices (Some kept) status waits is = is
+
 module _ {E F C D FP : Type 0} {order : CmpGhosts D} {filters : FilterGhosts FP} (env : Ghosts E F)
-    (cmp : List ℕ → List ℕ → Ordering) (choices : TableChoices order filters) (pairs : List Pair)
+    (cmp : List ℕ → List ℕ → Ordering) (choices : TableChoices order filters)
     (old : OpenStoreValue C) (from : E) (unbroken : IsUnbroken old) where
+  abbrev Tables : Result (Unit {0}) Status → OpenStoreValue C → E → Type 0
+  Tables = TablesWaiting env old from choices (map internal_pair (waiting_entries old.waiting))
+
+  abbrev Fails : Status → Type 0
+  Fails = FailsToTableIfWaiting env cmp choices old from
+
   fails_lost : (manifest : OpenManifest) → old.set.manifest ≡ in_use manifest → (to : E)
       (status : Status)
       → IsLost env.models_disk manifest.path (env.observed from) (env.failures from)
       (env.failures to) status
-      → FailsToMakeRoom env cmp old from choices.format status
+      → Fails status
   fails_lost manifest used to status (inl memory) = inl memory
   fails_lost manifest used to status (inr missing) = inr (inr (inr (
     missing.0.code,
@@ -281,21 +327,20 @@ module _ {E F C D FP : Type 0} {order : CmpGhosts D} {filters : FilterGhosts FP}
         manifest used (missing.1 modelled),
   )))
 
-  fails_to_table : (to : E) (status : Status)
-      → FailsToTableWaiting env old from choices pairs to status
-      → FailsToMakeRoom env cmp old from choices.format status
-  fails_to_table to status (inl used) = inr (inl used.code)
-  fails_to_table to status (inr (inl memory)) = inl memory
-  fails_to_table to status (inr (inr (inl built))) =
-      ⊎_elim (λ memory. inl memory)
-      (λ other. inr (⊎_elim (λ code. inl code) (λ compressor. inr (inl compressor)) other))
-      (not_tabled_causes choices pairs status built.0)
-  fails_to_table to status (inr (inr (inr (inl lost)))) =
+  fails_to_table : old.waiting ≢ None → (to : E) (status : Status)
+      → FailsToTableWaiting env old from choices
+      (map internal_pair (waiting_entries old.waiting)) to status
+      → Fails status
+  fails_to_table waits to status (inl used) = inr (inl used)
+  fails_to_table waits to status (inr (inl memory)) = inl memory
+  fails_to_table waits to status (inr (inr (inl built))) =
+      inr (inr (inl (not_tabled_waiting choices old.waiting status waits built.0)))
+  fails_to_table waits to status (inr (inr (inr (inl lost)))) =
       fails_lost lost.0 lost.1 to status lost.2
-  fails_to_table to status (inr (inr (inr (inr broke)))) = absurd (unbroken.manifest broke.0)
+  fails_to_table waits to status (inr (inr (inr (inr broke)))) = absurd (unbroken.manifest broke.0)
 
   pub usable_tabled : (result : Result (Unit {0}) Status) (new : OpenStoreValue C) (to : E)
-      → TablesWaiting env old from choices pairs result new to → OnOk result (IsUnbroken new)
+      → Tables result new to → OnOk result (IsUnbroken new)
   usable_tabled (Ok unit) new to t = record {
     manifest = λ is. never_broken _
         (sym (ap (λ (set : VersionSetValue). set.manifest) t.logged.set) ∙ is);
@@ -303,33 +348,143 @@ module _ {E F C D FP : Type 0} {order : CmpGhosts D} {filters : FilterGhosts FP}
   }
   usable_tabled (Err status) new to t = tt
 
-  pub step_of_table : (result : Result (Unit {0}) Status) (new : OpenStoreValue C) (to : E)
-      → TablesWaiting env old from choices pairs result new to
+  -- a number is given
+  pub number_tabled : (new : OpenStoreValue C) (to : E) → Tables (Ok tt) new to
+      → new.set.next_file ≤ old.set.next_file + 1
+  number_tabled new to t =
+      let given : new.set.next_file ≡ old.set.next_file + 1
+      = ap (λ (set : VersionSetValue). set.next_file) t.logged.set in
+      omega (arith, given)
+
+  pub step_of_table : old.waiting ≢ None → (result : Result (Unit {0}) Status)
+      (new : OpenStoreValue C) (to : E) → Tables result new to
       → (IsTrue env.models_disk → (meaning : Meaning) → Agrees choices.format meaning
       → KeepsWritten cmp meaning old (env.observed from) new (env.observed to))
       → IsSoundCall env cmp (Agrees choices.format) old from result new to
-      → IsStepToRoom env cmp choices.format old from result new to
-  step_of_table result new to t keeps sound = record {
+      → IsStepToRoom env cmp choices.format Fails old from result new to
+  step_of_table waits result new to t keeps sound = record {
     keeps = keeps;
     usable = usable_tabled result new to t;
     rest = t.rest;
-    cause = fails_for result (fails_to_table to) t.cause;
+    cause = fails_for result (fails_to_table waits to) t.cause;
     sound = sound;
   }
 
 -- ---- room
 
-module _ {E F C : Type 0} (env : Ghosts E F) (cmp : List ℕ → List ℕ → Ordering)
-    (format : Format) (limit : ℕ) (old : OpenStoreValue C) (from : E) where
+module _ {E F C D FP : Type 0} {order : CmpGhosts D} {filters : FilterGhosts FP} (env : Ghosts E F)
+    (cmp : List ℕ → List ℕ → Ordering) (choices : TableChoices order filters)
+    (old : OpenStoreValue C) (from : E) where
+  abbrev FailsToMake : Status → Type 0
+  FailsToMake = FailsToMakeRoom env cmp old from choices
+
+  -- so many numbers are too few if one that is given is the last
+  used_up : (given : ℕ) (status : Status) → given ≤ old.set.next_file + 2
+      → AreFileNumbersUsedUp given status → FailsToMake status
+  used_up given status few used = inr (inl (record {
+    code = used.code;
+    too_few = omega (arith, few, used.last);
+  }))
+
+  -- why the first table isn't made of the entries that wait
+  pub fails_first : (status : Status) → FailsToTableIfWaiting env cmp choices old from status
+      → FailsToMake status
+  fails_first status (inl memory) = inl memory
+  fails_first status (inr (inl used)) = used_up old.set.next_file status (omega arith) used
+  fails_first status (inr (inr (inl waiting))) = inr (inr (inr (inl waiting)))
+  fails_first status (inr (inr (inr lost))) = inr (inr (inr (inr lost)))
+
+  -- why the log isn't switched after it
+  pub fails_switching : (mid : OpenStoreValue C) (at : E)
+      → mid.set.next_file ≤ old.set.next_file + 1
+      → ((status : Status) → IsFileLost env cmp mid at choices.format status
+      → IsFileLost env cmp old from choices.format status)
+      → (status : Status) → FailsAtSwitch env cmp choices.format mid at status
+      → FailsToMake status
+  fails_switching mid at given before status (inl memory) = inl memory
+  fails_switching mid at given before status (inr (inl used)) =
+      used_up mid.set.next_file status (omega (arith, given)) used
+  fails_switching mid at given before status (inr (inr lost)) =
+      inr (inr (inr (inr (before status lost))))
+
+  -- why no table is made of the entries that were in the memtable
+  pub fails_last : (mid : OpenStoreValue C) (at : E)
+      → mid.set.next_file ≤ old.set.next_file + 2 → mid.waiting ≡ Some old.recent
+      → ((status : Status) → IsFileLost env cmp mid at choices.format status
+      → IsFileLost env cmp old from choices.format status)
+      → (status : Status) → FailsToTableIfWaiting env cmp choices mid at status
+      → FailsToMake status
+  fails_last mid at given waits before status (inl memory) = inl memory
+  fails_last mid at given waits before status (inr (inl used)) =
+      used_up mid.set.next_file status given used
+  fails_last mid at given waits before status (inr (inr (inl entries))) =
+      inr (inr (inl (subst (λ kept. AreEntriesNotTabled choices kept status) waits entries)))
+  fails_last mid at given waits before status (inr (inr (inr lost))) =
+      inr (inr (inr (inr (before status lost))))
+
+-- the steps in turn, each in the order of the store that it is given
+module _ {E F C D FP : Type 0} {keys : CmpGhosts D} {filters : FilterGhosts FP} (env : Ghosts E F)
+    (order : C → List ℕ → List ℕ → Ordering) (choices : TableChoices keys filters)
+    (old mid : OpenStoreValue C) (from at : E)
+    (first : IsStepToRoom env (order old.cmp) choices.format
+    (FailsToTableIfWaiting env (order old.cmp) choices old from) old from (Ok tt) mid at)
+    (given : mid.set.next_file ≤ old.set.next_file + 1) where
+  abbrev StepToRoom : Result (Unit {0}) Status → OpenStoreValue C → E → Type 0
+  StepToRoom = IsStepToRoom env (order old.cmp) choices.format
+      (FailsToMakeRoom env (order old.cmp) old from choices) old from
+
+  -- the log is switched after the first table
+  pub step_switched : (result : Result (Unit {0}) Status) (new : OpenStoreValue C) (to : E)
+      → SwitchesLog env mid at result new to
+      → (IsTrue env.models_disk → (meaning : Meaning)
+      → KeepsWritten (order mid.cmp) meaning mid (env.observed at) new (env.observed to))
+      → IsSoundCall env (order mid.cmp) any_meaning mid at result new to
+      → StepToRoom result new to
+  step_switched result new to s keeps sound =
+      step_then env (order old.cmp) choices.format old mid from at first
+      (fails_switching env (order old.cmp) choices old from mid at given
+      (lost_before env (order old.cmp) choices.format old mid from at first)) result new to
+      (step_in_order env order choices.format
+      (λ cmp. FailsAtSwitch env cmp choices.format mid at) mid at result new to first.rest.cmp
+      (step_of_switch env (order mid.cmp) choices.format mid at first.usable result new to s keeps
+      sound))
+
+  -- and the second table is made after that
+  pub step_tabled : mid.recent ≡ old.recent → (switched : OpenStoreValue C) (begun : E)
+      → SwitchesLog env mid at (Ok tt) switched begun → StepToRoom (Ok tt) switched begun
+      → (result : Result (Unit {0}) Status) (new : OpenStoreValue C) (to : E)
+      → IsStepToRoom env (order switched.cmp) choices.format
+      (FailsToTableIfWaiting env (order switched.cmp) choices switched begun) switched begun
+      result new to
+      → StepToRoom result new to
+  step_tabled same switched begun s second result new to last =
+      let next : switched.set.next_file ≡ mid.set.next_file + 1
+      = ap (λ (set : VersionSetValue). set.next_file) s.set in
+      step_then env (order old.cmp) choices.format old switched from begun second
+      (fails_last env (order old.cmp) choices old from switched begun
+      (omega (arith, given, next)) (s.waits ∙ ap Some same)
+      (lost_before env (order old.cmp) choices.format old switched from begun second))
+      result new to
+      (step_in_order env order choices.format
+      (λ cmp. FailsToTableIfWaiting env cmp choices switched begun) switched begun result new to
+      second.rest.cmp last)
+
+module _ {E F C D FP : Type 0} {order : CmpGhosts D} {filters : FilterGhosts FP} (env : Ghosts E F)
+    (cmp : List ℕ → List ℕ → Ordering) (choices : TableChoices order filters) (limit : ℕ)
+    (old : OpenStoreValue C) (from : E) where
+  abbrev FailsToMakeIt : Status → Type 0
+  FailsToMakeIt = FailsToMakeRoom env cmp old from choices
+
   -- there is room
   pub has_room : IsUnbroken old → (IsFull limit old.recent → ⊥)
-      → MakesRoom env cmp old from format limit (Ok tt) old from
+      → MakesRoom env cmp old from choices limit (Ok tt) old from
   has_room unbroken not_full =
-      let none = step_of_none env cmp format old from unbroken in
+      let none = step_of_none env cmp choices.format {P = FailsToMakeIt} old from unbroken in
       record {
         room = not_full;
         not_full = λ _. (refl, refl, tt);
         none_waits = λ full. absurd (not_full full);
+        places = λ full. absurd (not_full full);
         err = tt;
         keeps = none.keeps;
         usable = none.usable;
@@ -339,12 +494,15 @@ module _ {E F C : Type 0} (env : Ghosts E F) (cmp : List ℕ → List ℕ → Or
 
   -- a memtable that was full has become a table
   pub room_made : (new : OpenStoreValue C) (to : E) → IsFull limit old.recent
-      → IsStepToRoom env cmp format old from (Ok tt) new to → new.recent.entries ≡ []
-      → new.waiting ≡ None → MakesRoom env cmp old from format limit (Ok tt) new to
-  room_made new to full step empty none_waits = record {
+      → IsStepToRoom env cmp choices.format FailsToMakeIt old from (Ok tt) new to
+      → new.recent.entries ≡ []
+      → new.recent.places ≡ 0 → new.waiting ≡ None
+      → MakesRoom env cmp old from choices limit (Ok tt) new to
+  room_made new to full step empty places none_waits = record {
     room = λ full. full.0 empty;
     not_full = λ not_full. absurd (not_full full);
     none_waits = λ full. (empty, none_waits);
+    places = λ full. places;
     err = tt;
     keeps = step.keeps;
     usable = step.usable;
@@ -354,13 +512,15 @@ module _ {E F C : Type 0} (env : Ghosts E F) (cmp : List ℕ → List ℕ → Or
 
   -- it is full still, or waits
   pub no_room_made : (status : Status) (new : OpenStoreValue C) (to : E)
-      → IsFull limit old.recent → IsStepToRoom env cmp format old from (Err status) new to
+      → IsFull limit old.recent
+      → IsStepToRoom env cmp choices.format FailsToMakeIt old from (Err status) new to
       → (new.recent ≡ old.recent) ⊎ (new.waiting ≢ None)
-      → MakesRoom env cmp old from format limit (Err status) new to
+      → MakesRoom env cmp old from choices limit (Err status) new to
   no_room_made status new to full step left = record {
     room = tt;
     not_full = λ not_full. absurd (not_full full);
     none_waits = tt;
+    places = tt;
     err = ⊎_elim (λ same. inl (subst (IsFull limit) (sym same) full)) (λ waits. inr waits) left;
     keeps = step.keeps;
     usable = step.usable;
@@ -370,11 +530,12 @@ module _ {E F C : Type 0} (env : Ghosts E F) (cmp : List ℕ → List ℕ → Or
 
   -- after the last step, by what it returns
   pub room_tried : (result : Result (Unit {0}) Status) (new : OpenStoreValue C) (to : E)
-      → IsFull limit old.recent → IsStepToRoom env cmp format old from result new to
-      → new.recent.entries ≡ [] → OnOk result (new.waiting ≡ None)
+      → IsFull limit old.recent
+      → IsStepToRoom env cmp choices.format FailsToMakeIt old from result new to
+      → new.recent.entries ≡ [] → new.recent.places ≡ 0 → OnOk result (new.waiting ≡ None)
       → OnErr result (new.waiting ≢ None)
-      → MakesRoom env cmp old from format limit result new to
-  room_tried (Ok unit) new to full step empty none_waits waits =
-      room_made new to full step empty none_waits
-  room_tried (Err status) new to full step empty none_waits waits =
+      → MakesRoom env cmp old from choices limit result new to
+  room_tried (Ok unit) new to full step empty places none_waits waits =
+      room_made new to full step empty places none_waits
+  room_tried (Err status) new to full step empty places none_waits waits =
       no_room_made status new to full step (inr waits)

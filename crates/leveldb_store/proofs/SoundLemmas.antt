@@ -9,15 +9,15 @@ use Rattle.leveldb_base.specs.Types.{Pair}
 use Rattle.leveldb_base.specs.declared.cmp.Cmp.{Ghosts as CmpGhosts}
 use Rattle.leveldb_base.specs.declared.error.Status.{Status}
 use Rattle.leveldb_base.specs.declared.types.FileMetaData.{FileMetaData}
-use Rattle.leveldb_env.specs.Env.{AreBytes, BeforeOrAfter, ChangesFiles, Files, emptied, extended, synced}
+use Rattle.leveldb_env.proofs.AppendedLemmas.{appended_bytes, synced_bytes}
+use Rattle.leveldb_env.proofs.EnvLemmas.{appended}
+use Rattle.leveldb_env.specs.Env.{AreBytes, ChangesFiles, Files, extended}
 use Rattle.leveldb_env.specs.WholeFiles.{IsLost}
 use Rattle.leveldb_env.specs.declared.env.Env.{Ghosts}
 use Rattle.leveldb_env.specs.declared.filter.FilterPolicy.{Ghosts as FilterGhosts}
 use Rattle.leveldb_mem.specs.Log.Writer.{WriterState, frame}
-use Rattle.leveldb_version.proofs.BytesLemmas.{bytes_stay}
 use Rattle.leveldb_version.proofs.EditRecordLemmas.{KeysAreBytes, tables_record_bytes}
 use Rattle.leveldb_version.proofs.LogKeepsLemmas.{framed_are_bytes}
-use Rattle.leveldb_version.proofs.ManifestLemmas.{bytes_take}
 use Rattle.leveldb_version.specs.LogEdit.{AppendingAndSyncing, AppendsEdit, edit_record}
 use Rattle.leveldb_version.specs.Opening.{FitsEdit}
 use Rattle.leveldb_version.specs.Paths.{log_path}
@@ -74,37 +74,14 @@ given_unbroken value unbroken = record { manifest = unbroken.manifest; log = unb
 
 -- ---- bytes
 
--- what holds before a change that is done at once, or not at all, and after it
-before_or_after : (change : Files → Files)
-    → ((files : Files) → AppendedAreBytes files → AppendedAreBytes (change files))
-    → (files now : Files) → BeforeOrAfter change files now → AppendedAreBytes files
-    → AppendedAreBytes now
-before_or_after change keeps files now (inl same) bytes = subst AppendedAreBytes (sym same) bytes
-before_or_after change keeps files now (inr is) bytes =
-    subst AppendedAreBytes (sym is) (keeps files bytes)
-
-pub sync_bytes : (path : List ℕ) (files now : Files) → BeforeOrAfter (synced path) files now
-    → AppendedAreBytes files → AppendedAreBytes now
-sync_bytes path =
-    before_or_after (synced path) (λ files bytes. (bytes_stay files bytes).sync path)
-
-pub empty_bytes : (path : List ℕ) (files now : Files) → BeforeOrAfter (emptied path) files now
-    → AppendedAreBytes files → AppendedAreBytes now
-empty_bytes path =
-    before_or_after (emptied path) (λ files bytes. (bytes_stay files bytes).empty path)
-
 -- bytes are appended and synced
 pub appending_bytes : (path more : List ℕ) → AreBytes more → (files now : Files)
     → AppendingAndSyncing path more files now → AppendedAreBytes files → AppendedAreBytes now
-appending_bytes path more are files now (inl (inl same)) bytes =
-    subst AppendedAreBytes (sym same) bytes
-appending_bytes path more are files now (inl (inr part)) bytes =
-    subst AppendedAreBytes (sym part.1)
-    ((bytes_stay files bytes).append path _ (bytes_take part.0 more are))
-appending_bytes path more are files now (inr done) bytes =
-    subst AppendedAreBytes (sym done)
-    ((bytes_stay (extended path more files)
-    ((bytes_stay files bytes).append path more are)).sync path)
+appending_bytes path more are files now (inl part) bytes =
+    appended_bytes path more are files now part bytes
+appending_bytes path more are files now (inr done) bytes = synced_bytes path
+    (extended path more files) now (inr done)
+    (appended_bytes path more are files (extended path more files) (appended path more files) bytes)
 
 -- the framed edit of a table has bytes
 table_frame_bytes : (writer : WriterState) (set : VersionSetValue) (log : ℕ) (file : NewFile)
@@ -210,7 +187,7 @@ module _ {E F C : Type 0} (env : Ghosts E F) (cmp : List ℕ → List ℕ → Or
       → SyncsLog env (record old { set = with_number_given old.set }) from (Err status) new to
       → IsSoundCall {T = Unit {0}} env cmp Means old from (Err status) new to
   sound_unsynced status new to sync =
-      let goes_on = call_goes_on env from to sync.does (sync_bytes (open_log_path old)) in
+      let goes_on = call_goes_on env from to sync.does (synced_bytes (open_log_path old)) in
       record {
         time = goes_on.0;
         bytes = goes_on.1;

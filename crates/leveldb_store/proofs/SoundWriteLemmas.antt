@@ -5,12 +5,13 @@ use Rattle.std.proofs.Common.{◌≡◌, ◌⊎◌, ◌∙◌, ◌+◌, ◌-◌,
 use Rattle.std.specs.declared.cmp.Ordering.{Ordering}
 use Rattle.leveldb_base.specs.Error.{IsOutOfMemory}
 use Rattle.leveldb_base.specs.declared.error.Status.{Status}
+use Rattle.leveldb_env.proofs.AppendedLemmas.{synced_bytes}
 use Rattle.leveldb_env.specs.Env.{AreBytes}
 use Rattle.leveldb_env.specs.declared.env.Env.{Ghosts}
 use Rattle.leveldb_mem.specs.Log.Writer.{frame}
 use Rattle.leveldb_mem.specs.WriteBatch.{Batch}
 use Rattle.leveldb_version.proofs.LogKeepsLemmas.{framed_are_bytes}
-use Rattle.leveldb_store.proofs.SoundLemmas.{GoesOn, appending_bytes, call_goes_on, failed_once, nothing_goes_on, sound_ok, sound_unbroken, sync_bytes, written_log, written_unbroken}
+use Rattle.leveldb_store.proofs.SoundLemmas.{GoesOn, appending_bytes, call_goes_on, failed_once, nothing_goes_on, sound_ok, sound_unbroken, written_log, written_unbroken}
 use Rattle.leveldb_store.specs.Format.{Meaning}
 use Rattle.leveldb_store.specs.OpenStore.{OpenStoreValue}
 use Rattle.leveldb_store.specs.SoundCall.{IsSoundCall, any_meaning}
@@ -51,9 +52,9 @@ module _ {E F C : Type 0} (env : Ghosts E F) (cmp : List ℕ → List ℕ → Or
   pub sync_sound : (result : Result (Unit {0}) Status) (new : OpenStoreValue C) (to : E)
       → SyncsLog env old from result new to → IsSound result new to
   sync_sound (Ok done) new to sync = sound_ok env cmp any_meaning old from done new to
-      (call_goes_on env from to sync.does (sync_bytes (open_log_path old)))
+      (call_goes_on env from to sync.does (synced_bytes (open_log_path old)))
   sync_sound (Err status) new to sync = failed_sound status new to
-      (call_goes_on env from to sync.does (sync_bytes (open_log_path old))) sync.cause.cause
+      (call_goes_on env from to sync.does (synced_bytes (open_log_path old))) sync.cause.cause
 
   -- ---- batches
 

@@ -343,6 +343,7 @@ module _ {E F C : Type 0} (env : Ghosts E F) (old : OpenStoreValue C) (from : E)
     log = tt;
     waits = tt;
     empty = tt;
+    places = tt;
     err = stays_or_breaks env next from (λ (v : OpenStoreValue C). MayGiveNumber old.set v.set × (v.log.number ≡ old.log.number) × (v.recent ≡ old.recent) × (v.waiting ≡ old.waiting)) (λ writer. (inr refl, refl, refl, refl)) new to status sync.err;
     rest = spares_before rest;
     cause = cause_same (Err status) (λ e lost. inr lost) (λ e fails. ⊎_elim (λ up. absurd (number_left e up)) (λ lost. lost) fails) sync.cause;
@@ -369,6 +370,7 @@ module _ {E F C : Type 0} (env : Ghosts E F) (old : OpenStoreValue C) (from : E)
       log = tt;
       waits = tt;
       empty = tt;
+      places = tt;
       err = (inr refl, refl, refl, refl);
       rest = spares next refl refl;
       cause = record {
@@ -385,13 +387,14 @@ module _ {E F C : Type 0} (env : Ghosts E F) (old : OpenStoreValue C) (from : E)
     }
 
     -- the log was switched
-    pub switched : (new : OpenStoreValue C) → new.cmp ≡ old.cmp → new.set ≡ with_number_given old.set → new.log ≡ record { number = old.set.next_file; writer = new_writer log_block_size 0 } → new.recent.entries ≡ [] → new.waiting ≡ Some old.recent
+    pub switched : (new : OpenStoreValue C) → new.cmp ≡ old.cmp → new.set ≡ with_number_given old.set → new.log ≡ record { number = old.set.next_file; writer = new_writer log_block_size 0 } → new.recent.entries ≡ [] → new.recent.places ≡ 0 → new.waiting ≡ Some old.recent
         → env.failures to ≡ env.failures mid → SwitchesLog env old from (Ok tt) new to
-    switched new same_cmp set log empty waits counted = record {
+    switched new same_cmp set log empty places waits counted = record {
       set = set;
       log = log;
       waits = waits;
       empty = empty;
+      places = places;
       err = tt;
       rest = spares new set same_cmp;
       cause = record { later = omega (arith, counted, sync.cause.ok); ok = counted ∙ sync.cause.ok; uncounted = tt; cause = tt };

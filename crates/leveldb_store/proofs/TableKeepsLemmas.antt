@@ -26,19 +26,21 @@ use Rattle.leveldb_table.specs.Table.{DecodesOne}
 use Rattle.leveldb_version.proofs.KeepsLemmas.{unread_keeps}
 use Rattle.leveldb_version.proofs.LogTablesLemmas.{same_place}
 use Rattle.leveldb_version.proofs.ManagedLemmas.{kinds_apart, numbers_apart, same_bytes, table_on}
-use Rattle.leveldb_version.proofs.OneStoreLemmas.{flat_in, in_flat}
+use Rattle.leveldb_version.proofs.OneStoreLemmas.{flat_in, in_flat, tables_in}
+use Rattle.leveldb_version.proofs.OutputLevelLemmas.{output_level_is_free}
 use Rattle.leveldb_version.proofs.SafeLemmas.{some_is}
 use Rattle.leveldb_version.proofs.ShownLemmas.{same_memory_shows, tabled_is_shown}
 use Rattle.leveldb_version.proofs.TablesLemmas.{one_store_table, tables_bounded}
 use Rattle.leveldb_version.proofs.TrackedLemmas.{live_is_below, next_is_free, numbered_up_to}
 use Rattle.leveldb_version.proofs.ViewsLemmas.{same_sets, view_trans}
-use Rattle.leveldb_version.proofs.WaitingLemmas.{waiting_is_tabled, waiting_may_go_to_level_zero}
+use Rattle.leveldb_version.proofs.WaitingLemmas.{waiting_in_logs, waiting_is_tabled}
 use Rattle.leveldb_version.proofs.WrittenLemmas.{new_table_unread, written_given, written_unread}
 use Rattle.leveldb_version.specs.Contents.{Store}
 use Rattle.leveldb_version.specs.FullEdit.{files_with}
 use Rattle.leveldb_version.specs.Levels.{CanBeAdded, IsBounded, LiveTable, table_entries}
 use Rattle.leveldb_version.specs.LogEdit.{AppendingAndSyncing, edit_record, set_appended, with_bytes_kept, written_edit}
 use Rattle.leveldb_version.specs.Opening.{FitsEdit}
+use Rattle.leveldb_version.specs.Overlap.{file_range, output_level}
 use Rattle.leveldb_version.specs.Paths.{IsFilePath, log_path, table_path}
 use Rattle.leveldb_version.specs.Store.{HasTable, HasTables, OneTableReading, SameEntries}
 use Rattle.leveldb_version.specs.StoreSteps.{AppendedAreBytes, IsKept, IsUnread, KeepsHistory}
@@ -47,6 +49,7 @@ use Rattle.leveldb_version.specs.VersionSet.{is_same_file, level_file, live_afte
 use Rattle.leveldb_version.specs.VersionSetValue.{VersionSetValue, with_number_given}
 use Rattle.leveldb_version.specs.Writing.{EngineMemory, IsNumberedUpTo, IsWrittenBy, ShowsHistory, table_edit}
 use Rattle.leveldb_version.specs.WritingLaws.{HasWaiting, TablesAreInRange, WaitingIsTabled}
+use Rattle.leveldb_store.proofs.LevelForLemmas.{output_level_fits}
 use Rattle.leveldb_store.specs.Format.{Meaning}
 use Rattle.leveldb_store.specs.OpenStore.{OpenStoreValue}
 use Rattle.leveldb_store.specs.Written.{HasLiveTables, IsTableOf, IsWritten, Shows, memory_of, waiting_entries}
@@ -425,7 +428,8 @@ module _ {C : Type 0} (cmp : List ℕ → List ℕ → Ordering) (meaning : Mean
 
       -- ---- the table that was made
 
-      module _ (total : IsTotalOrder cmp) (file : NewFile) (level : file.level ≡ 0)
+      module _ (total : IsTotalOrder cmp) (file : NewFile)
+          (level : file.level ≡ output_level cmp (file_range file) old.set.full.added)
           (number : file.number ≡ n) (edit_fits : FitsEdit file)
           (has : HasTable store cmp T mid
           (record { file = file; entries = waiting_entries old.waiting }))
@@ -449,14 +453,27 @@ module _ {C : Type 0} (cmp : List ℕ → List ℕ → Ordering) (meaning : Mean
             → HasTables store cmp T mid (live_after is.edits) tables
             → CanBeAdded cmp tables table
         addable tables has_tables =
-            waiting_may_go_to_level_zero store cmp T range mid is.edits (memory_of given) w_made
-            table has level (itself (waiting_entries old.waiting)) above tables has_tables one
+            output_level_is_free cmp tables old.set.full.added
+            (λ other c. (w_made.tracked.tracks.left.full.added.live other.file).1
+            (has_tables.each other c).1)
+            table level (range mid table has)
+            (λ a b in_tables in_table same_key. w_made.tracked.managed.fit.below a b
+            (tables_in store cmp T one mid (live_after is.edits) tables
+            w_made.tracked.managed.tables has_tables w_made.tracked.managed.has_tables a in_tables)
+            (waiting_in_logs store cmp T mid is.edits (memory_of given) w_made b in_table))
+            (λ other c other_level its_level. above other.file (has_tables.each other c).2
+            (has_tables.each other c).1)
 
         waits : HasWaiting store cmp T mid is.edits (memory_of given) table
         waits = record {
           has = has;
           kept = kept;
-          level_fits = omega (arith, level);
+          level_fits = omega (
+            arith,
+            level,
+            output_level_fits cmp (file_range file)
+                old.set.full.added,
+          );
           entries = itself (waiting_entries old.waiting);
           added = addable;
         }

@@ -9,6 +9,7 @@ use Rattle.std.specs.Cmp.Lexicographic.{bytes_decides}
 use Rattle.std.specs.Str.{bytes_eq}
 use Rattle.std.specs.declared.cmp.Ordering.{Ordering}
 use Rattle.leveldb_base.specs.Entries.{internal_pair}
+use Rattle.leveldb_base.specs.Error.{IsOutOfMemory}
 use Rattle.leveldb_base.specs.History.{Entry}
 use Rattle.leveldb_base.specs.KeyTypes.{user_part}
 use Rattle.leveldb_base.specs.Types.{Pair}
@@ -33,6 +34,7 @@ use Rattle.leveldb_version.specs.Contents.{Store}
 use Rattle.leveldb_version.specs.Levels.{LiveTable}
 use Rattle.leveldb_version.specs.LogEdit.{AppendsEdit, edit_record, with_bytes_kept}
 use Rattle.leveldb_version.specs.Opening.{FitsEdit}
+use Rattle.leveldb_version.specs.Overlap.{file_range, output_level}
 use Rattle.leveldb_version.specs.Paths.{IsFilePath, table_path}
 use Rattle.leveldb_version.specs.Store.{HasTable, IsInternalPair}
 use Rattle.leveldb_version.specs.StoreSteps.{AppendedAreBytes, IsKept, KeepsHistory}
@@ -52,34 +54,34 @@ use Rattle.leveldb_store.specs.Written.{IsData, IsDataPath, IsTableOf, IsWritten
 -- ---- the edit
 
 -- the edit of one file and a log number
-pub table_edit_made : (plain numbered added : VersionEdit) (log : ℕ) (file : FileMetaData)
+pub table_edit_made : (plain numbered added : VersionEdit) (log level : ℕ) (file : FileMetaData)
     → edit_of plain ≡ empty_edit → numbered ≡ record plain { log_number = Some log }
-    → added.new_files.items ≡ numbered.new_files.items ++ (0, file) ∷ []
+    → added.new_files.items ≡ numbered.new_files.items ++ (level, file) ∷ []
     → added ≡ record numbered { new_files = added.new_files }
-    → edit_of added ≡ table_edit log (new_file_of (0, file))
-table_edit_made plain numbered added log file plain_is numbered_is items others =
+    → edit_of added ≡ table_edit log (new_file_of (level, file))
+table_edit_made plain numbered added log level file plain_is numbered_is items others =
     let With : Edit → List NewFile → Edit =
     λ e files. record e { log_number = Some log; added = files } in
     let files : List NewFile = map new_file_of added.new_files.items in
     let none : map new_file_of plain.new_files.items ≡ [] =
     ap (λ (e : Edit). e.added) plain_is in
-    let one : files ≡ new_file_of (0, file) ∷ [] =
+    let one : files ≡ new_file_of (level, file) ∷ [] =
     ap (map new_file_of)
-    (items ∙ ap (λ (e : VersionEdit). e.new_files.items ++ (0, file) ∷ []) numbered_is)
-    ∙ map-append new_file_of plain.new_files.items ((0, file) ∷ [])
-    ∙ ap (λ fs. fs ++ new_file_of (0, file) ∷ []) none in
+    (items ∙ ap (λ (e : VersionEdit). e.new_files.items ++ (level, file) ∷ []) numbered_is)
+    ∙ map-append new_file_of plain.new_files.items ((level, file) ∷ [])
+    ∙ ap (λ fs. fs ++ new_file_of (level, file) ∷ []) none in
     let edit : edit_of added ≡ With (edit_of plain) files =
     ap edit_of others
     ∙ ap (λ (e : VersionEdit). edit_of (record e { new_files = added.new_files })) numbered_is in
     edit ∙ ap (λ e. With e files) plain_is ∙ ap (With empty_edit) one
 
 -- its level is one of the seven
-pub table_edit_fits : (log : ℕ) (file : FileMetaData)
-    → LevelsFit (table_edit log (new_file_of (0, file)))
-table_edit_fits log file = record {
+pub table_edit_fits : (log level : ℕ) (file : FileMetaData) → level < 7
+    → LevelsFit (table_edit log (new_file_of (level, file)))
+table_edit_fits log level file fits = record {
   pointers = All-nil (λ it. it.level < 7);
   deleted = All-nil (λ it. it.0 < 7);
-  added = All-cons (λ (it : NewFile). it.level < 7) (new_file_of (0, file)) [] (omega arith)
+  added = All-cons (λ (it : NewFile). it.level < 7) (new_file_of (level, file)) [] fits
       (All-nil (λ (it : NewFile). it.level < 7));
 }
 
@@ -218,7 +220,8 @@ module _ {C : Type 0} (cmp : List ℕ → List ℕ → Ordering) (meaning : Mean
       shows = shows_made cmp meaning old v0.disk.files is next_fits v1.disk.files run.has;
     }
 
-    module _ (total : IsTotalOrder cmp) (file : NewFile) (level : file.level ≡ 0)
+    module _ (total : IsTotalOrder cmp) (file : NewFile)
+        (level : file.level ≡ output_level cmp (file_range file) old.set.full.added)
         (number : file.number ≡ old.set.next_file) (edit_fits : FitsEdit file)
         (has : HasTable old.set.store cmp (IsTableOf cmp meaning) v1.disk.files
         (record { file = file; entries = waiting_entries old.waiting }))
@@ -416,15 +419,41 @@ module _ {E F C D FP : Type 0} {order : CmpGhosts D} {filters : FilterGhosts FP}
             (λ memory. m.cause.uncounted (inl memory)) (λ missing. missing.2) lost.2
         uncounted (inr (inr (inr (inr broke)))) = absurd (usable broke.0)
 
+    -- no level was picked for it
+    pub tables_unpicked : (file : FileMetaData) → Makes (Ok file) → (status : Status)
+        → IsOutOfMemory status → Tables (Err status) (record old { set = given_set }) mid
+    tables_unpicked file m status memory = record {
+      logged = tt;
+      none_waits = tt;
+      waits = refl;
+      err = inl (inr refl);
+      broken_before = λ is. absurd (usable is);
+      recent = refl;
+      log = refl;
+      rest = record {
+        store = refl;
+        cmp = refl;
+        last = refl;
+        files = spares_made (Ok file) m;
+        locks = m.locks;
+      };
+      cause = record {
+        later = m.cause.later;
+        ok = tt;
+        uncounted = λ excused. m.cause.ok;
+        cause = inl (inr (inl memory));
+      };
+    }
+
     -- ---- the edit was logged, or not
 
-    module _ (file : FileMetaData) (m : Makes (Ok file)) (manifest : OpenManifest)
+    module _ (level : ℕ) (file : FileMetaData) (m : Makes (Ok file)) (manifest : OpenManifest)
         (used : old.set.manifest ≡ in_use manifest)
         (own : IsTrue env.models_disk → HasOwnManifest old.set) {to : E}
         (locks : SameLocks env.models_disk (env.observed mid) (env.observed to))
         (set : VersionSetValue) where
       abbrev edit : Edit
-      edit = table_edit old.log.number (new_file_of (0, file))
+      edit = table_edit old.log.number (new_file_of (level, file))
 
       abbrev Logged : Result (Unit {0}) Status → Type 0
       Logged result = AppendsEdit env.models_disk manifest given_set edit (env.observed mid)
@@ -478,8 +507,8 @@ module _ {E F C D FP : Type 0} {order : CmpGhosts D} {filters : FilterGhosts FP}
       unlogged_sound cmp Means new status l =
           sound_unlogged env cmp Means old from manifest used status new to
           (goes_on_then env (table_goes_on env m)
-          (edit_goes_on env manifest given_set old.log.number (new_file_of (0, file)) (m.fits 0)
-          mid to (Err status) set l)) (unlogged_cause status l)
+          (edit_goes_on env manifest given_set old.log.number (new_file_of (level, file))
+          (m.fits level) mid to (Err status) set l)) (unlogged_cause status l)
 
       -- the edit wasn't logged
       pub tables_unlogged : (status : Status) → Logged (Err status)
@@ -524,14 +553,16 @@ module _ {E F C D FP : Type 0} {order : CmpGhosts D} {filters : FilterGhosts FP}
           uncounted (inr (inr (inr (inr broke)))) = absurd (usable broke.0)
 
       -- it was
-      pub tables_logged : Logged (Ok tt)
+      pub tables_logged
+          : level ≡ output_level choices.format.order (file_range (new_file_of (level, file)))
+          old.set.full.added → Logged (Ok tt)
           → Tables (Ok tt) (record old { set = set; waiting = None }) to
-      tables_logged l = record {
+      tables_logged picked l = record {
         logged = record {
           manifest = manifest;
           was_in_use = used;
-          file = new_file_of (0, file);
-          level = refl;
+          file = new_file_of (level, file);
+          level = picked;
           number = m.number_is.0;
           set = l.ok;
         };
@@ -560,7 +591,7 @@ module _ {E F C D FP : Type 0} {order : CmpGhosts D} {filters : FilterGhosts FP}
 
 module _ {E F C D FP : Type 0} {order : CmpGhosts D} {filters : FilterGhosts FP} (env : Ghosts E F)
     (choices : TableChoices order filters) (old : OpenStoreValue C) (from mid : E)
-    (file : FileMetaData) (some : waiting_entries old.waiting ≢ [])
+    (level : ℕ) (file : FileMetaData) (some : waiting_entries old.waiting ≢ [])
     (each : Each IsInternalPair (map internal_pair (waiting_entries old.waiting))
     (waiting_entries old.waiting))
     (m : MakesTable choices (map internal_pair (waiting_entries old.waiting)) env (λ status. ⊥)
@@ -570,7 +601,7 @@ module _ {E F C D FP : Type 0} {order : CmpGhosts D} {filters : FilterGhosts FP}
     (agrees : Agrees choices.format meaning) where
   abbrev made_table : LiveTable
   made_table = record {
-    file = new_file_of (0, file);
+    file = new_file_of (level, file);
     entries = waiting_entries old.waiting;
   }
 
@@ -582,7 +613,7 @@ module _ {E F C D FP : Type 0} {order : CmpGhosts D} {filters : FilterGhosts FP}
       let known : IsMeaningOf meaning.filters f.policy_name (λ key. f.matches (user_part key)) =
       subst (λ (o : Option (List ℕ → List ℕ → Bool)).
       IfSome o (λ known. known ≡ (λ key. f.matches (user_part key)))) (sym agrees.filters) refl in
-      let here = m.has (some_pairs (waiting_entries old.waiting) some) modelled meaning.filters 0
+      let here = m.has (some_pairs (waiting_entries old.waiting) some) modelled meaning.filters level
       (waiting_entries old.waiting) known each in
       subst (λ o. HasTable old.set.store o (IsTableOf o meaning) (env.observed mid).disk.files
       made_table) same
@@ -595,12 +626,13 @@ module _ {E F C D FP : Type 0} {order : CmpGhosts D} {filters : FilterGhosts FP}
   kept_made = subst IsKept
       (sym ((m.made (some_pairs (waiting_entries old.waiting) some)).kept modelled)) refl
 
-  module _ (next_fits : old.set.next_file + 1 < 2 ^ 64) (total : IsTotalOrder cmp) (to : E)
-      (set : VersionSetValue) where
+  module _ (next_fits : old.set.next_file + 1 < 2 ^ 64) (total : IsTotalOrder cmp)
+      (picked : level ≡ output_level cmp (file_range (new_file_of (level, file)))
+      old.set.full.added) (to : E) (set : VersionSetValue) where
     abbrev LogsEdit : Result (Unit {0}) Status → Type 0
     LogsEdit result = (manifest : OpenManifest) → old.set.manifest ≡ in_use manifest
         → AppendsEdit env.models_disk manifest (with_number_given old.set)
-        (table_edit old.log.number (new_file_of (0, file))) (env.observed mid) (env.failures mid)
+        (table_edit old.log.number (new_file_of (level, file))) (env.observed mid) (env.failures mid)
         result set (env.observed to) (env.failures to)
 
     -- an edit that wasn't logged
@@ -609,8 +641,8 @@ module _ {E F C D FP : Type 0} {order : CmpGhosts D} {filters : FilterGhosts FP}
         (env.observed to)
     keeps_failed status logs =
         keeps_unlogged cmp meaning old next_fits (env.observed from) (env.observed mid)
-        (m.run modelled) (m.bytes modelled) total (new_file_of (0, file)) refl m.number_is.0
-        (m.fits 0) has_made kept_made env.models_disk modelled (env.observed to)
+        (m.run modelled) (m.bytes modelled) total (new_file_of (level, file)) picked m.number_is.0
+        (m.fits level) has_made kept_made env.models_disk modelled (env.observed to)
         (env.failures mid) (env.failures to) set status logs
 
     -- one that was
@@ -619,6 +651,6 @@ module _ {E F C D FP : Type 0} {order : CmpGhosts D} {filters : FilterGhosts FP}
         (record old { set = set; waiting = None }) (env.observed to)
     keeps_done logs =
         keeps_tabled cmp meaning old next_fits (env.observed from) (env.observed mid)
-        (m.run modelled) (m.bytes modelled) total (new_file_of (0, file)) refl m.number_is.0
-        (m.fits 0) has_made kept_made env.models_disk modelled (env.observed to)
+        (m.run modelled) (m.bytes modelled) total (new_file_of (level, file)) picked m.number_is.0
+        (m.fits level) has_made kept_made env.models_disk modelled (env.observed to)
         (env.failures mid) (env.failures to) set logs

@@ -1,5 +1,6 @@
 pub mod Format
 pub mod BuildTable
+pub mod FoundLogs
 pub mod OpenStore
 pub mod Write
 pub mod Written
@@ -8,11 +9,11 @@ pub mod Read
 pub mod ReadTable
 pub mod Search
 pub mod Opening
+pub mod OpensStore
 pub mod ReplayLog
 pub mod WriteBatch
 pub mod Room
-pub mod SoundCall
-pub mod RoomSteps
-pub mod OpensStore
 pub mod OpeningState
 pub mod OpeningSteps
+pub mod SoundCall
+pub mod RoomSteps

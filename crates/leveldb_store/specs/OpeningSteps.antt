@@ -1,5 +1,5 @@
 -- What each step of an opening returns and leaves of a store's files, and why it fails.
-use Rattle.std.specs.Prelude.{◌≡◌, ◌≢◌, ◌≤◌, ◌<◌, ◌⊎◌, ◌+◌, ◌%◌, ◌^◌, ℕ, Bool, false, true, List, [], ◌∷◌, ◌++◌, map, Contains, Option, None, Some, IsSome, IfNone, IfSome, Result, OnErr, OnOk, IfOk, IsErrAnd, IsTrue}
+use Rattle.std.specs.Prelude.{◌≡◌, ◌≢◌, ◌≤◌, ◌<◌, ◌⊎◌, ◌+◌, ◌%◌, ◌^◌, ℕ, Bool, false, true, List, [], ◌∷◌, ◌++◌, map, Contains, Option, None, Some, IsSome, IfNone, IfSome, Result, OnErr, OnOk, IfOk, IsErrAnd, IsTrue, length}
 use Rattle.std.specs.List.Sorted.{IsStrictlySortedBy}
 use Rattle.std.specs.Ordering.{nat_cmp}
 use Rattle.std.specs.declared.cmp.Ordering.{Ordering}
@@ -18,6 +18,7 @@ use Rattle.leveldb_env.specs.declared.filter.FilterPolicy.{Ghosts as FilterGhost
 use Rattle.leveldb_mem.specs.Log.{bad, clean, log_block_size}
 use Rattle.leveldb_mem.specs.Log.Writer.{new_writer}
 use Rattle.leveldb_mem.specs.MemTable.{MemTableState}
+use Rattle.leveldb_mem.specs.WriteBatch.{Batch}
 use Rattle.leveldb_version.specs.Batches.{AreInOrder, all_entries}
 use Rattle.leveldb_version.specs.Levels.{LiveTable, table_entries}
 use Rattle.leveldb_version.specs.LogEdit.{LogEditResult}
@@ -29,17 +30,18 @@ use Rattle.leveldb_version.specs.Paths.{current_path, log_path, table_path}
 use Rattle.leveldb_version.specs.Recover.{LeavesFiles, Recovers}
 use Rattle.leveldb_version.specs.Store.{HasLog, HasNoStore, ReplayedLog as StoreLog, SameEntries, log_batches, log_entries}
 use Rattle.leveldb_version.specs.VersionEdit.{IsEncodable, NewFile, new_file_of}
-use Rattle.leveldb_version.specs.VersionSetValue.{OpenManifest, VersionSetValue, broken, in_use, new_version_set, with_number_given}
+use Rattle.leveldb_version.specs.VersionSetValue.{AreFileNumbersUsedUp, OpenManifest, VersionSetValue, broken, in_use, new_version_set, with_number_given}
 use Rattle.leveldb_version.specs.Writing.{NumbersAreBelow}
 use Rattle.leveldb_store.specs.BuildTable.{TableChoices}
-use Rattle.leveldb_store.specs.Format.{Agrees, Format, HasCompressorError, Meaning}
+use Rattle.leveldb_store.specs.Format.{Agrees, Format, Meaning}
 use Rattle.leveldb_store.specs.OpenStore.{HasOwnManifest, IsUnbroken, OpenStoreValue}
 use Rattle.leveldb_store.specs.Opening.{AreMadeTables, GivesNumbers, SameButTables}
 use Rattle.leveldb_store.specs.OpeningState.{HasComparator, IsRecoveredWith, with_comparator}
-use Rattle.leveldb_store.specs.OpensStore.{HasOtherComparator, IsBareFolder, IsDamaged, IsForbidden, IsForbiddenAs, IsOpenedAs, IsSound, IsTableOrLog, KeepsFound, LacksCurrent, LacksUsableEdits, SameBesideOwn, WhyNotOpened}
-use Rattle.leveldb_store.specs.ReplayLog.{FailsToTable, HasCauseOr, MakesTablesOnly, table_files}
+use Rattle.leveldb_store.specs.OpensStore.{HasHugeManifest, HasOtherComparator, HasSharedUserKey, IsBareFolder, IsDamaged, IsForbidden, IsForbiddenAs, IsNumberFound, IsOpenedAs, IsSound, IsTableOrLog, KeepsFound, LacksCurrent, LacksUsableEdits, LeavesFewNumbers, SameBesideOwn, WhyNotOpenable}
+use Rattle.leveldb_store.specs.FoundLogs.{HasLogNotKept, LacksNumbersFor, LogBeginsWith, LogsBeginWith}
+use Rattle.leveldb_store.specs.ReplayLog.{FailsAtLog, HasCauseOr, MakesTablesOnly, table_files}
 use Rattle.leveldb_store.specs.Room.{IsFull}
-use Rattle.leveldb_store.specs.SoundCall.{OpensWithBytes}
+use Rattle.leveldb_store.specs.SoundCall.{BytesAreAppended}
 use Rattle.leveldb_store.specs.Switch.{MayGiveNumber}
 use Rattle.leveldb_store.specs.declared.open_store.OpenLog.{OpenLog}
 use Rattle.leveldb_store.specs.declared.opening.logs.RecoveredSet.{RecoveredSet}
@@ -95,10 +97,16 @@ module _ {E F : Type 0} (env : Ghosts E F) (store comparator : List ℕ)
         → Run (λ files. (files ≡ (env.observed from).disk.files)
         ⊎ IsBeingMade store comparator (env.observed from).disk.files files) (env.observed from)
         (env.observed to)
+    pub bytes : BytesAreAppended env from to
     pub locks : SameLocks env.models_disk (env.observed from) (env.observed to)
     pub cause : HasCauseOr WhyNotFound (env.failures from) (env.failures to) result
 
 -- ---- names and their numbers
+
+-- one of the names has this number
+abbrev pub HasNumber : List (List ℕ) → ℕ → Type 0
+HasNumber names n = (name : List ℕ) × (kind : FileType) × Contains names name
+    × IsFileName name n kind
 
 -- the numbers of all these names are used
 pub record MarksNames (old : VersionSetValue) (names : List (List ℕ)) (new : VersionSetValue)
@@ -106,6 +114,9 @@ pub record MarksNames (old : VersionSetValue) (names : List (List ℕ)) (new : V
   pub gives : GivesNumbers old new
   pub used : (name : List ℕ) (n : ℕ) (kind : FileType) → Contains names name
       → IsFileName name n kind → n < new.next_file
+  -- the next number is the old one, or comes after that of a name
+  pub reached : (new.next_file ≡ old.next_file) ⊎ ((n : ℕ) × HasNumber names n
+      × (new.next_file ≡ n + 1))
 
 -- by the manifest's log number and that of the log before it, a log of this number is replayed
 abbrev pub IsReplayed : ℕ → ℕ → ℕ → Type 0
@@ -230,7 +241,7 @@ module _ {E F : Type 0} (env : Ghosts E F) (store : List ℕ) where
         it.0.writer ≡ new_writer log_block_size (size_to_write used % log_block_size))
     pub order : IfOk result (λ it. it.1.cmp ≡ cmp)
     pub entries : IfOk result (λ it. it.1.kept.entries ≡ entries_to_write used)
-    pub cause : HasCauseOr (λ status. status.code ≡ NotSupported) (env.failures from)
+    pub cause : HasCauseOr (AreFileNumbersUsedUp old.next_file) (env.failures from)
         (env.failures to) result
 
 -- ---- the edit with which an opening ends
@@ -266,6 +277,9 @@ pub record TablesAll {E F C : Type 0} (env : Ghosts E F) (format : Format) (log 
   pub made_tables : IsTrue env.models_disk → (meaning : Meaning) → Agrees format meaning
       → AreMadeTables format.order meaning old new (env.observed at).disk.files tables
   pub entries : SameEntries (table_entries tables) log.rest.kept.entries
+  -- where there was an entry, a number was given
+  pub few : (new.next_file ≡ old.next_file)
+      ⊎ ((log.rest.kept.entries ≢ []) × (new.next_file ≡ old.next_file + 1))
 
 -- a bad end of a log ends the history: the logs after it are empty
 abbrev pub BadEndsEnd : List StoreLog → Type 0
@@ -321,11 +335,30 @@ pub record HasReplayedLogs {C : Type 0} (cmp : List ℕ → List ℕ → Orderin
       × ((log : StoreLog) → Contains logs log
       → IfSome replay.used (λ used. log.number ≡ used.number) × IsSome replay.used)
 
+module _ {E F : Type 0} (env : Ghosts E F) where
+  -- there is at most a table for each batch with which the log of this number begins
+  abbrev pub MakesFewTables : ℕ → VersionSetValue → E → VersionSetValue → Type 0
+  MakesFewTables number set from now = (batches : List Batch)
+      × (IsTrue env.models_disk
+      → LogBeginsWith set.store (env.observed from).disk.files number batches)
+      × (now.next_file ≤ set.next_file + length batches)
+
+  -- there is at most a table for each batch with which these logs begin
+  abbrev pub MakeFewTables : List ℕ → VersionSetValue → E → VersionSetValue → Type 0
+  MakeFewTables numbers set from now = (batches : List Batch)
+      × (IsTrue env.models_disk
+      → LogsBeginWith set.store (env.observed from).disk.files numbers batches)
+      × (now.next_file ≤ set.next_file + length batches)
+
 module _ {E F D FP : Type 0} (env : Ghosts E F) {order : CmpGhosts D} {filters : FilterGhosts FP}
     (choices : TableChoices order filters) where
-  -- why logs aren't replayed, where nothing was counted, beside out of memory
-  abbrev pub WhyNotReplayed : List ℕ → Files → List ℕ → Status → Type 0
-  WhyNotReplayed store files numbers status = FailsToTable choices status
+  -- why logs aren't replayed, where nothing was counted, beside out of memory: from `next` on the
+  -- numbers of files are too few for their tables; batches of one aren't kept; or they are damaged
+  abbrev pub WhyNotReplayed : List ℕ → Files → List ℕ → ℕ → Status → Type 0
+  WhyNotReplayed store files numbers next status =
+      LacksNumbersFor env.models_disk store files numbers next 0 status
+      ⊎ ((log : HasLogNotKept choices env.models_disk store files status)
+      × Contains numbers log.number)
       ⊎ ((status.code ≡ Corruption)
       × (IsTrue env.models_disk → AreDamagedLogs store files numbers))
 
@@ -358,7 +391,8 @@ module _ {E F D FP : Type 0} (env : Ghosts E F) {order : CmpGhosts D} {filters :
     -- no entry in memory has a number past the last one, and the memtable isn't full
     pub up_to : OnOk result (AreUpTo new.last (entries_to_write new.used))
     pub room : OnOk result (IfSome new.used (λ used. IsFull limit used.entries.kept → ⊥))
-    pub cause : HasCauseOr (λ status. FailsToTable choices status
+    pub few : OnOk result (MakesFewTables env number set from now)
+    pub cause : HasCauseOr (λ status. FailsAtLog env choices set number from status
         ⊎ ((status.code ≡ Corruption)
         × (IsTrue env.models_disk → DamagesLogs number old set from)))
         (env.failures from) (env.failures to) result
@@ -379,10 +413,22 @@ module _ {E F D FP : Type 0} (env : Ghosts E F) {order : CmpGhosts D} {filters :
     pub up_to : IfOk result (λ replay. AreUpTo replay.last (entries_to_write replay.used))
     pub room : IfOk result (λ replay. IfSome replay.used (λ used.
         IsFull limit used.entries.kept → ⊥))
-    pub cause : HasCauseOr (WhyNotReplayed old.store (env.observed from).disk.files numbers)
-        (env.failures from) (env.failures to) result
+    pub few : OnOk result (MakeFewTables env numbers old from new)
+    pub cause : HasCauseOr (WhyNotReplayed old.store (env.observed from).disk.files numbers
+        old.next_file) (env.failures from) (env.failures to) result
 
 -- ---- the version set
+
+-- a number is found at or past the one before this
+abbrev pub ComesAfterFound : List ℕ → Files → ℕ → Type 0
+ComesAfterFound store files next =
+    (last : ℕ) × IsNumberFound store files last × (next ≤ last + 1)
+
+-- what isn't supported in the files of a set: tables share a user key, the manifest is huge, or a
+-- number is too great for two more
+abbrev pub IsUnsupported : List ℕ → Format → Files → Type 0
+IsUnsupported store format files = HasSharedUserKey store files format.order
+    ⊎ HasHugeManifest store files format.order_name ⊎ LeavesFewNumbers store files 2
 
 module _ {E F : Type 0} (env : Ghosts E F) (format : Format) (reuse : Bool) (limit : ℕ)
     (store : List ℕ) (from : E) where
@@ -394,6 +440,9 @@ module _ {E F : Type 0} (env : Ghosts E F) (format : Format) (reuse : Bool) (lim
     pub gives : GivesNumbers (new_version_set store format.order_name) marked
     pub below : IsTrue env.models_disk
         → NumbersAreBelow store (env.observed from).disk.files marked.next_file
+    -- the next number came after one that is found
+    pub after_names : IsTrue env.models_disk
+        → ComesAfterFound store (env.observed from).disk.files marked.next_file
     pub recovers : Recovers env.models_disk format.order format.order_name reuse limit marked
         (env.observed from) anew set (env.observed to)
     pub fits : set.next_file < 2 ^ 64
@@ -412,7 +461,7 @@ module _ {E F : Type 0} (env : Ghosts E F) (format : Format) (reuse : Bool) (lim
       ((status.code ≡ Corruption) × where_modelled (λ files. files (current_path store) ≡ None))
       ⊎ ((status.code ≡ InvalidArgument) × where_modelled (HasOtherComparator store format))
       ⊎ ((status.code ≡ Corruption) × where_modelled (IsDamaged store format))
-      ⊎ (status.code ≡ NotSupported)
+      ⊎ ((status.code ≡ NotSupported) × where_modelled (IsUnsupported store format))
 
   -- what recovering the set returns and leaves
   pub record RecoversSet (result : Result (RecoveredSet E F) Status) (to : E) : Type 0 where
@@ -456,6 +505,16 @@ module _ {E F : Type 0} (env : Ghosts E F) (format : Format) (store : List ℕ)
         → IsRecoveredWith store format.order meaning
         (with_comparator format.order_name contents) it.versions it.logs.keys
         (env.observed to).disk.files
+    -- at most one number was given after those that were found
+    pub numbers : IsTrue env.models_disk → (next : ℕ)
+        × ComesAfterFound store (env.observed from).disk.files next
+        × (it.versions.next_file ≤ next + 1)
+    -- its logs are those that were there
+    pub logs : IsTrue env.models_disk → (number : ℕ) (batches : List Batch)
+        → Contains it.logs.keys number
+        → LogBeginsWith store (env.observed to).disk.files number batches
+        → LogBeginsWith store (env.observed from).disk.files number batches
+    pub rising : IsStrictlySortedBy nat_cmp it.logs.keys
     -- and if its logs are damaged, so is the store
     pub damage : IsTrue env.models_disk
         → AreDamagedLogs store (env.observed to).disk.files it.logs.keys
@@ -481,26 +540,34 @@ module _ {E F : Type 0} (env : Ghosts E F) (format : Format) (store : List ℕ)
     pub others : IsTrue env.models_disk
         → Run (SameBesideOwn store (env.observed from).disk.files) (env.observed from)
         (env.observed to)
-    pub bytes : OpensWithBytes env store from result to
+    pub bytes : BytesAreAppended env from to
     pub locks : SameLocks env.models_disk (env.observed from) (env.observed to)
     pub cause : HasCauseOr
-        (WhyNotOpened env store format create_if_missing error_if_exists from)
+        (WhyNotOpenable env store format create_if_missing error_if_exists from)
         (env.failures from) (env.failures to) result
 
 module _ {E F : Type 0} (env : Ghosts E F) (format : Format) (store : List ℕ)
     (set : VersionSetValue) (logs : List ℕ) (from : E) where
-  -- why a store that was recovered isn't opened, where nothing was counted, beside out of memory:
-  -- its logs are damaged; a compressor fails; or numbers or room are used up
-  abbrev pub WhyNotBegun : Status → Type 0
-  WhyNotBegun status = ((status.code ≡ Corruption)
-      × (IsTrue env.models_disk → AreDamagedLogs store (env.observed from).disk.files logs))
-      ⊎ HasCompressorError format status.code ⊎ (status.code ≡ NotSupported)
-
   -- the store was recovered with these contents
   abbrev pub WasRecovered : Meaning → Contents → Type 0
   WasRecovered meaning contents = HasComparator format.order_name contents
       × IsRecoveredWith store format.order meaning contents set logs
       (env.observed from).disk.files
+
+module _ {E F D FP : Type 0} (env : Ghosts E F) {order : CmpGhosts D} {filters : FilterGhosts FP}
+    (choices : TableChoices order filters) (store : List ℕ) (set : VersionSetValue)
+    (logs : List ℕ) (from : E) where
+  -- why a store that was recovered isn't opened, where nothing was counted, beside out of memory:
+  -- the numbers of files are too few for the tables of its logs and a log; batches of one of them
+  -- aren't kept; or they are damaged
+  abbrev pub WhyNotBegun : Status → Type 0
+  WhyNotBegun status =
+      LacksNumbersFor env.models_disk store (env.observed from).disk.files logs set.next_file 1
+      status
+      ⊎ ((log : HasLogNotKept choices env.models_disk store (env.observed from).disk.files status)
+      × Contains logs log.number)
+      ⊎ ((status.code ≡ Corruption)
+      × (IsTrue env.models_disk → AreDamagedLogs store (env.observed from).disk.files logs))
 
   -- What opening a store that was recovered returns and leaves: what its logs have comes to memory
   -- or to tables, and batches may be appended.
@@ -509,17 +576,19 @@ module _ {E F : Type 0} (env : Ghosts E F) (format : Format) (store : List ℕ)
     pub path : IfOk result (λ value. value.set.store ≡ store)
     pub unbroken : IfOk result IsUnbroken
     pub room : IfOk result (λ value. IsFull limit value.recent → ⊥)
-    pub keeps : IsTrue env.models_disk → (meaning : Meaning) → Agrees format meaning
-        → (contents : Contents) → WasRecovered meaning contents
-        → KeepsFound format.order meaning store format.order_name contents (env.observed from)
-        (env.observed to)
-    pub opens : IsTrue env.models_disk → (meaning : Meaning) → Agrees format meaning
-        → (contents : Contents) → WasRecovered meaning contents
-        → IfOk result (λ value. IsOpenedAs format.order meaning store format.order_name contents
-        value (env.observed to).disk.files)
+    pub keeps : IsTrue env.models_disk → (meaning : Meaning) → Agrees choices.format meaning
+        → (contents : Contents)
+        → WasRecovered env choices.format store set logs from meaning contents
+        → KeepsFound choices.format.order meaning store choices.format.order_name contents
+        (env.observed from) (env.observed to)
+    pub opens : IsTrue env.models_disk → (meaning : Meaning) → Agrees choices.format meaning
+        → (contents : Contents)
+        → WasRecovered env choices.format store set logs from meaning contents
+        → IfOk result (λ value. IsOpenedAs choices.format.order meaning store
+        choices.format.order_name contents value (env.observed to).disk.files)
     pub others : IsTrue env.models_disk
         → Run (SameBesideOwn store (env.observed from).disk.files) (env.observed from)
         (env.observed to)
-    pub bytes : OpensWithBytes env store from result to
+    pub bytes : BytesAreAppended env from to
     pub locks : SameLocks env.models_disk (env.observed from) (env.observed to)
     pub cause : HasCauseOr WhyNotBegun (env.failures from) (env.failures to) result

@@ -1,23 +1,32 @@
 -- What opening a store returns and leaves of its files, and why it fails.
-use Rattle.std.specs.Prelude.{◌≡◌, ◌≢◌, ◌≤◌, ◌⊎◌, ℕ, Bool, false, List, None, Some, OnOk, IfOk, IsTrue, Result, length}
+use Rattle.std.specs.Prelude.{◌≡◌, ◌≢◌, ◌≤◌, ◌+◌, ◌^◌, ◌⊎◌, ℕ, Bool, false, List, None, Some, OnOk, IfOk, IsSomeAnd, IsTrue, Result, length}
+use Rattle.std.specs.List.Sorted.{IsStrictlySortedBy}
+use Rattle.std.specs.Ordering.{nat_cmp}
 use Rattle.std.specs.declared.cmp.Ordering.{Ordering}
 use Rattle.leveldb_base.specs.Error.{IsOutOfMemory}
 use Rattle.leveldb_base.specs.History.{History}
 use Rattle.leveldb_base.specs.Names.{IsFileName}
+use Rattle.leveldb_base.specs.declared.cmp.Cmp.{Ghosts as CmpGhosts}
 use Rattle.leveldb_base.specs.declared.error.Status.{Status}
 use Rattle.leveldb_base.specs.declared.error.StatusCode.TheVariants.{AlreadyExists, Corruption, InvalidArgument, NotSupported}
+use Rattle.leveldb_base.specs.declared.types.FileType.{FileType}
 use Rattle.leveldb_base.specs.declared.types.FileType.TheVariants.{Log, Table}
-use Rattle.leveldb_env.specs.Env.{Files, FilesUnchanged, HasCause, Observed, Run, SameLocks, in_folder}
+use Rattle.leveldb_env.specs.Env.{Files, FilesUnchanged, Observed, Run, SameLocks, bytes_of, in_folder}
 use Rattle.leveldb_env.specs.declared.env.Env.{Ghosts}
+use Rattle.leveldb_env.specs.declared.filter.FilterPolicy.{Ghosts as FilterGhosts}
+use Rattle.leveldb_mem.specs.WriteBatch.{Batch}
 use Rattle.leveldb_version.specs.Contents.{Contents, Store, made}
 use Rattle.leveldb_version.specs.Holds.{Holds, IsSafe, MatchesHistory}
+use Rattle.leveldb_version.specs.NewStore.{first_manifest}
 use Rattle.leveldb_version.specs.Paths.{current_path}
-use Rattle.leveldb_version.specs.Recover.{IsUsable}
+use Rattle.leveldb_version.specs.Recover.{AreBeside, IsNamed, IsUsable, ShareUserKey}
 use Rattle.leveldb_version.specs.Store.{HasEdits, IsStore}
 use Rattle.leveldb_version.specs.StoreSteps.{AppendedAreBytes, KeepsHistory}
-use Rattle.leveldb_version.specs.VersionEdit.{Edit}
-use Rattle.leveldb_version.specs.VersionSet.{live_after}
-use Rattle.leveldb_store.specs.Format.{Agrees, Format, HasCompressorError, Meaning}
+use Rattle.leveldb_version.specs.VersionEdit.{Edit, NewFile}
+use Rattle.leveldb_version.specs.VersionSet.{FileSet, live_after}
+use Rattle.leveldb_store.specs.BuildTable.{TableChoices}
+use Rattle.leveldb_store.specs.FoundLogs.{HasLogNotKept, LogsBeginWith}
+use Rattle.leveldb_store.specs.Format.{Agrees, Format, Meaning}
 use Rattle.leveldb_store.specs.OpenStore.{IsUnbroken, OpenStoreValue}
 use Rattle.leveldb_store.specs.Room.{IsFull}
 use Rattle.leveldb_store.specs.Written.{IsDataPath, IsTableOf, IsWritten}
@@ -70,7 +79,7 @@ module _ (cmp : List ℕ → List ℕ → Ordering) (meaning : Meaning) (store :
         → Holds store (IsStore store cmp (IsTableOf cmp meaning)) (λ it. IsTrue (allowed it)) files
         history contents.last (length history) None
 
--- ---- a store that isn't opened
+-- ---- files that are no store
 
 -- the name is a table's or a log's
 abbrev pub IsTableOrLog : List ℕ → Type 0
@@ -111,6 +120,56 @@ module _ (store : List ℕ) (format : Format) where
       → IsOrderFor contents.store order
       → IsStore store order (IsTableOf order meaning) files contents → ⊥
 
+-- ---- what isn't supported
+
+-- a number of files that the manifest's edits have: of the next file, or of a log
+abbrev pub IsNumberOf : FileSet → ℕ → Type 0
+IsNumberOf set n =
+    (set.next_file ≡ Some n) ⊎ (set.log_number ≡ Some n) ⊎ (set.previous_log ≡ Some n)
+
+module _ (store : List ℕ) (files : Files) where
+  -- a file has this number: it is 2 or less, as in a new store, or that of a name in the folder or
+  -- of the manifest's edits
+  abbrev pub IsNumberFound : ℕ → Type 0
+  IsNumberFound n = (n ≤ 2)
+      ⊎ ((name : List ℕ) × (kind : FileType) × IsFileName name n kind
+      × (files (in_folder store name) ≢ None))
+      ⊎ ((edits : List Edit) × HasEdits store files edits × IsNumberOf (live_after edits) n)
+
+  -- a number is found after which there aren't `count` more for files
+  pub record LeavesFewNumbers (count : ℕ) : Type 0 where
+    pub last : ℕ
+    pub is_found : IsNumberFound last
+    pub too_few : 2 ^ 64 ≤ last + 1 + count
+
+  -- a number is found after which there aren't enough for a manifest, a log, and a table for each
+  -- batch with which logs begin
+  pub record LacksNumbers : Type 0 where
+    pub logs : List ℕ
+    pub rising : IsStrictlySortedBy nat_cmp logs
+    pub batches : List Batch
+    pub begin : LogsBeginWith store files logs batches
+    pub few : LeavesFewNumbers (length batches + 2)
+
+  -- the manifest that `CURRENT` names, or the one with which a new store of this comparator begins,
+  -- has 2^64 bytes or more
+  abbrev pub HasHugeManifest : List ℕ → Type 0
+  HasHugeManifest comparator =
+      ((name : List ℕ) × (number : ℕ) × IsNamed store files name number
+      × IsSomeAnd (files (in_folder store name)) (λ file. 2 ^ 64 ≤ length (bytes_of file)))
+      ⊎ ((files (current_path store) ≡ None) × (2 ^ 64 ≤ length (first_manifest comparator)))
+
+  -- two live tables, which are beside each other in one level from 1 on, share a user key
+  pub record HasSharedUserKey (cmp : List ℕ → List ℕ → Ordering) : Type 0 where
+    pub edits : List Edit
+    pub has_edits : HasEdits store files edits
+    pub a : NewFile
+    pub b : NewFile
+    pub beside : AreBeside cmp (live_after edits) a b
+    pub share : ShareUserKey cmp a b
+
+-- ---- a store that isn't opened
+
 module _ (store : List ℕ) where
   -- nothing is in the store's folder, not even the file of its lock
   abbrev pub IsBareFolder : Files → Type 0
@@ -134,24 +193,23 @@ IsForbiddenAs models_disk store create_if_missing error_if_exists files status =
 
 module _ {E F : Type 0} (env : Ghosts E F) (store : List ℕ) (format : Format)
     (create_if_missing error_if_exists : Bool) (from : E) where
-  -- Why a store isn't opened, where nothing was counted, beside out of memory: not even the file of
-  -- its lock is there; the options forbid it; its comparator is another; it is damaged; a
-  -- compressor fails; or numbers or room are used up.
-  abbrev pub WhyNotOpened : Status → Type 0
-  WhyNotOpened status =
-      let where_modelled : (Files → Type 0) → Type 0
-      = λ Holds. IsTrue env.models_disk → Holds (env.observed from).disk.files in
+  -- what holds of the files where they are modelled
+  abbrev pub where_modelled : (Files → Type 0) → Type 0
+  where_modelled Holds = IsTrue env.models_disk → Holds (env.observed from).disk.files
+
+  -- Why files can't be opened as a store, where nothing was counted, beside out of memory: not even
+  -- the file of its lock is there; the options forbid it; its comparator is another; it is damaged;
+  -- or it isn't supported, since tables share a user key, or a manifest or a number is too great.
+  abbrev pub WhyNotOpenable : Status → Type 0
+  WhyNotOpenable status =
       ((status.code ≡ Corruption) × where_modelled (IsBareFolder store))
       ⊎ IsForbiddenAs env.models_disk store create_if_missing error_if_exists
       (env.observed from).disk.files status
       ⊎ ((status.code ≡ InvalidArgument) × where_modelled (HasOtherComparator store format))
       ⊎ ((status.code ≡ Corruption) × where_modelled (IsDamaged store format))
-      ⊎ HasCompressorError format status.code ⊎ (status.code ≡ NotSupported)
-
-  -- Why a store isn't opened, where the device didn't fail.
-  abbrev pub FailsToOpen : E → Status → Type 0
-  FailsToOpen to status = IsOutOfMemory status
-      ⊎ (WhyNotOpened status × (env.failures to ≡ env.failures from))
+      ⊎ ((status.code ≡ NotSupported) × where_modelled (λ files.
+      HasSharedUserKey store files format.order ⊎ HasHugeManifest store files format.order_name
+      ⊎ LacksNumbers store files))
 
   -- An opening. Its lock is the caller's.
   pub record OpensStore {C : Type 0} (limit : ℕ) (result : Result (OpenStoreValue C) Status)
@@ -186,4 +244,18 @@ module _ {E F : Type 0} (env : Ghosts E F) (store : List ℕ) (format : Format)
         → Run (SameBesideOwn store (env.observed from).disk.files) (env.observed from)
         (env.observed to)
     pub locks : SameLocks env.models_disk (env.observed from) (env.observed to)
-    pub cause : HasCause (FailsToOpen to) (env.failures from) (env.failures to) result
+
+module _ {E F D FP : Type 0} (env : Ghosts E F) (store : List ℕ) {keys : CmpGhosts D}
+    {filters : FilterGhosts FP} (choices : TableChoices keys filters)
+    (create_if_missing error_if_exists : Bool) (from : E) where
+  -- why a store isn't opened, where nothing was counted, beside out of memory: its files can't be,
+  -- or a log begins with batches that aren't kept in memory and in tables
+  abbrev pub WhyNotOpened : Status → Type 0
+  WhyNotOpened status =
+      WhyNotOpenable env store choices.format create_if_missing error_if_exists from status
+      ⊎ HasLogNotKept choices env.models_disk store (env.observed from).disk.files status
+
+  -- Why a store isn't opened, where the device didn't fail.
+  abbrev pub FailsToOpen : E → Status → Type 0
+  FailsToOpen to status = IsOutOfMemory status
+      ⊎ (WhyNotOpened status × (env.failures to ≡ env.failures from))

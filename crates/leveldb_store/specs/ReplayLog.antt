@@ -1,5 +1,5 @@
 -- What each step of a replay of a log makes of memory and of the store's files, and why it fails.
-use Rattle.std.specs.Prelude.{◌≡◌, ◌≤◌, ◌<◌, ◌^◌, ◌⊎◌, ℕ, List, [], ◌∷◌, ◌++◌, Contains, OnOk, IfOk, IsTrue, Result, if◌then◌else◌, length, map, max}
+use Rattle.std.specs.Prelude.{◌≡◌, ◌≤◌, ◌<◌, ◌+◌, ◌^◌, ◌⊎◌, ℕ, List, [], ◌∷◌, ◌++◌, Contains, OnOk, IfOk, IsTrue, Result, if◌then◌else◌, length, map, max}
 use Rattle.std.specs.declared.cmp.Ordering.{Ordering}
 use Rattle.leveldb_base.specs.Entries.{internal_pair}
 use Rattle.leveldb_base.specs.Error.{IsOutOfMemory}
@@ -7,22 +7,23 @@ use Rattle.leveldb_base.specs.History.{AreUpTo, Entry, greatest}
 use Rattle.leveldb_base.specs.KeyTypes.{greatest_sequence}
 use Rattle.leveldb_base.specs.declared.cmp.Cmp.{Ghosts as CmpGhosts}
 use Rattle.leveldb_base.specs.declared.error.Status.{Status}
-use Rattle.leveldb_base.specs.declared.error.StatusCode.TheVariants.{Corruption, NotSupported}
+use Rattle.leveldb_base.specs.declared.error.StatusCode.TheVariants.{Corruption}
 use Rattle.leveldb_env.specs.Env.{Files, HasCause, Run, SameLocks}
 use Rattle.leveldb_env.specs.WholeFiles.{IsLost}
 use Rattle.leveldb_env.specs.declared.env.Env.{Ghosts}
 use Rattle.leveldb_env.specs.declared.filter.FilterPolicy.{Ghosts as FilterGhosts}
 use Rattle.leveldb_mem.specs.Log.{IsLogFile, bad, clean}
-use Rattle.leveldb_mem.specs.MemTable.{IsUnion, memory_of_entries}
+use Rattle.leveldb_mem.specs.MemTable.{GrowsByAll, IsUnion, memory_of_entries}
 use Rattle.leveldb_mem.specs.WriteBatch.{Batch}
 use Rattle.leveldb_version.specs.Batches.{AreInOrder, Each, IsRecordOf, all_entries, batch_entries}
 use Rattle.leveldb_version.specs.Levels.{LiveTable, table_entries}
 use Rattle.leveldb_version.specs.Paths.{log_path}
 use Rattle.leveldb_version.specs.Store.{HasLog, ReplayedLog as StoreLog, SameEntries}
 use Rattle.leveldb_version.specs.VersionEdit.{NewFile, new_file_of}
-use Rattle.leveldb_version.specs.VersionSetValue.{VersionSetValue, with_number_given}
+use Rattle.leveldb_version.specs.VersionSetValue.{AreFileNumbersUsedUp, VersionSetValue, with_number_given}
 use Rattle.leveldb_store.specs.BuildTable.{IsNotTabled, TableChoices}
 use Rattle.leveldb_store.specs.Format.{Agrees, Format, Meaning}
+use Rattle.leveldb_store.specs.FoundLogs.{AreLastEntries, BeginsWithBatches, FailsToTable, LogBeginsWith}
 use Rattle.leveldb_store.specs.Opening.{AreMadeTables, GivesNumbers, IsMadeTable, KeepsRecovered, LogInMemory, ReplaysLog, SameButTables}
 use Rattle.leveldb_store.specs.SoundCall.{BytesAreAppended}
 use Rattle.leveldb_store.specs.declared.opening.replay_log.ReplayedLog.{ReplayedLog}
@@ -57,6 +58,9 @@ pub record Follows (last : ℕ) (batch : Batch) : Type 0 where
 pub record TakesBatch {C : Type 0} (old : ReplayedLog C) (batch : Batch) (new : ReplayedLog C)
     : Type 0 where
   pub gains : IsUnion old.rest.kept.entries (batch_entries batch) new.rest.kept.entries
+  pub grows : GrowsByAll old.rest.kept.entries (batch_entries batch) new.rest.kept.entries
+  -- no room is left over for more
+  pub places : old.rest.kept.places ≡ 0 → new.rest.kept.places ≡ 0
   pub last : new.last ≡ max old.last (greatest (batch_entries batch))
   pub rest : new ≡ record old { rest = new.rest; last = new.last }
   pub cmp : new.rest.cmp ≡ old.rest.cmp
@@ -104,6 +108,11 @@ module _ {E F : Type 0} (env : Ghosts E F) where
           (all_entries batches)
       pub newer : (a b : Entry) → Contains (table_entries tables) a
           → Contains log.rest.kept.entries b → a.sequence < b.sequence
+      -- in memory are those of the last batches, and no room for more; and there is at most a table
+      -- for each batch before
+      pub in_memory : AreLastEntries batches log.rest.kept.entries
+      pub places : log.rest.kept.places ≡ 0
+      pub few : now.next_file ≤ old.next_file + length in_memory.front
 
     -- the entries that were in no table are in one under the next number, and none is left
     pub record TablesRest {C : Type 0} (old : ReplayedLog C) (set : VersionSetValue)
@@ -116,6 +125,7 @@ module _ {E F : Type 0} (env : Ghosts E F) where
       pub entries : table.entries ≡ old.rest.kept.entries
       pub files : table_files new ≡ table_files old ++ table.file ∷ []
       pub none_left : new.rest.kept.entries ≡ []
+      pub places : new.rest.kept.places ≡ 0
       pub rest : new ≡ record old { tables = new.tables; rest = new.rest }
       pub cmp : new.rest.cmp ≡ old.rest.cmp
 
@@ -138,31 +148,49 @@ IsDamagedLog store files number last = (log : StoreLog) → log.number ≡ numbe
 
 -- ---- calls
 
--- the numbers of files are used up, entries are too many for a memtable, or no table is built of
--- some
-abbrev pub FailsToTable : {D FP : Type 0} {order : CmpGhosts D} {filters : FilterGhosts FP}
-    → TableChoices order filters → Status → Type 0
-FailsToTable choices status = (status.code ≡ NotSupported)
-    ⊎ ((entries : List Entry) × IsNotTabled choices (map internal_pair entries) status)
+module _ {E F : Type 0} (env : Ghosts E F) where
+  -- The log of this number begins with these batches. Entries of the last ones are in memory, and
+  -- there is at most a table for each batch before.
+  pub record KeepsBatches {C : Type 0} (set : VersionSetValue) (number : ℕ) (from : E)
+      (log : ReplayedLog C) (now : VersionSetValue) : Type 0 where
+    pub batches : List Batch
+    pub begins : IsTrue env.models_disk
+        → LogBeginsWith set.store (env.observed from).disk.files number batches
+    pub in_memory : AreLastEntries batches log.rest.kept.entries
+    pub few : now.next_file ≤ set.next_file + length in_memory.front
 
 module _ {E F D FP : Type 0} (env : Ghosts E F) {order : CmpGhosts D} {filters : FilterGhosts FP}
     (choices : TableChoices order filters) where
+  -- why no table is made of the entries in memory: the numbers of files are used up, or none is
+  -- built of them
+  abbrev pub FailsToTableRest : {C : Type 0} → ReplayedLog C → VersionSetValue → Status → Type 0
+  FailsToTableRest log set status = AreFileNumbersUsedUp set.next_file status
+      ⊎ IsNotTabled choices (map internal_pair log.rest.kept.entries) status
+
   -- what making a table of the entries in memory returns and leaves
   pub record MakesRestTable {C : Type 0} (old : ReplayedLog C) (set : VersionSetValue) (from : E)
       (result : Result (Unit {0}) Status) (new : ReplayedLog C) (now : VersionSetValue) (to : E)
       : Type 0 where
     pub spares : MakesTablesOnly env set from now to
     pub ok : OnOk result (TablesRest env choices.format old set new now to)
-    pub cause : HasCauseOr (FailsToTable choices) (env.failures from) (env.failures to) result
+    pub cause : HasCauseOr (FailsToTableRest old set) (env.failures from) (env.failures to) result
+
+  -- the log of this number begins with batches that don't come to memory and to tables
+  abbrev pub FailsAtLog : VersionSetValue → ℕ → E → Status → Type 0
+  FailsAtLog set number from status = (batches : List Batch)
+      × (IsTrue env.models_disk
+      → LogBeginsWith set.store (env.observed from).disk.files number batches)
+      × FailsToTable choices set.next_file batches status
 
   -- Why a log isn't replayed, where the device didn't fail: out of memory, the log is missing or
-  -- damaged, or no table is made of some of its entries.
-  abbrev pub FailsToReplay : List ℕ → ℕ → ℕ → E → E → Status → Type 0
-  FailsToReplay store last number from to status =
-      IsLost env.models_disk (log_path store number) (env.observed from) (env.failures from)
+  -- damaged, or its batches don't come to memory and to tables.
+  abbrev pub FailsToReplay : VersionSetValue → ℕ → ℕ → E → E → Status → Type 0
+  FailsToReplay set last number from to status =
+      IsLost env.models_disk (log_path set.store number) (env.observed from) (env.failures from)
       (env.failures to) status
-      ⊎ ((FailsToTable choices status ⊎ ((status.code ≡ Corruption)
-      × (IsTrue env.models_disk → IsDamagedLog store (env.observed from).disk.files number last)))
+      ⊎ ((FailsAtLog set number from status ⊎ ((status.code ≡ Corruption)
+      × (IsTrue env.models_disk
+      → IsDamagedLog set.store (env.observed from).disk.files number last)))
       × (env.failures to ≡ env.failures from))
 
   -- after what was replayed before, the batch of this record is replayed too
@@ -173,6 +201,23 @@ module _ {E F D FP : Type 0} (env : Ghosts E F) {order : CmpGhosts D} {filters :
       → HasReplayed env choices.format first last batches old set from
       → (batch : Batch) × IsRecordOf text batch
       × HasReplayed env choices.format first last (batches ++ batch ∷ []) new now to
+
+  -- after what was replayed before, the batch of this record doesn't come to memory and to tables
+  abbrev pub FailsAtRecord : {C : Type 0} → List ℕ → ReplayedLog C → VersionSetValue → E → Status
+      → Type 0
+  FailsAtRecord text old set from status =
+      (first : VersionSetValue) (last : ℕ) (batches : List Batch)
+      → HasReplayed env choices.format first last batches old set from
+      → (batch : Batch) × IsRecordOf text batch
+      × FailsToTable choices first.next_file (batches ++ batch ∷ []) status
+
+  -- why bytes aren't replayed as a log: they begin with batches that don't come to memory and to
+  -- tables, or are damaged
+  abbrev pub FailsAtText : VersionSetValue → ℕ → List ℕ → Status → Type 0
+  FailsAtText set last text status =
+      ((batches : List Batch) × BeginsWithBatches text batches
+      × FailsToTable choices set.next_file batches status)
+      ⊎ ((status.code ≡ Corruption) × IsDamagedText last text)
 
   module _ (limit : ℕ) where
     -- what taking a record returns and leaves
@@ -185,7 +230,7 @@ module _ {E F D FP : Type 0} (env : Ghosts E F) {order : CmpGhosts D} {filters :
       pub cmp : OnOk result (new.rest.cmp ≡ old.rest.cmp)
       pub size : OnOk result (new.size ≡ old.size)
       pub bad : OnOk result (new.is_clean ≡ old.is_clean)
-      pub cause : HasCauseOr (λ status. FailsToTable choices status
+      pub cause : HasCauseOr (λ status. FailsAtRecord text old set from status
           ⊎ ((status.code ≡ Corruption) × IsNoNextBatch old.last text))
           (env.failures from) (env.failures to) result
 
@@ -196,6 +241,7 @@ module _ {E F D FP : Type 0} (env : Ghosts E F) {order : CmpGhosts D} {filters :
       pub read : IsLogFile text records (if log.is_clean then clean else bad)
       pub batches : List Batch
       pub each : Each IsRecordOf records batches
+      pub begins : BeginsWithBatches text batches
       pub replayed : HasReplayed env choices.format set last batches log now to
       pub room : IsNotFull limit log
       pub size : log.size ≡ length text
@@ -206,9 +252,8 @@ module _ {E F D FP : Type 0} (env : Ghosts E F) {order : CmpGhosts D} {filters :
         : Type 0 where
       pub spares : MakesTablesOnly env set from now to
       pub ok : IfOk result (λ log. HasReplayedText set last text log now to)
-      pub cause : HasCauseOr (λ status. FailsToTable choices status
-          ⊎ ((status.code ≡ Corruption) × IsDamagedText last text))
-          (env.failures from) (env.failures to) result
+      pub cause : HasCauseOr (FailsAtText set last text) (env.failures from) (env.failures to)
+          result
 
     -- what replaying the log of a number returns and leaves
     pub record ReplaysFile {C : Type 0} (set : VersionSetValue) (last number : ℕ) (from : E)
@@ -221,5 +266,6 @@ module _ {E F D FP : Type 0} (env : Ghosts E F) {order : CmpGhosts D} {filters :
       -- no entry in memory has a number past the last one
       pub up_to : IfOk result (λ log. AreUpTo log.last log.rest.kept.entries)
       pub room : IfOk result (IsNotFull limit)
-      pub cause : HasCause (FailsToReplay set.store last number from to) (env.failures from)
+      pub batches : IfOk result (λ log. KeepsBatches env set number from log now)
+      pub cause : HasCause (FailsToReplay set last number from to) (env.failures from)
           (env.failures to) result

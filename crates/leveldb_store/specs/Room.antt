@@ -1,16 +1,21 @@
 -- What making room in the memtable returns and leaves, and why it fails; and deletions whose
 -- failures are told to a sink alone.
-use Rattle.std.specs.Prelude.{◌≡◌, ◌≢◌, ◌≤◌, ◌<◌, ◌-◌, ◌^◌, ◌⊎◌, ℕ, List, [], None, Result, IfErr, OnErr, OnOk, IsTrue}
+use Rattle.std.specs.Prelude.{◌≡◌, ◌≢◌, ◌≤◌, ◌<◌, ◌-◌, ◌^◌, ◌⊎◌, ℕ, List, [], Option, None, Some, Result, IfErr, OnErr, OnOk, IsTrue, is_some, map}
 use Rattle.std.specs.declared.cmp.Ordering.{Ordering}
+use Rattle.leveldb_base.specs.Entries.{internal_pair}
 use Rattle.leveldb_base.specs.Error.{IsOutOfMemory}
+use Rattle.leveldb_base.specs.declared.cmp.Cmp.{Ghosts as CmpGhosts}
 use Rattle.leveldb_base.specs.declared.error.Status.{Status}
-use Rattle.leveldb_base.specs.declared.error.StatusCode.TheVariants.{Corruption, NotSupported}
+use Rattle.leveldb_base.specs.declared.error.StatusCode.TheVariants.{Corruption}
 use Rattle.leveldb_env.specs.Env.{SameLocks}
+use Rattle.leveldb_env.specs.Options.{Boxed, OptionsOf}
 use Rattle.leveldb_env.specs.declared.env.Env.{Ghosts}
+use Rattle.leveldb_env.specs.declared.filter.FilterPolicy.{Ghosts as FilterGhosts}
 use Rattle.leveldb_mem.specs.MemTable.{Kept, memory_of_entries}
-use Rattle.leveldb_store.specs.Format.{Agrees, Format, HasCompressorError, Meaning}
+use Rattle.leveldb_store.specs.BuildTable.{IsNotTabled, TableChoices}
+use Rattle.leveldb_store.specs.Format.{Agrees, Format, Meaning}
 use Rattle.leveldb_store.specs.OpenStore.{IsUnbroken, OpenStoreValue}
-use Rattle.leveldb_store.specs.Switch.{RemovesNoOther}
+use Rattle.leveldb_store.specs.Switch.{AreFileNumbersTooFew, RemovesNoOther}
 use Rattle.leveldb_store.specs.Written.{IsWritten, KeepsWritten, SparesRest}
 
 -- ---- why a call fails that may tell some failures to a sink alone
@@ -27,11 +32,24 @@ pub record FailsFor {T : Type 0} (Excused : Status → Type 0) (before after : �
   pub later : before ≤ after
   pub cause : IfErr result (λ e. Excused e ⊎ HasFailed before after)
 
+-- nothing but the sink of the options' log has changed, to which lines may have been told
+pub record TellsOnly {C FP : Type 0} {B : Boxed} (before after : OptionsOf C FP B) : Type 0 where
+  pub rest : after ≡ record before { log = after.log }
+  -- there is one if there was one
+  pub sink : is_some after.log ≡ is_some before.log
+
 -- ---- room
 
 -- the memtable has entries, and they take this much memory or more
 abbrev pub IsFull : ℕ → Kept → Type 0
 IsFull limit kept = (kept.entries ≡ [] → ⊥) × (limit ≤ memory_of_entries kept.entries)
+
+-- no table is built of the entries of a memtable that is there
+abbrev pub AreEntriesNotTabled : {D FP : Type 0} {order : CmpGhosts D} {filters : FilterGhosts FP}
+    → TableChoices order filters → Option Kept → Status → Type 0
+AreEntriesNotTabled choices None status = ⊥
+AreEntriesNotTabled choices (Some kept) status =
+    IsNotTabled choices (map internal_pair kept.entries) status
 
 module _ {E F C : Type 0} (env : Ghosts E F) (cmp : List ℕ → List ℕ → Ordering)
     (old : OpenStoreValue C) (from : E) where
@@ -42,28 +60,35 @@ module _ {E F C : Type 0} (env : Ghosts E F) (cmp : List ℕ → List ℕ → Or
       → (meaning : Meaning) → Agrees format meaning
       → IsWritten cmp meaning old (env.observed from).disk.files → ⊥)
 
-  -- Why no room is made, where the device didn't fail: out of memory; numbers of files are used up,
-  -- or entries are too large for a table; a compressor fails; or a file of the store is lost.
-  abbrev pub FailsToMakeRoom : Format → Status → Type 0
-  FailsToMakeRoom format status = IsOutOfMemory status ⊎ (status.code ≡ NotSupported)
-      ⊎ HasCompressorError format status.code ⊎ IsFileLost format status
+  -- Why no room is made, where the device didn't fail: out of memory; the numbers of files are too
+  -- few for two tables and a log; no table is built of the entries of the memtable, or of those
+  -- that wait; or a file of the store is lost.
+  abbrev pub FailsToMakeRoom : {D FP : Type 0} {order : CmpGhosts D} {filters : FilterGhosts FP}
+      → TableChoices order filters → Status → Type 0
+  FailsToMakeRoom choices status = IsOutOfMemory status
+      ⊎ AreFileNumbersTooFew old.set.next_file 3 status
+      ⊎ AreEntriesNotTabled choices (Some old.recent) status
+      ⊎ AreEntriesNotTabled choices old.waiting status ⊎ IsFileLost choices.format status
 
   -- Room is made in the memtable of a store that isn't broken: a memtable that is full becomes a
-  -- table of level 0, and a new log is begun.
-  pub record MakesRoom (format : Format) (limit : ℕ) (result : Result (Unit {0}) Status)
+  -- table, and a new log is begun.
+  pub record MakesRoom {D FP : Type 0} {order : CmpGhosts D} {filters : FilterGhosts FP}
+      (choices : TableChoices order filters) (limit : ℕ) (result : Result (Unit {0}) Status)
       (new : OpenStoreValue C) (to : E) : Type 0 where
     pub room : OnOk result (IsFull limit new.recent → ⊥)
     -- where it isn't full, nothing is done
     pub not_full : (IsFull limit old.recent → ⊥) → (new ≡ old) × (to ≡ from) × OnErr result ⊥
     pub none_waits : OnOk result (IsFull limit old.recent
         → (new.recent.entries ≡ []) × (new.waiting ≡ None))
+    -- and no place was taken in it yet
+    pub places : OnOk result (IsFull limit old.recent → new.recent.places ≡ 0)
     -- after an Err it is full still, or one waits: that a file wasn't deleted is no Err
     pub err : OnErr result (IsFull limit new.recent ⊎ (new.waiting ≢ None))
-    pub keeps : IsTrue env.models_disk → (meaning : Meaning) → Agrees format meaning
+    pub keeps : IsTrue env.models_disk → (meaning : Meaning) → Agrees choices.format meaning
         → KeepsWritten cmp meaning old (env.observed from) new (env.observed to)
     pub usable : OnOk result (IsUnbroken new)
     pub rest : SparesRest env.models_disk old (env.observed from) new (env.observed to)
-    pub cause : FailsFor (FailsToMakeRoom format) (env.failures from) (env.failures to) result
+    pub cause : FailsFor (FailsToMakeRoom choices) (env.failures from) (env.failures to) result
 
   -- Obsolete files are deleted, and what failed of that is told.
   pub record TidiesUp (to : E) : Type 0 where

@@ -1,23 +1,38 @@
 -- The steps on the way to room in the memtable.
-use Rattle.std.specs.Prelude.{ℕ, List, Result, OnOk, IsTrue}
+use Rattle.std.specs.Prelude.{◌⊎◌, ℕ, List, Result, OnOk, IsTrue}
 use Rattle.std.specs.declared.cmp.Ordering.{Ordering}
+use Rattle.leveldb_base.specs.Error.{IsOutOfMemory}
+use Rattle.leveldb_base.specs.declared.cmp.Cmp.{Ghosts as CmpGhosts}
 use Rattle.leveldb_base.specs.declared.error.Status.{Status}
 use Rattle.leveldb_env.specs.declared.env.Env.{Ghosts}
+use Rattle.leveldb_env.specs.declared.filter.FilterPolicy.{Ghosts as FilterGhosts}
+use Rattle.leveldb_version.specs.VersionSetValue.{AreFileNumbersUsedUp}
+use Rattle.leveldb_store.specs.BuildTable.{TableChoices}
 use Rattle.leveldb_store.specs.Format.{Agrees, Format, Meaning}
 use Rattle.leveldb_store.specs.OpenStore.{IsUnbroken, OpenStoreValue}
-use Rattle.leveldb_store.specs.Room.{FailsFor, FailsToMakeRoom}
+use Rattle.leveldb_store.specs.Room.{AreEntriesNotTabled, FailsFor, IsFileLost}
 use Rattle.leveldb_store.specs.SoundCall.{IsSoundCall}
 use Rattle.leveldb_store.specs.Written.{KeepsWritten, SparesRest}
 
--- What a step on the way to room, or several in a row, keep of a store that isn't broken, and why
--- they fail.
-pub record IsStepToRoom {E F C : Type 0} (env : Ghosts E F) (cmp : List ℕ → List ℕ → Ordering)
-    (format : Format) (old : OpenStoreValue C) (from : E) (result : Result (Unit {0}) Status)
-    (new : OpenStoreValue C) (to : E) : Type 0 where
-  pub keeps : IsTrue env.models_disk → (meaning : Meaning) → Agrees format meaning
-      → KeepsWritten cmp meaning old (env.observed from) new (env.observed to)
-  pub usable : OnOk result (IsUnbroken new)
-  pub rest : SparesRest env.models_disk old (env.observed from) new (env.observed to)
-  pub cause : FailsFor (FailsToMakeRoom env cmp old from format) (env.failures from)
-      (env.failures to) result
-  pub sound : IsSoundCall env cmp (Agrees format) old from result new to
+module _ {E F C : Type 0} (env : Ghosts E F) (cmp : List ℕ → List ℕ → Ordering) where
+  -- Why no table is made of the entries that wait, where the device didn't fail: out of memory; the
+  -- numbers of files are used up; none is built of them; or a file of the store is lost.
+  abbrev pub FailsToTableIfWaiting : {D FP : Type 0} {order : CmpGhosts D}
+      {filters : FilterGhosts FP} → TableChoices order filters → OpenStoreValue C → E → Status
+      → Type 0
+  FailsToTableIfWaiting choices old from status = IsOutOfMemory status
+      ⊎ AreFileNumbersUsedUp old.set.next_file status
+      ⊎ AreEntriesNotTabled choices old.waiting status
+      ⊎ IsFileLost env cmp old from choices.format status
+
+  -- What a step on the way to room, or several in a row, keep of a store that isn't broken. An Err
+  -- has this excuse, or the device failed.
+  pub record IsStepToRoom (format : Format) (Excused : Status → Type 0) (old : OpenStoreValue C)
+      (from : E) (result : Result (Unit {0}) Status) (new : OpenStoreValue C) (to : E)
+      : Type 0 where
+    pub keeps : IsTrue env.models_disk → (meaning : Meaning) → Agrees format meaning
+        → KeepsWritten cmp meaning old (env.observed from) new (env.observed to)
+    pub usable : OnOk result (IsUnbroken new)
+    pub rest : SparesRest env.models_disk old (env.observed from) new (env.observed to)
+    pub cause : FailsFor Excused (env.failures from) (env.failures to) result
+    pub sound : IsSoundCall env cmp (Agrees format) old from result new to

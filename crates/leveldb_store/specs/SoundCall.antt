@@ -1,13 +1,10 @@
 -- What each call on an open store leaves, whatever history the store has: of time, of the bytes in
 -- files, and of whether the store may be written to.
-use Rattle.std.specs.Prelude.{◌≡◌, ◌≢◌, ◌≤◌, ◌⊎◌, List, ℕ, Some, Result, IfErr, IsTrue, OnOk}
+use Rattle.std.specs.Prelude.{◌≤◌, ◌⊎◌, List, ℕ, Result, IfErr, IsTrue}
 use Rattle.std.specs.declared.cmp.Ordering.{Ordering}
 use Rattle.leveldb_base.specs.Error.{IsOutOfMemory}
 use Rattle.leveldb_base.specs.declared.error.Status.{Status}
-use Rattle.leveldb_env.specs.Env.{AreBytes, File}
 use Rattle.leveldb_env.specs.declared.env.Env.{Ghosts}
-use Rattle.leveldb_version.specs.CurrentFile.{temp_path}
-use Rattle.leveldb_version.specs.Paths.{manifest_path}
 use Rattle.leveldb_version.specs.StoreSteps.{AppendedAreBytes}
 use Rattle.leveldb_store.specs.Format.{Meaning}
 use Rattle.leveldb_store.specs.OpenStore.{IsUnbroken, OpenStoreValue}
@@ -23,20 +20,6 @@ module _ {E F : Type 0} (env : Ghosts E F) (from to : E) where
   abbrev pub BytesAreAppended : Type 0
   BytesAreAppended = IsTrue env.models_disk → AppendedAreBytes (env.observed from).disk.files
       → AppendedAreBytes (env.observed to).disk.files
-
-module _ {E F : Type 0} (env : Ghosts E F) (store : List ℕ) (from : E) where
-  -- so it is but for a manifest of this number, and the temporary file that is to become `CURRENT`
-  abbrev pub BytesAreAppendedBeside : ℕ → E → Type 0
-  BytesAreAppendedBeside n to = IsTrue env.models_disk
-      → AppendedAreBytes (env.observed from).disk.files → (path : List ℕ) (file : File)
-      → path ≢ manifest_path store n → path ≢ temp_path store n
-      → (env.observed to).disk.files path ≡ Some file → AreBytes file.since
-
-  -- What an opening appends to files are bytes. One that fails may have begun a manifest, of which
-  -- this isn't said.
-  pub record OpensWithBytes {T : Type 0} (result : Result T Status) (to : E) : Type 0 where
-    pub done : OnOk result (BytesAreAppended env from to)
-    pub beside : (n : ℕ) × BytesAreAppendedBeside n to
 
 -- whatever names and ids mean
 abbrev pub any_meaning : Meaning → Type 0

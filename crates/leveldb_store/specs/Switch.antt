@@ -1,12 +1,13 @@
 -- What a switch of the log, the table of the entries that wait, and the removal of obsolete files
 -- change of an open store, and why each fails.
-use Rattle.std.specs.Prelude.{◌≡◌, ◌≢◌, ◌⊎◌, ◌≤◌, ◌<◌, ◌-◌, ◌^◌, ℕ, List, [], ◌∷◌, All, Contains, None, Some, Result, Ok, IfErr, OnErr, OnOk, IsTrue}
+use Rattle.std.specs.Prelude.{◌≡◌, ◌≢◌, ◌⊎◌, ◌≤◌, ◌<◌, ◌+◌, ◌-◌, ◌^◌, ℕ, List, [], ◌∷◌, All, Contains, None, Some, Result, Ok, IfErr, OnErr, OnOk, IsTrue}
 use Rattle.leveldb_base.specs.Error.{IsOutOfMemory}
 use Rattle.leveldb_base.specs.Names.{IsFileName}
 use Rattle.leveldb_base.specs.Types.{Pair}
+use Rattle.std.specs.declared.cmp.Ordering.{Ordering}
 use Rattle.leveldb_base.specs.declared.cmp.Cmp.{Ghosts as CmpGhosts}
 use Rattle.leveldb_base.specs.declared.error.Status.{Status}
-use Rattle.leveldb_base.specs.declared.error.StatusCode.TheVariants.{NotFound}
+use Rattle.leveldb_base.specs.declared.error.StatusCode.TheVariants.{NotFound, NotSupported}
 use Rattle.leveldb_base.specs.declared.types.FileType.{FileType}
 use Rattle.leveldb_env.specs.Env.{BeforeOrAfter, ChangesFiles, Files, HasCause, IsEmptyFolder, IsMissing, Run, SameLocks, deleted, in_folder}
 use Rattle.leveldb_env.specs.WholeFiles.{IsLost}
@@ -15,6 +16,7 @@ use Rattle.leveldb_env.specs.declared.filter.FilterPolicy.{Ghosts as FilterGhost
 use Rattle.leveldb_mem.specs.Log.{log_block_size}
 use Rattle.leveldb_mem.specs.Log.Writer.{IsWriterBroken, new_writer}
 use Rattle.leveldb_version.specs.LogEdit.{set_appended}
+use Rattle.leveldb_version.specs.Overlap.{file_range, output_level}
 use Rattle.leveldb_version.specs.VersionEdit.{NewFile}
 use Rattle.leveldb_version.specs.VersionSetValue.{AreFileNumbersUsedUp, OpenManifest, VersionSetValue, broken, in_use, with_number_given}
 use Rattle.leveldb_version.specs.Writing.{IsObsolete, table_edit}
@@ -27,12 +29,19 @@ use Rattle.leveldb_store.specs.Written.{SparesRest}
 abbrev pub MayGiveNumber : VersionSetValue → VersionSetValue → Type 0
 MayGiveNumber old new = (new ≡ old) ⊎ (new ≡ with_number_given old)
 
--- the set after the edit of a table of level 0, whose number was the next one
-pub record LogsTable (old : VersionSetValue) (log : ℕ) (new : VersionSetValue) : Type 0 where
+-- from the next one on, the numbers of files are too few for `count` files
+pub record AreFileNumbersTooFew (next count : ℕ) (status : Status) : Type 0 where
+  pub code : status.code ≡ NotSupported
+  pub too_few : 2 ^ 64 ≤ next + count
+
+-- The set after the edit of a table, whose number was the next one, in the level that is picked for
+-- its range of user keys, of this order.
+pub record LogsTable (cmp : List ℕ → List ℕ → Ordering) (old : VersionSetValue) (log : ℕ)
+    (new : VersionSetValue) : Type 0 where
   pub manifest : OpenManifest
   pub was_in_use : old.manifest ≡ in_use manifest
   pub file : NewFile
-  pub level : file.level ≡ 0
+  pub level : file.level ≡ output_level cmp (file_range file) old.full.added
   pub number : file.number ≡ old.next_file
   pub set : new ≡ set_appended manifest (with_number_given old) (table_edit log file)
 
@@ -55,6 +64,7 @@ module _ {E F C : Type 0} (env : Ghosts E F) (old : OpenStoreValue C) (from : E)
         ≡ record { number = old.set.next_file; writer = new_writer log_block_size 0 })
     pub waits : OnOk result (new.waiting ≡ Some old.recent)
     pub empty : OnOk result (new.recent.entries ≡ [])
+    pub places : OnOk result (new.recent.places ≡ 0)
     pub err : OnErr result (MayGiveNumber old.set new.set
         × (new.log.number ≡ old.log.number)
         × (new.recent ≡ old.recent) × (new.waiting ≡ old.waiting))
@@ -79,12 +89,13 @@ module _ {E F C : Type 0} (env : Ghosts E F) (old : OpenStoreValue C) (from : E)
       ⊎ IsOutOfMemory status ⊎ (IsNotTabled choices pairs status × (to ≡ from))
       ⊎ IsManifestLost to status
 
-  -- The entries that waited are in a table of level 0, which the set has; `pairs` are they. After
-  -- an Err they wait still; a number may have been given, and the set be broken.
+  -- The entries that waited are in a table, which the set has in the level that is picked for it;
+  -- `pairs` are they. After an Err they wait still; a number may have been given, and the set be
+  -- broken.
   pub record TablesWaiting {D FP : Type 0} {order : CmpGhosts D} {filters : FilterGhosts FP}
       (choices : TableChoices order filters) (pairs : List Pair)
       (result : Result (Unit {0}) Status) (new : OpenStoreValue C) (to : E) : Type 0 where
-    pub logged : OnOk result (LogsTable old.set old.log.number new.set)
+    pub logged : OnOk result (LogsTable choices.format.order old.set old.log.number new.set)
     pub none_waits : OnOk result (new.waiting ≡ None)
     pub waits : OnErr result (new.waiting ≡ old.waiting)
     pub err : OnErr result (MayGiveNumber old.set new.set

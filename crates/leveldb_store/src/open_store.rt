@@ -84,6 +84,13 @@ impl<E: Env, C: UserCmp + Copy> OpenStore<E, C> {
         self.versions.last_seq()
     }
 
+    /// The comparator of user keys.
+    pub fn cmp(&self) -> C
+        ensures { result ≡ self.now.cmp }
+    {
+        self.cmp
+    }
+
     /// Whether a call on its manifest or its log failed: it may be read, and nothing is written to
     /// it any more.
     pub fn is_broken(&self) -> bool

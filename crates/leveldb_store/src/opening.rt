@@ -1,8 +1,10 @@
 //! Opening a store over its manifest, its tables and its logs.
 ghost use Rattle.std.specs.Prelude.{◌≡◌, IfOk};
+ghost use Rattle.leveldb_env.specs.Env.{HasCause};
+ghost use Rattle.leveldb_store.specs.BuildTable.{choices_of};
 ghost use Rattle.leveldb_store.specs.Format.{format_of};
-ghost use Rattle.leveldb_store.specs.OpensStore.{OpensStore};
-ghost use Rattle.leveldb_store.specs.SoundCall.{OpensWithBytes};
+ghost use Rattle.leveldb_store.specs.OpensStore.{FailsToOpen, OpensStore};
+ghost use Rattle.leveldb_store.specs.SoundCall.{BytesAreAppended};
 
 mod begin;
 mod edit;
@@ -16,11 +18,11 @@ mod sync;
 
 use crate::open_store::OpenStore;
 use begin::begin_writing;
-use leveldb_base::cmp::UserCmp;
+use leveldb_base::cmp::{Cmp, InternalKeyCmp, UserCmp};
 use leveldb_base::error::Result;
 use leveldb_env::compressor::{CompressorList, Compressors};
 use leveldb_env::env::Env;
-use leveldb_env::filter::FilterPolicy;
+use leveldb_env::filter::{FilterPolicy, InternalFilterPolicy};
 use leveldb_env::options::Options;
 use recover::recover;
 use std::alloc::Global;
@@ -40,7 +42,12 @@ impl<E: Env, C: UserCmp + Copy + Drop> OpenStore<E, C> {
             ⟦<CompressorList as Compressors>⟧.codings options.now)
             options.now.create_if_missing options.now.error_if_exists env.old
             options.now.write_buffer_size result env.new }
-        ensures bytes { OpensWithBytes E.Env name.now env.old result env.new }
+        ensures cause { HasCause (FailsToOpen E.Env name.now (choices_of C.Cmp FP.FilterPolicy
+            ⟦<InternalKeyCmp<C> as Cmp>⟧ ⟦<InternalFilterPolicy<FP> as FilterPolicy>⟧
+            ⟦<CompressorList as Compressors>⟧.codings options.now) options.now.create_if_missing
+            options.now.error_if_exists env.old env.new) (E.failures env.old) (E.failures env.new)
+            result }
+        ensures bytes { BytesAreAppended E.Env env.old env.new }
         ensures cmp { IfOk result (λ value. value.cmp ≡ options.now.cmp) }
     {
         let set = recover(alloc, env, name, options)?;

@@ -21,7 +21,7 @@ use Rattle.leveldb_table.proofs.CacheLemmas.{after_look_up, after_put}
 
 module _ {T : Type 0} (q : List ℕ) where
   -- what is under another key isn't lost
-  others_keep : (key : List ℕ) → bytes_eq q key ≡ false → (pairs : List (List ℕ × T)) → value_of q (others key pairs) ≡ value_of q pairs
+  pub others_keep : (key : List ℕ) → bytes_eq q key ≡ false → (pairs : List (List ℕ × T)) → value_of q (others key pairs) ≡ value_of q pairs
   others_keep key other [] = refl
   others_keep key other (pair ∷ pairs) =
       (elim (bytes_eq key pair.0) as (λ b. bytes_eq key pair.0 ≡ b → value_of q (others key (pair ∷ pairs)) ≡ value_of q (pair ∷ pairs)) [

@@ -1,11 +1,12 @@
 -- What a cache's pairs are after a put and a look-up, from the words of the map below it.
-use Rattle.std.proofs.Common.{◌≡◌, ◌<◌, ◌-◌, take, Bool, if◌then◌else◌, ℕ, zero, suc, arith, true, false, ◌⊎◌, List, [], ◌∷◌, None, Some, refl, sym, ap, inl, inr}
+use Rattle.std.proofs.Common.{◌≡◌, ◌∙◌, ◌<◌, ◌-◌, take, Bool, cond, if◌then◌else◌, ℕ, zero, suc, arith, true, false, ◌⊎◌, List, [], ◌∷◌, None, Some, refl, sym, ap, inl, inr}
 use Rattle.std.specs.Str.{bytes_eq}
 use Rattle.std.specs.List.{IsDistinct}
 use Rattle.std.specs.Map.{keys_of, lookup, lookup_entry}
-use Rattle.std.specs.Cmp.Lexicographic.{same_text}
+use Rattle.std.specs.Cmp.Lexicographic.{nat_list_eq_equiv, same_text}
+use Rattle.std.proofs.lemmas.Map.{lookup-remove_entry}
 use Rattle.lru.specs.LruCache.{LruCache, lru_cache, promoted, put_entries}
-use Rattle.leveldb_table.specs.Cache.{Cached, value_of, looked_for, put_first}
+use Rattle.leveldb_table.specs.Cache.{Cached, value_of, others, looked_for, put_first}
 
 -- a cache over a map that is used or isn't, with the number that was given last
 abbrev pub cached_of : {T : Type 0} → LruCache (List ℕ) T → Bool → ℕ → Cached T
@@ -84,6 +85,17 @@ module _ {T : Type 0} (key : List ℕ) where
   pub unused_value : (map : LruCache (List ℕ) T) (keeps : Bool) (given : ℕ) → keeps ≡ false → None ≡ value_of key (cached_of map keeps given).pairs
   unused_value map true given is = cc
   unused_value map false given is = refl
+
+-- under a key that was taken out there is nothing
+removed_gone : {T : Type 0} (key : List ℕ) (pairs : List (List ℕ × T)) → IsDistinct bytes_eq (keys_of pairs) → value_of key (others key pairs) ≡ None
+removed_gone key pairs distinct =
+    let one : (x y : List ℕ) → bytes_eq key x ≡ true → bytes_eq key y ≡ bytes_eq x y = nat_list_eq_equiv.congr key in
+    lookup-remove_entry nat_list_eq_equiv (bytes_eq key) one key pairs distinct ∙ ap (λ b. cond b None (value_of key pairs)) (nat_list_eq_equiv.refl key)
+
+pub kept_gone : {T : Type 0} (key : List ℕ) (map : LruCache (List ℕ) T) (keeps : Bool) (given : ℕ) (left : List (List ℕ × T)) → left ≡ others key map.entries → IsDistinct bytes_eq (keys_of (cached_of map keeps given).pairs)
+    → value_of key (if keeps then left else []) ≡ None
+kept_gone key map true given left is distinct = ap (value_of key) is ∙ removed_gone key map.entries distinct
+kept_gone key map false given left is distinct = refl
 
 -- there is room only in a map that is used
 pub room_kept : (keeps : Bool) (room : ℕ) → ((if keeps then room else 0) ≡ 0 → ⊥) → (keeps ≡ true) × (0 < room)

@@ -201,7 +201,7 @@ module _ {E C FP F : Type 0} {order : CmpGhosts C} {env : Ghosts E F} {codings :
       → ReadsFile env (λ status. ((status.code ≡ NotSupported) × (old_cache.given + 1 ≡ 2 ^ 64)) ⊎ IsLackError env codings Lacks old_env from status) old_env new_env result
       → new_cache ≡ old_cache → OpensTable env codings Is Filters Lacks cmp from old_env old_cache result new_env new_cache
   opens_err P (Ok table) none reads same = absurd none
-  opens_err P (Err status) some reads same = record { reads = reads; ok = tt; file = tt; order = tt; policy = tt; id = tt; err = same }
+  opens_err P (Err status) some reads same = record { reads = reads; ok = tt; file = tt; order = tt; policy = tt; id = tt; id_fits = tt; err = same }
 
 -- ---- a table that is opened
 

@@ -21,3 +21,4 @@ pub mod TableReader
 pub mod TableReaderWalk
 pub mod TableReaderMoves
 pub mod TableReaderBlocks
+pub mod OpenTable

@@ -1,5 +1,5 @@
 -- What an open table is, and what is found in it.
-use Rattle.std.specs.Prelude.{◌≡◌, ◌≢◌, ◌⊎◌, ◌≤◌, ◌+◌, ◌^◌, ℕ, Bool, true, if◌then◌else◌, List, ◌++◌, length, take, flat_map, Option, None, Some, IfSome, IsSomeAnd, Result, IfOk, OnErr}
+use Rattle.std.specs.Prelude.{◌≡◌, ◌≢◌, ◌⊎◌, ◌<◌, ◌≤◌, ◌+◌, ◌^◌, ℕ, Bool, true, if◌then◌else◌, List, ◌++◌, length, take, flat_map, Option, None, Some, IfSome, IsSomeAnd, Result, IfOk, OnErr}
 use Rattle.std.specs.List.{AllByRecursion}
 use Rattle.std.specs.Map.{lookup}
 use Rattle.std.specs.Str.{bytes_eq}
@@ -274,7 +274,8 @@ module _ {E C FP F : Type 0} {ordered : CmpGhosts C} where
     pub file : IfOk result (λ table. table.file ≡ from)
     pub order : IfOk result (λ table. (table.cmp ≡ cmp) × (table.index.cmp ≡ cmp))
     pub policy : IfOk result (λ table. Filters table.filters)
-    -- it gets the cache's next number
+    -- it gets the cache's next number, of 64 bits
     pub id : IfOk result (λ table. (table.id ≡ old_cache.given + 1)
         × (new_cache ≡ record old_cache { given = table.id }))
+    pub id_fits : IfOk result (λ table. table.id < 2 ^ 64)
     pub err : OnErr result (new_cache ≡ old_cache)

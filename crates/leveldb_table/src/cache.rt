@@ -1,6 +1,6 @@
 //! Caches: values under keys of 16 bytes, as many as there is room for, of which the least
 //! recently used goes first.
-ghost use Rattle.std.specs.Prelude.{◌≡◌, ◌↔◌, ◌+◌, ◌^◌, ◌<◌, ◌≤◌, [], length, Some, nat_eq, IfOk, IfErr, OnErr, OnOk, IsErrAnd, option_copied};
+ghost use Rattle.std.specs.Prelude.{◌≡◌, ◌↔◌, ◌+◌, ◌^◌, ◌<◌, ◌≤◌, [], length, None, Some, nat_eq, IfOk, IfErr, OnErr, OnOk, IsErrAnd, option_copied};
 ghost use Rattle.std.specs.List.{IsDistinct};
 ghost use Rattle.std.specs.Str.{bytes_eq};
 ghost use Rattle.std.specs.Map.{keys_of};
@@ -129,12 +129,23 @@ impl<T: Drop> Cache<T> {
         self.recent.get(key)
     }
 
+    /// The value under a key, which doesn't count as used.
+    pub fn peek(&self, key: &CacheKey) -> Option<&T>
+        ensures { option_copied result ≡ value_of key.now self.now.pairs }
+    {
+        if !self.keeps {
+            return None;
+        }
+        self.recent.peek(key)
+    }
+
     /// Takes the value under a key out.
     pub fn remove(&mut self, key: &CacheKey) -> Option<T>
         ensures value { result ≡ value_of key.now self.old.pairs }
         ensures pairs { self.new ≡ record self.old { pairs = others key.now self.old.pairs } }
+        ensures gone { value_of key.now self.new.pairs ≡ None }
     {
-        if !self.keeps {
+        if self.count() == 0 {
             return None;
         }
         self.recent.pop(key)

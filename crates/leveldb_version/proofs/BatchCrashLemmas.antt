@@ -5,6 +5,7 @@ use Rattle.leveldb_base.specs.KeyTypes.{greatest_sequence}
 use Rattle.leveldb_base.specs.Names.{IsFileName, file_name}
 use Rattle.leveldb_base.specs.Types.{Pair}
 use Rattle.leveldb_base.specs.declared.types.FileType.TheVariants.{Current, Descriptor, Log}
+use Rattle.leveldb_env.proofs.AppendedLemmas.{bytes_take}
 use Rattle.leveldb_env.proofs.EnvLemmas.{SameBut-appending, at_other, at_same, extended-same}
 use Rattle.leveldb_env.specs.Env.{AreBytes, File, FileCrashesTo, Files, FilesCrashTo, SameBut, bytes_of, extended, in_folder, kept_file, longer_file, with_file}
 use Rattle.leveldb_mem.proofs.LawsLemmas.{cut_reads, each_reads, log_laws, usual_size}
@@ -16,7 +17,7 @@ use Rattle.leveldb_version.proofs.BatchesLemmas.{each_more, each_take}
 use Rattle.leveldb_version.proofs.KeptLemmas.{edits_left, kept_left}
 use Rattle.leveldb_version.proofs.LastLogLemmas.{with_batches, with_more, with_none}
 use Rattle.leveldb_version.proofs.ManagedLemmas.{IsFoundAgain, SameBytes, found_again, kinds_apart, managed_on}
-use Rattle.leveldb_version.proofs.ManifestLemmas.{bytes_take, edits_on, managed_of}
+use Rattle.leveldb_version.proofs.ManifestLemmas.{edits_on, managed_of}
 use Rattle.leveldb_version.proofs.NumbersLemmas.{placed_greatest}
 use Rattle.leveldb_version.proofs.SafeLemmas.{Honest, front_honest, honest_with, leaves_with}
 use Rattle.leveldb_version.specs.Batches.{Each, IsRecordOf}

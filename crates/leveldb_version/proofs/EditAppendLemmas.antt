@@ -4,6 +4,7 @@ use Rattle.leveldb_base.specs.History.{History}
 use Rattle.leveldb_base.specs.Names.{file_name}
 use Rattle.leveldb_base.specs.Types.{Pair}
 use Rattle.leveldb_base.specs.declared.types.FileType.TheVariants.{Current, Descriptor}
+use Rattle.leveldb_env.proofs.AppendedLemmas.{bytes_take}
 use Rattle.leveldb_env.proofs.EnvLemmas.{SameBut-appending, at_other, at_same, extended-same}
 use Rattle.leveldb_env.specs.Env.{AreBytes, File, FileCrashesTo, Files, FilesCrashTo, PrefixAppended, SameBut, bytes_of, extended, in_folder, kept_file, longer_file, with_file}
 use Rattle.leveldb_mem.proofs.LawsLemmas.{cut_reads, each_reads, log_laws, usual_size}
@@ -11,7 +12,7 @@ use Rattle.leveldb_mem.specs.Laws.{AreFirst}
 use Rattle.leveldb_mem.specs.Log.{End, HonestTail, IsLogFile, clean, frame_at, log_block_size}
 use Rattle.leveldb_version.proofs.BatchesLemmas.{each_more, each_one}
 use Rattle.leveldb_version.proofs.ManagedLemmas.{kinds_apart, managed_on, same_for_others}
-use Rattle.leveldb_version.proofs.ManifestLemmas.{IsLeftWhole, bytes_take, has_edits, left_whole, read_by}
+use Rattle.leveldb_version.proofs.ManifestLemmas.{IsLeftWhole, has_edits, left_whole, read_by}
 use Rattle.leveldb_version.proofs.MatchesLemmas.{matches_refined}
 use Rattle.leveldb_version.proofs.SafeLemmas.{Honest, front_honest, honest_with, leaves_with}
 use Rattle.leveldb_version.proofs.VersionEditLemmas.{one_edit}

@@ -4,6 +4,10 @@ pub mod CurrentLemmas
 pub mod VersionSetLemmas
 pub mod FullEditLemmas
 pub mod SummaryLemmas
+pub mod VersionLemmas
+pub mod OverlapLemmas
+pub mod FindFileLemmas
+pub mod OutputLevelLemmas
 mod NewManifestLemmas
 mod LogEditLemmas
 pub mod NumbersLemmas
@@ -67,3 +71,5 @@ pub mod ShownLemmas
 pub mod RecoveringLemmas
 pub mod OpeningEndLemmas
 pub mod StoreTablesLemmas
+pub mod TableCacheLemmas
+pub mod TableCacheCallLemmas

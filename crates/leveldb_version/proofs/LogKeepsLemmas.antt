@@ -3,13 +3,13 @@
 use Rattle.leveldb_base.specs.Crc.{crc_of, masked}
 use Rattle.leveldb_base.specs.Types.{Pair}
 use Rattle.leveldb_base.specs.Varint.{little}
+use Rattle.leveldb_env.proofs.AppendedLemmas.{append_bytes, bytes_take}
 use Rattle.leveldb_env.proofs.EnvLemmas.{appended}
 use Rattle.leveldb_env.specs.Env.{AreBytes, Files, PrefixAppended, bytes_of, extended, in_folder}
 use Rattle.leveldb_mem.specs.Log.{checksum, filler, fragment_at, fragment_bytes, frame_at, framed_record, framed_within, log_block_size, record_type, room, Fragment}
 use Rattle.leveldb_mem.specs.Log.Writer.{frame}
-use Rattle.leveldb_version.proofs.BytesLemmas.{append_bytes, bytes_stay}
+use Rattle.leveldb_version.proofs.BytesLemmas.{bytes_stay}
 use Rattle.leveldb_version.proofs.KeepsLemmas.{edit_keeps, sync_keeps}
-use Rattle.leveldb_version.proofs.ManifestLemmas.{bytes_take}
 use Rattle.leveldb_version.proofs.VersionEditLemmas.{one_edit, written_is_read}
 use Rattle.leveldb_version.specs.Contents.{Store}
 use Rattle.leveldb_version.specs.LogEdit.{AppendingAndSyncing, edit_record, with_bytes_kept, written_edit}

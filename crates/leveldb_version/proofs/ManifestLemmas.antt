@@ -1,6 +1,6 @@
 -- What is read of a manifest: one list of edits, by which alone the files are a store.
 use Rattle.leveldb_base.specs.Types.{Pair}
-use Rattle.leveldb_env.specs.Env.{AreBytes, File, FileCrashesTo, Files, SameBut, bytes_of, in_folder, kept_file}
+use Rattle.leveldb_env.specs.Env.{File, FileCrashesTo, Files, SameBut, bytes_of, in_folder, kept_file}
 use Rattle.leveldb_mem.proofs.LawsLemmas.{log_laws}
 use Rattle.leveldb_mem.specs.Log.{End, IsLogFile}
 use Rattle.leveldb_version.proofs.BatchesLemmas.{each_one}
@@ -14,19 +14,10 @@ use Rattle.leveldb_version.specs.Current.{IsCurrentText}
 use Rattle.leveldb_version.specs.Paths.{current_path}
 use Rattle.leveldb_version.specs.Store.{HasEdits, IsManagedBy, IsManifest, IsStore}
 use Rattle.leveldb_version.specs.VersionEdit.{Edit, IsEdit}
-use Rattle.std.proofs.Common.{◌++◌, ◌<◌, ◌∙◌, ◌≡◌, ◌≤◌, List, None, Option, Some, [], ap, append-nil, arith, false, inl, inr, length, refl, subst, sym, take, ℕ, ⊎_elim}
-use Rattle.std.proofs.lemmas.Bool.{cases_lt}
-use Rattle.std.proofs.lemmas.List.{get_or-take, get_or_past, length-take, nil_from_length}
+use Rattle.std.proofs.Common.{◌++◌, ◌∙◌, ◌≡◌, List, None, Option, Some, [], ap, append-nil, arith, false, inl, inr, length, refl, subst, sym, ℕ}
+use Rattle.std.proofs.lemmas.List.{nil_from_length}
 use Rattle.std.specs.Str.{bytes_eq}
 use Rattle.std.specs.declared.cmp.Ordering.{Ordering}
-
--- the first of some bytes are bytes
-pub bytes_take : (n : ℕ) (bytes : List ℕ) → AreBytes bytes → AreBytes (take n bytes)
-bytes_take n bytes are i = ⊎_elim
-    (λ (inside : i < n). omega (arith, are i, get_or-take n bytes i 0 inside))
-    (λ (past : n ≤ i). omega
-    (arith, get_or_past (take n bytes) i 0 (omega (arith, past, length-take n bytes))))
-    (cases_lt i n)
 
 -- ---- a kept file
 

@@ -7,12 +7,13 @@ use Rattle.leveldb_base.specs.Names.{IsFileName, file_name}
 use Rattle.leveldb_base.specs.Types.{Pair}
 use Rattle.leveldb_base.specs.declared.types.FileType.{FileType}
 use Rattle.leveldb_base.specs.declared.types.FileType.TheVariants.{Current, Descriptor, Log, Table, Temp}
+use Rattle.leveldb_env.proofs.AppendedLemmas.{fine_kept, with_fine}
 use Rattle.leveldb_env.proofs.EnvLemmas.{at_other, at_same, renamed-there, with_file-twice}
 use Rattle.leveldb_env.specs.Env.{File, FileCrashesTo, Files, SameBut, bytes_of, deleted, in_folder, kept_file, renamed, with_file}
 use Rattle.leveldb_mem.proofs.LawsLemmas.{framing_reads, records_framed, usual_size}
 use Rattle.leveldb_mem.specs.Log.{IsLogFile, clean, framed_record, log_block_size, offset_after}
 use Rattle.leveldb_mem.specs.Log.Writer.{new_writer}
-use Rattle.leveldb_version.proofs.BytesLemmas.{bytes_stay, fine_kept, with_fine}
+use Rattle.leveldb_version.proofs.BytesLemmas.{bytes_stay}
 use Rattle.leveldb_version.proofs.CurrentLemmas.{one_current, written_current}
 use Rattle.leveldb_version.proofs.KeepsLemmas.{rename_keeps, unread_keeps}
 use Rattle.leveldb_version.proofs.LogKeepsLemmas.{bytes_of_some, keeps_then, record_some}

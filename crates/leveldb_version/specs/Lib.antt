@@ -6,11 +6,13 @@ pub mod CurrentFile
 pub mod FullEdit
 pub mod Summary
 pub mod VersionSetValue
+pub mod Version
 pub mod Contents
 pub mod Paths
 pub mod Holds
 pub mod Batches
 pub mod Levels
+pub mod Overlap
 pub mod Store
 pub mod StoreSteps
 pub mod StoreLaws
@@ -30,3 +32,4 @@ pub mod Writing
 pub mod Opening
 pub mod WritingLaws
 pub mod OpeningLaws
+pub mod TableCache

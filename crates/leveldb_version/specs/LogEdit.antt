@@ -4,7 +4,7 @@ use Rattle.std.specs.Option.{option_or, unwrap_or}
 use Rattle.leveldb_base.specs.declared.error.Status.{Status}
 use Rattle.leveldb_base.specs.declared.error.StatusCode.TheVariants.{InvalidArgument}
 use Rattle.leveldb_base.specs.Error.{IsOutOfMemory}
-use Rattle.leveldb_env.specs.Env.{ChangesFiles, Files, FilesUnchanged, HasCause, Observed, PrefixAppended, Run, extended, synced}
+use Rattle.leveldb_env.specs.Env.{AppendedAreBytes, ChangesFiles, Files, FilesUnchanged, HasCause, Observed, PrefixAppended, Run, extended, synced}
 use Rattle.leveldb_env.specs.WholeFiles.{IsLost, IsLostUnobserved}
 use Rattle.leveldb_mem.specs.Log.{log_block_size}
 use Rattle.leveldb_mem.specs.Log.Writer.{IsWriterBroken, after_frame, frame, new_writer}
@@ -107,6 +107,9 @@ pub record BeginsManifest (models_disk : Bool) (old : VersionSetValue)
       (with_manifest old.store old.manifest_number (manifest_bytes (new_records old edit)))
       (MakingManifest old.store old.manifest_number (manifest_bytes (new_records old edit)))
       before after result
+  -- what is appended to files are bytes, also where the call fails
+  pub bytes : IsTrue models_disk → AppendedAreBytes before.disk.files
+      → AppendedAreBytes after.disk.files
   -- the set after an Ok and after an Err
   pub ok : OnOk result (new ≡ set_begun old edit)
   pub err : IfErr result (λ status.

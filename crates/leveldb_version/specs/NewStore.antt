@@ -1,7 +1,7 @@
 -- The manifest with which a store begins that isn't there yet.
 use Rattle.std.specs.Prelude.{ℕ, Bool, List, [], ◌∷◌, Some, Result, IsTrue}
 use Rattle.leveldb_base.specs.declared.error.Status.{Status}
-use Rattle.leveldb_env.specs.Env.{ChangesFiles, HasCause, Observed, SameLocks}
+use Rattle.leveldb_env.specs.Env.{AppendedAreBytes, ChangesFiles, HasCause, Observed, SameLocks}
 use Rattle.leveldb_env.specs.WholeFiles.{IsLostUnobserved}
 use Rattle.leveldb_version.specs.CurrentFile.{temp_path}
 use Rattle.leveldb_version.specs.NewManifest.{MakingManifest, manifest_bytes, with_manifest}
@@ -29,6 +29,9 @@ pub record MakeStoreResult (models_disk : Bool) (store comparator : List ℕ) (b
   pub does : IsTrue models_disk → ChangesFiles models_disk
       (with_manifest store 1 (first_manifest comparator))
       (MakingManifest store 1 (first_manifest comparator)) before after result
+  -- what is appended to files are bytes, also where the call fails
+  pub bytes : IsTrue models_disk → AppendedAreBytes before.disk.files
+      → AppendedAreBytes after.disk.files
   pub locks : SameLocks models_disk before after
   pub cause : HasCause (IsLostUnobserved models_disk (temp_path store 1) failed now_failed)
       failed now_failed result

@@ -8,7 +8,7 @@ use Rattle.std.specs.Cmp.{IsTotalOrder}
 use Rattle.std.specs.Str.{bytes_eq}
 use Rattle.std.specs.declared.cmp.Ordering.{Ordering}
 use Rattle.leveldb_base.specs.Entries.{FindsNewest}
-use Rattle.leveldb_base.specs.Layers.{AreLayered}
+use Rattle.leveldb_base.specs.Layers.{AreLayered, IsOlder}
 use Rattle.leveldb_base.specs.declared.types.FileType.{FileType}
 use Rattle.leveldb_base.specs.declared.types.FileType.TheVariants.{Log, Table, Descriptor, Current}
 use Rattle.leveldb_base.specs.History.{Entry, History, Item, count_of, greatest, placed}
@@ -22,10 +22,11 @@ use Rattle.leveldb_mem.specs.WriteBatch.{Batch, BatchOf}
 use Rattle.leveldb_version.specs.Contents.{Contents, Store, made, missing, no_contents}
 use Rattle.leveldb_version.specs.Holds.{IsHonest, MatchesHistory, IsSafe, Holds}
 use Rattle.leveldb_version.specs.Levels.{LiveTable, LevelOrder, IsInRange, IsBounded, table_entries, CanBeAdded, IsSearchedBefore}
+use Rattle.leveldb_version.specs.Overlap.{file_range, output_level}
 use Rattle.leveldb_version.specs.Paths.{current_path, log_path}
 use Rattle.leveldb_version.specs.Store.{HasEdits, HasNoStore, HasTable, HasTables, IsManaged, IsStore, IsStoreTable, LastNumbersFit, OneTableReading, SameContents, SameEntries}
 use Rattle.leveldb_version.specs.StoreSteps.{AreTablesAfter, EditRefines, EditsRefine, AppendedAreBytes, HasAddedTables, HasNextCurrent, IsAboveLogs, IsAllKept, IsCuttable, IsCutStore, IsKept, IsManifestOpen, IsNew, IsPartOf, IsSafeFor, IsUnnamed, IsUnread, IsWritable, KeepsHistory, MakesFile, Risk, SameButNextFile, SwapsTables, SwitchesLog, TablesAreKept}
-use Rattle.leveldb_version.specs.VersionEdit.{Edit, IsEdit}
+use Rattle.leveldb_version.specs.VersionEdit.{Edit, IsEdit, NewFile}
 use Rattle.leveldb_version.specs.VersionSet.{live_after}
 
 module _ (store : List ℕ) (cmp : List ℕ → List ℕ → Ordering)
@@ -372,3 +373,15 @@ AddingKeepsOrder = (cmp : List ℕ → List ℕ → Ordering) → IsTotalOrder c
     → (tables : List LiveTable) (table : LiveTable) → LevelOrder cmp tables
     → ((one : LiveTable) → Contains tables one → IsBounded cmp one)
     → CanBeAdded cmp tables table → LevelOrder cmp (table ∷ tables)
+
+-- A bounded table may be added to the level that is picked for its range, if its entries are newer
+-- than those of all tables and its number is greater than theirs in level 0.
+abbrev pub OutputLevelsCanTake : Type 0
+OutputLevelsCanTake = (cmp : List ℕ → List ℕ → Ordering) (tables : List LiveTable)
+    (files : List NewFile)
+    → ((one : LiveTable) → Contains tables one → Contains files one.file) → (table : LiveTable)
+    → table.file.level ≡ output_level cmp (file_range table.file) files → IsBounded cmp table
+    → IsOlder (table_entries tables) table.entries
+    → ((one : LiveTable) → Contains tables one → one.file.level ≡ 0 → table.file.level ≡ 0
+    → one.file.number < table.file.number)
+    → CanBeAdded cmp tables table

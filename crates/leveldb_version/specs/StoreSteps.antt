@@ -7,6 +7,7 @@ use Rattle.leveldb_base.specs.History.{Entry, History, SameView, AreUpTo, greate
 use Rattle.leveldb_base.specs.KeyTypes.{greatest_sequence}
 use Rattle.leveldb_base.specs.Names.{IsFileName, file_name}
 use Rattle.leveldb_base.specs.Types.{Pair}
+pub use Rattle.leveldb_env.specs.Env.{AppendedAreBytes}
 use Rattle.leveldb_env.specs.Env.{File, Files, FilesCrashTo, AreBytes, BeforeOrAfter, bytes_of, created, emptied, in_folder}
 use Rattle.leveldb_mem.specs.Log.{End, clean, IsLogFile}
 use Rattle.leveldb_mem.specs.WriteBatch.{Batch}
@@ -21,11 +22,6 @@ use Rattle.leveldb_version.specs.VersionEdit.{Edit, LevelFile, NewFile}
 use Rattle.leveldb_version.specs.VersionSet.{FileSet, is_same_file, level_file, live_after}
 
 -- ---- what is kept
-
--- what was appended to each file are bytes
-abbrev pub AppendedAreBytes : Files → Type 0
-AppendedAreBytes files =
-    (name : List ℕ) (file : File) → files name ≡ Some file → AreBytes file.since
 
 -- all bytes of what is there are kept
 abbrev pub IsKept : Option File → Type 0

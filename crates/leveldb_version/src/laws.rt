@@ -10,6 +10,7 @@ ghost use Rattle.leveldb_version.specs.VersionSet.{Applied, IsLive, ListsFiles, 
 pub mod levels;
 pub mod opening;
 pub mod stores;
+pub mod table_caches;
 pub mod version_sets;
 pub mod writing;
 

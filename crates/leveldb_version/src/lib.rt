@@ -2,5 +2,7 @@
 #![tactic(auto)]
 
 pub mod laws;
+pub mod table_cache;
+pub mod version;
 pub mod version_edit;
 pub mod version_set;

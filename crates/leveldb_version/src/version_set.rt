@@ -29,6 +29,7 @@ pub use current::{
 pub use current_file::{read_current_file, set_current_file};
 pub use new_store::make_store;
 pub use set::VersionSet;
+pub(crate) use summary::summary_of;
 
 /// Whether the file's keys are internal keys, of eight bytes at least, and the smallest is not
 /// after the largest.

@@ -9,17 +9,16 @@ use Rattle.leveldb_base.specs.declared.error.StatusCode.TheVariants.{InvalidArgu
 use Rattle.leveldb_base.specs.Error.{IsOutOfMemory, text_of}
 use Rattle.leveldb_base.specs.History.{Item}
 use Rattle.leveldb_env.specs.declared.env.Env.{Ghosts}
-use Rattle.leveldb_env.specs.Env.{Disk}
 use Rattle.leveldb_mem.specs.WriteBatch.{Batch, with_item, change_bytes, batch_bytes, IsTooLong}
 use Rattle.leveldb_mem.proofs.WriteBatchLemmas.{length-batch_bytes}
 use Rattle.rusty_leveldb.specs.declared.shell.commands.Item as item
 use Rattle.rusty_leveldb.specs.Shell.{change_of}
-use Rattle.rusty_leveldb.specs.State.{State, open_mode, write, refused}
+use Rattle.rusty_leveldb.specs.State.{open_mode, write, refused}
 use Rattle.rusty_leveldb.specs.Causes.{Setting, out_of_memory, bad_operand, IsLongBatch}
 use Rattle.rusty_leveldb.specs.Machine.{Keeps, Step}
 use Rattle.rusty_leveldb.specs.Serves.{setting_between, refusal_of}
-use Rattle.rusty_leveldb.specs.Engine.{Recalls, AnswersStill}
-use Rattle.rusty_leveldb.proofs.Writes.Moments.{moments_none}
+use Rattle.rusty_leveldb.specs.Engine.{AnswersStill, mode_in}
+use Rattle.rusty_leveldb.proofs.Moments.{moments_none}
 use Rattle.rusty_leveldb.specs.Frame.{MayTouch}
 use Rattle.rusty_leveldb.proofs.Others.{spares_still}
 use Rattle.leveldb_env.specs.Options.{Boxed, OptionsOf}
@@ -49,21 +48,18 @@ abbrev pub IsUnmade : List Item → Status → Type 0
 IsUnmade items status = IsOutOfMemory status ⊎ ((status.code ≡ InvalidArgument) × IsLongBatch items)
 
 module _ {E C FP F : Type 0} {B : Boxed} (env : Ghosts E F) (formats : OptionsOf C FP B → Format) (engine : EngineOf E C FP F B)
-    (is_open : (store : List ℕ) (disk : Disk) (state : State) → Recalls env formats store engine disk state → state.mode ≡ open_mode) (items : List Item) (sync : Bool) (status : Status) (why : IsUnmade items status) where
+    (opened : mode_in engine ≡ open_mode) (items : List Item) (sync : Bool) (status : Status) (why : IsUnmade items status) where
   pub not_written : AnswersStill env formats engine (write items sync) (refused (refusal_of status))
   not_written at store meaning tells old represents = record {
     new = old;
     represents = represents;
     later = omega arith;
-    step = subst (λ mode. Step mode setting old (write items sync) (refused (refusal_of status)) old) (sym (is_open store disk old represents.memory_is)) (⊎_elim for_memory for_length why);
+    step = subst (λ mode. Step mode setting old (write items sync) (refused (refusal_of status)) old) (sym opened ∙ represents.memory_is.mode) (⊎_elim for_memory for_length why);
     moments = moments_none store meaning (write items sync) old (env.observed at) represents.disk_is;
     spares = spares_still store (MayTouch store old.mode (write items sync)) (env.observed at).disk;
     bytes = λ never. absurd never;
   }
     where
-      disk : Disk
-      disk = (env.observed at).disk
-
       setting : Setting
       setting = setting_between meaning (env.failures at) (env.failures at)
 

@@ -1,12 +1,9 @@
--- What files carry, with greater bounds and where other stores may be there; and a store that isn't there.
-use Rattle.std.proofs.Common.{◌≡◌, ◌≤◌, inl, ℕ, List, [], refl, sym, subst, arith, None}
+-- What files carry, with greater bounds and where other stores may be there.
+use Rattle.std.proofs.Common.{◌≡◌, ◌≤◌, ℕ, List, refl, arith}
 use Rattle.leveldb_base.specs.History.{History}
-use Rattle.leveldb_base.proofs.HistoryLemmas.{in_none}
-use Rattle.leveldb_env.specs.Env.{Files, FileCrashesTo}
-use Rattle.leveldb_version.specs.Contents.{Store, missing, Contents, no_contents}
-use Rattle.rusty_leveldb.specs.OneLog.{IsRead, log_path, IsOneLog}
+use Rattle.leveldb_env.specs.Env.{Files}
+use Rattle.leveldb_version.specs.Contents.{Store, Contents}
 use Rattle.leveldb_version.specs.Holds.{Carries, IsSafe}
-use Rattle.rusty_leveldb.specs.Laws.{NothingStands}
 
 module _ (store : List ℕ) (reads : Files → Contents → Type 0) where
   -- ---- greater bounds
@@ -44,34 +41,3 @@ module _ (store : List ℕ) (reads : Files → Contents → Type 0) where
   safe_allow bound durable history files may safe left leaves honest =
       let c = safe left leaves honest in
       record { part = c.part; prefix = c.prefix; carries = carries_allow bound c.part left may c.carries }
-
--- ---- where nothing is
-
-carries_nothing : (store : List ℕ) (files : Files) → files (log_path store) ≡ None → Carries store (IsOneLog (log_path store)) (λ now. now ≡ missing) 0 [] files
-carries_nothing store files none = record {
-  contents = no_contents;
-  read = subst (λ file. IsRead file no_contents) (sym none) refl;
-  matches = record { same = λ t le key value. (λ shows. shows, λ shows. shows); up_to = λ entry c. absurd (in_none entry c); reached = omega arith; bounded = omega arith; store = refl };
-}
-
-pub nothing_stands : NothingStands
-nothing_stands store meaning format disk none free = record {
-  is_state = record {
-    history = record { placed = λ k d lt. absurd (let never : ⊥ = omega arith in never); rising = tt };
-    reached = omega arith;
-    pending = omega arith;
-    durable = omega arith;
-    held = λ one c. absurd (in_none one c);
-    mode = record { held = refl; given = refl };
-  };
-  holds = record {
-    now = inl (carries_nothing store disk.files none);
-    crash = λ left leaves honest. record {
-      part = [];
-      prefix = record { count = 0; enough = omega arith; there = omega arith; first = refl };
-      carries = carries_nothing store left (subst (λ file. FileCrashesTo file (left (log_path store))) none (leaves (log_path store)));
-    };
-  };
-  locked = free;
-  agrees = λ never. absurd (never refl);
-}

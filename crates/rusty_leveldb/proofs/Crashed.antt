@@ -12,6 +12,7 @@ use Rattle.rusty_leveldb.specs.Machine.{Risk, Crashes}
 use Rattle.rusty_leveldb.specs.Serves.{Reads, StandsFor, IsSpared}
 use Rattle.rusty_leveldb.proofs.Bounds.{carries_more, carries_just}
 use Rattle.rusty_leveldb.proofs.Histories.{history_part, greatest_part}
+use Rattle.rusty_leveldb.proofs.ReadsLemmas.{crash_bytes}
 use Rattle.leveldb_store.specs.Format.{Meaning}
 
 no_bytes : (tail : List ℕ) → length tail ≤ 0 → tail ≡ []
@@ -79,6 +80,7 @@ module _ (store : List ℕ) (meaning : Meaning) where
             mode = record { held = refl; given = refl };
           };
           holds = found.1;
+          bytes = crash_bytes files left.files leaves;
           locked = free (lock_path store);
           agrees = λ never. absurd (never refl);
         },

@@ -6,7 +6,7 @@ use Rattle.leveldb_base.proofs.HistoryLemmas.{in_front}
 use Rattle.leveldb_version.specs.Contents.{made}
 use Rattle.leveldb_store.specs.Format.{Meaning}
 use Rattle.rusty_leveldb.specs.State.{State, Opening, open_store, write, get, done, found, open_mode, closed}
-use Rattle.rusty_leveldb.specs.Causes.{Setting, Fits, IsLongKey, IsLongBatch}
+use Rattle.rusty_leveldb.specs.Causes.{Setting, Disagrees, Fits, IsLongKey, IsLongBatch}
 use Rattle.rusty_leveldb.specs.Machine.{Step}
 use Rattle.rusty_leveldb.specs.Runs.{Event, StopsAt, Lives, new_state}
 use Rattle.rusty_leveldb.specs.Laws.{SyncedCanBeFound, answered_at, written_and_found}
@@ -29,7 +29,7 @@ module _ (meaning : Meaning) (opening : Opening) (key value : List ℕ) (short :
   first = new_state opening.format
 
   abbrev opened : State
-  opened = record first { mode = open_mode; locked = true; store = made None }
+  opened = record first { mode = open_mode; locked = true; store = made (Some opening.format.order_name) }
 
   abbrev written : State
   written = record opened { history = (entry ∷ []) ∷ []; last = 1; durable = 1 }
@@ -56,7 +56,7 @@ module _ (meaning : Meaning) (opening : Opening) (key value : List ℕ) (short :
   fits_again : Fits left (open_store opening)
   fits_again = record {
     operands = λ misfits. ⊎_elim (λ (e : opening.fits ≡ false). not_false opening.fits fits e)
-        (λ (never : ⊥). never) misfits;
+        (λ (other : Disagrees opening left.store). other refl) misfits;
     numbers = not_false opening.compresses compresses;
   }
 
@@ -66,8 +66,8 @@ module _ (meaning : Meaning) (opening : Opening) (key value : List ℕ) (short :
     record {
       free = refl;
       may = create;
-      stays = inr (refl, tt);
-      store = tt;
+      stays = inr (refl, refl);
+      store = refl;
       joins = inl refl;
       reached = omega arith;
       bounded = omega arith;
@@ -89,7 +89,7 @@ module _ (meaning : Meaning) (opening : Opening) (key value : List ℕ) (short :
       free = refl;
       may = there;
       stays = inl refl;
-      store = tt;
+      store = refl;
       joins = inl refl;
       reached = omega arith;
       bounded = omega arith;

@@ -1,9 +1,9 @@
 -- What no life loses, what a history is made of, and what a look-up finds.
-use Rattle.std.proofs.Common.{◌≡◌, ◌≢◌, ◌≤◌, ◌<◌, ◌+◌, ◌⊎◌, ⊎_elim, inl, inr, ℕ, true, List, [], ◌∷◌, ◌++◌, length, take, drop, refl, sym, ◌∙◌, ap, subst, arith, Option, Some, None, All, Contains, append-nil, append_assoc, length-take}
+use Rattle.std.proofs.Common.{◌≡◌, ◌≢◌, ◌≤◌, ◌<◌, ◌+◌, ⊎_elim, inl, inr, ℕ, true, List, [], ◌∷◌, ◌++◌, length, take, drop, refl, sym, ◌∙◌, ap, subst, arith, Option, Some, None, All, Contains, append-nil, append_assoc, length-take}
 use Rattle.std.proofs.lemmas.List.{take-append-drop, map-append}
 use Rattle.std.proofs.lemmas.List.Concat.{flat_map-append}
 use Rattle.std.proofs.lemmas.List.Elements.{All-nil, All-head, All-tail, Contains-append_right, Contains-append_cases}
-use Rattle.leveldb_base.specs.History.{Item, Entry, History, entries_of, greatest, with_batch, placed, HasValueAt, IsValueAt}
+use Rattle.leveldb_base.specs.History.{Item, Entry, History, entries_of, greatest, with_batch, HasValueAt, IsValueAt}
 use Rattle.leveldb_base.proofs.HistoryLemmas.{in_none, in_front, in_rest, in_cases}
 use Rattle.leveldb_base.proofs.EntriesLemmas.{map_in}
 use Rattle.leveldb_store.specs.Format.{Format, Meaning}

@@ -1,6 +1,6 @@
 -- Lives of a store, one after another: they are one run of the machine if each crash was honest.
-use Rattle.std.proofs.Common.{◌≡◌, ◌<◌, ◌≤◌, ◌+◌, ◌-◌, ◌%◌, ◌/◌, ◌==◌, inl, inr, ⊎_elim, ℕ, suc, Bool, true, false, List, [], ◌∷◌, ◌++◌, refl, sym, ◌∙◌, ap, subst, arith, Option, Some, None, Ok, Err, IsTrue}
-use Rattle.std.specs.Prelude.{◌↔◌, ◌⊎◌, All, map, Vec}
+use Rattle.std.proofs.Common.{◌≡◌, ◌≤◌, ◌+◌, ◌-◌, ◌%◌, ◌/◌, ◌==◌, inl, inr, ⊎_elim, ℕ, suc, Bool, true, false, List, [], ◌∷◌, ◌++◌, refl, sym, ◌∙◌, ap, subst, arith, Option, Some, None, Ok, Err, IsTrue}
+use Rattle.std.specs.Prelude.{◌↔◌, ◌⊎◌, ◌&&◌, All, map, Vec}
 use Rattle.std.specs.declared.alloc.Global.{Global}
 use Rattle.leveldb_base.specs.declared.cmp.Cmp.{Ghosts as CmpGhosts}
 use Rattle.leveldb_env.specs.declared.compressor.CompressorList.{CompressorList}
@@ -24,14 +24,15 @@ use Rattle.leveldb_env.specs.Record.{record_observed, moment_of, failures_of, fi
 use Rattle.rusty_leveldb.specs.declared.shell.crash_runs.Report.{Report}
 use Rattle.rusty_leveldb.specs.State.{State, Opening, closed}
 use Rattle.leveldb_version.specs.Holds.{IsHonest}
+use Rattle.leveldb_version.specs.Store.{HasNoStore}
+use Rattle.leveldb_version.specs.StoreSteps.{AppendedAreBytes}
 use Rattle.rusty_leveldb.specs.Runs as machine
 use Rattle.rusty_leveldb.specs.Runs.{Event, Run, CrashBefore, last_moment, StopsAt, LifeLeads, Lives, new_state}
 use Rattle.rusty_leveldb.specs.Serves.{StandsFor, Represents, recalls_nothing, IsBetweenCalls, IsConversation}
 use Rattle.rusty_leveldb.specs.Engine.{IsStoreName, IsOpening, opening_of}
 use Rattle.rusty_leveldb.specs.Lives.{requests_of, IsLife, with_name, ending_of, IsCrash, IsHonestCrash, IsNextDevice, IsReportOf, IsLifeOn, AreReports, AreReportsFromNone, IsLifeOf, AreLivesOf, AreOneRun, HasNoCrash, ReportsLives}
-use Rattle.rusty_leveldb.proofs.OneLog.LogFile.{front_honest}
-use Rattle.rusty_leveldb.proofs.Bounds.{nothing_stands}
-use Rattle.rusty_leveldb.proofs.Openings.Asked.{and_both, and_true}
+use Rattle.leveldb_version.proofs.SafeLemmas.{front_honest}
+use Rattle.rusty_leveldb.proofs.ReadsLemmas.{nothing_stands}
 use Rattle.leveldb_env.specs.Options.{Boxed}
 use Rattle.rusty_leveldb.specs.Boxes.{LifeOf}
 use Rattle.leveldb_store.specs.Format.{Meaning, Agrees, format_of}
@@ -91,6 +92,15 @@ same_disk device from same = λ i. record { files = same.files i; locked = same.
 -- the disk represents a state
 abbrev pub Stands : List ℕ → Meaning → RecordEnv → State → Type 0
 Stands store meaning device old = Represents store meaning recalls_nothing None (record_observed device).disk old
+
+-- both of two
+and_both : (a b : Bool) → IsTrue (a && b) → IsTrue a × IsTrue b
+and_both true b is = (refl, is)
+and_both false b is = let never : false ≡ true = is in absurd (cc)
+
+and_true : (a b : Bool) → IsTrue a → IsTrue b → IsTrue (a && b)
+and_true true b is also = also
+and_true false b is also = is
 
 opens_so : (store : List ℕ) (fits : Bool) (wanted : Opening) → (IsTrue fits ↔ IsStoreName store) → IsOpening store wanted (with_name fits wanted)
 opens_so store fits wanted name_fits = record {
@@ -199,7 +209,9 @@ module _ {C FP : Type 0} {B : Boxed} (cmp : CmpGhosts C) (filters : FilterGhosts
   one_run lives reports are format fits name_fits meaning agree =
       let first = are.1.first in
       let fresh = are.1.fresh in
-      let stands : StandsFor store meaning (record_observed first).disk (new_state format) = nothing_stands store meaning format (record_observed first).disk (are.1.empty _) (fresh.free _) in
+      let bare : HasNoStore store (files_in first) = record { no_current = are.1.empty _; no_table = λ name n is. are.1.empty _; no_log = λ name n is. are.1.empty _ } in
+      let bytes : AppendedAreBytes (files_in first) = λ name file is. absurd (let never : None ≡ Some file = sym (are.1.empty name) ∙ is in cc) in
+      let stands : StandsFor store meaning (record_observed first).disk (new_state format) = nothing_stands store meaning format (record_observed first).disk bare bytes (fresh.free _) in
       let all = lives_run cmp filters codings store fits meaning name_fits first lives reports are.0 (new_state format) agree (record { disk_is = stands; memory_is = refl }) are.1.reports_are in
       (all.0, all.1, all.2, all.3, subst (λ n. Lives meaning n (new_state format) all.0 all.2 all.3) fresh.failures all.4)
 

@@ -29,7 +29,7 @@ module _ {E F : Type 0} {B : Boxed} (C FP : Type 0) (env : Ghosts E F) (formats 
   -- so far the store was opened and these commands were given these replies
   abbrev pub LivesSoFar : E → Opening → List Command → List (ℕ × Reply) → List ℕ → EngineOf E C FP F B → E → Type 0
   LivesSoFar from wanted commands replies given engine to = (opening : Opening) → IsOpening store wanted opening
-      → (meaning : Meaning) → Agrees opening.format meaning → (old : State) → Represents store meaning (Recalls {C = C} {FP = FP} {B = B} env formats store) None (env.observed from).disk old
+      → (meaning : Meaning) → Agrees opening.format meaning → (old : State) → Represents store meaning (Recalls {E = E} {C = C} {FP = FP} {F = F} {B = B} formats store meaning) None (env.observed from).disk old
       → (first : ℕ) × LeadsAt C FP env formats store meaning from (open_store opening ∷ map request_of commands) (done ∷ map (λ (reply : ℕ × Reply). answer_of reply.1) replies) (first ∷ given) (Some engine) to old
 
 module _ {E F : Type 0} {B : Boxed} (C FP : Type 0) (env : Ghosts E F) (formats : OptionsOf C FP B → Format) (only_now : OnlyNow env) (modelled : IsTrue env.models_disk) (store : List ℕ) where

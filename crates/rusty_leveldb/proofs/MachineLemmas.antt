@@ -6,7 +6,7 @@ use Rattle.leveldb_base.specs.History.{Item, Entry, History, IsHistory, placed, 
 use Rattle.leveldb_base.proofs.HistoryLemmas.{in_none, in_rest}
 use Rattle.rusty_leveldb.specs.State.{Mode, open_mode, broken, closed, Snapshot, Opening, State, SuitsMode, IsState, Request, open_store, write, get, walk, get_snapshot, release_snapshot, flush, compact_range, close, abandon, Refusal, Answer, done, found, walked, snapshot, refused}
 use Rattle.rusty_leveldb.specs.Causes.{Setting, Cause, device_failed, IsClosedRefusal, IsBrokenRefusal}
-use Rattle.rusty_leveldb.specs.Machine.{MayGrow, Keeps, next_batch, Writes, AllDurable, Breaks, Gives, Releases, Closes, Abandons, Opens, StaysClosed, MayBreak, KeepsOrBreaks, Succeeds, LeavesRefused, Responds, Rejects, Step, Risk, risk_between, risk_of, Crashes}
+use Rattle.rusty_leveldb.specs.Machine.{MayGrow, Keeps, added_batch, Writes, AllDurable, Breaks, Gives, Releases, Closes, Abandons, Opens, StaysClosed, MayBreak, KeepsOrBreaks, Succeeds, LeavesRefused, Responds, Rejects, Step, Risk, risk_between, risk_of, Crashes}
 use Rattle.rusty_leveldb.specs.Laws.{asked_by, StepFits, CrashFits, CrashInsideFits}
 use Rattle.rusty_leveldb.proofs.Histories.{entries_more, greatest_append, placed_greatest, placed_length, history_more, history_part, greatest_part}
 
@@ -24,7 +24,7 @@ pub data Change (old : State) (request : Request) (new : State) : Type 0 where
   covers : AllDurable old new → Change old request new
   breaks : old.mode ≡ open_mode → Breaks old None new → Change old request new
   breaks_with : (items : List Item) → asked_by request ≡ items ∷ [] → old.mode ≡ open_mode
-      → Breaks old (Some (next_batch old items)) new → Change old request new
+      → Breaks old (Some (added_batch old items)) new → Change old request new
   gives : (one : Snapshot) → (old.mode ≡ closed → ⊥) → Gives old one new → Change old request new
   releases : (one : Snapshot) → (old.mode ≡ closed → ⊥) → Releases old one new
       → Change old request new
@@ -63,7 +63,7 @@ module _ (setting : Setting) (old new : State) where
   kept_or_broken request cause m (inr broke) = breaks m broke.1
 
   kept_or_broken_with : (items : List Item) (sync : Bool) (cause : Cause) → old.mode ≡ open_mode
-      → KeepsOrBreaks old cause (next_batch old items) new → Change old (write items sync) new
+      → KeepsOrBreaks old cause (added_batch old items) new → Change old (write items sync) new
   kept_or_broken_with items sync cause m (inl kept) = keeps kept
   kept_or_broken_with items sync cause m (inr broke) =
       ⊎_elim (λ b. breaks m b) (λ b. breaks_with items refl m b) broke.1
@@ -237,7 +237,7 @@ module _ (old : State) (is : IsState old) where
   })
     where
       whole : History
-      whole = old.history ++ next_batch old items ∷ []
+      whole = old.history ++ added_batch old items ∷ []
 
       none : old.pending ≡ None
       none = none_pending m
@@ -250,7 +250,7 @@ module _ (old : State) (is : IsState old) where
       reached = greatest_more old.history old.last items is.reached
 
       more : length whole ≡ length old.history + 1
-      more = length-append old.history (next_batch old items ∷ [])
+      more = length-append old.history (added_batch old items ∷ [])
 
       durable : MayGrow old.durable old.history new.durable ⊎ (new.durable ≡ length new.history)
           → new.durable ≤ length whole
@@ -286,9 +286,9 @@ module _ (old : State) (is : IsState old) where
       (before_pending old.history old.pending is.history) (let r = is.reached in omega arith) m b
 
   breaks_with_fits : (items : List Item) (new : State) → old.mode ≡ open_mode
-      → Breaks old (Some (next_batch old items)) new → IsState new
+      → Breaks old (Some (added_batch old items)) new → IsState new
   breaks_with_fits items new m b =
-      breaks_fits (Some (next_batch old items)) new
+      breaks_fits (Some (added_batch old items)) new
       (history_more old.history old.last items is.reached
       (before_pending old.history old.pending is.history))
       (let g = greatest_more old.history old.last items is.reached in let l =

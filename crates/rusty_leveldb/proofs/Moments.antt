@@ -2,17 +2,18 @@
 -- call is spared if it is at each moment of each part. `steps_join` joins two parts, `spared_now` begins one at a state that the disk
 -- represents, and `grows_same` and `grows_by` say that a part risks no batch more, or one more. `spared_since` is what the run of a whole call
 -- then says of a crash.
-use Rattle.std.proofs.Common.{◌≡◌, ◌≤◌, ℕ, zero, suc, List, [], ◌∷◌, ◌++◌, length, take, refl, sym, ◌∙◌, ap, subst, arith}
+use Rattle.std.proofs.Common.{◌≡◌, ◌≤◌, ◌+◌, inl, ℕ, zero, suc, Bool, List, [], ◌∷◌, ◌++◌, length, take, refl, sym, ◌∙◌, ap, subst, arith, Result, IsTrue}
+use Rattle.leveldb_base.specs.declared.error.Status.{Status}
 use Rattle.std.proofs.lemmas.List.{length-take}
-use Rattle.leveldb_base.specs.History.{Entry, History, IsPrefixAtLeast}
-use Rattle.leveldb_env.specs.Env.{Files, Disk, Observed, Since, Run}
-use Rattle.leveldb_env.proofs.EnvLemmas.{Run-mono, Run-trans, since_start}
+use Rattle.leveldb_base.specs.History.{Entry, History, IsPrefixAtLeast, count_of, with_batch}
+use Rattle.leveldb_env.specs.Env.{Files, Disk, Observed, Since, Run, ChangesFiles, FilesUnchanged}
+use Rattle.leveldb_env.proofs.EnvLemmas.{Run-mono, Run-trans, Run-call, begun, since_start}
 use Rattle.leveldb_version.specs.Contents.{Store}
 use Rattle.leveldb_version.specs.Holds.{IsHonest, CarriesPrefix}
-use Rattle.rusty_leveldb.specs.State.{State}
-use Rattle.rusty_leveldb.specs.Machine.{StaysOr, Risk, risk_between}
-use Rattle.rusty_leveldb.specs.Serves.{Reads, StandsFor, IsSpared}
-use Rattle.rusty_leveldb.proofs.Bounds.{carries_more, carries_allow}
+use Rattle.rusty_leveldb.specs.State.{State, Request, open_store}
+use Rattle.rusty_leveldb.specs.Machine.{StaysOr, Risk, risk_between, risk_of}
+use Rattle.rusty_leveldb.specs.Serves.{Reads, StandsFor, IsSpared, AtEachMoment}
+use Rattle.rusty_leveldb.proofs.Bounds.{carries_more, carries_allow, safe_allow}
 use Rattle.leveldb_store.specs.Format.{Meaning}
 
 -- ---- a greater risk
@@ -84,6 +85,22 @@ module _ (store : List ℕ) (meaning : Meaning) where
   steps_join old middle risk more few first then grows before after = Run-trans
       (Run-mono (spared_more old old risk more (omega arith) first grows) before)
       (spared_more old middle more more few then (grows_same more more.bound (omega arith))) after
+
+  -- a request that changes nothing of the state
+  pub spared_still : (request : Request) (disk : Disk) (old : State) → StandsFor store meaning disk old → IsSpared store meaning old (risk_of request old old) disk.files
+  spared_still (open_store opening) disk old stands =
+      safe_allow store (Reads store meaning) (old.last + count_of old.pending) old.durable (with_batch old.history old.pending) disk.files (λ there is. inl is) stands.holds.crash
+  spared_still request disk old stands = stands.holds.crash
+
+  -- where nothing is asked of the device
+  pub moments_none : (request : Request) (old : State) (told : Observed) → StandsFor store meaning told.disk old → AtEachMoment store meaning request old old told told
+  moments_none request old told stands = begun told (spared_still request told.disk old stands)
+
+  -- where no file is changed
+  pub moments_still : {T : Type 0} {models_disk : Bool} {change : Files → Files} {first now : Observed} {result : Result T Status} (was : State) → IsTrue models_disk → StandsFor store meaning first.disk was
+      → ChangesFiles models_disk change FilesUnchanged first now result → Run (IsSpared store meaning was (risk_between was)) first now
+  moments_still {first = first} was modelled stands does =
+      Run-mono (λ files same. subst (IsSpared store meaning was (risk_between was)) (sym same) stands.holds.crash) (Run-call modelled does)
 
   -- between two calls
   pub spared_now : (disk : Disk) (state : State) → StandsFor store meaning disk state → IsSpared store meaning state (risk_between state) disk.files

@@ -1,43 +1,22 @@
 -- What the calls of a store leave alone: what isn't the store's, and the bytes of its files.
-use Rattle.std.proofs.Common.{◌≡◌, ◌≢◌, ◌∷◌, inl, inr, ⊎_elim, ℕ, Bool, true, false, List, refl, sym, ◌∙◌, ap, subst, append-nil, Option, Some, None}
+use Rattle.std.proofs.Common.{◌≡◌, ◌≢◌, inl, inr, ⊎_elim, ℕ, Bool, true, false, List, refl, sym, ◌∙◌, ap, subst, append-nil, Option, Some, None}
 use Rattle.std.specs.Prelude.{codes}
 use Rattle.std.specs.Option.{option_map}
 use Rattle.std.specs.Str.{bytes_eq}
 use Rattle.std.specs.Cmp.Lexicographic.{bytes_decides}
-use Rattle.std.proofs.lemmas.List.{append_cancel_left}
 use Rattle.leveldb_env.specs.Env.{File, Files, Disk, bytes_of, or_empty, file_kept, created, synced, BeforeOrAfter, SameBut}
 use Rattle.leveldb_env.proofs.EnvLemmas.{SameBut-created, bytes_eq-apart, at_same, at_other}
-use Rattle.leveldb_env.specs.WholeFiles.{Replacing}
-use Rattle.rusty_leveldb.specs.OneLog.{log_path, temp_path}
 use Rattle.leveldb_version.specs.Paths.{lock_path}
 use Rattle.leveldb_version.specs.Paths.{IsFilePath}
+use Rattle.leveldb_store.specs.Written.{IsData}
 use Rattle.leveldb_base.specs.declared.types.FileType.{FileType}
-use Rattle.leveldb_base.specs.declared.types.FileType.TheVariants.{Log, DBLock, Temp, InfoLog}
+use Rattle.leveldb_base.specs.declared.types.FileType.TheVariants.{DBLock, InfoLog}
 use Rattle.rusty_leveldb.specs.State.{Mode, open_mode, closed, Opening, Request, open_store, write, flush, compact_range, close}
-use Rattle.rusty_leveldb.specs.Frame.{IsOwned, IsData, IsLogType, Touches, IsOwn, MayTouch, IsKeptOrMade, Spares, SameBytes}
-use Rattle.rusty_leveldb.proofs.OneLog.LogFile.{is_three}
-use Rattle.rusty_leveldb.specs.Recovery.{ChangesLogAlone}
+use Rattle.rusty_leveldb.specs.Frame.{IsOwned, IsLogType, Touches, IsOwn, MayTouch, IsKeptOrMade, Spares, SameBytes}
 
--- ---- names that differ
-
-lock_not_log : (store : List ℕ) → lock_path store ≢ log_path store
-lock_not_log store e = differ (append_cancel_left store (47 ∷ codes "LOCK") (47 ∷ codes "000003.log") e)
-  where
-    differ : 47 ∷ codes "LOCK" ≡ 47 ∷ codes "000003.log" → ⊥
-    differ same = cc
-
-lock_not_temp : (store : List ℕ) → lock_path store ≢ temp_path store
-lock_not_temp store e = differ (append_cancel_left store (47 ∷ codes "LOCK") (47 ∷ codes "000003.dbtmp") e)
-  where
-    differ : 47 ∷ codes "LOCK" ≡ 47 ∷ codes "000003.dbtmp" → ⊥
-    differ same = cc
-
-apart : (name path : List ℕ) → path ≢ name → bytes_eq name path ≡ false
+-- a name that is another
+pub apart : (name path : List ℕ) → path ≢ name → bytes_eq name path ≡ false
 apart name path differs = bytes_eq-apart name path (λ e. differs (sym e))
-
--- where all files but the lock's are as they were, the log is
-pub log_kept : (store : List ℕ) (old files : Files) → BeforeOrAfter (created (lock_path store)) old files → files (log_path store) ≡ old (log_path store)
-log_kept store old files passes = SameBut-created (lock_path store) old files passes (log_path store) (bytes_eq-apart (lock_path store) (log_path store) (lock_not_log store))
 
 -- ---- a file that is kept or made
 
@@ -52,23 +31,11 @@ kept_then was mid now first second = ⊎_elim
 
 -- ---- the store's files
 
-log_is : (store : List ℕ) → IsFilePath Log store (log_path store)
-log_is store = (codes "000003.log", 3, (codes "000003", is_three, refl), refl)
-
-temp_is : (store : List ℕ) → IsFilePath Temp store (temp_path store)
-temp_is store = (codes "000003.dbtmp", 3, (codes "000003", is_three, refl), refl)
-
 lock_is : (store : List ℕ) → IsFilePath DBLock store (lock_path store)
 lock_is store = (codes "LOCK", 0, (refl, refl), refl)
 
--- what isn't the store's is neither of them
+-- what isn't the store's is not its lock's
 module _ (store path : List ℕ) (foreign : IsOwn store path → ⊥) where
-  no_log : path ≢ log_path store
-  no_log e = foreign (subst (IsOwn store) (sym e) (Log, tt, log_is store))
-
-  no_temp : path ≢ temp_path store
-  no_temp e = foreign (subst (IsOwn store) (sym e) (Temp, tt, temp_is store))
-
   no_lock : path ≢ lock_path store
   no_lock e = foreign (subst (IsOwn store) (sym e) (DBLock, tt, lock_is store))
 
@@ -100,26 +67,7 @@ spares_own store mode request old new spares = record {
 pub but_same : (name : List ℕ) (old files : Files) → files ≡ old → SameBut name old files
 but_same name old files is other differs = ap (λ (f : Files). f other) is
 
--- the log may be touched
-may_touch_log : (store : List ℕ) (mode : Mode) (request : Request) → mode ≡ open_mode → Touches open_mode request Log → MayTouch store mode request (log_path store)
-may_touch_log store mode request is touches = (Log, subst (λ m. Touches m request Log) (sym is) touches, log_is store)
-
 module _ (store : List ℕ) (old new : Disk) where
-  module _ (mode : Mode) (request : Request) (is : mode ≡ open_mode) (touches : Touches open_mode request Log) where
-    -- the log alone has changed, and these locks haven't
-    pub spares_with : SameBut (log_path store) old.files new.files → ((path : List ℕ) → path ≢ lock_path store → new.locked path ≡ old.locked path)
-        → Spares store (MayTouch store mode request) old new
-    spares_with but locks = record {
-      files = λ path foreign. but path (apart (log_path store) path
-          (λ e. foreign (subst (MayTouch store mode request) (sym e) (may_touch_log store mode request is touches))));
-      lock_file = inl (but (lock_path store) (apart (log_path store) (lock_path store) (lock_not_log store)));
-      locks = locks;
-    }
-
-    -- the log alone has changed, and no lock has
-    pub spares_but_log : SameBut (log_path store) old.files new.files → new.locked ≡ old.locked → Spares store (MayTouch store mode request) old new
-    spares_but_log but locks = spares_with but (λ path differs. ap (λ (locked : List ℕ → Bool). locked path) locks)
-
   -- no file has changed
   pub spares_same : (May : List ℕ → Type 0) → new.files ≡ old.files → ((path : List ℕ) → path ≢ lock_path store → new.locked path ≡ old.locked path) → Spares store May old new
   spares_same May same locks = record {
@@ -137,14 +85,6 @@ module _ (store : List ℕ) (old new : Disk) where
     locks = locks;
   }
 
-  -- the log may have been replaced
-  pub others_alone : ChangesLogAlone store old.files new.files → ((path : List ℕ) → path ≢ lock_path store → new.locked path ≡ old.locked path) → Spares store (IsOwn store) old new
-  others_alone rest locks = record {
-    files = λ path foreign. rest path (no_log store path foreign) (no_temp store path foreign);
-    lock_file = inl (rest (lock_path store) (lock_not_log store) (lock_not_temp store));
-    locks = locks;
-  }
-
 -- nothing has changed
 pub spares_still : (store : List ℕ) (May : List ℕ → Type 0) (disk : Disk) → Spares store May disk disk
 spares_still store May disk = record { files = λ path foreign. refl; lock_file = inl refl; locks = λ path differs. refl }
@@ -159,21 +99,6 @@ others_then store old mid new first second = record {
 -- an opening touches what is the store's
 pub opening_spares : (store : List ℕ) (mode : Mode) (opening : Opening) (old new : Disk) → mode ≡ closed → Spares store (IsOwn store) old new → Spares store (MayTouch store mode (open_store opening)) old new
 opening_spares store mode opening old new is spares = subst (λ m. Spares store (MayTouch store m (open_store opening)) old new) (sym is) spares
-
--- ---- the log alone
-
-pub alone_same : (store : List ℕ) (old files : Files) → files ≡ old → ChangesLogAlone store old files
-alone_same store old files is path log temp = ap (λ (f : Files). f path) is
-
-pub alone_then : (store : List ℕ) (old mid new : Files) → ChangesLogAlone store old mid → ChangesLogAlone store mid new → ChangesLogAlone store old new
-alone_then store old mid new first second path log temp = second path log temp ∙ first path log temp
-
-pub alone_log : (store log : List ℕ) (old files : Files) → log ≡ log_path store → SameBut log old files → ChangesLogAlone store old files
-alone_log store log old files is but path differs temp = but path (apart log path (λ e. differs (e ∙ is)))
-
--- on the way on which another file takes the log's place
-pub alone_replaced : (store temp log bytes : List ℕ) (old files : Files) → temp ≡ temp_path store → log ≡ log_path store → Replacing temp log bytes old files → ChangesLogAlone store old files
-alone_replaced store temp log bytes old files is_temp is_log way path not_log not_temp = way.others path (apart temp path (λ e. not_temp (e ∙ is_temp))) (apart log path (λ e. not_log (e ∙ is_log)))
 
 -- ---- bytes
 

@@ -6,6 +6,7 @@ use Rattle.std.proofs.Math.ListN.{get_or}
 use Rattle.std.proofs.lemmas.List.{map-append, take_more}
 use Rattle.std.proofs.lemmas.List.Elements.{All-nil, All-cons, All-append}
 use Rattle.leveldb_base.specs.declared.error.Status.{Status}
+use Rattle.leveldb_env.proofs.EnvLemmas.{begun}
 use Rattle.leveldb_env.specs.declared.env.Env.{Ghosts}
 use Rattle.leveldb_env.specs.Env.{Files, Disk, FilesCrashTo, Observed}
 use Rattle.rusty_leveldb.specs.declared.shell.commands.Command.{Command}
@@ -41,7 +42,7 @@ module _ {E F : Type 0} (C FP : Type 0) {B : Boxed} (env : Ghosts E F) (formats 
   -- these requests had these answers, each at its moment, from what the disk has on, and what engine and
   -- disk represent then
   abbrev pub LeadsAt : E → List Request → List Answer → List ℕ → Option (EngineOf E C FP F B) → E → State → Type 0
-  LeadsAt from requests answers moments engine to old = Runs store meaning (Recalls env formats store) env.models_moments
+  LeadsAt from requests answers moments engine to old = Runs store meaning (Recalls formats store meaning) env.models_moments
       (scene env None from) requests answers moments (scene env engine to) old
 
   -- the same, at some moments
@@ -179,8 +180,8 @@ by_inside false inner outer = outer refl
 
 module _ {E F C FP : Type 0} {B : Boxed} (env : Ghosts E F) (formats : OptionsOf C FP B → Format) (only_now : OnlyNow env) (store : List ℕ) (meaning : Meaning) (modelled : IsTrue env.models_disk) where
   -- nothing was asked yet
-  no_requests : (from : E) (engine : Option (EngineOf E C FP F B)) (old : State) → Represents store meaning (Recalls {C = C} {FP = FP} {B = B} env formats store) engine (env.observed from).disk old
-      → Runs store meaning (Recalls env formats store) env.models_moments (scene env engine from) [] [] [] (scene env engine from) old
+  no_requests : (from : E) (engine : Option (EngineOf E C FP F B)) (old : State) → Represents store meaning (Recalls {E = E} {C = C} {FP = FP} {F = F} {B = B} formats store meaning) engine (env.observed from).disk old
+      → Runs store meaning (Recalls formats store meaning) env.models_moments (scene env engine from) [] [] [] (scene env engine from) old
   no_requests from engine old is = record {
     events = [];
     asked = record { requests_are = refl; answers_are = refl; moments_are = refl };
@@ -211,8 +212,8 @@ module _ {E F C FP : Type 0} {B : Boxed} (env : Ghosts E F) (formats : OptionsOf
 
   -- one request more
   module _ (before : Option (EngineOf E C FP F B)) (from mid to : E) (requests : List Request) (answers : List Answer) (moments : List ℕ) (engine after : Option (EngineOf E C FP F B)) (request : Request) (answer : Answer) (old : State)
-      (led : Runs store meaning (Recalls env formats store) env.models_moments (scene env before from) requests answers moments (scene env engine mid) old) (answers_so : AnswersAs env formats store meaning engine mid request answer after to) where
-    goes : Goes store meaning (Recalls env formats store) (scene env engine mid) request answer (scene env after to) led.new
+      (led : Runs store meaning (Recalls formats store meaning) env.models_moments (scene env before from) requests answers moments (scene env engine mid) old) (answers_so : AnswersAs env formats store meaning engine mid request answer after to) where
+    goes : Goes store meaning (Recalls formats store meaning) (scene env engine mid) request answer (scene env after to) led.new
     goes = answers_so modelled led.new led.represents
 
     abbrev now : Event
@@ -325,7 +326,7 @@ module _ {E F C FP : Type 0} {B : Boxed} (env : Ghosts E F) (formats : OptionsOf
     from_first : (env.observed from).moment ≤ (env.observed to).moment
     from_first = let low = last_low (env.observed from).moment (env.observed from).moment led.events (omega arith) led.since in omega (arith, low, last_is, time)
 
-    pub next_one : Runs store meaning (Recalls env formats store) env.models_moments (scene env before from) (requests ++ request ∷ []) (answers ++ answer ∷ []) (moments ++ (env.observed to).moment ∷ []) (scene env after to) old
+    pub next_one : Runs store meaning (Recalls formats store meaning) env.models_moments (scene env before from) (requests ++ request ∷ []) (answers ++ answer ∷ []) (moments ++ (env.observed to).moment ∷ []) (scene env after to) old
     next_one = record {
       events = led.events ++ now ∷ [];
       asked = conversation_more requests answers moments led.events request answer (env.failures to) (env.observed to).moment led.asked;
@@ -349,20 +350,20 @@ module _ {E F C FP : Type 0} {B : Boxed} (env : Ghosts E F) (formats : OptionsOf
   one_more from mid to requests answers engine after request answer old led answers_so = (led.0 ++ (env.observed to).moment ∷ [], next_one None from mid to requests answers led.0 engine after request answer old led.1 (answers_so store meaning))
 
   pub first_at : (from to : E) (after : Option (EngineOf E C FP F B)) (request : Request) (answer : Answer) (old : State)
-      → Represents store meaning (Recalls {C = C} {FP = FP} {B = B} env formats store) None (env.observed from).disk old → AnswersAs env formats store meaning None from request answer after to
+      → Represents store meaning (Recalls {E = E} {C = C} {FP = FP} {F = F} {B = B} formats store meaning) None (env.observed from).disk old → AnswersAs env formats store meaning None from request answer after to
       → LeadsAt C FP env formats store meaning from (request ∷ []) (answer ∷ []) ((env.observed to).moment ∷ []) after to old
   first_at from to after request answer old is answers_so = next_one None from from to [] [] [] None after request answer old (no_requests from None old is) answers_so
 
   pub first_one : (from to : E) (after : Option (EngineOf E C FP F B)) (request : Request) (answer : Answer) (old : State)
-      → Represents store meaning (Recalls {C = C} {FP = FP} {B = B} env formats store) None (env.observed from).disk old → AnswersAs env formats store meaning None from request answer after to
+      → Represents store meaning (Recalls {E = E} {C = C} {FP = FP} {F = F} {B = B} formats store meaning) None (env.observed from).disk old → AnswersAs env formats store meaning None from request answer after to
       → Leads C FP env formats store meaning from (request ∷ []) (answer ∷ []) after to old
   first_one from to after request answer old is answers_so = ((env.observed to).moment ∷ [], first_at from to after request answer old is answers_so)
 
 -- the same of a command and its reply
-pub answered : {E F C FP : Type 0} {B : Boxed} {env : Ghosts E F} {formats : OptionsOf C FP B → Format} {before after : Option (EngineOf E C FP F B)} {from to : E}
+pub answered : {E F C FP : Type 0} {B : Boxed} (env : Ghosts E F) {formats : OptionsOf C FP B → Format} {before after : Option (EngineOf E C FP F B)} (from to : E)
     (command : Command) (request : Request) (reply : Reply) (answer : Answer) → request_of command ≡ request → answer_of reply ≡ answer
     → Answers env formats before from request answer after to → Answers env formats before from (request_of command) (answer_of reply) after to
-answered {env = env} {formats = formats} {before = before} {after = after} {from = from} {to = to} command request reply answer asks gives so =
+answered env {formats = formats} {before = before} {after = after} from to command request reply answer asks gives so =
     subst (λ r. Answers env formats before from r (answer_of reply) after to) (sym asks) (subst (λ a. Answers env formats before from request a after to) (sym gives) so)
 
 -- ---- commands
@@ -376,7 +377,7 @@ module _ {E F : Type 0} {B : Boxed} (C FP : Type 0) (env : Ghosts E F) (formats 
   -- so far the store was opened and these commands were given these replies, from every state that the disk stood for
   abbrev pub PlaysSoFar : E → Opening → List Command → List Reply → EngineOf E C FP F B → E → Type 0
   PlaysSoFar from wanted commands given engine to = IsTrue env.models_disk → (opening : Opening) → IsOpening store wanted opening
-      → (meaning : Meaning) → Agrees opening.format meaning → (old : State) → Represents store meaning (Recalls {C = C} {FP = FP} {B = B} env formats store) None (env.observed from).disk old
+      → (meaning : Meaning) → Agrees opening.format meaning → (old : State) → Represents store meaning (Recalls {E = E} {C = C} {FP = FP} {F = F} {B = B} formats store meaning) None (env.observed from).disk old
       → Leads C FP env formats store meaning from (open_store opening ∷ map request_of commands) (done ∷ map answer_of given) (Some engine) to old
 
   -- what an opening of the store answers
@@ -440,7 +441,7 @@ not_begun env store asked commands from given status none memory = record {
   plays = λ modelled opening is meaning agrees old represents. inr (none, inr (memory, refl));
   unopened = λ modelled never. (
     none,
-    record { untouched = λ barred. inl refl; lock = inl refl; others = spares_still store (IsOwn store) (env.observed from).disk },
+    record { lock = inl refl; files = begun (env.observed from) (inl refl); others = spares_still store (IsOwn store) (env.observed from).disk },
   );
   misnamed = λ no. (refl, none, tt);
 }

@@ -8,7 +8,7 @@ use Rattle.leveldb_base.specs.History.{Item, Entry, History, IsPrefixAtLeast, pl
 use Rattle.leveldb_store.specs.Format.{Meaning}
 use Rattle.rusty_leveldb.specs.State.{open_mode, State, IsState, Request, Answer}
 use Rattle.rusty_leveldb.specs.Causes.{Setting}
-use Rattle.rusty_leveldb.specs.Machine.{MayGrow, next_batch, Writes, Breaks, Step, Risk, risk_between, risk_of, Crashes}
+use Rattle.rusty_leveldb.specs.Machine.{MayGrow, added_batch, Writes, Breaks, Step, Risk, risk_between, risk_of, Crashes}
 use Rattle.rusty_leveldb.specs.Runs.{Event, setting_of, Run, CrashesIn, CrashBefore, last_moment, Ending, goes_on, crashes, Life, LifeLeads, Lives}
 use Rattle.rusty_leveldb.specs.Laws.{asked_by, items_of, batches_of, IsSubsequence, begun_by, begun_until, asked_in}
 use Rattle.rusty_leveldb.proofs.MachineLemmas.{Change, same, opens, stays, keeps, writes, covers, breaks, breaks_with, gives, releases, closes, abandons, change, none_pending, step_fits, crash_between_fits, crash_inside_fits, risk_opening, risk_cases}
@@ -121,14 +121,14 @@ module _ (part : History) (asked : List (List Item)) (old : State)
 
   wrote : (items : List Item) (sync : Bool) (new : State) → IsState new → old.mode ≡ open_mode
       → Writes old items sync new → Since part (asked ++ items ∷ []) new
-  wrote items sync new is m w = newer new (since.more ++ next_batch old items ∷ [])
+  wrote items sync new is m w = newer new (since.more ++ added_batch old items ∷ [])
       (old.last + 1) items is
       (ap (λ (s : State). s.history) w.state
-      ∙ ap (λ h. h ++ next_batch old items ∷ []) since.history
-      ∙ append_assoc part since.more (next_batch old items ∷ []))
+      ∙ ap (λ h. h ++ added_batch old items ∷ []) since.history
+      ∙ append_assoc part since.more (added_batch old items ∷ []))
       (durable w.durable)
-      (ap (λ p. with_batch (since.more ++ next_batch old items ∷ []) p) none_then
-      ∙ sym (ap (λ p. with_batch since.more p ++ next_batch old items ∷ []) none))
+      (ap (λ p. with_batch (since.more ++ added_batch old items ∷ []) p) none_then
+      ∙ sym (ap (λ p. with_batch since.more p ++ added_batch old items ∷ []) none))
     where
       none : old.pending ≡ None
       none = none_pending old since.is m
@@ -141,7 +141,7 @@ module _ (part : History) (asked : List (List Item)) (old : State)
       durable (inl may) = covers_part new.durable may
       durable (inr e) =
           let l = ap (λ (s : State). length s.history) w.state
-          ∙ length-append old.history (next_batch old items ∷ []) in
+          ∙ length-append old.history (added_batch old items ∷ []) in
           let f = part_fits in
           omega arith
 
@@ -205,11 +205,11 @@ module _ (part : History) (asked : List (List Item)) (old : State)
       let e = broke None new b in
       as_before new (asked_by request) is e.0 (e.1 ∙ sym (none_pending old since.is m)) e.2
   changes request new is (breaks_with items by m b) =
-      let e = broke (Some (next_batch old items)) new b in
+      let e = broke (Some (added_batch old items)) new b in
       subst (λ others. Since part (asked ++ others) new) (sym by)
       (newer new since.more (old.last + 1) items is (e.0 ∙ since.history) e.2
       (ap (λ p. with_batch since.more p) e.1
-      ∙ sym (ap (λ p. with_batch since.more p ++ next_batch old items ∷ [])
+      ∙ sym (ap (λ p. with_batch since.more p ++ added_batch old items ∷ [])
       (none_pending old since.is m))))
   changes request new is (gives one m g) =
       as_before new (asked_by request) is (ap (λ (s : State). s.history) g.state) (ap

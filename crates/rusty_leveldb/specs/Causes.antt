@@ -3,11 +3,12 @@ use Rattle.std.specs.Prelude.{◌≡◌, ◌≢◌, ◌<◌, ◌≤◌, ◌+◌,
 use Rattle.leveldb_base.specs.declared.error.StatusCode.{StatusCode}
 use Rattle.leveldb_base.specs.declared.error.StatusCode.TheVariants.{OutOfMemory, LockError, InvalidArgument, AlreadyExists, NotSupported, IOError}
 use Rattle.leveldb_base.specs.History.{Item}
+use Rattle.leveldb_base.specs.KeyTypes.{greatest_sequence}
 use Rattle.leveldb_mem.specs.WriteBatch.{batch_bytes, max_length}
 use Rattle.leveldb_version.specs.Contents.{Store, missing, made}
 use Rattle.leveldb_store.specs.Format.{Format, Meaning, HasCompressorError}
 use Rattle.leveldb_store.specs.Read.{LacksCompressor}
-use Rattle.rusty_leveldb.specs.OneLog.{max_sequence}
+use Rattle.leveldb_store.specs.Room.{HasFailed}
 use Rattle.rusty_leveldb.specs.State.{State, Opening, Snapshot, Refusal, Request, open_store, write, get, walk, get_snapshot, release_snapshot, compact_range, abandon, Move, seek, reset}
 
 -- a cause of a refusal, beside the mode of the store
@@ -29,10 +30,6 @@ pub record Setting : Type 0 where
   pub after : ℕ
   pub meaning : Meaning
 
--- between these counts of failed calls one was counted, or the count was at its greatest
-abbrev pub HasFailed : ℕ → ℕ → Type 0
-HasFailed before after = (before < after) ⊎ (before ≡ 2 ^ 64 - 1)
-
 -- ---- operands
 
 -- the batch of these items would be too long
@@ -48,11 +45,11 @@ abbrev pub IsNotHeld : State → Option Snapshot → Type 0
 IsNotHeld old None = ⊥
 IsNotHeld old (Some named) = Contains old.held named → ⊥
 
--- the store may not be opened so: it is missing and isn't to be made, or it has another comparator
+-- the store may not be opened so: it is missing and isn't to be made, or its comparator has another
+-- name
 abbrev pub Disagrees : Opening → Store → Type 0
 Disagrees opening missing = opening.create_if_missing ≡ false
-Disagrees opening (made None) = ⊥
-Disagrees opening (made (Some name)) = name ≢ opening.format.order_name
+Disagrees opening (made name) = name ≢ Some opening.format.order_name
 
 -- an operand, an option or a name is one that is refused
 abbrev pub Misfits : State → Request → Type 0
@@ -76,7 +73,7 @@ Exists old _ = ⊥
 
 -- after this last number there are none for so many entries, or not even one for an empty batch
 abbrev pub AreUsedUp : ℕ → ℕ → Type 0
-AreUsedUp last count = max_sequence < last + max 1 count
+AreUsedUp last count = greatest_sequence < last + max 1 count
 
 -- the state has no number left for the request, or the compressor that is asked for isn't set
 abbrev pub IsUsedUp : State → Request → Type 0
@@ -137,7 +134,7 @@ CompressorFails (Some format) code = HasCompressorError format code
 
 -- When a cause comes, and which code and text it has; damage is no cause, since the disk is whole.
 -- How much memory the entries take that are too large isn't in the state: the engine's clauses say
--- it (`IsFull`, `IsTooLarge`).
+-- it (`IsFull`, `FailsToPrepare`).
 abbrev pub Comes : Setting → State → Request → Refusal → Cause → Type 0
 Comes setting old request refusal out_of_memory =
     TakesMemory request × (refusal.code ≡ OutOfMemory) × (refusal.text ≡ [])

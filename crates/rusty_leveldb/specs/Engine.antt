@@ -1,91 +1,117 @@
--- What the engine of a store that is one log has in memory, what that has to do with the disk, and
--- what its calls answer.
-use Rattle.std.specs.Prelude.{◌≡◌, ◌≢◌, ◌≤◌, ◌%◌, ◌⊎◌, ◌↔◌, ℕ, Bool, true, false, List, [], ◌∷◌, ◌++◌, length, Option, Some, None, IsTrue, string_bytes, Contains, ◌&&◌, nat_le, ◌^◌, is_some}
+-- What an engine has in memory, what that has to do with the disk, and what its calls return.
+use Rattle.std.specs.Prelude.{◌≡◌, ◌≢◌, ◌⊎◌, ◌↔◌, ℕ, Bool, true, false, List, [], ◌∷◌, ◌++◌, length, Option, Some, None, IsTrue, string_bytes, ◌&&◌, ◌||◌, nat_le, ◌^◌, is_some}
 use Rattle.leveldb_base.specs.declared.cmp.Cmp.{Ghosts as CmpGhosts}
 use Rattle.leveldb_base.specs.declared.error.Status.{Status}
-use Rattle.leveldb_base.specs.declared.error.StatusCode.TheVariants.{InvalidArgument, AlreadyExists, NotSupported, Corruption, IOError, LockError}
-use Rattle.leveldb_base.specs.History.{Item, Entry, entries_of, greatest, SameView}
+use Rattle.leveldb_base.specs.declared.error.StatusCode.TheVariants.{InvalidArgument, NotSupported}
+use Rattle.leveldb_base.specs.Error.{IsOutOfMemory}
+use Rattle.leveldb_base.specs.History.{Item}
 use Rattle.leveldb_env.specs.declared.env.Env.{Ghosts}
 use Rattle.leveldb_env.specs.declared.filter.FilterPolicy.{Ghosts as FilterGhosts}
 use Rattle.leveldb_env.specs.declared.compressor.CompressorList.{CompressorList}
 use Rattle.leveldb_env.specs.Compressor.{Codings}
-use Rattle.leveldb_env.specs.Env.{File, Disk, bytes_of, AreBytes, Observed}
-use Rattle.leveldb_base.specs.Error.{IsOutOfMemory}
-use Rattle.leveldb_mem.specs.Log.{log_block_size, clean, IsLogFile}
-use Rattle.leveldb_mem.specs.Log.Writer.{WriterState, IsWriterBroken}
+use Rattle.leveldb_env.specs.Env.{Disk}
+use Rattle.leveldb_env.specs.Options.{Boxed, OptionsOf}
+use Rattle.leveldb_mem.specs.Log.Writer.{IsWriterBroken}
+use Rattle.leveldb_mem.specs.MemTable.{FailsToPrepare, IsUnion, Kept, bytes_in}
+use Rattle.leveldb_version.specs.Paths.{lock_path}
+use Rattle.leveldb_version.specs.Contents.{made}
+use Rattle.leveldb_version.specs.VersionSetValue.{ManifestState, broken}
+use Rattle.leveldb_store.specs.BuildTable.{TableChoices}
+use Rattle.leveldb_store.specs.Format.{Format, Meaning, format_of}
+use Rattle.leveldb_store.specs.OpenStore.{OpenStoreValue}
+use Rattle.leveldb_store.specs.Read.{IsUnreadable}
+use Rattle.leveldb_store.specs.Room.{AreEntriesNotTabled, IsFileLost, IsFull}
+use Rattle.leveldb_store.specs.Switch.{AreFileNumbersTooFew}
+use Rattle.leveldb_store.specs.Write.{IsLogLost}
+use Rattle.leveldb_store.specs.WriteBatch.{next_batch}
+use Rattle.leveldb_store.specs.Written.{IsWritten, Shows}
 use Rattle.rusty_leveldb.specs.declared.db_impl.engine.Mode.{Mode}
 use Rattle.rusty_leveldb.specs.declared.db_impl.engine.Mode.TheVariants.{Open, Broken, Closed}
-use Rattle.leveldb_version.specs.Paths.{lock_path}
-use Rattle.rusty_leveldb.specs.OneLog.{log_path, IsOneLog}
-use Rattle.rusty_leveldb.specs.Recent.{IsFull}
-use Rattle.rusty_leveldb.specs.Replay.{IsLargeLog}
-use Rattle.leveldb_store.specs.Format.{Format, Meaning, format_of}
 use Rattle.rusty_leveldb.specs.State as machine
-use Rattle.rusty_leveldb.specs.State.{State, Opening, Request, Answer, open_mode, closed}
-use Rattle.rusty_leveldb.specs.Causes.{AreUsedUp, IsLongKey, IsLongBatch}
-use Rattle.rusty_leveldb.specs.Serves.{Serves, Scene, IsUnreadable}
-use Rattle.leveldb_env.specs.Options.{Boxed, OptionsOf}
+use Rattle.rusty_leveldb.specs.State.{State, Opening, Request, Answer}
+use Rattle.rusty_leveldb.specs.Causes.{AreUsedUp, IsLongBatch, IsLongKey}
+use Rattle.rusty_leveldb.specs.Serves.{Serves, Scene}
 use Rattle.rusty_leveldb.specs.Boxes.{EngineOf}
 
--- the store is closed: every call but `abandon` is refused
-abbrev pub IsClosed : Mode → Type 0
-IsClosed mode = mode ≡ Closed
+-- ---- the mode
 
--- it broke, or the writer of its log did: every call that writes is refused
-abbrev pub HasBroken : Mode → WriterState → Type 0
-HasBroken mode writer = (mode ≡ Broken) ⊎ IsTrue writer.broken
+-- whether a call on the manifest failed
+abbrev pub is_manifest_broken : ManifestState → Bool
+is_manifest_broken broken = true
+is_manifest_broken state = false
 
--- it is closed, or it broke: every call that writes is refused
-abbrev pub IsClosedOrBroken : Mode → WriterState → Type 0
-IsClosedOrBroken mode writer = IsClosed mode ⊎ HasBroken mode writer
+-- whether a call on the store's manifest or log failed
+abbrev pub is_store_broken : {C : Type 0} → OpenStoreValue C → Bool
+is_store_broken value = is_manifest_broken value.set.manifest || value.log.writer.broken
 
--- the machine's mode
-abbrev pub mode_of : Mode → machine.Mode
-mode_of Open = machine.open_mode
-mode_of Broken = machine.broken
-mode_of Closed = machine.closed
+-- the mode of an engine that was closed or not, and whose store is broken or not
+abbrev pub mode_with : Mode → Bool → machine.Mode
+mode_with Open false = machine.open_mode
+mode_with Open true = machine.broken
+mode_with Broken b = machine.broken
+mode_with Closed b = machine.closed
 
-module _ {E C FP F : Type 0} {B : Boxed} (env : Ghosts E F) (store : List ℕ) where
-  -- the log ends cleanly, and the engine's writer stands at its end
-  pub record WritesOn (engine : EngineOf E C FP F B) (disk : Disk) : Type 0 where
-    pub file : File
-    pub there : disk.files (log_path store) ≡ Some file
-    pub since : AreBytes file.since
-    pub records : List (List ℕ)
-    pub ends : IsLogFile (bytes_of file) records clean
-    pub name : env.name_of engine.log ≡ log_path store
-    pub writer : engine.writer ≡ record {
-      size = log_block_size;
-      offset = length (bytes_of file) % log_block_size;
-      broken = false;
-    }
+-- the mode of an engine
+abbrev pub mode_in : {E C FP F : Type 0} {B : Boxed} → EngineOf E C FP F B → machine.Mode
+mode_in engine = mode_with engine.mode (is_store_broken engine.store)
 
-  -- memory shows what the history shows, from its end on, and no entry of it is past that end
-  pub record Remembers (engine : EngineOf E C FP F B) (state : State) : Type 0 where
-    pub last : engine.recent.last ≡ state.last
-    pub same : (t : ℕ) → greatest (entries_of state.history) ≤ t
-        → SameView engine.recent.kept.entries (entries_of state.history) t
-    pub up_to : (entry : Entry) → Contains engine.recent.kept.entries entry
-        → entry.sequence ≤ greatest (entries_of state.history)
+-- every call but `abandon` fails
+abbrev pub IsClosed : machine.Mode → Type 0
+IsClosed mode = mode ≡ machine.closed
 
-module _ {E C FP F : Type 0} {B : Boxed} (env : Ghosts E F) (formats : OptionsOf C FP B → Format)
-    (store : List ℕ) where
-  -- What the engine's memory has to do with the disk and the state. Where it isn't closed, its
-  -- options are those of the last opening, and its memtable has their comparator.
+-- every call that writes fails, since one before it did
+abbrev pub IsBroken : machine.Mode → Type 0
+IsBroken mode = mode ≡ machine.broken
+
+-- every call that writes fails
+abbrev pub IsClosedOrBroken : machine.Mode → Type 0
+IsClosedOrBroken mode = IsClosed mode ⊎ IsBroken mode
+
+-- ---- the options
+
+-- the options of an engine: those of its last opening, in the order of its store
+abbrev pub options_in : {E C FP F : Type 0} {B : Boxed} → EngineOf E C FP F B → OptionsOf C FP B
+options_in engine = record engine.options { cmp = engine.store.cmp }
+
+-- ---- the lock
+
+-- the lock of an engine is that of its store
+abbrev pub HasOwnLock : {E C FP F : Type 0} {B : Boxed} → EngineOf E C FP F B → Type 0
+HasOwnLock engine = string_bytes engine.lock ≡ lock_path engine.store.set.store
+
+-- whether an engine's lock is held
+abbrev pub holds_lock : {E C FP F : Type 0} {B : Boxed} → Ghosts E F → EngineOf E C FP F B → E
+    → Bool
+holds_lock env engine at = (env.observed at).disk.locked (string_bytes engine.lock)
+
+-- ---- memory and disk
+
+module _ {E C FP F : Type 0} {B : Boxed} (formats : OptionsOf C FP B → Format) (store : List ℕ)
+    (meaning : Meaning) where
+  -- What the engine's memory has to do with the disk and the state, where names and ids in the
+  -- files have this meaning. Where it isn't closed, its options are those of the last opening, and
+  -- memory and tables show the history; where it is open, the files are written with what is in
+  -- memory.
   pub record Recalls (engine : EngineOf E C FP F B) (disk : Disk) (state : State) : Type 0 where
-    pub mode : mode_of engine.mode ≡ state.mode
+    pub mode : mode_in engine ≡ state.mode
     pub lock : string_bytes engine.lock ≡ lock_path store
-    pub format : (state.mode ≡ closed → ⊥) → formats engine.options ≡ state.format
-    pub cmp : engine.recent.cmp ≡ engine.options.cmp
-    pub shows : (state.mode ≡ closed → ⊥) → Remembers env store engine state
-    pub writes : state.mode ≡ open_mode → WritesOn env store engine disk
+    pub path : engine.store.set.store ≡ store
+    pub format : (state.mode ≡ machine.closed → ⊥) → formats (options_in engine) ≡ state.format
+    pub named : (state.mode ≡ machine.closed → ⊥)
+        → state.store ≡ made (Some state.format.order_name)
+    pub last : (state.mode ≡ machine.closed → ⊥) → engine.store.set.last_sequence ≡ state.last
+    pub shows : (state.mode ≡ machine.closed → ⊥)
+        → Shows state.format.order meaning engine.store disk.files state.history
+    pub writes : state.mode ≡ machine.open_mode
+        → IsWritten state.format.order meaning engine.store disk.files
 
--- ---- what the calls answer
+-- ---- what the calls return
 
--- where the environment's disk is observed, its moment doesn't fall
-abbrev pub TimeGoesOn : {E F : Type 0} → Ghosts E F → E → E → Type 0
-TimeGoesOn env from to = IsTrue env.models_disk
-    → (env.observed from).moment ≤ (env.observed to).moment
+-- the formats of choices
+abbrev pub formats_of : {C FP D P : Type 0} {B : Boxed} {keys : CmpGhosts D}
+    {key_filters : FilterGhosts P} → (OptionsOf C FP B → TableChoices keys key_filters)
+    → OptionsOf C FP B → Format
+formats_of choices options = (choices options).format
 
 -- no engine of these options
 abbrev pub no_engine : {E C FP F : Type 0} {B : Boxed} → OptionsOf C FP B
@@ -108,7 +134,7 @@ module _ {E C FP F : Type 0} {B : Boxed} (env : Ghosts E F)
   abbrev pub AnswersAs : List ℕ → Meaning → Option (EngineOf E C FP F B) → E → Request → Answer
       → Option (EngineOf E C FP F B) → E → Type 0
   AnswersAs store meaning before from request answer after to = IsTrue env.models_disk
-      → Serves store meaning (Recalls env formats store) (scene env before from) request answer
+      → Serves store meaning (Recalls formats store meaning) (scene env before from) request answer
       (scene env after to)
 
   -- the same, whatever store engine and disk represent
@@ -122,61 +148,82 @@ module _ {E C FP F : Type 0} {B : Boxed} (env : Ghosts E F)
   AnswersStill engine request answer =
       (at : E) → Answers (Some engine) at request answer (Some engine) at
 
--- ---- why a call may be refused with no failure of the device
+-- ---- why a call may fail where the device didn't
 
 -- the store is closed
-abbrev pub RefusedAsClosed : Mode → Status → Type 0
+abbrev pub RefusedAsClosed : machine.Mode → Status → Type 0
 RefusedAsClosed mode e = IsClosed mode × (e.code ≡ InvalidArgument)
 
 -- the store broke earlier
-abbrev pub RefusedAsBroken : Mode → WriterState → Status → Type 0
-RefusedAsBroken mode writer e = HasBroken mode writer × IsWriterBroken e
+abbrev pub RefusedAsBroken : machine.Mode → Status → Type 0
+RefusedAsBroken mode e = IsBroken mode × IsWriterBroken e
 
--- one of the two, and of a closed store the first
-abbrev pub RefusedByMode : Mode → WriterState → Status → Type 0
-RefusedByMode mode writer e = (RefusedAsClosed mode e ⊎ RefusedAsBroken mode writer e)
-    × (e.code ≡ IOError → IsClosed mode → ⊥)
+-- one of the two
+abbrev pub RefusedByMode : machine.Mode → Status → Type 0
+RefusedByMode mode e = RefusedAsClosed mode e ⊎ RefusedAsBroken mode e
 
-module _ {E C FP F : Type 0} {B : Boxed} (env : Ghosts E F) where
-  -- a disk that is observed has lost the log, which is damage
-  abbrev pub IsLogLost : EngineOf E C FP F B → E → Status → Type 0
-  IsLogLost engine at e = (e.code ≡ Corruption) × IsTrue env.models_disk
-      × ((env.observed at).disk.files (env.name_of engine.log) ≡ None)
+-- a memtable without entries
+abbrev pub empty_memtable : Kept
+empty_memtable = record { entries = []; places = 0; bytes = 0 }
 
-  -- an append to the log or a sync of it: out of memory, or the log is lost, which isn't counted
-  abbrev pub LogExcused : EngineOf E C FP F B → E → E → Status → Type 0
-  LogExcused engine at now e = IsOutOfMemory e
-      ⊎ ((e.code ≡ Corruption) × IsTrue env.models_disk
-      × ((env.observed at).disk.files (env.name_of engine.log) ≡ None)
-      × (env.failures now ≡ env.failures at))
+-- `choices` says of options with which choices a table is built
+module _ {E C FP F D P : Type 0} {B : Boxed} {keys : CmpGhosts D} {key_filters : FilterGhosts P}
+    (env : Ghosts E F) (choices : OptionsOf C FP B → TableChoices keys key_filters)
+    (engine : EngineOf E C FP F B) (at : E) where
+  -- the choices of its options
+  abbrev choices_in : TableChoices keys key_filters
+  choices_in = choices (options_in engine)
 
   -- Why a write may fail where the device didn't: the store is closed or broken, the batch is too
-  -- long, no numbers are left, its entries are too many in memory, memory ran out, or the log is
-  -- lost.
-  abbrev pub WriteExcused : EngineOf E C FP F B → E → List Item → Status → Type 0
-  WriteExcused engine at items e = RefusedAsClosed engine.mode e
-      ⊎ RefusedAsBroken engine.mode engine.writer e
+  -- long, memory ran out, no numbers of entries are left, or the entries are too many in memory.
+  -- And where the memtable is full: the numbers of files are too few for two tables and a log; no
+  -- table is built of its entries, or of those that wait; or the batch is too large for an empty
+  -- one. Or a file is lost.
+  abbrev pub WriteExcused : List Item → Status → Type 0
+  WriteExcused items e = RefusedByMode (mode_in engine) e
       ⊎ ((e.code ≡ InvalidArgument) × IsLongBatch items)
-      ⊎ ((e.code ≡ NotSupported)
-      × (AreUsedUp engine.recent.last (length items) ⊎ IsFull engine.recent.kept items))
-      ⊎ IsOutOfMemory e ⊎ IsLogLost engine at e
+      ⊎ IsOutOfMemory e
+      ⊎ ((e.code ≡ NotSupported) × AreUsedUp engine.store.set.last_sequence (length items))
+      ⊎ FailsToPrepare engine.store.recent (length items) (bytes_in items) e
+      ⊎ (IsFull engine.options.write_buffer_size engine.store.recent
+      × (AreFileNumbersTooFew engine.store.set.next_file 3 e
+      ⊎ AreEntriesNotTabled choices_in (Some engine.store.recent) e
+      ⊎ AreEntriesNotTabled choices_in engine.store.waiting e
+      ⊎ FailsToPrepare empty_memtable (length items) (bytes_in items) e))
+      ⊎ IsFileLost env choices_in.format.order engine.store at choices_in.format e
 
-  -- why a flush may fail where the device didn't: the store is closed or broken, or the log
-  -- vanished
-  abbrev pub SyncExcused : EngineOf E C FP F B → E → E → Status → Type 0
-  SyncExcused engine at now e = RefusedAsClosed engine.mode e
-      ⊎ RefusedAsBroken engine.mode engine.writer e
-      ⊎ LogExcused engine at now e
+module _ {E C FP F : Type 0} {B : Boxed} (env : Ghosts E F)
+    (formats : OptionsOf C FP B → Format) (engine : EngineOf E C FP F B) (at : E) where
+  -- the format of its options
+  abbrev format_in : Format
+  format_in = formats (options_in engine)
 
-  -- as a sync, where nothing was counted: giving back the lock may be refused with the same code,
-  -- and that is counted
-  abbrev pub CloseExcused : EngineOf E C FP F B → E → E → Status → Type 0
-  CloseExcused engine at now e = SyncExcused engine at now e × (env.failures now ≡ env.failures at)
+  -- why a flush may fail where the device didn't: the store is closed or broken, memory ran out, or
+  -- the log is lost
+  abbrev pub SyncExcused : E → Status → Type 0
+  SyncExcused now e = RefusedByMode (mode_in engine) e ⊎ IsLogLost env engine.store at now e
 
--- why a look-up may fail: the store is closed, the key is too long, or memory ran out
-abbrev pub GetExcused : Mode → List ℕ → Status → Type 0
-GetExcused mode key e = RefusedAsClosed mode e ⊎ ((e.code ≡ InvalidArgument) × IsLongKey key)
-    ⊎ IsOutOfMemory e
+  -- as a sync, where nothing was counted: giving back the lock may fail with the same code, and
+  -- that is counted
+  abbrev pub CloseExcused : E → Status → Type 0
+  CloseExcused now e = SyncExcused now e × (env.failures now ≡ env.failures at)
+
+  -- why a look-up may fail: the store is closed, the key is too long, memory ran out, or a table
+  -- can't be read
+  abbrev pub GetExcused : List ℕ → Status → Type 0
+  GetExcused key e = RefusedAsClosed (mode_in engine) e
+      ⊎ ((e.code ≡ InvalidArgument) × IsLongKey key) ⊎ IsOutOfMemory e
+      ⊎ IsUnreadable env format_in.order format_in engine.store at e
+
+-- ---- room in memory
+
+-- The batch of these items was written into a memtable that had room: before it the memtable was
+-- empty, or took less memory than the options say.
+abbrev pub WritesIntoRoom : {E C FP F : Type 0} {B : Boxed} → EngineOf E C FP F B → List Item
+    → EngineOf E C FP F B → Type 0
+WritesIntoRoom before items after =
+    (kept : Kept) × (IsFull before.options.write_buffer_size kept → ⊥)
+    × IsUnion kept.entries (next_batch before.store items) after.store.recent.entries
 
 -- ---- opening
 
@@ -213,18 +260,3 @@ opening_of cmp filters codings options = record {
 pub record IsOpening (name : List ℕ) (asked opening : Opening) : Type 0 where
   pub same : opening ≡ record asked { fits = opening.fits }
   pub fits : IsTrue opening.fits ↔ (IsStoreName name × IsTrue asked.fits)
-
--- why an opening may be refused with no failure of the device: among others damage, where nothing
--- can be read of the files
-abbrev pub OpenExcused : Bool → List ℕ → Opening → Observed → Status → Type 0
-OpenExcused models_disk name asked told e = IsOutOfMemory e
-    ⊎ ((e.code ≡ InvalidArgument) × (IsStoreName name × IsTrue asked.fits → ⊥))
-    ⊎ ((e.code ≡ InvalidArgument) × (asked.create_if_missing ≡ false)
-    × (IsTrue models_disk → told.disk.files (log_path name) ≡ None))
-    ⊎ ((e.code ≡ LockError) × (IsTrue models_disk → told.disk.locked (lock_path name) ≡ true))
-    ⊎ ((e.code ≡ Corruption)
-    × (IsTrue models_disk → IsUnreadable (IsOneLog (log_path name)) told.disk.files))
-    ⊎ IsLargeLog models_disk (told.disk.files (log_path name)) e
-    ⊎ ((e.code ≡ NotSupported) × (asked.compresses ≡ false))
-    ⊎ ((e.code ≡ AlreadyExists) × IsTrue asked.error_if_exists
-    × (IsTrue models_disk → told.disk.files (log_path name) ≢ None))

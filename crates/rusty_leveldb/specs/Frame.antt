@@ -1,10 +1,11 @@
 -- What a call leaves alone: the files that a request may not touch, and all locks but the store's.
-use Rattle.std.specs.Prelude.{◌≡◌, ◌≢◌, ◌⊎◌, ℕ, Bool, List, Option}
+use Rattle.std.specs.Prelude.{◌≡◌, ◌≢◌, ◌⊎◌, ℕ, List, Option}
 use Rattle.std.specs.Option.{option_map}
 use Rattle.leveldb_base.specs.declared.types.FileType.{FileType}
-use Rattle.leveldb_base.specs.declared.types.FileType.TheVariants.{Log, Table, Descriptor, Temp, InfoLog}
+use Rattle.leveldb_base.specs.declared.types.FileType.TheVariants.{Log, InfoLog}
 use Rattle.leveldb_env.specs.Env.{File, Files, Disk, bytes_of, or_empty}
 use Rattle.leveldb_version.specs.Paths.{IsFilePath, lock_path}
+use Rattle.leveldb_store.specs.Written.{IsData}
 use Rattle.rusty_leveldb.specs.State.{Mode, open_mode, closed, Request, open_store, write, flush, compact_range, close}
 
 -- ---- the files that may be touched
@@ -13,14 +14,6 @@ use Rattle.rusty_leveldb.specs.State.{Mode, open_mode, closed, Request, open_sto
 abbrev pub IsOwned : FileType → Type 0
 IsOwned InfoLog = ⊥
 IsOwned kind = Unit {0}
-
--- those that change while a store is open
-abbrev pub IsData : FileType → Type 0
-IsData Log = Unit {0}
-IsData Table = Unit {0}
-IsData Descriptor = Unit {0}
-IsData Temp = Unit {0}
-IsData kind = ⊥
 
 -- a log
 abbrev pub IsLogType : FileType → Type 0
@@ -45,6 +38,11 @@ IsOwn store path = (kind : FileType) × IsOwned kind × IsFilePath kind store pa
 abbrev pub MayTouch : List ℕ → Mode → Request → List ℕ → Type 0
 MayTouch store mode request path =
     (kind : FileType) × Touches mode request kind × IsFilePath kind store path
+
+-- the same where the store's log has this path, of whatever number it is
+abbrev pub MayTouchOrLog : List ℕ → Mode → Request → List ℕ → List ℕ → Type 0
+MayTouchOrLog store mode request log path =
+    MayTouch store mode request path ⊎ (Touches mode request Log × (path ≡ log))
 
 -- ---- what stays
 

@@ -6,7 +6,8 @@ use Rattle.leveldb_env.specs.Env.{Files, Disk, FilesCrashTo, DiskCrashesTo, Sinc
 use Rattle.leveldb_version.specs.Paths.{lock_path}
 use Rattle.leveldb_version.specs.Contents.{Contents}
 use Rattle.leveldb_store.specs.Format.{Format, Meaning}
-use Rattle.rusty_leveldb.specs.OneLog.{log_path}
+use Rattle.leveldb_version.specs.Store.{HasNoStore, SameContents}
+use Rattle.leveldb_version.specs.StoreSteps.{AppendedAreBytes}
 use Rattle.leveldb_version.specs.Holds.{IsHonest, CarriesPrefix}
 use Rattle.rusty_leveldb.specs.State.{State, IsState, broken, closed, Opening, Request, open_store, write, get, flush, close, Answer, done, found, Refusal, refused}
 use Rattle.rusty_leveldb.specs.Causes.{Setting, Cause, IsLongKey, IsLongBatch, Comes, IsClosedRefusal, IsBrokenRefusal}
@@ -19,13 +20,15 @@ use Rattle.rusty_leveldb.specs.Serves.{Reads, StandsFor, IsSpared, AtEachMoment}
 -- files have one reading
 abbrev pub OneReading : Type 0
 OneReading = (store : List ℕ) (meaning : Meaning) (files : Files) (these those : Contents)
-    → Reads store meaning files these → Reads store meaning files those → these ≡ those
+    → Reads store meaning files these → Reads store meaning files those
+    → SameContents these those
 
--- where neither a log nor a lock is, a new store is represented
+-- where neither `CURRENT` nor a table nor a log is, and the lock isn't held, a new store is
+-- represented
 abbrev pub NothingStands : Type 0
 NothingStands = (store : List ℕ) (meaning : Meaning) (format : Format) (disk : Disk)
-    → disk.files (log_path store) ≡ None → disk.locked (lock_path store) ≡ false
-    → StandsFor store meaning disk (new_state format)
+    → HasNoStore store disk.files → AppendedAreBytes disk.files
+    → disk.locked (lock_path store) ≡ false → StandsFor store meaning disk (new_state format)
 
 -- an honest crash between two requests leaves a disk that represents a state of the crash row
 abbrev pub CrashBetween : Type 0

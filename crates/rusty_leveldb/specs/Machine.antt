@@ -5,8 +5,9 @@ use Rattle.std.specs.declared.cmp.Ordering.{Ordering}
 use Rattle.leveldb_base.specs.History.{Item, Entry, History, placed, entries_of, greatest, with_batch, count_of, IsPrefixAtLeast, IsValueAt, IsView}
 use Rattle.leveldb_base.specs.Types.{Pair, position_within, next_position, previous_position, seek_position, pair_at}
 use Rattle.leveldb_version.specs.Contents.{Store, missing, made}
+use Rattle.leveldb_store.specs.Room.{HasFailed}
 use Rattle.rusty_leveldb.specs.State.{Mode, open_mode, broken, closed, Snapshot, Opening, State, Move, seek_to_first, advance, prev, seek, reset, Request, open_store, write, get, walk, get_snapshot, release_snapshot, flush, compact_range, close, abandon, Refusal, Landing, stands_on, nowhere, move_refused, Answer, done, found, walked, snapshot, refused}
-use Rattle.rusty_leveldb.specs.Causes.{Setting, Cause, out_of_memory, device_failed, lock_is_held, bad_operand, store_exists, used_up, HasFailed, Fits, MoveMisfits, Comes, MoveComes, IsClosedRefusal, IsBrokenRefusal}
+use Rattle.rusty_leveldb.specs.Causes.{Setting, Cause, out_of_memory, device_failed, lock_is_held, bad_operand, store_exists, used_up, Fits, MoveMisfits, Comes, MoveComes, IsClosedRefusal, IsBrokenRefusal}
 
 -- ---- writing
 
@@ -20,13 +21,13 @@ pub record Keeps (old new : State) : Type 0 where
   pub durable : MayGrow old.durable old.history new.durable
 
 -- the batch that a write adds: it takes the next numbers
-abbrev pub next_batch : State → List Item → List Entry
-next_batch old items = placed (old.last + 1) items
+abbrev pub added_batch : State → List Item → List Entry
+added_batch old items = placed (old.last + 1) items
 
 -- the batch is the history's last, and all is durable if that was asked for
 pub record Writes (old : State) (items : List Item) (sync : Bool) (new : State) : Type 0 where
   pub state : new ≡ record old {
-    history = old.history ++ next_batch old items ∷ [];
+    history = old.history ++ added_batch old items ∷ [];
     last = old.last + length items;
     durable = new.durable;
   }
@@ -76,11 +77,10 @@ pub record Abandons (old : State) (locked : Bool) (new : State) : Type 0 where
 
 -- ---- opening
 
--- a store is there, and its comparator is the opening's if its files name one
+-- a store is there, and its comparator is the opening's
 abbrev pub IsStoreOf : Opening → Store → Type 0
 IsStoreOf opening missing = ⊥
-IsStoreOf opening (made None) = Unit {0}
-IsStoreOf opening (made (Some name)) = name ≡ opening.format.order_name
+IsStoreOf opening (made name) = name ≡ Some opening.format.order_name
 
 -- the store is as it was; or it was missing and is now one of the opening that is at work
 abbrev pub StaysOr : Option Opening → Store → Store → Type 0
@@ -236,7 +236,7 @@ abbrev pub LeavesRefused : Setting → State → Request → Refusal → Cause �
 LeavesRefused setting old (open_store opening) refusal cause new =
     StaysClosed setting old opening refusal cause new
 LeavesRefused setting old (write items sync) refusal cause new =
-    KeepsOrBreaks old cause (next_batch old items) new
+    KeepsOrBreaks old cause (added_batch old items) new
 LeavesRefused setting old flush refusal device_failed new = Breaks old None new
 LeavesRefused setting old flush refusal cause new =
     Keeps old new ⊎ (MayBreak cause × Breaks old None new)

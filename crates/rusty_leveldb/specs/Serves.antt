@@ -3,25 +3,36 @@
 --
 -- `store` is the store's path, `meaning` what names and ids in its files mean, and `Recalls memory
 -- disk state` what the engine's memory has to do with the files and the state.
-use Rattle.std.specs.Prelude.{◌≡◌, ◌≤◌, ◌⊎◌, ◌↔◌, ℕ, Bool, List, [], Option, Some, None, Result, Ok, Err, All, false, map, IsTrue}
+use Rattle.std.specs.Prelude.{◌≡◌, ◌≤◌, ◌↔◌, ℕ, Bool, List, Option, Some, None, Result, Ok, Err, All, false, map, IsTrue}
+use Rattle.std.specs.declared.cmp.Ordering.{Ordering}
+use Rattle.leveldb_base.specs.Cmp.{bytewise}
 use Rattle.leveldb_base.specs.declared.error.Status.{Status}
 use Rattle.leveldb_base.specs.Error.{text_of}
 use Rattle.leveldb_env.specs.Env.{Files, Disk, FilesCrashTo, Observed}
 use Rattle.leveldb_env.specs.Env as calls
 use Rattle.leveldb_version.specs.Paths.{lock_path}
-use Rattle.leveldb_version.specs.Contents.{Contents}
+use Rattle.leveldb_version.specs.Contents.{Contents, Store, made}
 use Rattle.leveldb_store.specs.Format.{Meaning, Agrees}
 use Rattle.rusty_leveldb.specs.Frame.{IsOwn, MayTouch, Spares, IsSyncing, SameBytes}
-use Rattle.rusty_leveldb.specs.OneLog.{IsOneLog, log_path}
 use Rattle.leveldb_version.specs.Holds.{IsHonest, IsSafe, Holds}
+use Rattle.leveldb_version.specs.Store.{IsStore}
+use Rattle.leveldb_version.specs.StoreSteps.{AppendedAreBytes}
+use Rattle.leveldb_store.specs.Written.{IsTableOf}
 use Rattle.rusty_leveldb.specs.State.{State, IsState, closed, Request, Refusal, Answer, done, found, refused}
 use Rattle.rusty_leveldb.specs.Causes.{Setting}
 use Rattle.rusty_leveldb.specs.Machine.{Step, StaysOr, Risk, risk_of}
 use Rattle.rusty_leveldb.specs.Runs.{Event, Run, last_moment, StopsAt}
 
--- how the store's files are read; one that is a log has no table, so whatever its names mean
+-- the order of users' keys in a store: that of the comparator that its files name
+abbrev pub order_of : Meaning → Store → List ℕ → List ℕ → Ordering
+order_of meaning (made (Some name)) = meaning.orders name
+order_of meaning there = bytewise
+
+-- how the store's files are read: as a manifest, tables and logs, in its comparator's order
 abbrev pub Reads : List ℕ → Meaning → Files → Contents → Type 0
-Reads store meaning = IsOneLog (log_path store)
+Reads store meaning files contents =
+    let cmp = order_of meaning contents.store in
+    IsStore store cmp (IsTableOf cmp meaning) files contents
 
 -- ---- results as answers
 
@@ -69,12 +80,6 @@ pub record IsConversation (requests : List Request) (answers : List Answer) (mom
   pub answers_are : map (λ event. event.answer) events ≡ answers
   pub moments_are : map (λ event. event.moment) events ≡ moments
 
--- ---- damage
-
--- nothing can be read of the files, so they represent no state
-abbrev pub IsUnreadable : (Files → Contents → Type 0) → Files → Type 0
-IsUnreadable reads files = (contents : Contents) → reads files contents → ⊥
-
 -- ---- crashes
 
 -- these were the files at a moment that has come, and an honest crash at that moment leaves this
@@ -97,12 +102,14 @@ pub record IsBetweenCalls (models_moments : Bool) (now : Observed) (moment : ℕ
 -- ---- the engine's clauses
 
 module _ (store : List ℕ) (meaning : Meaning) where
-  -- The disk represents a state: it holds the state's store and history, and the lock is as said. A
-  -- store that is open says of names and ids what they mean.
+  -- The disk represents a state: it holds the state's store and history, what was appended to each
+  -- file are bytes, and the lock is as said. A store that is open says of names and ids what they
+  -- mean.
   pub record StandsFor (disk : Disk) (state : State) : Type 0 where
     pub is_state : IsState state
     pub holds : Holds store (Reads store meaning) (λ now. now ≡ state.store) disk.files
         state.history state.last state.durable state.pending
+    pub bytes : AppendedAreBytes disk.files
     pub locked : disk.locked (lock_path store) ≡ state.locked
     pub agrees : (state.mode ≡ closed → ⊥) → Agrees state.format meaning
 

@@ -1,5 +1,5 @@
 -- Commands and replies as requests and answers, and what a run of commands is.
-use Rattle.std.specs.Prelude.{◌≡◌, ◌⊎◌, ℕ, Bool, false, List, [], ◌∷◌, ◌++◌, map, Some, None, Result, OnOk, IsErrAnd, IsTrue}
+use Rattle.std.specs.Prelude.{◌≡◌, ◌⊎◌, ℕ, false, List, [], ◌∷◌, ◌++◌, map, Some, None, Result, OnOk, IsErrAnd, IsTrue}
 use Rattle.leveldb_base.specs.declared.error.Status.{Status}
 use Rattle.leveldb_base.specs.History as history
 use Rattle.leveldb_env.specs.declared.env.Env.{Ghosts}
@@ -15,7 +15,8 @@ use Rattle.leveldb_store.specs.Format.{Meaning, Agrees}
 use Rattle.rusty_leveldb.specs.State.{State, Opening, Request, open_store, write, get, flush, close, abandon, Answer, done, found, refused}
 use Rattle.rusty_leveldb.specs.Serves.{Represents, Runs, recalls_nothing, refusal_of, done_or}
 use Rattle.rusty_leveldb.specs.Engine.{scene, IsOpening, IsStoreName}
-use Rattle.rusty_leveldb.specs.Recovery.{NeverOpens, StaysUnopened}
+use Rattle.rusty_leveldb.specs.Frame.{IsOwn, Spares}
+use Rattle.rusty_leveldb.specs.Unopened.{IsLockGivenBack, IsNotKeptUnder, MakesLockAlone, NeverOpens}
 
 -- the change that an item asks for
 abbrev pub change_of : Item → history.Item
@@ -40,12 +41,14 @@ answer_of (reply.Refused status) = refused (refusal_of status)
 
 -- ---- runs
 
--- the run failed, and leaves what an opening leaves that fails
-abbrev pub IsUnopened : {E F : Type 0} → Ghosts E F → List ℕ → Opening → E
-    → Result (Unit {0}) Status → E → Type 0
-IsUnopened env name asked from ended to = IsErrAnd ended
-    (StaysUnopened name asked (env.observed from) (env.observed to) (env.failures from)
-    (env.failures to))
+-- the run failed, since the store isn't one that is opened
+pub record IsUnopened {E F : Type 0} (env : Ghosts E F) (store : List ℕ) (asked : Opening)
+    (from : E) (ended : Result (Unit {0}) Status) (to : E) : Type 0 where
+  pub lock : IsErrAnd ended
+      (IsLockGivenBack env store asked from (IsNotKeptUnder asked.format) to)
+  pub files : MakesLockAlone store (env.observed from) (env.observed to)
+  -- what isn't the store's stays as it is
+  pub others : Spares store (IsOwn store) (env.observed from).disk (env.observed to).disk
 
 module _ {E F : Type 0} (env : Ghosts E F) (store : List ℕ) where
   -- What a run of commands is, by its result, with the replies that it gave. The store was opened,
@@ -72,8 +75,8 @@ module _ {E F : Type 0} (env : Ghosts E F) (store : List ℕ) where
         → (meaning : Meaning) → Agrees opening.format meaning → (old : State)
         → Represents store meaning recalls_nothing None (env.observed from).disk old
         → Plays meaning from opening commands given ended to old
-    -- a store that is damaged or locked isn't opened, nor is a missing one that isn't to be made,
-    -- or one that is there and must not be
+    -- a store that is locked isn't opened, nor one without `CURRENT` or usable edits, nor a missing
+    -- one that isn't to be made, or one that is there and must not be
     pub unopened : IsTrue env.models_disk
         → NeverOpens store asked (env.observed from).disk
         → (given ≡ []) × IsUnopened env store asked from ended to

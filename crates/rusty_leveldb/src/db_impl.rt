@@ -1,13 +1,11 @@
-//! The store of one log: an engine, and `DB`, which is an engine beside a borrow of its
-//! environment.
+//! The store: an engine, and `DB`, which is an engine beside a borrow of its environment.
 
 mod close;
 mod engine;
+mod info_log;
 mod names;
 mod open;
 mod read;
-mod recent;
-mod replay;
 mod store;
 mod write;
 

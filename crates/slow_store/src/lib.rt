@@ -3,7 +3,9 @@
 #![tactic(auto)]
 
 mod files;
+mod levels;
 mod set;
 mod table;
 
 pub use files::{Contents, read_store};
+pub use levels::{compaction_inputs, files_with_key, has_overlap, new_table_level};

@@ -14,6 +14,7 @@ use rusty_leveldb::db_impl::Engine;
 use std::alloc::Global;
 use std::process::Abort;
 
+/// The first log.
 const LOG: &str = "db/000003.log";
 
 type Change = (&'static [u8], Option<&'static [u8]>);
@@ -115,13 +116,14 @@ fn write_all(rt: &impl Abort, alloc: Global, env: &mut MemEnv, steps: &[Step]) -
     engine.abandon(env)
 }
 
-/// The log of a store whose one batch begins at this number.
+/// Makes a store whose one batch begins at this number.
 fn put_log(
     alloc: Global,
     env: &mut MemEnv,
     first: SequenceNumber,
     changes: &[Change],
 ) -> Result<()> {
+    Engine::open(alloc, "db", env, Options::default())?.abandon(env)?;
     let mut batch = batch_of(alloc, changes)?;
     batch.set_sequence(first);
     let mut writer = LogWriter::new(alloc, Vec::new(alloc));

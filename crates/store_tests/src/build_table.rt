@@ -1,6 +1,7 @@
 //! Tables made of memtables: the calls that they take, what they hold, and what is left where one fails.
 ghost use Rattle.std.specs.Prelude.{◌≡◌, true};
 
+use crate::stores::failed_with;
 use leveldb_base::cmp::DefaultCmp;
 use leveldb_base::error::{Result, Status, StatusCode, err};
 use leveldb_base::key_types::ValueType;
@@ -17,7 +18,6 @@ use leveldb_table::table_reader::Table;
 use rusty_leveldb::db_impl::build_memtable;
 use std::alloc::Global;
 use std::process::Abort;
-use std::test::Fail;
 
 const PATH: &str = "db/000005.ldb";
 
@@ -45,8 +45,8 @@ fn one_entry(alloc: Global) -> Result<MemTable<DefaultCmp>> {
 
 fn seven_entries(alloc: Global) -> Result<MemTable<DefaultCmp>> {
     let mut memtable = MemTable::new(alloc, DefaultCmp);
-    for (sequence, kind, key, value) in ENTRIES {
-        memtable.add(sequence, kind, key, value)?;
+    for (sequence, kind, key, value) in &ENTRIES {
+        memtable.add(*sequence, *kind, key, value)?;
     }
     Ok(memtable)
 }
@@ -89,23 +89,44 @@ fn is_table_of(
     Ok(!found.valid() && !wanted.valid())
 }
 
+/// Builds a table by three calls, asserts that it has the memtable's pairs from its first key to its last, and returns its size.
+fn build_whole(
+    rt: &impl Abort,
+    alloc: Global,
+    env: &mut RecordEnv,
+    options: &Options<DefaultCmp, BloomPolicy>,
+    memtable: &MemTable<DefaultCmp>,
+    keys: (&[u8], &[u8]),
+) -> Result<usize> {
+    let end = env.moment().saturating_add(6);
+    let file = build(alloc, env, options, memtable)?;
+    assert!(rt; env.moment() == end && file.num == 5);
+    assert!(rt; file.smallest.as_slice() == keys.0 && file.largest.as_slice() == keys.1);
+    assert!(rt; is_table_of(alloc, env, options, file.size, memtable)?);
+    Ok(file.size)
+}
+
 /// One entry is one table of 177 bytes, made by three calls.
 #[test]
-fn one_entry_takes_three_calls(rt: HostRuntime) -> std::result::Result<(), Fail> {
+fn one_entry_takes_three_calls(rt: HostRuntime) -> Result<()> {
     let alloc = rt.alloc();
     let options = Options::default();
     let mut env = RecordEnv::new(alloc);
-    let memtable = one_entry(alloc)?;
-    let file = build(alloc, &mut env, &options, &memtable)?;
-    assert!(rt; env.moment() == 6 && file.num == 5 && file.size == 177);
-    assert!(rt; file.smallest.as_slice() == ONE && file.largest.as_slice() == ONE);
+    let size = build_whole(
+        &rt,
+        alloc,
+        &mut env,
+        &options,
+        &one_entry(alloc)?,
+        (ONE, ONE),
+    )?;
+    assert!(rt; size == 177);
     assert!(rt; read_file(alloc, &mut env, PATH)?.len() == 177);
-    assert!(rt; is_table_of(alloc, &mut env, &options, file.size, &memtable)?);
     Ok(())
 }
 
 #[test]
-fn no_entry_takes_no_call(rt: HostRuntime) -> std::result::Result<(), Fail> {
+fn no_entry_takes_no_call(rt: HostRuntime) -> Result<()> {
     let alloc = rt.alloc();
     let mut env = RecordEnv::new(alloc);
     let memtable = MemTable::new(alloc, DefaultCmp);
@@ -116,37 +137,54 @@ fn no_entry_takes_no_call(rt: HostRuntime) -> std::result::Result<(), Fail> {
     Ok(())
 }
 
+/// The first and the last key of seven entries.
+const SEVEN: (&[u8], &[u8]) = (b"\x01\x04\0\0\0\0\0\0", b"\xff\xff\x01\x06\0\0\0\0\0\0");
+
 /// A table of several blocks has all entries, deletions among them, and replaces what was there.
 #[test]
-fn all_entries_are_found(rt: HostRuntime) -> std::result::Result<(), Fail> {
+fn all_entries_are_found(rt: HostRuntime) -> Result<()> {
     let alloc = rt.alloc();
     let options = small_blocks();
     let mut env = RecordEnv::new(alloc);
-    build(alloc, &mut env, &options, &one_entry(alloc)?)?;
-    let memtable = seven_entries(alloc)?;
-    let file = build(alloc, &mut env, &options, &memtable)?;
-    assert!(rt; env.moment() == 12);
-    assert!(rt; file.smallest.as_slice() == b"\x01\x04\0\0\0\0\0\0".as_slice());
-    assert!(rt; file.largest.as_slice() == b"\xff\xff\x01\x06\0\0\0\0\0\0".as_slice());
-    assert!(rt; is_table_of(alloc, &mut env, &options, file.size, &memtable)?);
+    build_whole(
+        &rt,
+        alloc,
+        &mut env,
+        &options,
+        &one_entry(alloc)?,
+        (ONE, ONE),
+    )?;
+    build_whole(
+        &rt,
+        alloc,
+        &mut env,
+        &options,
+        &seven_entries(alloc)?,
+        SEVEN,
+    )?;
     Ok(())
 }
 
-/// A crash after it returned leaves the whole table, whatever is lost that wasn't synced.
-#[test]
-fn a_crash_leaves_the_table(rt: HostRuntime) -> std::result::Result<(), Fail> {
-    let alloc = rt.alloc();
-    let options = small_blocks();
-    let mut env = RecordEnv::new(alloc);
-    let memtable = seven_entries(alloc)?;
-    let file = build(alloc, &mut env, &options, &memtable)?;
-    assert!(rt; env.tails(alloc, env.moment(), false)?.is_empty());
+/// The disk that a crash leaves of what is durable.
+fn durable_disk(alloc: Global, env: &RecordEnv) -> Result<RecordEnv> {
     let nothing = Pick {
         tails: Vec::new(alloc),
         after: false,
     };
-    let mut left = env.disk_at(alloc, env.moment(), &nothing)?;
-    assert!(rt; is_table_of(alloc, &mut left, &options, file.size, &memtable)?);
+    env.disk_at(alloc, env.moment(), &nothing)
+}
+
+/// A crash after it returned leaves the whole table, whatever is lost that wasn't synced.
+#[test]
+fn a_crash_leaves_the_table(rt: HostRuntime) -> Result<()> {
+    let alloc = rt.alloc();
+    let options = small_blocks();
+    let mut env = RecordEnv::new(alloc);
+    let memtable = seven_entries(alloc)?;
+    let size = build_whole(&rt, alloc, &mut env, &options, &memtable, SEVEN)?;
+    assert!(rt; env.tails(alloc, env.moment(), false)?.is_empty());
+    let mut left = durable_disk(alloc, &env)?;
+    assert!(rt; is_table_of(alloc, &mut left, &options, size, &memtable)?);
     Ok(())
 }
 
@@ -160,36 +198,39 @@ fn with_log(alloc: Global) -> Result<RecordEnv> {
 
 /// Whether a name in the store's folder is the table's or the log's.
 fn has_no_other(alloc: Global, env: &mut RecordEnv) -> Result<bool> {
-    let names = env.children(alloc, "db")?;
-    Ok(names.iter().all(|name| name.as_str() == "000005.ldb" || name.as_str() == "000003.log"))
+    for name in &env.children(alloc, "db")? {
+        if name.as_str() != "000005.ldb" && name.as_str() != "000003.log" {
+            return Ok(false);
+        }
+    }
+    Ok(true)
 }
 
-/// The nth call fails: the error is the device's, and at most the table's file has changed.
-fn fail_at(rt: &impl Abort, alloc: Global, nth: u64, done: bool) -> Result<()> {
-    let options = small_blocks();
+fn has_log(alloc: Global, env: &mut RecordEnv) -> Result<bool> {
+    Ok(read_file(alloc, env, BESIDE)?.as_slice() == b"log".as_slice())
+}
+
+/// Whether the nth call's failure is the device's, after which no call is made, and at most the table's file has changed.
+fn fails_at(alloc: Global, nth: u64, done: bool) -> Result<bool> {
     let mut env = with_log(alloc)?;
     let before = env.moment();
     env.fail(nth, done);
-    let Err(status) = build(alloc, &mut env, &options, &seven_entries(alloc)?) else {
-        return err(alloc, StatusCode::Unknown, "no failure was reported");
-    };
-    if status.code == StatusCode::OutOfMemory {
-        return Err(status);
+    let built = build(alloc, &mut env, &small_blocks(), &seven_entries(alloc)?);
+    if !failed_with(built, StatusCode::IOError)? {
+        return Ok(false);
     }
-    assert!(rt; status.code == StatusCode::IOError, "call {nth}, {done}");
     let moment = before.saturating_add(nth).saturating_add(nth);
-    assert!(rt; env.moment() == moment, "call {nth}, {done}");
-    assert!(rt; has_no_other(alloc, &mut env)?, "call {nth}, {done}");
-    let log = read_file(alloc, &mut env, BESIDE)?;
-    assert!(rt; log.as_slice() == b"log".as_slice(), "call {nth}, {done}");
-    Ok(())
+    Ok(env.moment() == moment && has_no_other(alloc, &mut env)? && has_log(alloc, &mut env)?)
 }
 
 #[test]
-fn each_failure_leaves_only_the_file(rt: HostRuntime) -> std::result::Result<(), Fail> {
+fn each_failure_leaves_only_the_file(rt: HostRuntime) -> Result<()> {
     for nth in 1..=3 {
-        fail_at(&rt, rt.alloc(), nth, false)?;
-        fail_at(&rt, rt.alloc(), nth, true)?;
+        assert!(rt; fails_at(rt.alloc(), nth, false)?, "call {nth}");
+        assert!(rt;
+            fails_at(rt.alloc(), nth, true)?,
+            "call {nth}, with its change"
+        );
     }
     Ok(())
 }
@@ -214,7 +255,7 @@ impl Compressor for Refusing {
 
 /// Where the compressor fails, or none is set under the id, no call is made.
 #[test]
-fn a_compressor_fails_before_any_call(rt: HostRuntime) -> std::result::Result<(), Fail> {
+fn a_compressor_fails_before_any_call(rt: HostRuntime) -> Result<()> {
     let alloc = rt.alloc();
     let mut env = RecordEnv::new(alloc);
     let memtable = one_entry(alloc)?;
@@ -227,15 +268,4 @@ fn a_compressor_fails_before_any_call(rt: HostRuntime) -> std::result::Result<()
     let refused = build(alloc, &mut env, &options, &memtable);
     assert!(rt; failed_with(refused, StatusCode::CompressionError)? && env.moment() == 0);
     Ok(())
-}
-
-/// Whether a call failed with this code. Out of memory is passed on.
-fn failed_with(answer: Result<FileMetaData>, code: StatusCode) -> Result<bool> {
-    let Err(status) = answer else {
-        return Ok(false);
-    };
-    if status.code == StatusCode::OutOfMemory {
-        return Err(status);
-    }
-    Ok(status.code == code)
 }

@@ -1,15 +1,62 @@
 //! Crashes of a recording device: which tails they leave, and what is then found and allowed.
-use crate::replies::{is_map, look_ups};
+use crate::replies::{is_any_map, is_map, look_ups};
 use crate::steps::{Call, Step, commands_of, crash_inside, judge};
-use leveldb_base::error::Result;
+use leveldb_base::cmp::DefaultCmp;
+use leveldb_base::error::{Result, Status, StatusCode};
+use leveldb_env::env::Env;
+use leveldb_env::env::whole_files::read_file;
+use leveldb_env::filter::BloomPolicy;
 use leveldb_env::mem_env::{Pick, RecordEnv};
 use leveldb_env::options::Options;
 use rusty_leveldb::shell::{Reply, Report, live, run};
 use slow_history::BorrowedPair;
 use slow_machine::SlowStore;
-use std::alloc::Global;
+use std::alloc::{AllocError, Global};
+use std::process::Abort;
 
-const LOG: &str = "db/000003.log";
+/// What a store is opened with that differs from the defaults.
+#[derive(Clone, Copy)]
+pub struct Setting {
+    pub write_buffer_size: usize,
+    /// Whether the last log and the manifest are used on.
+    pub reuses: bool,
+}
+
+/// The defaults: a store of these tests has one log then.
+pub const DEFAULTS: Setting = Setting {
+    write_buffer_size: 4 << 20,
+    reuses: true,
+};
+
+pub fn options_of(setting: Setting) -> Options<DefaultCmp, BloomPolicy> {
+    let mut options = Options::default();
+    options.write_buffer_size = setting.write_buffer_size;
+    options.reuse_logs = setting.reuses;
+    options.reuse_manifest = setting.reuses;
+    options
+}
+
+/// Lives of one store, one after another, and what it is opened with.
+#[derive(Clone, Copy)]
+pub struct Script {
+    pub setting: Setting,
+    pub lives: &'static [&'static [Step]],
+}
+
+/// The device and the calls of a script that was run.
+#[derive(Drop)]
+pub struct Recorded {
+    pub setting: Setting,
+    pub env: RecordEnv,
+    pub calls: Vec<Call>,
+}
+
+/// A moment, and whether a name change in flight is made.
+#[derive(Clone, Copy, Debug)]
+pub struct Side {
+    pub moment: u64,
+    pub after: bool,
+}
 
 /// What a crash leaves of the bytes that aren't durable.
 #[derive(Clone, Copy, Debug)]
@@ -18,8 +65,10 @@ pub enum Tails {
     Whole,
     /// Of each file all but the last byte.
     WithoutLast,
-    /// All, but the last byte of the log is one higher.
-    WrongLogByte,
+    /// All, but the last byte of each log is one higher.
+    WrongLogBytes,
+    /// All, but the last byte of each file is one higher.
+    WrongBytes,
 }
 
 fn raise_last(bytes: &mut Vec<u8>) {
@@ -32,38 +81,89 @@ fn change_tails(tails: &mut Vec<(String, Vec<u8>)>, kind: Tails) {
     for (name, bytes) in tails.iter_mut() {
         match kind {
             Tails::WithoutLast => drop(bytes.pop()),
-            Tails::WrongLogByte if name.as_str() == LOG => raise_last(bytes),
+            Tails::WrongLogBytes if name.as_str().ends_with(".log") => raise_last(bytes),
+            Tails::WrongBytes => raise_last(bytes),
             _ => {}
         }
     }
 }
 
-/// The disk that a crash leaves at this moment, before or after a name change in flight.
-pub fn crash(
-    alloc: Global,
-    env: &RecordEnv,
-    moment: u64,
-    after: bool,
-    kind: Tails,
-) -> Result<RecordEnv> {
-    let mut tails = env.tails(alloc, moment, after)?;
+/// The disk that a crash leaves.
+pub fn crash(alloc: Global, env: &RecordEnv, side: Side, kind: Tails) -> Result<RecordEnv> {
+    let after = side.after;
+    let mut tails = env.tails(alloc, side.moment, after)?;
     match kind {
         Tails::Nothing => tails.clear(),
         _ => change_tails(&mut tails, kind),
     }
-    env.disk_at(alloc, moment, &Pick { tails, after })
+    env.disk_at(alloc, side.moment, &Pick { tails, after })
+}
+
+/// The sides of a moment: a name change may be in flight inside a call alone.
+pub fn sides_of(alloc: Global, moment: u64) -> Result<Vec<Side>> {
+    let mut sides = Vec::new(alloc);
+    sides.push(Side {
+        moment,
+        after: false,
+    })?;
+    if moment % 2 == 1 {
+        sides.push(Side {
+            moment,
+            after: true,
+        })?;
+    }
+    Ok(sides)
+}
+
+fn add_file(alloc: Global, env: &mut RecordEnv, name: &str, all: &mut Vec<u8>) -> Result<()> {
+    let path = format!(in alloc; "db/{name}")?;
+    let bytes = read_file(alloc, env, &path)?;
+    let head = format!(in alloc; "{name} {} ", bytes.len())?;
+    all.extend_from_slice(head.as_bytes())?;
+    all.extend_from_slice(&bytes)?;
+    Ok(())
+}
+
+/// All names of the store's folder, each with its file's bytes.
+pub fn bytes_on(alloc: Global, env: &mut RecordEnv) -> Result<Vec<u8>> {
+    let mut all = Vec::new(alloc);
+    for name in &env.children(alloc, "db")? {
+        add_file(alloc, env, name, &mut all)?;
+    }
+    Ok(all)
+}
+
+/// Out of memory, if the reply is that.
+fn check_memory(reply: &Reply) -> Result<()> {
+    match reply {
+        Reply::Refused(status) if status.code == StatusCode::OutOfMemory => {
+            Err(Status::from(AllocError))
+        }
+        _ => Ok(()),
+    }
+}
+
+/// Out of memory, if a call was.
+pub fn pass_on_memory(recorded: &Recorded) -> Result<()> {
+    for call in &recorded.calls {
+        check_memory(&call.reply)?;
+    }
+    Ok(())
 }
 
 /// What a store replies to a look-up of each key, which is opened for that.
-pub fn find_all(alloc: Global, env: &mut RecordEnv) -> Result<Vec<Reply>> {
+pub fn find_all(alloc: Global, env: &mut RecordEnv, setting: Setting) -> Result<Vec<Reply>> {
     let mut replies = Vec::new(alloc);
     run(
         env,
         "db",
-        Options::default(),
+        options_of(setting),
         &look_ups(alloc)?,
         &mut replies,
     )?;
+    for reply in &replies {
+        check_memory(reply)?;
+    }
     Ok(replies)
 }
 
@@ -72,6 +172,15 @@ fn reply_to_open(opened: Result<()>) -> Reply {
         Ok(()) => Reply::Done,
         Err(status) => Reply::Refused(status),
     }
+}
+
+fn add_call(calls: &mut Vec<Call>, step: Step, reply: Reply, moment: u64) -> Result<()> {
+    calls.push(Call {
+        step,
+        reply,
+        moment,
+    })?;
+    Ok(())
 }
 
 /// The calls of a life that began and ended at these moments. Its first reply shows when its opening returned.
@@ -87,51 +196,42 @@ pub fn add_calls(
         Some(first) => start.saturating_add(first.0),
         None => end,
     };
-    calls.push(Call {
-        step: Step::Open,
-        reply: reply_to_open(opened),
-        moment: returned,
-    })?;
+    add_call(calls, Step::Open, reply_to_open(opened), returned)?;
     for (step, (moment, reply)) in steps.iter().zip(replies) {
-        let moment = start.saturating_add(moment);
-        calls.push(Call {
-            step: *step,
-            reply,
-            moment,
-        })?;
+        add_call(calls, *step, reply, start.saturating_add(moment))?;
     }
-    calls.push(Call {
-        step: Step::Abandon,
-        reply: Reply::Done,
-        moment: end,
-    })?;
-    Ok(())
+    add_call(calls, Step::Abandon, Reply::Done, end)
 }
 
-fn record_life(
-    alloc: Global,
-    env: &mut RecordEnv,
-    steps: &[Step],
-    calls: &mut Vec<Call>,
-) -> Result<()> {
-    let start = env.moment();
+fn record_life(alloc: Global, recorded: &mut Recorded, steps: &[Step]) -> Result<()> {
+    let start = recorded.env.moment();
     let report = live(
         alloc,
-        env,
+        &mut recorded.env,
         "db",
-        Options::default(),
+        options_of(recorded.setting),
         &commands_of(alloc, steps)?,
     )?;
-    add_calls(calls, report, start, env.moment(), steps)
+    let end = recorded.env.moment();
+    add_calls(&mut recorded.calls, report, start, end, steps)
 }
 
-/// The calls of these lives, one after another on this device.
-pub fn record(alloc: Global, env: &mut RecordEnv, lives: &[&[Step]]) -> Result<Vec<Call>> {
-    let mut calls = Vec::new(alloc);
-    for steps in lives {
-        record_life(alloc, env, steps, &mut calls)?;
+/// Runs a script on this device.
+pub fn record_on(alloc: Global, env: RecordEnv, script: Script) -> Result<Recorded> {
+    let mut recorded = Recorded {
+        setting: script.setting,
+        env,
+        calls: Vec::new(alloc),
+    };
+    for steps in script.lives {
+        record_life(alloc, &mut recorded, steps)?;
     }
-    Ok(calls)
+    Ok(recorded)
+}
+
+/// Runs a script on an empty device.
+pub fn record(alloc: Global, script: Script) -> Result<Recorded> {
+    record_on(alloc, RecordEnv::new(alloc), script)
 }
 
 /// The slow store after these calls.
@@ -161,7 +261,7 @@ pub fn judge_crash(alloc: Global, calls: &[Call], moment: u64) -> Result<SlowSto
 }
 
 /// How many crashes there were where the slow store allows more than one map, and how many of them left the shortest history and the longest.
-#[derive(Debug, Drop)]
+#[derive(Clone, Copy, Debug)]
 pub struct Tally {
     pub open: usize,
     pub shortest: usize,
@@ -188,6 +288,11 @@ impl Tally {
                 .longest
                 .saturating_add(usize::from(is_map(last, found)));
         }
-        maps.iter().any(|map| is_map(map, found))
+        is_any_map(maps, found)
     }
+}
+
+/// Asserts what is to be so of the crashes that were counted.
+pub fn assert_tally(rt: &impl Abort, tally: Tally, is_right: bool) {
+    assert!(rt; is_right, "{tally:?}");
 }

@@ -1,6 +1,6 @@
 //! A store in memory after each of a dozen batches, and a crash that leaves each prefix of its log's unsynced bytes, or all of them with
 //! the last byte changed: the map that is found is that of a prefix of the batches with all durable ones, and the store goes on from there.
-use crate::replies::{bytes_of, is_map, is_same, look_ups};
+use crate::replies::{are_same, bytes_of, is_any_map, look_ups};
 use leveldb_base::cmp::DefaultCmp;
 use leveldb_base::error::Result;
 use rusty_leveldb::env::Env;
@@ -12,8 +12,8 @@ use slow_history::BorrowedPair;
 use slow_machine::{Item as SlowItem, SlowStore};
 use std::alloc::Global;
 use std::process::Abort;
-use std::test::Fail;
 
+/// The first log.
 const LOG: &str = "db/000003.log";
 
 /// A batch: whether it is synced, and its keys, each with a byte and how often its value has it, or deleted.
@@ -39,14 +39,18 @@ fn value_of(alloc: Global, value: (u8, usize)) -> Result<Vec<u8>> {
     Ok(vec![in alloc; value.0; value.1]?)
 }
 
+fn item_of(alloc: Global, key: &str, value: Option<(u8, usize)>) -> Result<Item> {
+    let key = bytes_of(alloc, key)?;
+    Ok(match value {
+        Some(value) => Item::Put(key, value_of(alloc, value)?),
+        None => Item::Delete(key),
+    })
+}
+
 fn command_of(alloc: Global, batch: &Batch) -> Result<Command> {
     let mut items = Vec::new(alloc);
     for (key, value) in batch.1 {
-        let key = bytes_of(alloc, key)?;
-        items.push(match value {
-            Some(value) => Item::Put(key, value_of(alloc, *value)?),
-            None => Item::Delete(key),
-        })?;
+        items.push(item_of(alloc, key, *value)?)?;
     }
     Ok(Command::Write {
         sync: batch.0,
@@ -54,17 +58,19 @@ fn command_of(alloc: Global, batch: &Batch) -> Result<Command> {
     })
 }
 
+fn slow_item(alloc: Global, key: &str, value: Option<(u8, usize)>) -> Result<SlowItem> {
+    let value = match value {
+        Some(value) => Some(value_of(alloc, value)?),
+        None => None,
+    };
+    let key = bytes_of(alloc, key)?;
+    Ok(SlowItem { key, value })
+}
+
 fn slow_items(alloc: Global, batch: &Batch) -> Result<Vec<SlowItem>> {
     let mut items = Vec::new(alloc);
     for (key, value) in batch.1 {
-        let value = match value {
-            Some(value) => Some(value_of(alloc, *value)?),
-            None => None,
-        };
-        items.push(SlowItem {
-            key: bytes_of(alloc, key)?,
-            value,
-        })?;
+        items.push(slow_item(alloc, key, *value)?)?;
     }
     Ok(items)
 }
@@ -117,16 +123,11 @@ fn pick(alloc: Global, tail: &[u8]) -> Result<Pick> {
 
 /// Whether the later replies are the earlier ones, but for the last key, which now has this value.
 fn has_only_changed_last(before: &[Reply], after: &[Reply], value: &[u8]) -> bool {
-    let Some((last, others)) = after.split_last() else {
+    let (Some((_, before)), Some((last, after))) = (before.split_last(), after.split_last()) else {
         return false;
     };
-    let are_same = before
-        .iter()
-        .zip(others)
-        .all(|(before, after)| is_same(before, after));
-    are_same
-        && before.len() == after.len()
-        && matches!(last, Reply::Value(found) if found.as_slice() == value)
+    let is_changed = matches!(last, Reply::Value(found) if found.as_slice() == value);
+    is_changed && are_same(before, after)
 }
 
 /// Gives the store one synced batch, in which the last key has a new value, and returns whether it was written.
@@ -136,6 +137,18 @@ fn write_last(alloc: Global, env: &mut MemEnv) -> Result<bool> {
     let mut replies = Vec::new(alloc);
     run(env, "db", Options::default(), &commands, &mut replies)?;
     Ok(matches!(&replies[..], [Reply::Done]))
+}
+
+/// Whether the store takes a synced batch, which alone is found to be new after a crash.
+fn goes_on(alloc: Global, env: &mut MemEnv, found: &[Reply]) -> Result<bool> {
+    let is_written = write_last(alloc, env)?;
+    let none = Pick {
+        tails: Vec::new(alloc),
+        after: false,
+    };
+    let mut left = env.crashed(alloc, &none)?;
+    let later = look_up_all(alloc, &mut left)?;
+    Ok(is_written && has_only_changed_last(found, &later, b"xxx"))
 }
 
 /// After a crash with this tail an allowed map is found, and then the store takes a synced batch, which is found after a second crash.
@@ -148,16 +161,9 @@ fn crash_and_go_on(
 ) -> Result<()> {
     let mut left = env.crashed(alloc, &pick(alloc, tail)?)?;
     let found = look_up_all(alloc, &mut left)?;
+    assert!(rt; is_any_map(maps, &found), "a tail of {}", tail.len());
     assert!(rt;
-        maps.iter().any(|map| is_map(map, &found)),
-        "a tail of {}",
-        tail.len()
-    );
-    assert!(rt; write_last(alloc, &mut left)?);
-    let mut again = left.crashed(alloc, &pick(alloc, b"")?)?;
-    let later = look_up_all(alloc, &mut again)?;
-    assert!(rt;
-        has_only_changed_last(&found, &later, b"xxx"),
+        goes_on(alloc, &mut left, &found)?,
         "after a tail of {}",
         tail.len()
     );
@@ -194,19 +200,25 @@ fn crash_with_a_wrong_byte(
     Ok(())
 }
 
-fn crash_after(rt: &impl Abort, alloc: Global, batches: &[Batch]) -> Result<()> {
-    let mut env = written(alloc, batches)?;
-    let slow = allowed(alloc, batches)?;
-    let maps = slow.maps(&DefaultCmp)?;
-    let bytes = read_file(alloc, &mut env, LOG)?;
+/// The bytes of the log that aren't durable.
+fn unsynced_in(rt: &impl Abort, alloc: Global, env: &mut MemEnv) -> Result<Vec<u8>> {
+    let bytes = read_file(alloc, env, LOG)?;
     let kept = env.crashed(alloc, &pick(alloc, b"")?)?.size_of(LOG)?;
     assert!(rt; kept <= bytes.len());
-    crash_with_each_tail(rt, alloc, &env, &bytes[kept..], &maps)?;
-    crash_with_a_wrong_byte(rt, alloc, &env, &bytes[kept..], &maps)
+    Ok(Vec::from_slice(alloc, &bytes[kept..])?)
+}
+
+fn crash_after(rt: &impl Abort, alloc: Global, batches: &[Batch]) -> Result<()> {
+    let mut env = written(alloc, batches)?;
+    let unsynced = unsynced_in(rt, alloc, &mut env)?;
+    let slow = allowed(alloc, batches)?;
+    let maps = slow.maps(&DefaultCmp)?;
+    crash_with_each_tail(rt, alloc, &env, &unsynced, &maps)?;
+    crash_with_a_wrong_byte(rt, alloc, &env, &unsynced, &maps)
 }
 
 #[test]
-fn each_crash_keeps_a_prefix(rt: HostRuntime) -> std::result::Result<(), Fail> {
+fn each_crash_keeps_a_prefix(rt: HostRuntime) -> Result<()> {
     for count in 0..=BATCHES.len() {
         crash_after(&rt, rt.alloc(), &BATCHES[..count])?;
     }

@@ -10,6 +10,7 @@ use rusty_leveldb::db_impl::{DB, Engine, Store};
 use std::alloc::Global;
 use std::process::Abort;
 
+/// The first log.
 const LOG: &str = "db/000003.log";
 
 type Opened<'a, E> = DB<'a, E, DefaultCmp, BloomPolicy>;
@@ -49,6 +50,14 @@ fn pair(alloc: Global, key: &[u8], value: &[u8]) -> Result<WriteBatch> {
     Ok(batch)
 }
 
+/// Of no file a tail.
+fn no_tail(alloc: Global) -> Pick {
+    Pick {
+        tails: Vec::new(alloc),
+        after: false,
+    }
+}
+
 /// Of the log this tail.
 fn pick(alloc: Global, tail: &[u8]) -> Result<Pick> {
     let mut tails = Vec::new(alloc);
@@ -80,29 +89,86 @@ fn found_again<E: Env>(alloc: Global, env: &mut E) -> Result<[u8; 4]> {
     Ok(found)
 }
 
-fn write_and_close<E: Env>(rt: &impl Abort, alloc: Global, db: &mut Opened<'_, E>) -> Result<()> {
-    db.put(b"a", b"1")?;
-    db.put(b"b", b"2")?;
-    db.delete(b"a")?;
-    db.write(pair(alloc, b"c", b"3")?, true)?;
-    db.flush()?;
-    assert!(rt; bytes_in(db)? == *b"-23-");
-    db.close()
+/// A call of a store, or what it is to show.
+#[derive(Clone, Copy)]
+enum Act {
+    Put(&'static [u8], &'static [u8]),
+    Delete(&'static [u8]),
+    /// Writes a synced batch of one pair.
+    Write(&'static [u8], &'static [u8]),
+    Get(&'static [u8]),
+    Flush,
+    Close,
+    /// The bytes of the keys a, b, c and d are these.
+    Shows(&'static [u8; 4]),
 }
 
-fn assert_closed<E: Env>(rt: &impl Abort, db: &mut Opened<'_, E>) {
-    assert!(rt; failed_with(db.close(), StatusCode::InvalidArgument));
-    assert!(rt; failed_with(db.put(b"d", b"4"), StatusCode::InvalidArgument));
-    assert!(rt; failed_with(db.get(b"b"), StatusCode::InvalidArgument));
+/// An act, and the code that it returns.
+type Row = (Act, StatusCode);
+
+/// Whether this is the answer's code. Out of memory is passed on.
+fn has_code(answer: Result<()>, code: StatusCode) -> Result<bool> {
+    match answer {
+        Ok(()) => Ok(code == StatusCode::OK),
+        Err(status) if status.code == StatusCode::OutOfMemory => Err(status),
+        Err(status) => Ok(status.code == code),
+    }
 }
+
+fn call<E: Env>(alloc: Global, db: &mut Opened<'_, E>, act: Act) -> Result<()> {
+    match act {
+        Act::Put(key, value) => db.put(key, value),
+        Act::Delete(key) => db.delete(key),
+        Act::Write(key, value) => db.write(pair(alloc, key, value)?, true),
+        Act::Get(key) => {
+            db.get(key)?;
+            Ok(())
+        }
+        Act::Flush => db.flush(),
+        Act::Close => db.close(),
+        Act::Shows(_) => Ok(()),
+    }
+}
+
+fn is_right<E: Env>(alloc: Global, db: &mut Opened<'_, E>, row: &Row) -> Result<bool> {
+    match row.0 {
+        Act::Shows(wanted) => Ok(bytes_in(db)? == *wanted),
+        act => has_code(call(alloc, db, act), row.1),
+    }
+}
+
+/// Calls and asks all this, one after another.
+fn play<E: Env>(
+    rt: &impl Abort,
+    alloc: Global,
+    db: &mut Opened<'_, E>,
+    rows: &[Row],
+) -> Result<()> {
+    for (at, row) in rows.iter().enumerate() {
+        assert!(rt; is_right(alloc, db, row)?, "row {at}");
+    }
+    Ok(())
+}
+
+const EACH_CALL: &[Row] = &[
+    (Act::Put(b"a", b"1"), StatusCode::OK),
+    (Act::Put(b"b", b"2"), StatusCode::OK),
+    (Act::Delete(b"a"), StatusCode::OK),
+    (Act::Write(b"c", b"3"), StatusCode::OK),
+    (Act::Flush, StatusCode::OK),
+    (Act::Shows(b"-23-"), StatusCode::OK),
+    (Act::Close, StatusCode::OK),
+    (Act::Close, StatusCode::InvalidArgument),
+    (Act::Put(b"d", b"4"), StatusCode::InvalidArgument),
+    (Act::Get(b"b"), StatusCode::InvalidArgument),
+];
 
 #[test]
 fn each_call_once(rt: HostRuntime) -> Result<()> {
     let alloc = rt.alloc();
     let mut env = MemEnv::new(alloc);
     let mut db = open(alloc, &mut env)?;
-    write_and_close(&rt, alloc, &mut db)?;
-    assert_closed(&rt, &mut db);
+    play(&rt, alloc, &mut db, EACH_CALL)?;
     db.abandon()?;
     assert!(rt; found_again(alloc, &mut env)? == *b"-23-");
     Ok(())
@@ -134,13 +200,14 @@ fn openings_are_refused(rt: HostRuntime) -> Result<()> {
     Ok(())
 }
 
-fn assert_broken<E: Env>(rt: &impl Abort, db: &mut Opened<'_, E>) -> Result<()> {
-    assert!(rt; failed_with(db.put(b"c", b"3"), StatusCode::IOError));
-    assert!(rt; failed_with(db.flush(), StatusCode::IOError));
-    assert!(rt; failed_with(db.close(), StatusCode::IOError));
-    assert!(rt; bytes_in(db)? == *b"1---");
-    Ok(())
-}
+/// The append of b fails: the store is broken, and keeps its map until it is opened again.
+const BROKEN: &[Row] = &[
+    (Act::Put(b"b", b"2"), StatusCode::IOError),
+    (Act::Put(b"c", b"3"), StatusCode::IOError),
+    (Act::Flush, StatusCode::IOError),
+    (Act::Close, StatusCode::IOError),
+    (Act::Shows(b"1---"), StatusCode::OK),
+];
 
 /// An engine that was opened on a device whose nth call from now on fails, with its change made or not.
 fn open_to_fail(
@@ -158,12 +225,10 @@ fn abandon<E: Env>(db: Opened<'_, E>) -> Result<()> {
     db.abandon()
 }
 
-/// The append of b fails: the store is broken, and keeps its map until it is opened again.
 fn fail_an_append(rt: &impl Abort, alloc: Global, env: &mut RecordEnv, done: bool) -> Result<()> {
     let engine = open_to_fail(alloc, env, 1, done)?;
     let mut db = Store::around(env, engine);
-    assert!(rt; failed_with(db.put(b"b", b"2"), StatusCode::IOError));
-    assert_broken(rt, &mut db)?;
+    play(rt, alloc, &mut db, BROKEN)?;
     abandon(db)
 }
 
@@ -210,7 +275,7 @@ fn a_failed_close_breaks_the_store(rt: HostRuntime) -> Result<()> {
 fn crash_and_go_on(alloc: Global, env: &MemEnv, tail: &[u8]) -> Result<([u8; 4], [u8; 4])> {
     let mut left = env.crashed(alloc, &pick(alloc, tail)?)?;
     let found = write_after_a_crash(alloc, &mut left)?;
-    let mut later = left.crashed(alloc, &pick(alloc, b"")?)?;
+    let mut later = left.crashed(alloc, &no_tail(alloc))?;
     Ok((found, found_again(alloc, &mut later)?))
 }
 
@@ -232,20 +297,25 @@ fn after_three_records(alloc: Global) -> Result<MemEnv> {
     Ok(env)
 }
 
-/// A crash leaves none of the third record, or all of it, or with its last byte raised, which its checksum shows.
-#[test]
-fn crashes_keep_a_prefix(rt: HostRuntime) -> Result<()> {
-    let alloc = rt.alloc();
-    let mut env = after_three_records(alloc)?;
+/// The third record, whose last byte is the value.
+fn third_record(rt: &impl Abort, alloc: Global, env: &mut MemEnv) -> Result<[u8; 24]> {
     assert!(rt; env.size_of(LOG)? == 72);
-    assert!(rt; env.crashed(alloc, &pick(alloc, b"")?)?.size_of(LOG)? == 48);
+    assert!(rt; env.crashed(alloc, &no_tail(alloc))?.size_of(LOG)? == 48);
     let mut file = env.open_random_access_file(LOG)?;
     let mut tail = [0; 24];
     assert!(rt; env.read_at(&mut file, 48, &mut tail)? == 24);
-    assert!(rt; tail[23] == 0x33);
-    assert!(rt; crash_and_go_on(alloc, &env, b"")? == (*b"12--", *b"12-4"));
-    assert!(rt; crash_and_go_on(alloc, &env, &tail)? == (*b"123-", *b"1234"));
-    tail[23] = 0x34;
-    assert!(rt; crash_and_go_on(alloc, &env, &tail)? == (*b"12--", *b"12-4"));
+    assert!(rt; tail[23] == b'3');
+    Ok(tail)
+}
+
+/// A crash leaves none of the third record, or all of it, or with its last byte raised, which its checksum shows.
+#[test]
+fn crashes_keep_a_prefix(rt: HostRuntime) -> Result<()> {
+    let mut env = after_three_records(rt.alloc())?;
+    let mut tail = third_record(&rt, rt.alloc(), &mut env)?;
+    assert!(rt; crash_and_go_on(rt.alloc(), &env, b"")? == (*b"12--", *b"12-4"));
+    assert!(rt; crash_and_go_on(rt.alloc(), &env, &tail)? == (*b"123-", *b"1234"));
+    tail[23] = b'4';
+    assert!(rt; crash_and_go_on(rt.alloc(), &env, &tail)? == (*b"12--", *b"12-4"));
     Ok(())
 }

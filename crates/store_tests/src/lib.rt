@@ -2,6 +2,8 @@
 #![tactic(auto)]
 
 #[cfg(test)]
+mod acts;
+#[cfg(test)]
 mod batches;
 #[cfg(test)]
 mod build_table;
@@ -16,12 +18,26 @@ mod example;
 #[cfg(test)]
 mod lives;
 #[cfg(test)]
+mod memory;
+#[cfg(test)]
+mod openings;
+#[cfg(test)]
 mod program;
 #[cfg(test)]
+mod refusals;
+#[cfg(test)]
 mod replies;
+#[cfg(test)]
+mod rooms;
 #[cfg(test)]
 mod rows;
 #[cfg(test)]
 mod steps;
 #[cfg(test)]
+mod stores;
+#[cfg(test)]
+mod sweep;
+#[cfg(test)]
 mod sweeps;
+#[cfg(test)]
+mod switches;

@@ -1,7 +1,8 @@
 //! Lives of a store with a crash after each, reported by `lives`.
-use crate::crash_disks::{Tally, add_calls, judge_crash};
+use crate::crash_disks::{Tally, add_calls, assert_tally, judge_crash};
 use crate::replies::{bytes_of, look_ups};
 use crate::steps::{Call, Step, commands_of};
+use crate::stores::{failed_with, failed_with as has_failed};
 use leveldb_base::cmp::DefaultCmp;
 use leveldb_base::error::{Result, StatusCode};
 use leveldb_env::filter::BloomPolicy;
@@ -10,7 +11,6 @@ use leveldb_env::options::Options;
 use rusty_leveldb::shell::{Command, Life, Reply, Report, lives};
 use std::alloc::Global;
 use std::process::Abort;
-use std::test::Fail;
 
 /// It begins with a look-up, whose reply shows when the opening returned.
 const STEPS: [Step; 8] = [
@@ -88,20 +88,28 @@ fn last_moment(alloc: Global) -> Result<u64> {
     Ok(last.map_or(0, |reply| reply.0))
 }
 
-/// Where a batch may be lost, it is, but at the two moments of the close that come after its sync.
-#[test]
-fn a_crash_at_each_moment(rt: HostRuntime) -> std::result::Result<(), Fail> {
+/// Crashes at each moment of the life of all steps.
+fn crash_at_each(rt: &impl Abort, alloc: Global) -> Result<Tally> {
     let mut tally = Tally::new();
-    for moment in 0..=last_moment(rt.alloc())? {
-        let reports = crash_and_look(rt.alloc(), moment)?;
+    for moment in 0..=last_moment(alloc)? {
+        let reports = crash_and_look(alloc, moment)?;
         assert!(rt;
-            is_allowed(rt.alloc(), reports, moment, &mut tally)?,
+            is_allowed(alloc, reports, moment, &mut tally)?,
             "at {moment}"
         );
     }
-    assert!(rt;
-        tally.open > 5 && tally.open.saturating_sub(tally.shortest) == 2 && tally.longest == 2,
-        "{tally:?}"
+    Ok(tally)
+}
+
+/// Where a batch may be lost, it is, but at the two moments of the close that come after its sync.
+#[test]
+fn a_crash_at_each_moment(rt: HostRuntime) -> Result<()> {
+    let tally = crash_at_each(&rt, rt.alloc())?;
+    let kept = tally.open.saturating_sub(tally.shortest);
+    assert_tally(
+        &rt,
+        tally,
+        tally.open > 5 && kept == 2 && tally.longest == 2,
     );
     Ok(())
 }
@@ -111,8 +119,8 @@ fn a_crash_at_each_moment(rt: HostRuntime) -> std::result::Result<(), Fail> {
 fn a_moment_to_come(rt: HostRuntime) -> Result<()> {
     let last = last_moment(rt.alloc())?;
     assert!(rt; crash_and_look(rt.alloc(), last).is_ok());
-    let refusal = crash_and_look(rt.alloc(), last.saturating_add(1)).map(drop);
-    assert!(rt; matches!(&refusal, Err(status) if status.code == StatusCode::InvalidArgument));
+    let later = crash_and_look(rt.alloc(), last.saturating_add(1));
+    assert!(rt; failed_with(later, StatusCode::InvalidArgument)?);
     Ok(())
 }
 
@@ -124,7 +132,7 @@ const FAILING: [Step; 4] = [
     Step::Put("c", "3"),
 ];
 
-fn failed_with(reply: &Reply, wanted: StatusCode) -> bool {
+fn is_refusal(reply: &Reply, wanted: StatusCode) -> bool {
     matches!(reply, Reply::Refused(status) if status.code == wanted)
 }
 
@@ -147,7 +155,7 @@ fn fail_and_look(alloc: Global, moment: u64, nth: u64) -> Result<Vec<Report>> {
 fn are_of_a_failed_sync(replies: &[Reply]) -> bool {
     match replies {
         [Reply::Done, write, Reply::Nothing, put] => {
-            failed_with(write, StatusCode::IOError) && failed_with(put, StatusCode::IOError)
+            is_refusal(write, StatusCode::IOError) && is_refusal(put, StatusCode::IOError)
         }
         _ => false,
     }
@@ -162,10 +170,19 @@ fn is_all_lost(alloc: Global, mut reports: Vec<Report>) -> Result<bool> {
     Ok(are_of_a_failed_sync(&first) && matches!(second.as_slice(), [Reply::Nothing]))
 }
 
-/// The ninth call of the device is the sync: six open the store, two are the appends.
+/// The number of the sync's call: those before it open the store, and two are appends.
+fn sync_call(alloc: Global) -> Result<u64> {
+    let mut all = Vec::new(alloc);
+    all.push(life(alloc, commands_of(alloc, &FAILING)?, None, None))?;
+    let reports = lives(alloc, "db", all)?;
+    let first = reports.first().and_then(|report| report.replies.first());
+    Ok(first.map_or(0, |reply| (reply.0 / 2).saturating_add(2)))
+}
+
 #[test]
 fn a_failed_sync_and_a_crash(rt: HostRuntime) -> Result<()> {
-    let reports = fail_and_look(rt.alloc(), 18, 9)?;
+    let nth = sync_call(rt.alloc())?;
+    let reports = fail_and_look(rt.alloc(), nth.saturating_mul(2), nth)?;
     assert!(rt; is_all_lost(rt.alloc(), reports)?);
     Ok(())
 }

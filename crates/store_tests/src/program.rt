@@ -99,11 +99,28 @@ impl Write for Narrow {
 }
 
 /// What the program did: its status, and what it wrote to its output and of an error.
-#[derive(Debug, Drop, PartialEq)]
+#[derive(Drop)]
 struct Ending {
     status: u8,
     out: Vec<u8>,
     err: Vec<u8>,
+}
+
+/// Runs the program with these arguments, this input and this output, and returns its status and what it wrote of an error.
+fn run_into<R: Read, W: Write>(
+    alloc: Global,
+    env: &mut MemEnv,
+    words: &[&str],
+    input: &mut R,
+    out: &mut W,
+) -> io::Result<(u8, Vec<u8>)> {
+    let mut args = Vec::new(alloc);
+    for word in words {
+        args.push(String::from_str(alloc, word)?)?;
+    }
+    let mut err = Vec::new(alloc);
+    let status = ldb_main(alloc, env, &args, input, out, &mut err);
+    Ok((status, err))
 }
 
 /// Runs the program with these arguments and this input.
@@ -113,13 +130,8 @@ fn run_program<R: Read>(
     words: &[&str],
     input: &mut R,
 ) -> io::Result<Ending> {
-    let mut args = Vec::new(alloc);
-    for word in words {
-        args.push(String::from_str(alloc, word)?)?;
-    }
     let mut out = Vec::new(alloc);
-    let mut err = Vec::new(alloc);
-    let status = ldb_main(alloc, env, &args, input, &mut out, &mut err);
+    let (status, err) = run_into(alloc, env, words, input, &mut out)?;
     Ok(Ending { status, out, err })
 }
 
@@ -212,16 +224,19 @@ fn later_bad_lines(rt: HostRuntime) -> io::Result<()> {
     Ok(())
 }
 
+/// Runs the program on this many newlines, where it writes this of an error, and returns how many it leaves.
+fn read_newlines(rt: &impl Abort, alloc: Global, count: u64, err: &[u8]) -> io::Result<u64> {
+    let mut env = MemEnv::new(alloc);
+    let mut input = Newlines(count);
+    let ending = run_program(alloc, &mut env, &["db"], &mut input)?;
+    assert_ending(rt, &ending, 2, b"", err);
+    Ok(input.0)
+}
+
 #[test]
 fn long_input(rt: HostRuntime) -> io::Result<()> {
-    let alloc = rt.alloc();
-    let mut env = MemEnv::new(alloc);
-    let longest = run_program(alloc, &mut env, &["db"], &mut Newlines(1 << 26))?;
-    assert_ending(&rt, &longest, 2, b"", b"bad command in line 1\n");
-    let mut left = Newlines((1 << 26) + 7);
-    let long = run_program(alloc, &mut env, &["db"], &mut left)?;
-    assert_ending(&rt, &long, 2, b"", b"input too long\n");
-    assert!(rt; left.0 == 6);
+    assert!(rt; read_newlines(&rt, rt.alloc(), 1 << 26, b"bad command in line 1\n")? == 0);
+    assert!(rt; read_newlines(&rt, rt.alloc(), (1 << 26) + 7, b"input too long\n")? == 6);
     Ok(())
 }
 
@@ -242,37 +257,40 @@ fn broken_input(rt: HostRuntime) -> io::Result<()> {
     )
 }
 
-/// An output that has room for a part of what is written, or for all of it.
-fn write_to_room(rt: &impl Abort, alloc: Global, room: usize, wanted: &[u8]) -> io::Result<()> {
+/// Whether an output with this room has a part of what is written and a failure, or all of it.
+fn is_cut(room: usize, out: &[u8], status: u8, err: &[u8]) -> bool {
+    if room < WRITTEN.len() {
+        out == &WRITTEN[..room] && status == 1 && err == b"ldb: PermissionDenied\n".as_slice()
+    } else {
+        out == WRITTEN && status == 0 && err.is_empty()
+    }
+}
+
+const WRITTEN: &[u8] = b"ok\nvalue 31\nnone\n";
+
+fn write_to_room(rt: &impl Abort, alloc: Global, room: usize) -> io::Result<()> {
     let mut env = MemEnv::new(alloc);
-    let mut args = Vec::new(alloc);
-    args.push(String::from_str(alloc, "db")?)?;
     let mut input = b"put 61 31\nget 61\nget 62\n".as_slice();
     let held = Vec::new(alloc);
     let mut out = Narrow { held, room };
-    let mut err = Vec::new(alloc);
-    let status = ldb_main(alloc, &mut env, &args, &mut input, &mut out, &mut err);
-    let has_all = room == wanted.len();
-    assert!(rt; out.held.as_slice() == &wanted[..room.min(wanted.len())]);
-    assert!(rt; status == if has_all { 0 } else { 1 });
-    assert!(rt;
-        err.as_slice()
-            == if has_all {
-                b"".as_slice()
-            } else {
-                b"ldb: PermissionDenied\n".as_slice()
-            }
-    );
+    let (status, err) = run_into(alloc, &mut env, &["db"], &mut input, &mut out)?;
+    assert!(rt; is_cut(room, &out.held, status, &err));
     Ok(())
 }
 
 #[test]
 fn narrow_output(rt: HostRuntime) -> io::Result<()> {
-    let wanted = b"ok\nvalue 31\nnone\n".as_slice();
-    for room in 0..=wanted.len() {
-        write_to_room(&rt, rt.alloc(), room, wanted)?;
+    for room in 0..=WRITTEN.len() {
+        write_to_room(&rt, rt.alloc(), room)?;
     }
     Ok(())
+}
+
+fn is_of_a_lock(ending: &Ending) -> bool {
+    ending.status == 1
+        && ending.out.is_empty()
+        && ending.err.starts_with(b"ldb: LockError: ")
+        && ending.err.last() == Some(&b'\n')
 }
 
 #[test]
@@ -281,10 +299,6 @@ fn locked_store(rt: HostRuntime) -> io::Result<()> {
     let mut env = MemEnv::new(alloc);
     assert!(rt; env.lock("db/LOCK").is_ok());
     let mut input = b"get 61\n".as_slice();
-    let ending = run_program(alloc, &mut env, &["db"], &mut input)?;
-    assert!(rt; ending.status == 1);
-    assert!(rt; ending.out.is_empty());
-    assert!(rt; ending.err.starts_with(b"ldb: LockError: "));
-    assert!(rt; ending.err.last() == Some(&b'\n'));
+    assert!(rt; is_of_a_lock(&run_program(alloc, &mut env, &["db"], &mut input)?));
     Ok(())
 }

@@ -14,32 +14,43 @@ pub fn bytes_of(alloc: Global, text: &str) -> Result<Vec<u8>> {
 /// A look-up of each key.
 pub fn look_ups(alloc: Global) -> Result<Vec<Command>> {
     let mut commands = Vec::new(alloc);
-    for key in KEYS {
+    for key in &KEYS {
         commands.push(Command::Get(bytes_of(alloc, key)?))?;
     }
     Ok(commands)
 }
 
+/// Whether the reply to a look-up of this key is that of this map.
 fn has(map: &[BorrowedPair<'_>], key: &str, reply: &Reply) -> bool {
-    let found = map.iter().find(|pair| pair.0 == key.as_bytes());
-    match (found, reply) {
-        (Some(pair), Reply::Value(value)) => pair.1 == value.as_slice(),
-        (None, Reply::Nothing) => true,
-        _ => false,
+    for pair in map {
+        if pair.0 == key.as_bytes() {
+            return matches!(reply, Reply::Value(value) if pair.1 == value.as_slice());
+        }
     }
+    matches!(reply, Reply::Nothing)
 }
 
 /// Whether the replies to all look-ups are those of this map.
 pub fn is_map(map: &[BorrowedPair<'_>], replies: &[Reply]) -> bool {
+    for (key, reply) in KEYS.iter().zip(replies) {
+        if !has(map, key, reply) {
+            return false;
+        }
+    }
     replies.len() == KEYS.len()
-        && KEYS
-            .iter()
-            .zip(replies)
-            .all(|(key, reply)| has(map, key, reply))
 }
 
-/// Whether two replies to a look-up are the same.
-pub fn is_same(before: &Reply, after: &Reply) -> bool {
+/// Whether the replies to all look-ups are those of one of these maps.
+pub fn is_any_map(maps: &[Vec<BorrowedPair<'_>>], replies: &[Reply]) -> bool {
+    for map in maps {
+        if is_map(map, replies) {
+            return true;
+        }
+    }
+    false
+}
+
+fn is_same(before: &Reply, after: &Reply) -> bool {
     match (before, after) {
         (Reply::Value(before), Reply::Value(after)) => before == after,
         (Reply::Nothing, Reply::Nothing) => true,
@@ -49,9 +60,10 @@ pub fn is_same(before: &Reply, after: &Reply) -> bool {
 
 /// Whether all replies to look-ups are the same.
 pub fn are_same(before: &[Reply], after: &[Reply]) -> bool {
+    for (before, after) in before.iter().zip(after) {
+        if !is_same(before, after) {
+            return false;
+        }
+    }
     before.len() == after.len()
-        && before
-            .iter()
-            .zip(after)
-            .all(|(before, after)| is_same(before, after))
 }

@@ -5,15 +5,44 @@ use slow_history::BorrowedPair;
 use slow_machine::{Found, Item, SlowStore};
 use std::alloc::Global;
 use std::process::Abort;
-use std::test::Fail;
 
-type Map<'a> = &'a [(&'a [u8], &'a [u8])];
+type Map = &'static [(&'static [u8], &'static [u8])];
 
-const AB: Map<'static> = &[(b"a", b"1"), (b"b", b"2")];
+const A: Map = &[(b"a", b"1")];
 
-const ABC: Map<'static> = &[(b"a", b"1"), (b"b", b"2"), (b"c", b"3")];
+const AB: Map = &[(b"a", b"1"), (b"b", b"2")];
 
-const ABD: Map<'static> = &[(b"a", b"1"), (b"b", b"2"), (b"d", b"4")];
+const ABC: Map = &[(b"a", b"1"), (b"b", b"2"), (b"c", b"3")];
+
+const ABD: Map = &[(b"a", b"1"), (b"b", b"2"), (b"d", b"4")];
+
+/// What a store did, or what the slow store says of that.
+enum Row {
+    Opened,
+    /// It took a batch of one pair.
+    Put(&'static [u8], &'static [u8]),
+    /// It took a batch of one pair, with a sync.
+    PutSynced(&'static [u8], &'static [u8]),
+    /// It took a batch of one deletion.
+    Deleted(&'static [u8]),
+    /// It failed to sync a batch of one pair.
+    FailedPut(&'static [u8], &'static [u8]),
+    /// A look-up, under a snapshot or not, returned this.
+    Found(Option<u64>, &'static [u8], Found<'static>),
+    /// It showed this map.
+    Showed(Map),
+    WasBroken,
+    Crashed,
+    Abandoned,
+    GaveSnapshot(u64),
+    Released(u64),
+    /// A store may have done all this.
+    IsPossible,
+    /// No store can have done all this.
+    IsImpossible,
+    /// A store may show exactly these maps.
+    MayShow(&'static [Map]),
+}
 
 fn items(alloc: Global, key: &[u8], value: Option<&[u8]>) -> Result<Vec<Item>> {
     let value = match value {
@@ -32,98 +61,154 @@ fn put(slow: &mut SlowStore, alloc: Global, key: &[u8], value: &[u8], sync: bool
     slow.wrote(items(alloc, key, Some(value))?.as_slice(), sync)
 }
 
-fn are_maps(found: &[Vec<BorrowedPair<'_>>], wanted: &[Map<'_>]) -> bool {
-    let are_equal = found
-        .iter()
-        .zip(wanted)
-        .all(|(map, wanted)| map.as_slice() == *wanted);
-    are_equal && found.len() == wanted.len()
+fn delete(slow: &mut SlowStore, alloc: Global, key: &[u8]) -> Result<()> {
+    slow.wrote(items(alloc, key, None)?.as_slice(), false)
 }
 
-/// The store may show exactly these maps.
-fn assert_maps(rt: &impl Abort, slow: &SlowStore, maps: &[Map<'_>]) -> Result<()> {
-    let allowed = slow.maps(&DefaultCmp)?;
-    assert!(rt; are_maps(&allowed, maps));
+fn fail_to_put(slow: &mut SlowStore, alloc: Global, key: &[u8], value: &[u8]) -> Result<()> {
+    slow.refused_write(items(alloc, key, Some(value))?.as_slice(), true)
+}
+
+fn are_maps(found: &[Vec<BorrowedPair<'_>>], wanted: &[Map]) -> bool {
+    for (map, wanted) in found.iter().zip(wanted) {
+        if map.as_slice() != *wanted {
+            return false;
+        }
+    }
+    found.len() == wanted.len()
+}
+
+fn may_show(slow: &SlowStore, maps: &[Map]) -> Result<bool> {
+    Ok(are_maps(&slow.maps(&DefaultCmp)?, maps))
+}
+
+fn happen(slow: &mut SlowStore, alloc: Global, row: &Row) -> Result<()> {
+    match row {
+        Row::Opened => slow.opened(),
+        Row::Put(key, value) => put(slow, alloc, key, value, false),
+        Row::PutSynced(key, value) => put(slow, alloc, key, value, true),
+        Row::Deleted(key) => delete(slow, alloc, key),
+        Row::FailedPut(key, value) => fail_to_put(slow, alloc, key, value),
+        Row::Found(at, key, found) => slow.found(*at, key, found),
+        Row::Showed(map) => slow.showed(&DefaultCmp, None, map),
+        Row::WasBroken => slow.was_broken(),
+        Row::Crashed => slow.crashed(),
+        Row::Abandoned => slow.abandoned(),
+        Row::GaveSnapshot(number) => slow.gave_snapshot(*number),
+        Row::Released(number) => slow.released(*number),
+        Row::IsPossible | Row::IsImpossible | Row::MayShow(_) => Ok(()),
+    }
+}
+
+/// Lets this happen, and returns whether what the slow store is to say is so.
+fn is_right(slow: &mut SlowStore, alloc: Global, row: &Row) -> Result<bool> {
+    match row {
+        Row::IsPossible => Ok(slow.is_possible()),
+        Row::IsImpossible => Ok(!slow.is_possible()),
+        Row::MayShow(maps) => may_show(slow, maps),
+        _ => {
+            happen(slow, alloc, row)?;
+            Ok(true)
+        }
+    }
+}
+
+/// All this happens to a store, one after another.
+fn play(rt: &impl Abort, alloc: Global, rows: &[Row]) -> Result<()> {
+    let mut slow = SlowStore::new(alloc)?;
+    for (at, row) in rows.iter().enumerate() {
+        assert!(rt; is_right(&mut slow, alloc, row)?, "row {at}");
+    }
     Ok(())
 }
 
-/// a=1, b=2 with a sync, c=3, and then a crash: the first two for certain, the third perhaps.
-fn crashed_after_three(alloc: Global) -> Result<SlowStore> {
-    let mut slow = SlowStore::new(alloc)?;
-    slow.opened()?;
-    put(&mut slow, alloc, b"a", b"1", false)?;
-    put(&mut slow, alloc, b"b", b"2", true)?;
-    put(&mut slow, alloc, b"c", b"3", false)?;
-    slow.crashed()?;
-    slow.opened()?;
-    Ok(slow)
-}
+const TORN_TAIL: &[Row] = &[
+    Row::Opened,
+    Row::Put(b"a", b"1"),
+    Row::PutSynced(b"b", b"2"),
+    Row::Put(b"c", b"3"),
+    Row::Crashed,
+    Row::Opened,
+    Row::MayShow(&[AB, ABC]),
+    Row::Showed(AB),
+    Row::PutSynced(b"d", b"4"),
+    Row::Crashed,
+    Row::Opened,
+    Row::MayShow(&[ABD]),
+];
 
 /// The disk had a torn tail: the store that was found has two batches. It goes on from there, and no crash can bring the third back.
 #[test]
-fn a_crash_keeps_what_was_synced(rt: HostRuntime) -> std::result::Result<(), Fail> {
-    let mut slow = crashed_after_three(rt.alloc())?;
-    assert_maps(&rt, &slow, &[AB, ABC])?;
-    slow.showed(&DefaultCmp, None, AB)?;
-    put(&mut slow, rt.alloc(), b"d", b"4", true)?;
-    slow.crashed()?;
-    slow.opened()?;
-    assert_maps(&rt, &slow, &[ABD]).map_err(Fail::from)
+fn a_crash_keeps_what_was_synced(rt: HostRuntime) -> Result<()> {
+    play(&rt, rt.alloc(), TORN_TAIL)
 }
 
-#[test]
-fn half_of_what_was_synced_is_never_found(rt: HostRuntime) -> std::result::Result<(), Fail> {
-    let mut slow = crashed_after_three(rt.alloc())?;
-    slow.showed(&DefaultCmp, None, &[(b"a", b"1")])?;
-    assert!(rt; !slow.is_possible());
-    Ok(())
-}
+const HALF: &[Row] = &[
+    Row::Opened,
+    Row::Put(b"a", b"1"),
+    Row::PutSynced(b"b", b"2"),
+    Row::Put(b"c", b"3"),
+    Row::Crashed,
+    Row::Opened,
+    Row::IsPossible,
+    Row::Showed(A),
+    Row::IsImpossible,
+];
 
 #[test]
-fn a_failed_sync_leaves_its_batch_open(rt: HostRuntime) -> std::result::Result<(), Fail> {
-    let alloc = rt.alloc();
-    let mut slow = SlowStore::new(alloc)?;
-    slow.opened()?;
-    put(&mut slow, alloc, b"a", b"1", false)?;
-    slow.refused_write(items(alloc, b"b", Some(b"2"))?.as_slice(), true)?;
-    slow.found(None, b"b", &Found::Nothing)?;
-    slow.was_broken()?;
-    slow.crashed()?;
-    slow.opened()?;
-    assert_maps(&rt, &slow, &[&[], &[(b"a", b"1")], AB]).map_err(Fail::from)
+fn half_of_what_was_synced_is_never_found(rt: HostRuntime) -> Result<()> {
+    play(&rt, rt.alloc(), HALF)
 }
 
-#[test]
-fn a_deletion_an_empty_key_and_a_reopening(rt: HostRuntime) -> std::result::Result<(), Fail> {
-    let alloc = rt.alloc();
-    let mut slow = SlowStore::new(alloc)?;
-    slow.opened()?;
-    put(&mut slow, alloc, b"k", b"1", false)?;
-    slow.wrote(items(alloc, b"k", None)?.as_slice(), false)?;
-    slow.found(None, b"k", &Found::Nothing)?;
-    put(&mut slow, alloc, b"", b"", false)?;
-    slow.found(None, b"", &Found::Value(b""))?;
-    slow.abandoned()?;
-    slow.opened()?;
-    slow.found(None, b"k", &Found::Nothing)?;
-    assert_maps(&rt, &slow, &[&[(b"", b"")]])?;
-    Ok(())
-}
+const FAILED_SYNC: &[Row] = &[
+    Row::Opened,
+    Row::Put(b"a", b"1"),
+    Row::FailedPut(b"b", b"2"),
+    Row::Found(None, b"b", Found::Nothing),
+    Row::WasBroken,
+    Row::Crashed,
+    Row::Opened,
+    Row::MayShow(&[&[], A, AB]),
+];
 
 #[test]
-fn a_snapshot_keeps_its_view(rt: HostRuntime) -> std::result::Result<(), Fail> {
-    let alloc = rt.alloc();
-    let mut slow = SlowStore::new(alloc)?;
-    slow.opened()?;
-    put(&mut slow, alloc, b"k", b"1", false)?;
-    slow.gave_snapshot(0)?;
-    put(&mut slow, alloc, b"k", b"2", false)?;
-    slow.found(Some(0), b"k", &Found::Value(b"1"))?;
-    slow.found(None, b"k", &Found::Value(b"2"))?;
-    slow.released(0)?;
-    slow.found(Some(0), b"k", &Found::NotHeld)?;
-    assert!(rt; slow.is_possible());
-    slow.released(0)?;
-    assert!(rt; !slow.is_possible());
-    Ok(())
+fn a_failed_sync_leaves_its_batch_open(rt: HostRuntime) -> Result<()> {
+    play(&rt, rt.alloc(), FAILED_SYNC)
+}
+
+const DELETION: &[Row] = &[
+    Row::Opened,
+    Row::Put(b"k", b"1"),
+    Row::Deleted(b"k"),
+    Row::Found(None, b"k", Found::Nothing),
+    Row::Put(b"", b""),
+    Row::Found(None, b"", Found::Value(b"")),
+    Row::Abandoned,
+    Row::Opened,
+    Row::Found(None, b"k", Found::Nothing),
+    Row::MayShow(&[&[(b"", b"")]]),
+];
+
+#[test]
+fn a_deletion_an_empty_key_and_a_reopening(rt: HostRuntime) -> Result<()> {
+    play(&rt, rt.alloc(), DELETION)
+}
+
+const SNAPSHOT: &[Row] = &[
+    Row::Opened,
+    Row::Put(b"k", b"1"),
+    Row::GaveSnapshot(0),
+    Row::Put(b"k", b"2"),
+    Row::Found(Some(0), b"k", Found::Value(b"1")),
+    Row::Found(None, b"k", Found::Value(b"2")),
+    Row::Released(0),
+    Row::Found(Some(0), b"k", Found::NotHeld),
+    Row::IsPossible,
+    Row::Released(0),
+    Row::IsImpossible,
+];
+
+#[test]
+fn a_snapshot_keeps_its_view(rt: HostRuntime) -> Result<()> {
+    play(&rt, rt.alloc(), SNAPSHOT)
 }

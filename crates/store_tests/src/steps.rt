@@ -9,7 +9,7 @@ use std::alloc::Global;
 pub type Change = (&'static str, Option<&'static str>);
 
 /// What is asked of a store.
-#[derive(Clone, Copy, Debug)]
+#[derive(Clone, Copy)]
 pub enum Step {
     Open,
     Put(&'static str, &'static str),
@@ -22,7 +22,7 @@ pub enum Step {
 }
 
 /// A call that returned, and the moment at which it did.
-#[derive(Debug, Drop)]
+#[derive(Drop)]
 pub struct Call {
     pub step: Step,
     pub reply: Reply,
@@ -111,7 +111,7 @@ fn says_broken(status: &Status) -> bool {
     }
 }
 
-/// A step failed: since the store was closed or broken, or since the device failed.
+/// A step failed: since the store was closed or broken, or since the device failed, or out of memory.
 fn judge_failure(slow: &mut SlowStore, alloc: Global, step: &Step, status: &Status) -> Result<()> {
     if says_broken(status) {
         return slow.was_broken();
@@ -119,9 +119,13 @@ fn judge_failure(slow: &mut SlowStore, alloc: Global, step: &Step, status: &Stat
     if status.code == StatusCode::InvalidArgument {
         return slow.was_closed();
     }
-    match written_by(alloc, step)? {
-        Some((items, _)) => slow.refused_write(&items, true),
-        None => slow.broke(),
+    match (written_by(alloc, step)?, step) {
+        (Some((items, _)), _) => slow.refused_write(&items, true),
+        // It found no memory itself, so that nothing has changed, or the device found none.
+        (None, Step::Flush) if status.code == StatusCode::OutOfMemory => {
+            slow.refused_write(&[], true)
+        }
+        (None, _) => slow.broke(),
     }
 }
 
@@ -137,13 +141,13 @@ fn judge_success(slow: &mut SlowStore, alloc: Global, step: &Step) -> Result<()>
     }
 }
 
-/// A look-up returned this.
+/// A look-up returned this. One that fails since the device failed changes nothing.
 fn judge_look_up(slow: &mut SlowStore, key: &str, reply: &Reply) -> Result<()> {
     match reply {
         Reply::Value(value) => slow.found(None, key.as_bytes(), &Found::Value(value.as_slice())),
         Reply::Nothing => slow.found(None, key.as_bytes(), &Found::Nothing),
-        Reply::Done => Ok(()),
-        Reply::Refused(_) => slow.was_closed(),
+        Reply::Refused(status) if status.code == StatusCode::InvalidArgument => slow.was_closed(),
+        Reply::Done | Reply::Refused(_) => Ok(()),
     }
 }
 

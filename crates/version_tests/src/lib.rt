@@ -14,8 +14,12 @@ mod store_sweeps;
 #[cfg(test)]
 mod stores;
 #[cfg(test)]
+mod table_caches;
+#[cfg(test)]
 mod version_edits;
 #[cfg(test)]
 mod version_set_calls;
 #[cfg(test)]
 mod version_sets;
+#[cfg(test)]
+mod versions;

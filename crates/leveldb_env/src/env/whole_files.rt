@@ -1,6 +1,6 @@
 //! Files that are read or replaced whole, and files that must be there.
 ghost use Rattle.std.specs.Prelude.{◌≡◌, ◌≢◌, IsTrue, IfOk, IfErr, IsSomeAnd};
-ghost use Rattle.leveldb_env.specs.Env.{bytes_of, same, ChangesFiles, FilesUnchanged, SameLocks, HasCause};
+ghost use Rattle.leveldb_env.specs.Env.{bytes_of, same, AppendedAreBytes, ChangesFiles, FilesUnchanged, SameLocks, HasCause};
 ghost use Rattle.leveldb_env.specs.EnvFile.{opened, IsReadOut, IsGivenUp};
 ghost use Rattle.leveldb_env.specs.WholeFiles.{replaced, Replacing, IsFoundOr, IsLost, IsLostUnobserved};
 
@@ -67,6 +67,8 @@ pub fn replace_file<E: Env>(
         → ChangesFiles E.models_disk (replaced temp.now name.now bytes.now)
         (Replacing temp.now name.now bytes.now)
         (E.observed env.old) (E.observed env.new) result }
+    ensures bytes { IsTrue E.models_disk → AppendedAreBytes (E.observed env.old).disk.files
+        → AppendedAreBytes (E.observed env.new).disk.files }
     ensures locks { SameLocks E.models_disk (E.observed env.old) (E.observed env.new) }
     ensures cause { HasCause (IsLostUnobserved E.models_disk temp.now
         (E.failures env.old) (E.failures env.new))

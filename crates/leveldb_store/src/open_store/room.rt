@@ -1,18 +1,19 @@
 //! Room in the memtable: entries of one that is full become a table, and obsolete files are
 //! deleted.
-ghost use Rattle.std.specs.Prelude.{◌≡◌, ◌≢◌, ◌↔◌, None, IsTrue, OnErr, OnOk};
+ghost use Rattle.std.specs.Prelude.{◌≡◌, ◌≢◌, ◌↔◌, ◌≤◌, ◌+◌, None, IsTrue, OnErr, OnOk};
+ghost use Rattle.leveldb_store.specs.BuildTable.{choices_of};
 ghost use Rattle.leveldb_store.specs.Format.{Agrees, format_of};
 ghost use Rattle.leveldb_store.specs.OpenStore.{IsUnbroken};
 ghost use Rattle.leveldb_store.specs.Room.{IsFull, MakesRoom, TidiesUp};
-ghost use Rattle.leveldb_store.specs.RoomSteps.{IsStepToRoom};
+ghost use Rattle.leveldb_store.specs.RoomSteps.{FailsToTableIfWaiting, IsStepToRoom};
 ghost use Rattle.leveldb_store.specs.SoundCall.{BytesAreAppended, IsSoundCall, TimeGoesOn};
 
 use super::OpenStore;
-use leveldb_base::cmp::UserCmp;
+use leveldb_base::cmp::{Cmp, InternalKeyCmp, UserCmp};
 use leveldb_base::error::Result;
 use leveldb_env::compressor::{CompressorList, Compressors};
 use leveldb_env::env::Env;
-use leveldb_env::filter::FilterPolicy;
+use leveldb_env::filter::{FilterPolicy, InternalFilterPolicy};
 use leveldb_env::infolog::InfoSink;
 use leveldb_env::options::Options;
 
@@ -42,10 +43,10 @@ impl<E: Env, C: UserCmp + Copy> OpenStore<E, C> {
 
 impl<E: Env, C: UserCmp + Copy + Drop> OpenStore<E, C> {
     /// Makes room in the memtable, if its entries take `write_buffer_size` bytes or more. They wait
-    /// while batches go to a new log, and become a table of level 0. Where they wait already, since
-    /// a call before made no table of them, they become one before anything else, so that one
-    /// memtable waits at most. Obsolete files are deleted after each table; what fails of that is a
-    /// line for `log`.
+    /// while batches go to a new log, and become a table. Where they wait already, since a call
+    /// before made no table of them, they become one before anything else, so that one memtable
+    /// waits at most. Obsolete files are deleted after each table; what fails of that is a line for
+    /// `log`.
     ///
     /// After an Err no entry is lost: the memtable is full still, or its entries wait. The next
     /// call goes on from there, unless the store broke.
@@ -57,9 +58,10 @@ impl<E: Env, C: UserCmp + Copy + Drop> OpenStore<E, C> {
     ) -> Result<()>
         requires usable { IsUnbroken self.old }
         requires order { C.cmp options.now.cmp ≡ C.cmp self.old.cmp }
-        ensures makes { MakesRoom E.Env (C.cmp self.old.cmp) self.old env.old (format_of C.Cmp
-            FP.FilterPolicy ⟦<CompressorList as Compressors>⟧.codings options.now)
-            options.now.write_buffer_size result self.new env.new }
+        ensures makes { MakesRoom E.Env (C.cmp self.old.cmp) self.old env.old (choices_of C.Cmp
+            FP.FilterPolicy ⟦<InternalKeyCmp<C> as Cmp>⟧
+            ⟦<InternalFilterPolicy<FP> as FilterPolicy>⟧ ⟦<CompressorList as Compressors>⟧.codings
+            options.now) options.now.write_buffer_size result self.new env.new }
         ensures sound { IsSoundCall E.Env (C.cmp self.old.cmp) (Agrees (format_of C.Cmp
             FP.FilterPolicy ⟦<CompressorList as Compressors>⟧.codings options.now)) self.old
             env.old result self.new env.new }
@@ -82,9 +84,13 @@ impl<E: Env, C: UserCmp + Copy + Drop> OpenStore<E, C> {
     ) -> Result<()>
         requires usable { IsUnbroken self.old }
         requires order { C.cmp options.now.cmp ≡ C.cmp self.old.cmp }
-        ensures step { IsStepToRoom E.Env (C.cmp self.old.cmp) (format_of C.Cmp FP.FilterPolicy
-            ⟦<CompressorList as Compressors>⟧.codings options.now) self.old env.old result self.new
-            env.new }
+        ensures step { let choices = choices_of C.Cmp FP.FilterPolicy
+            ⟦<InternalKeyCmp<C> as Cmp>⟧ ⟦<InternalFilterPolicy<FP> as FilterPolicy>⟧
+            ⟦<CompressorList as Compressors>⟧.codings options.now in
+            IsStepToRoom E.Env (C.cmp self.old.cmp) choices.format
+            (FailsToTableIfWaiting E.Env (C.cmp self.old.cmp) choices self.old env.old)
+            self.old env.old result self.new env.new }
+        ensures numbers { OnOk result (self.new.set.next_file ≤ self.old.set.next_file + 1) }
         ensures none_waits { OnOk result (self.new.waiting ≡ None) }
         ensures waits { OnErr result (self.new.waiting ≢ None) }
         ensures recent { self.new.recent ≡ self.old.recent }

@@ -1,9 +1,11 @@
 //! The table of the entries that wait, and its edit.
-ghost use Rattle.std.specs.Prelude.{◌≡◌, ◌≢◌, None, IsTrue, map};
+ghost use Rattle.std.specs.Prelude.{◌≡◌, ◌≢◌, ◌<◌, ◌≤◌, None, IfErr, IfOk, IsTrue, map};
 ghost use Rattle.leveldb_base.specs.Entries.{internal_pair};
+ghost use Rattle.leveldb_base.specs.Error.{IsOutOfMemory};
 ghost use Rattle.leveldb_env.specs.Env.{SameLocks};
 ghost use Rattle.leveldb_version.specs.Batches.{Each};
 ghost use Rattle.leveldb_version.specs.LogEdit.{AppendsEdit};
+ghost use Rattle.leveldb_version.specs.Overlap.{file_range, output_level};
 ghost use Rattle.leveldb_version.specs.Store.{IsInternalPair};
 ghost use Rattle.leveldb_version.specs.VersionEdit.{edit_of, new_file_of};
 ghost use Rattle.leveldb_version.specs.VersionSetValue.{OpenManifest, broken, in_use};
@@ -18,17 +20,19 @@ use super::OpenStore;
 use crate::build::build_memtable;
 use leveldb_base::cmp::{Cmp, InternalKeyCmp, UserCmp};
 use leveldb_base::error::{Result, StatusCode, err};
+use leveldb_base::key_types::split_sequence;
 use leveldb_base::types::{FileMetaData, FileNum};
 use leveldb_env::compressor::{CompressorList, Compressors};
 use leveldb_env::env::Env;
 use leveldb_env::filter::{FilterPolicy, InternalFilterPolicy};
 use leveldb_env::options::Options;
+use leveldb_version::version::Version;
 use leveldb_version::version_edit::VersionEdit;
 
 impl<E: Env, C: UserCmp + Copy + Drop> OpenStore<E, C> {
-    /// Makes a table of the entries that wait, in level 0, and logs it: then the logs that had them
-    /// aren't needed any more. Returns `IOError`, and does nothing, if a call on the manifest
-    /// failed before.
+    /// Makes a table of the entries that wait, and logs it in the level that a version picks for it:
+    /// then the logs that had them aren't needed any more. Returns `IOError`, and does nothing, if a
+    /// call on the manifest failed before.
     pub fn table_waiting<FP: FilterPolicy + Copy + Drop>(
         &mut self,
         env: &mut E,
@@ -54,7 +58,8 @@ impl<E: Env, C: UserCmp + Copy + Drop> OpenStore<E, C> {
         }
         let number = self.versions.new_file_number()?;
         let file = self.build_waiting(env, options, number)?;
-        self.log_table(env, file)?;
+        let level = self.level_for(&file)?;
+        self.log_table(env, level, file)?;
         self.waiting = None;
         Ok(())
     }
@@ -83,20 +88,34 @@ impl<E: Env, C: UserCmp + Copy + Drop> OpenStore<E, C> {
         build_memtable(self.alloc, env, &self.name, options, waiting, number)
     }
 
-    // Logs the edit of a table in level 0, which takes the place of the logs below the one to which
+    // The level for a new table whose entries are newer than those of all others.
+    fn level_for(&self, file: &FileMetaData) -> Result<usize>
+        ensures level { IfOk result (λ level. level ≡ output_level (C.cmp self.now.cmp)
+            (file_range (new_file_of (level, file.now))) self.now.set.full.added) }
+        ensures deepest { IfOk result (λ level. level ≤ 2) }
+        ensures memory { IfErr result IsOutOfMemory }
+    {
+        let version = Version::of_files(self.alloc, self.cmp, self.versions.files())?;
+        let (smallest, _) = split_sequence(&file.smallest);
+        let (largest, _) = split_sequence(&file.largest);
+        Ok(version.pick_memtable_output_level(smallest, largest))
+    }
+
+    // Logs the edit of a table in a level, which takes the place of the logs below the one to which
     // batches are appended.
-    fn log_table(&mut self, env: &mut E, file: FileMetaData) -> Result<()>
+    fn log_table(&mut self, env: &mut E, level: usize, file: FileMetaData) -> Result<()>
+        requires level { level < 7 }
         requires usable { self.old.set.manifest ≢ broken }
         ensures logs { (manifest : OpenManifest) → self.old.set.manifest ≡ in_use manifest
             → AppendsEdit E.models_disk manifest self.old.set
-            (table_edit self.old.log.number (new_file_of (0, file))) (E.observed env.old)
+            (table_edit self.old.log.number (new_file_of (level, file))) (E.observed env.old)
             (E.failures env.old) result self.new.set (E.observed env.new) (E.failures env.new) }
         ensures rest { self.new ≡ record self.old { set = self.new.set } }
         ensures locks { SameLocks E.models_disk (E.observed env.old) (E.observed env.new) }
     {
         let mut edit = VersionEdit::new(self.alloc);
         edit.set_log_num(self.log.number);
-        edit.add_file(0, file)?;
+        edit.add_file(level, file)?;
         self.versions.log_and_apply(env, edit)
     }
 }

@@ -1,7 +1,7 @@
 //! Writing a batch: its record comes to the log, and its entries to the memtable.
-ghost use Rattle.std.specs.Prelude.{◌≡◌};
+ghost use Rattle.std.specs.Prelude.{◌≡◌, ◌≤◌, OnOk, length};
 ghost use Rattle.leveldb_env.specs.Env.{AreBytes};
-ghost use Rattle.leveldb_mem.specs.WriteBatch.{BatchOf, batch_bytes};
+ghost use Rattle.leveldb_mem.specs.WriteBatch.{BatchOf, batch_bytes, max_length};
 ghost use Rattle.leveldb_store.specs.OpenStore.{IsUnbroken};
 ghost use Rattle.leveldb_store.specs.SoundCall.{IsSoundCall, any_meaning};
 ghost use Rattle.leveldb_store.specs.Write.{LogsText, open_log_path};
@@ -26,6 +26,7 @@ impl<E: Env, C: UserCmp + Copy> OpenStore<E, C> {
             result self.new env.new }
         ensures sound { IsSoundCall E.Env (C.cmp self.old.cmp) any_meaning self.old env.old result
             self.new env.new }
+        ensures short { OnOk result (length (batch_bytes 0 batch.items) ≤ max_length) }
     {
         let mut batch = batch;
         self.prepare(&mut batch)?;

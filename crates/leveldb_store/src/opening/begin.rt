@@ -2,7 +2,7 @@
 //! or to tables, and batches may be appended.
 ghost use Rattle.std.specs.Prelude.{◌≡◌, IfOk};
 ghost use Rattle.leveldb_env.specs.Env.{SameLocks};
-ghost use Rattle.leveldb_store.specs.Format.{format_of};
+ghost use Rattle.leveldb_store.specs.BuildTable.{choices_of};
 ghost use Rattle.leveldb_store.specs.OpeningSteps.{BeginsWriting, LogsIfWanted, MayBeWritten};
 
 use super::edit::log_edit;
@@ -10,12 +10,12 @@ use super::log_to_write::open_log;
 use super::logs::RecoveredSet;
 use super::replay::replay_logs;
 use crate::open_store::OpenStore;
-use leveldb_base::cmp::UserCmp;
+use leveldb_base::cmp::{Cmp, InternalKeyCmp, UserCmp};
 use leveldb_base::error::Result;
 use leveldb_base::types::{FileMetaData, FileNum};
 use leveldb_env::compressor::{CompressorList, Compressors};
 use leveldb_env::env::Env;
-use leveldb_env::filter::FilterPolicy;
+use leveldb_env::filter::{FilterPolicy, InternalFilterPolicy};
 use leveldb_env::options::Options;
 use leveldb_version::version_set::VersionSet;
 use std::alloc::Global;
@@ -31,7 +31,8 @@ pub(super) fn begin_writing<E: Env, C: UserCmp + Copy + Drop, FP: FilterPolicy +
 ) -> Result<OpenStore<E, C>>
     requires { MayBeWritten E.models_disk name.now set.is_anew set.versions
         (E.observed env.old).disk.files }
-    ensures begins { BeginsWriting E.Env (format_of C.Cmp FP.FilterPolicy
+    ensures begins { BeginsWriting E.Env (choices_of C.Cmp FP.FilterPolicy
+        ⟦<InternalKeyCmp<C> as Cmp>⟧ ⟦<InternalFilterPolicy<FP> as FilterPolicy>⟧
         ⟦<CompressorList as Compressors>⟧.codings options.now)
         name.now set.versions set.logs.keys env.old options.now.write_buffer_size result env.new }
     ensures cmp { IfOk result (λ value. value.cmp ≡ options.now.cmp) }

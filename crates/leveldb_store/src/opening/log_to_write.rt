@@ -1,10 +1,9 @@
 //! The log to which batches are appended: the last one, or a new one.
 ghost use Rattle.std.specs.Prelude.{◌≡◌, ◌+◌, ◌<◌, ◌^◌, IfSome, OnOk, OnErr};
 ghost use Rattle.leveldb_base.specs.Error.{IsOutOfMemory};
-ghost use Rattle.leveldb_base.specs.declared.error.StatusCode.TheVariants.{NotSupported};
 ghost use Rattle.leveldb_env.specs.Env.{HasCause, created, emptied};
 ghost use Rattle.leveldb_version.specs.Paths.{log_path};
-ghost use Rattle.leveldb_version.specs.VersionSetValue.{with_number_given};
+ghost use Rattle.leveldb_version.specs.VersionSetValue.{AreFileNumbersUsedUp, with_number_given};
 ghost use Rattle.leveldb_store.specs.OpeningSteps.{OpensFile, OpensLog};
 ghost use Rattle.leveldb_store.specs.ReplayLog.{HasCauseOr};
 ghost use Rattle.leveldb_store.specs.Switch.{MayGiveNumber};
@@ -81,7 +80,7 @@ fn make_log<E: Env>(
     ensures fits { OnOk result (versions.old.next_file + 1 < 2 ^ 64) }
     ensures number_fits { versions.old.next_file < 2 ^ 64 }
     ensures err { OnErr result (MayGiveNumber versions.old versions.new) }
-    ensures cause { HasCauseOr (λ status. status.code ≡ NotSupported)
+    ensures cause { HasCauseOr (AreFileNumbersUsedUp versions.old.next_file)
         (E.failures env.old) (E.failures env.new) result }
 {
     let number = versions.new_file_number()?;

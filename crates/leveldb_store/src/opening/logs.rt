@@ -1,14 +1,15 @@
 //! The version set that a store's manifest leaves, and which logs are replayed.
-ghost use Rattle.std.specs.Prelude.{◌≡◌, ◌≢◌, ◌<◌, ◌⊎◌, ◌↔◌, ℕ, [], ◌∷◌, IfErr, IfNone, IfOk, IfSome, IsTrue, OnOk, map, string_bytes};
+ghost use Rattle.std.specs.Prelude.{◌≡◌, ◌≢◌, ◌<◌, ◌+◌, ◌⊎◌, ◌↔◌, ℕ, [], ◌∷◌, IfErr, IfNone, IfOk, IfSome, IsTrue, OnOk, map, string_bytes};
 ghost use Rattle.leveldb_base.specs.Error.{IsOutOfMemory};
 ghost use Rattle.leveldb_base.specs.Names.{IsFileName, file_name};
-ghost use Rattle.leveldb_base.specs.declared.error.StatusCode.TheVariants.{Corruption, NotSupported};
+ghost use Rattle.leveldb_base.specs.declared.error.StatusCode.TheVariants.{Corruption};
 ghost use Rattle.leveldb_base.specs.declared.types.FileType.TheVariants.{Log};
 ghost use Rattle.leveldb_env.specs.Env.{FilesUnchanged, Run, SameLocks};
 ghost use Rattle.leveldb_version.specs.VersionEdit.{new_file_of};
+ghost use Rattle.leveldb_version.specs.VersionSetValue.{AreFileNumbersUsedUp};
 ghost use Rattle.leveldb_store.specs.Format.{format_of};
 ghost use Rattle.leveldb_store.specs.Opening.{GivesNumbers};
-ghost use Rattle.leveldb_store.specs.OpeningSteps.{AddsLog, AreReplayedLogs, HasMisnamedLog, IsReplayed, LacksTable, MarksNames, RecoversSet};
+ghost use Rattle.leveldb_store.specs.OpeningSteps.{AddsLog, AreReplayedLogs, HasMisnamedLog, HasNumber, IsReplayed, LacksTable, MarksNames, RecoversSet};
 ghost use Rattle.leveldb_store.specs.ReplayLog.{HasCauseOr};
 
 use leveldb_base::cmp::UserCmp;
@@ -68,7 +69,8 @@ pub(super) fn recover_set<E: Env, C: UserCmp, FP: FilterPolicy>(
 fn mark_names<E: Env>(alloc: Global, versions: &mut VersionSet<E>, names: &[String]) -> Result<()>
     ensures ok { OnOk result
         (MarksNames versions.old (map string_bytes names.now) versions.new) }
-    ensures cause { IfErr result (λ status. status.code ≡ NotSupported) }
+    ensures cause { IfErr result (λ status. (n : ℕ) × HasNumber (map string_bytes names.now) n
+        × AreFileNumbersUsedUp n status) }
 {
     for name in names {
         mark_name(alloc, versions, name.as_str())?;
@@ -81,7 +83,11 @@ fn mark_name<E: Env>(alloc: Global, versions: &mut VersionSet<E>, name: &str) ->
     ensures gives { OnOk result (GivesNumbers versions.old versions.new) }
     ensures used { OnOk result ((n : ℕ) (kind : FileType) → IsFileName name.now n kind
         → n < versions.new.next_file) }
-    ensures cause { IfErr result (λ status. status.code ≡ NotSupported) }
+    ensures reached { OnOk result ((versions.new.next_file ≡ versions.old.next_file)
+        ⊎ ((n : ℕ) × (kind : FileType) × IsFileName name.now n kind
+        × (versions.new.next_file ≡ n + 1))) }
+    ensures cause { IfErr result (λ status. (n : ℕ) × (kind : FileType)
+        × IsFileName name.now n kind × AreFileNumbersUsedUp n status) }
 {
     let Ok((number, _)) = parse_file_name(alloc, name) else {
         return Ok(());

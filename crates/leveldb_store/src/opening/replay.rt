@@ -1,11 +1,11 @@
 //! The replay of all logs: what comes to tables, and what stays in memory of the log that is used
 //! on.
-ghost use Rattle.std.specs.Prelude.{◌≡◌, None, IfOk, IfSome, OnOk, map};
+ghost use Rattle.std.specs.Prelude.{◌≡◌, ◌≢◌, [], None, IfOk, IfSome, OnOk, map};
 ghost use Rattle.leveldb_version.specs.VersionEdit.{new_file_of};
 ghost use Rattle.leveldb_store.specs.BuildTable.{choices_of};
 ghost use Rattle.leveldb_store.specs.Format.{format_of};
 ghost use Rattle.leveldb_store.specs.OpeningSteps.{ReplaysLogs, ReplaysNext, TablesAll};
-ghost use Rattle.leveldb_store.specs.ReplayLog.{FailsToTable, HasCauseOr, MakesTablesOnly};
+ghost use Rattle.leveldb_store.specs.ReplayLog.{FailsToTableRest, HasCauseOr, MakesTablesOnly};
 
 use super::replay_log::{ReplayedLog, replay_log};
 use leveldb_base::cmp::{Cmp, InternalKeyCmp, UserCmp};
@@ -145,10 +145,10 @@ fn tabled<E: Env, C: UserCmp + Copy + Drop, FP: FilterPolicy + Copy + Drop>(
     ensures ok { IfOk result (λ tables. TablesAll E.Env
         (format_of C.Cmp FP.FilterPolicy ⟦<CompressorList as Compressors>⟧.codings options.now)
         log versions.old (map (λ file. new_file_of (0, file)) tables.items) versions.new env.new) }
-    ensures cause { HasCauseOr (FailsToTable (choices_of C.Cmp FP.FilterPolicy
-        ⟦<InternalKeyCmp<C> as Cmp>⟧ ⟦<InternalFilterPolicy<FP> as FilterPolicy>⟧
-        ⟦<CompressorList as Compressors>⟧.codings options.now))
-        (E.failures env.old) (E.failures env.new) result }
+    ensures cause { HasCauseOr (λ status. (log.rest.kept.entries ≢ [])
+        × FailsToTableRest E.Env (choices_of C.Cmp FP.FilterPolicy ⟦<InternalKeyCmp<C> as Cmp>⟧
+        ⟦<InternalFilterPolicy<FP> as FilterPolicy>⟧ ⟦<CompressorList as Compressors>⟧.codings
+        options.now) log versions.old status) (E.failures env.old) (E.failures env.new) result }
 {
     if log.rest.len() == 0 {
         return Ok(log.tables);

@@ -1,9 +1,10 @@
 //! The replay of a log: its batches go into a memtable, one after another, and each memtable that
 //! is full becomes a table.
-ghost use Rattle.std.specs.Prelude.{◌≡◌, ◌≢◌, ◌⊎◌, [], false, IfErr, IfOk, OnOk};
+ghost use Rattle.std.specs.Prelude.{◌≡◌, ◌≢◌, ◌⊎◌, [], false, IfErr, IfOk, OnOk, length};
 ghost use Rattle.leveldb_base.specs.Error.{IsOutOfMemory};
 ghost use Rattle.leveldb_base.specs.History.{AreUpTo};
-ghost use Rattle.leveldb_base.specs.declared.error.StatusCode.TheVariants.{Corruption, NotSupported};
+ghost use Rattle.leveldb_base.specs.declared.error.StatusCode.TheVariants.{Corruption};
+ghost use Rattle.leveldb_mem.specs.MemTable.{FailsToPrepare, bytes_in};
 ghost use Rattle.leveldb_mem.specs.WriteBatch.{IsBatch};
 ghost use Rattle.leveldb_version.specs.Batches.{IsRecordOf};
 ghost use Rattle.leveldb_store.specs.BuildTable.{choices_of};
@@ -107,6 +108,7 @@ impl<C: UserCmp + Copy + Drop> ReplayedLog<C> {
     fn begun(alloc: Global, cmp: C, last: SequenceNumber, size: usize) -> ReplayedLog<C>
         ensures tables { result.tables.items ≡ [] }
         ensures rest { result.rest.kept.entries ≡ [] }
+        ensures places { result.rest.kept.places ≡ 0 }
         ensures cmp { result.rest.cmp ≡ cmp }
         ensures last { result.last ≡ last }
         ensures bad { result.is_clean ≡ false }
@@ -154,8 +156,8 @@ impl<C: UserCmp + Copy + Drop> ReplayedLog<C> {
         requires follows { Follows self.old.last batch.now }
         requires up_to { AreUpTo self.old.last self.old.rest.kept.entries }
         ensures ok { OnOk result (TakesBatch self.old batch.now self.new) }
-        ensures cause { IfErr result (λ status.
-            (status.code ≡ NotSupported) ⊎ IsOutOfMemory status) }
+        ensures cause { IfErr result (FailsToPrepare self.old.rest.kept (length batch.now.items)
+            (bytes_in batch.now.items)) }
     {
         self.rest.prepare(batch)?;
         self.rest.insert_prepared(batch.sequence(), batch);

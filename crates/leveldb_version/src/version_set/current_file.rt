@@ -1,7 +1,7 @@
 //! Reading and replacing `CURRENT`, which names the manifest of a store.
 ghost use Rattle.std.specs.Prelude.{◌≡◌, ◌⊎◌, IfOk, IfErr, IsSomeAnd, IsTrue, string_bytes};
 ghost use Rattle.leveldb_base.specs.Error.{IsOutOfMemory};
-ghost use Rattle.leveldb_env.specs.Env.{bytes_of, ChangesFiles, FilesUnchanged, HasCause, Run, SameLocks};
+ghost use Rattle.leveldb_env.specs.Env.{bytes_of, AppendedAreBytes, ChangesFiles, FilesUnchanged, HasCause, Run, SameLocks};
 ghost use Rattle.leveldb_env.specs.WholeFiles.{IsLostUnobserved};
 ghost use Rattle.leveldb_version.specs.Current.{IsCurrentText};
 ghost use Rattle.leveldb_version.specs.CurrentFile.{IsCurrentUnread, IsNoCurrentText, SettingCurrent, temp_path, with_current};
@@ -59,6 +59,8 @@ pub fn set_current_file<E: Env>(
     ensures does { IsTrue E.models_disk
         → ChangesFiles E.models_disk (with_current store.now manifest)
         (SettingCurrent store.now manifest) (E.observed env.old) (E.observed env.new) result }
+    ensures bytes { IsTrue E.models_disk → AppendedAreBytes (E.observed env.old).disk.files
+        → AppendedAreBytes (E.observed env.new).disk.files }
     ensures locks { SameLocks E.models_disk (E.observed env.old) (E.observed env.new) }
     ensures cause { HasCause (IsLostUnobserved E.models_disk (temp_path store.now manifest)
         (E.failures env.old) (E.failures env.new))

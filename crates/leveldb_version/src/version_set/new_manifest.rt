@@ -1,7 +1,7 @@
 //! Making a manifest, which `CURRENT` then names.
 ghost use Rattle.std.specs.Prelude.{◌≡◌, fold, map, Some, IfOk, IfErr, IsTrue, string_bytes};
 ghost use Rattle.leveldb_base.specs.Error.{IsOutOfMemory};
-ghost use Rattle.leveldb_env.specs.Env.{ChangesFiles, HasCause, SameBut, SameLocks, kept_file, with_file};
+ghost use Rattle.leveldb_env.specs.Env.{AppendedAreBytes, ChangesFiles, HasCause, SameBut, SameLocks, kept_file, with_file};
 ghost use Rattle.leveldb_env.specs.WholeFiles.{IsLostUnobserved};
 ghost use Rattle.leveldb_mem.specs.Log.{log_block_size};
 ghost use Rattle.leveldb_mem.specs.Log.Writer.{after_frame, new_writer};
@@ -48,6 +48,8 @@ fn make_file<E: Env>(alloc: Global, env: &mut E, path: &str, bytes: &[u8]) -> Re
     ensures does { IsTrue E.models_disk
         → ChangesFiles E.models_disk (with_file path.now (Some (kept_file bytes.now)))
         (SameBut path.now) (E.observed env.old) (E.observed env.new) result }
+    ensures bytes { IsTrue E.models_disk → AppendedAreBytes (E.observed env.old).disk.files
+        → AppendedAreBytes (E.observed env.new).disk.files }
     ensures locks { SameLocks E.models_disk (E.observed env.old) (E.observed env.new) }
     ensures file { IfOk result (λ f. IsTrue E.models_disk → E.name_of f ≡ path.now) }
     ensures cause { HasCause IsOutOfMemory (E.failures env.old) (E.failures env.new) result }
@@ -72,6 +74,8 @@ pub(super) fn make_manifest<E: Env>(
         → ChangesFiles E.models_disk (with_manifest store.now number records.bytes.items)
         (MakingManifest store.now number records.bytes.items)
         (E.observed env.old) (E.observed env.new) result }
+    ensures bytes { IsTrue E.models_disk → AppendedAreBytes (E.observed env.old).disk.files
+        → AppendedAreBytes (E.observed env.new).disk.files }
     ensures locks { SameLocks E.models_disk (E.observed env.old) (E.observed env.new) }
     ensures ok { IfOk result (λ manifest. manifest ≡ record {
       path = manifest_path store.now number;

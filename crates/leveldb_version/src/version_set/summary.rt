@@ -10,7 +10,7 @@ use std::alloc::Global;
 
 /// The text of all levels that have files.
 #[tactic(auto, using(crate::proofs::SummaryLemmas::levels_more))]
-pub(super) fn summary_of(alloc: Global, files: &[(usize, FileMetaData)]) -> Result<String>
+pub(crate) fn summary_of(alloc: Global, files: &[(usize, FileMetaData)]) -> Result<String>
     ensures ok { IfOk result (λ text.
         string_bytes text ≡ summary_text (map new_file_of files.now)) }
     ensures memory { IfErr result IsOutOfMemory }

@@ -3,26 +3,31 @@ ghost use Rattle.std.specs.Prelude.{false};
 ghost use Rattle.leveldb_env.specs.Env.{lock_set, same, ChangesFiles, FilesUnchanged, ChangesLocks, HasCause};
 ghost use Rattle.rusty_leveldb.specs.State.{close};
 ghost use Rattle.rusty_leveldb.specs.Serves.{done_or};
+ghost use Rattle.leveldb_store.specs.BuildTable.{choices_of};
 ghost use Rattle.leveldb_store.specs.Format.{format_of};
 ghost use Rattle.rusty_leveldb.specs.Calls.{EngineServes, EngineAbandons};
 
-use super::engine::{Engine, Mode, check_open};
-use leveldb_base::cmp::UserCmp;
+use super::engine::{Engine, Mode};
+use leveldb_base::cmp::{Cmp, InternalKeyCmp, UserCmp};
 use leveldb_base::error::{Result, StatusCode};
 use leveldb_env::compressor::{CompressorList, Compressors};
 use leveldb_env::env::Env;
-use leveldb_env::filter::FilterPolicy;
+use leveldb_env::filter::{FilterPolicy, InternalFilterPolicy};
 
 impl<E: Env, C: UserCmp + Copy, FP: FilterPolicy + Copy> Engine<E, C, FP> {
     /// Makes a crash keep all batches and gives back the lock. An open store that fails to do so is
     /// broken, and keeps its lock.
     pub fn close(&mut self, env: &mut E) -> Result<()>
-        ensures { let formats = format_of C.Cmp FP.FilterPolicy
+        ensures { let choices = choices_of C.Cmp FP.FilterPolicy
+            ⟦<InternalKeyCmp<C> as Cmp>⟧ ⟦<InternalFilterPolicy<FP> as FilterPolicy>⟧
             ⟦<CompressorList as Compressors>⟧.codings in
-            EngineServes E.Env formats done_or self.old env.old close result self.new env.new }
+            EngineServes E.Env choices done_or self.old env.old close result self.new env.new }
     {
-        check_open(self.alloc, self.mode, &self.writer)?;
-        self.sync(env)?;
+        self.check_open()?;
+        if let Err(status) = self.store.sync(env) {
+            self.mode = Mode::Broken;
+            return Err(status);
+        }
         if let Err(status) = give_back(env, &self.lock) {
             self.mode = Mode::Broken;
             return Err(status);

@@ -1,6 +1,7 @@
-//! The names of a store's files.
-ghost use Rattle.std.specs.Prelude.{◌≡◌, ◌∷◌, ◌++◌, OnOk, IfOk, IfErr, string_bytes};
+//! The names of a store and of its lock.
+ghost use Rattle.std.specs.Prelude.{◌≡◌, OnOk, IfOk, IfErr, string_bytes};
 ghost use Rattle.leveldb_base.specs.Error.{IsOutOfMemory};
+ghost use Rattle.leveldb_version.specs.Paths.{lock_path};
 ghost use Rattle.rusty_leveldb.specs.Engine.{IsStoreName};
 
 use leveldb_base::error::{Result, StatusCode, err};
@@ -18,10 +19,10 @@ pub(crate) fn check_name(alloc: Global, name: &str) -> Result<()>
     }
 }
 
-/// The name of a file in a store's folder.
-pub(crate) fn file_name(alloc: Global, store: &str, file: &str) -> Result<String>
-    ensures ok { IfOk result (λ name. string_bytes name ≡ store.now ++ 47 ∷ file.now) }
+/// The name of a store's lock.
+pub(crate) fn lock_name(alloc: Global, store: &str) -> Result<String>
+    ensures ok { IfOk result (λ name. string_bytes name ≡ lock_path store.now) }
     ensures memory { IfErr result IsOutOfMemory }
 {
-    Ok(format!(in alloc; "{store}/{file}")?)
+    Ok(format!(in alloc; "{store}/LOCK")?)
 }

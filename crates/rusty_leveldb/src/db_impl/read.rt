@@ -2,16 +2,16 @@
 ghost use Rattle.std.specs.Prelude.{None};
 ghost use Rattle.rusty_leveldb.specs.State.{get};
 ghost use Rattle.rusty_leveldb.specs.Serves.{found_or};
-ghost use Rattle.leveldb_store.specs.Format.{format_of};
+ghost use Rattle.leveldb_store.specs.BuildTable.{choices_of};
 ghost use Rattle.rusty_leveldb.specs.Calls.{EngineServes};
 
-use super::engine::{Engine, check_not_closed};
+use super::engine::Engine;
 use bytes::Bytes;
-use leveldb_base::cmp::UserCmp;
+use leveldb_base::cmp::{Cmp, InternalKeyCmp, UserCmp};
 use leveldb_base::error::{Result, StatusCode, err};
 use leveldb_env::compressor::{CompressorList, Compressors};
 use leveldb_env::env::Env;
-use leveldb_env::filter::FilterPolicy;
+use leveldb_env::filter::{FilterPolicy, InternalFilterPolicy};
 
 /// The greatest length of a key, in bytes.
 const MAX_KEY_SIZE: usize = 1 << 30;
@@ -19,13 +19,13 @@ const MAX_KEY_SIZE: usize = 1 << 30;
 impl<E: Env, C: UserCmp + Copy, FP: FilterPolicy + Copy> Engine<E, C, FP> {
     /// The key's value, or none if it has none.
     pub fn get(&mut self, env: &mut E, key: &[u8]) -> Result<Option<Bytes>>
-        ensures { let formats = format_of C.Cmp FP.FilterPolicy
+        ensures { let choices = choices_of C.Cmp FP.FilterPolicy
+            ⟦<InternalKeyCmp<C> as Cmp>⟧ ⟦<InternalFilterPolicy<FP> as FilterPolicy>⟧
             ⟦<CompressorList as Compressors>⟧.codings in
-            EngineServes E.Env formats found_or self.old env.old (get None key.now) result
+            EngineServes E.Env choices found_or self.old env.old (get None key.now) result
             self.new env.new }
     {
-        let _ = env;
-        check_not_closed(self.alloc, self.mode)?;
+        self.check_not_closed()?;
         if key.len() > MAX_KEY_SIZE {
             return err(
                 self.alloc,
@@ -33,12 +33,7 @@ impl<E: Env, C: UserCmp + Copy, FP: FilterPolicy + Copy> Engine<E, C, FP> {
                 "a key has at most 2^30 bytes",
             );
         }
-        let Some(newest) = self.recent.newest(key) else {
-            return Ok(None);
-        };
-        let Some(value) = newest else {
-            return Ok(None);
-        };
-        Ok(Some(Bytes::copy_from_slice(self.alloc, value)?))
+        self.options.cmp = self.store.cmp();
+        self.store.get(env, &self.options, key)
     }
 }

@@ -1,20 +1,20 @@
-//! The public store: an engine beside a borrow of its environment. Its calls lend the environment
-//! to the engine.
+//! The public store: an engine beside a borrow of its environment, which each call gives to it.
 ghost use Rattle.std.specs.Prelude.{◌≡◌, ◌∷◌, [], Some, None, false, IfOk};
 ghost use Rattle.leveldb_mem.specs.WriteBatch.{item_of};
 ghost use Rattle.rusty_leveldb.specs.State.{write, get, flush, close};
 ghost use Rattle.rusty_leveldb.specs.Serves.{done_or, found_or};
 ghost use Rattle.rusty_leveldb.specs.Engine.{opening_of};
+ghost use Rattle.leveldb_store.specs.BuildTable.{choices_of};
 ghost use Rattle.leveldb_store.specs.Format.{format_of};
 ghost use Rattle.rusty_leveldb.specs.Calls.{EngineServes, EngineAbandons, EngineOpens, result_map};
 
 use super::engine::Engine;
 use bytes::Bytes;
-use leveldb_base::cmp::UserCmp;
+use leveldb_base::cmp::{Cmp, InternalKeyCmp, UserCmp};
 use leveldb_base::error::Result;
 use leveldb_env::compressor::{CompressorList, Compressors};
 use leveldb_env::env::Env;
-use leveldb_env::filter::FilterPolicy;
+use leveldb_env::filter::{FilterPolicy, InternalFilterPolicy};
 use leveldb_env::options::Options;
 use leveldb_mem::write_batch::WriteBatch;
 use std::alloc::Global;
@@ -56,8 +56,12 @@ impl<'e, E: Env, C: UserCmp + Copy, FP: FilterPolicy + Copy> Store<'e, E, Engine
     /// A missing store is made, or `InvalidArgument` if the options say so; one that is there is
     /// opened, or `AlreadyExists` if they say so; a locked one is `LockError`. Options that
     /// `Options::check` refuses make no call. An opening that fails gives back the lock that it
-    /// took, unless the device failed once more. A store that is damaged or locked, or is missing
-    /// and isn't to be made, or is there and must not be, is never opened.
+    /// took, unless the device failed once more. A store that is locked, or is missing and isn't to
+    /// be made, or is there and must not be, or whose manifest is damaged, is never opened.
+    ///
+    /// After an Err nothing is said of which environment is left: `left` is only some one, since
+    /// the borrow of the environment is gone with the store that wasn't opened. `Engine::open` says
+    /// it of the environment that you give it.
     pub fn open(
         alloc: Global,
         name: &str,
@@ -67,7 +71,8 @@ impl<'e, E: Env, C: UserCmp + Copy, FP: FilterPolicy + Copy> Store<'e, E, Engine
         ensures same_reference { IfOk result (λ db. db.env.ghost_name ≡ env.entry.ghost_name) }
         ensures opens { let codings = ⟦<CompressorList as Compressors>⟧.codings in
             (left : E) × IfOk result (λ db. db.env.now ≡ left)
-            × EngineOpens E.Env (format_of C.Cmp FP.FilterPolicy codings) name.now options
+            × EngineOpens E.Env (choices_of C.Cmp FP.FilterPolicy ⟦<InternalKeyCmp<C> as Cmp>⟧
+            ⟦<InternalFilterPolicy<FP> as FilterPolicy>⟧ codings) name.now options
             (opening_of C.Cmp FP.FilterPolicy codings options) env.old
             (result_map (λ db. db.state) result) left }
     {
@@ -78,9 +83,10 @@ impl<'e, E: Env, C: UserCmp + Copy, FP: FilterPolicy + Copy> Store<'e, E, Engine
     /// Gives the key this value, without a sync.
     pub fn put(&mut self, key: &[u8], value: &[u8]) -> Result<()>
         ensures same_reference { self.new.env.ghost_name ≡ self.old.env.ghost_name }
-        ensures serves { let formats = format_of C.Cmp FP.FilterPolicy
+        ensures serves { let choices = choices_of C.Cmp FP.FilterPolicy
+            ⟦<InternalKeyCmp<C> as Cmp>⟧ ⟦<InternalFilterPolicy<FP> as FilterPolicy>⟧
             ⟦<CompressorList as Compressors>⟧.codings in
-            EngineServes E.Env formats done_or self.old.state self.old.env.now
+            EngineServes E.Env choices done_or self.old.state self.old.env.now
             (write (item_of key.now (Some value.now) ∷ []) false) result self.new.state
             self.new.env.now }
     {
@@ -90,22 +96,24 @@ impl<'e, E: Env, C: UserCmp + Copy, FP: FilterPolicy + Copy> Store<'e, E, Engine
     /// Deletes the key, without a sync.
     pub fn delete(&mut self, key: &[u8]) -> Result<()>
         ensures same_reference { self.new.env.ghost_name ≡ self.old.env.ghost_name }
-        ensures serves { let formats = format_of C.Cmp FP.FilterPolicy
+        ensures serves { let choices = choices_of C.Cmp FP.FilterPolicy
+            ⟦<InternalKeyCmp<C> as Cmp>⟧ ⟦<InternalFilterPolicy<FP> as FilterPolicy>⟧
             ⟦<CompressorList as Compressors>⟧.codings in
-            EngineServes E.Env formats done_or self.old.state self.old.env.now
+            EngineServes E.Env choices done_or self.old.state self.old.env.now
             (write (item_of key.now None ∷ []) false) result self.new.state self.new.env.now }
     {
         self.state.delete(&mut *self.env, key)
     }
 
     /// Makes the batch's changes together, after all others; with `sync` a crash keeps them from
-    /// then on. A failed append or sync breaks the store: the batch isn't seen, and may be there
-    /// when the store is opened again.
+    /// then on. A memtable that is full becomes a table first. A failed append or sync breaks the
+    /// store: the batch isn't seen, and may be there when the store is opened again.
     pub fn write(&mut self, batch: WriteBatch, sync: bool) -> Result<()>
         ensures same_reference { self.new.env.ghost_name ≡ self.old.env.ghost_name }
-        ensures serves { let formats = format_of C.Cmp FP.FilterPolicy
+        ensures serves { let choices = choices_of C.Cmp FP.FilterPolicy
+            ⟦<InternalKeyCmp<C> as Cmp>⟧ ⟦<InternalFilterPolicy<FP> as FilterPolicy>⟧
             ⟦<CompressorList as Compressors>⟧.codings in
-            EngineServes E.Env formats done_or self.old.state self.old.env.now
+            EngineServes E.Env choices done_or self.old.state self.old.env.now
             (write batch.items sync) result self.new.state self.new.env.now }
     {
         self.state.write(&mut *self.env, batch, sync)
@@ -114,9 +122,10 @@ impl<'e, E: Env, C: UserCmp + Copy, FP: FilterPolicy + Copy> Store<'e, E, Engine
     /// Makes a crash keep all batches.
     pub fn flush(&mut self) -> Result<()>
         ensures same_reference { self.new.env.ghost_name ≡ self.old.env.ghost_name }
-        ensures serves { let formats = format_of C.Cmp FP.FilterPolicy
+        ensures serves { let choices = choices_of C.Cmp FP.FilterPolicy
+            ⟦<InternalKeyCmp<C> as Cmp>⟧ ⟦<InternalFilterPolicy<FP> as FilterPolicy>⟧
             ⟦<CompressorList as Compressors>⟧.codings in
-            EngineServes E.Env formats done_or self.old.state self.old.env.now
+            EngineServes E.Env choices done_or self.old.state self.old.env.now
             flush result self.new.state self.new.env.now }
     {
         self.state.flush(&mut *self.env)
@@ -125,9 +134,10 @@ impl<'e, E: Env, C: UserCmp + Copy, FP: FilterPolicy + Copy> Store<'e, E, Engine
     /// The key's value, or none if it has none.
     pub fn get(&mut self, key: &[u8]) -> Result<Option<Bytes>>
         ensures same_reference { self.new.env.ghost_name ≡ self.old.env.ghost_name }
-        ensures serves { let formats = format_of C.Cmp FP.FilterPolicy
+        ensures serves { let choices = choices_of C.Cmp FP.FilterPolicy
+            ⟦<InternalKeyCmp<C> as Cmp>⟧ ⟦<InternalFilterPolicy<FP> as FilterPolicy>⟧
             ⟦<CompressorList as Compressors>⟧.codings in
-            EngineServes E.Env formats found_or self.old.state self.old.env.now
+            EngineServes E.Env choices found_or self.old.state self.old.env.now
             (get None key.now) result self.new.state self.new.env.now }
     {
         self.state.get(&mut *self.env, key)
@@ -137,9 +147,10 @@ impl<'e, E: Env, C: UserCmp + Copy, FP: FilterPolicy + Copy> Store<'e, E, Engine
     /// broken, and keeps its lock.
     pub fn close(&mut self) -> Result<()>
         ensures same_reference { self.new.env.ghost_name ≡ self.old.env.ghost_name }
-        ensures serves { let formats = format_of C.Cmp FP.FilterPolicy
+        ensures serves { let choices = choices_of C.Cmp FP.FilterPolicy
+            ⟦<InternalKeyCmp<C> as Cmp>⟧ ⟦<InternalFilterPolicy<FP> as FilterPolicy>⟧
             ⟦<CompressorList as Compressors>⟧.codings in
-            EngineServes E.Env formats done_or self.old.state self.old.env.now
+            EngineServes E.Env choices done_or self.old.state self.old.env.now
             close result self.new.state self.new.env.now }
     {
         self.state.close(&mut *self.env)

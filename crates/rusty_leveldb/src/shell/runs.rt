@@ -3,20 +3,23 @@ ghost use Rattle.std.specs.Prelude.{◌≡◌, ◌≤◌, ◌⊎◌, ◌++◌, L
 ghost use Rattle.leveldb_base.specs.Error.{IsOutOfMemory};
 ghost use Rattle.leveldb_mem.specs.WriteBatch.{with_item, IsTooLong};
 ghost use Rattle.rusty_leveldb.specs.Causes.{IsLongBatch};
-ghost use Rattle.rusty_leveldb.specs.Engine.{TimeGoesOn, Answers, OpenExcused, opening_of};
+ghost use Rattle.rusty_leveldb.specs.Engine.{Answers, opening_of};
+ghost use Rattle.rusty_leveldb.specs.Unopened.{OpenExcused};
+ghost use Rattle.leveldb_store.specs.BuildTable.{choices_of};
 ghost use Rattle.leveldb_store.specs.Format.{format_of};
-ghost use Rattle.rusty_leveldb.specs.Calls.{FailsFor};
+ghost use Rattle.leveldb_store.specs.Room.{FailsFor};
+ghost use Rattle.leveldb_store.specs.SoundCall.{TimeGoesOn};
 ghost use Rattle.rusty_leveldb.specs.Serves.{done_or};
 ghost use Rattle.rusty_leveldb.specs.State as machine;
 ghost use Rattle.rusty_leveldb.specs.Shell.{HasRun, request_of, answer_of, change_of};
 
 use super::commands::{Command, Item, Reply};
 use crate::db_impl::Engine;
-use leveldb_base::cmp::UserCmp;
+use leveldb_base::cmp::{Cmp, InternalKeyCmp, UserCmp};
 use leveldb_base::error::{Result, StatusCode};
 use leveldb_env::compressor::{CompressorList, Compressors};
 use leveldb_env::env::Env;
-use leveldb_env::filter::FilterPolicy;
+use leveldb_env::filter::{FilterPolicy, InternalFilterPolicy};
 use leveldb_env::options::Options;
 use leveldb_mem::write_batch::WriteBatch;
 use std::alloc::Global;
@@ -24,8 +27,8 @@ use std::alloc::Global;
 /// Opens a store, answers the commands one after another, and gives back its lock if no command
 /// did. A command that fails is answered, and the run goes on. The replies come after those that
 /// are there, also if the run fails: out of memory before it begins, or since the store isn't
-/// opened or its lock isn't given back. A store that is damaged or locked, or is missing and isn't
-/// to be made, is never opened.
+/// opened or its lock isn't given back. A store that is locked, or whose manifest is damaged, or
+/// that is missing and isn't to be made, is never opened.
 pub fn run<E: Env, C: UserCmp + Copy, FP: FilterPolicy + Copy>(
     env: &mut E,
     name: &str,
@@ -39,8 +42,10 @@ pub fn run<E: Env, C: UserCmp + Copy, FP: FilterPolicy + Copy>(
     ensures after { (given : List Reply) × (replies.new.items ≡ replies.old.items ++ given)
         × OnOk result (length given ≡ length commands.now) }
     ensures time { TimeGoesOn E.Env env.old env.new }
-    ensures cause { FailsFor (OpenExcused E.models_disk name.now (opening_of C.Cmp FP.FilterPolicy
-        ⟦<CompressorList as Compressors>⟧.codings opt) (E.observed env.old)) (E.failures env.old)
+    ensures cause { let codings = ⟦<CompressorList as Compressors>⟧.codings in
+        FailsFor (OpenExcused E.Env name.now (choices_of C.Cmp FP.FilterPolicy
+        ⟦<InternalKeyCmp<C> as Cmp>⟧ ⟦<InternalFilterPolicy<FP> as FilterPolicy>⟧ codings opt)
+        (opening_of C.Cmp FP.FilterPolicy codings opt) env.old) (E.failures env.old)
         (E.failures env.new) result }
 {
     let alloc = *replies.allocator();
@@ -65,7 +70,6 @@ pub(super) fn answer<E: Env, C: UserCmp + Copy, FP: FilterPolicy + Copy>(
         ⟦<CompressorList as Compressors>⟧.codings in
         Answers E.Env formats (Some engine.old) env.old (request_of command.now)
         (answer_of result) (Some engine.new) env.new }
-    ensures options { engine.new.options ≡ engine.old.options }
     ensures later { E.failures env.old ≤ E.failures env.new }
     ensures time { TimeGoesOn E.Env env.old env.new }
 {
@@ -105,7 +109,6 @@ fn write<E: Env, C: UserCmp + Copy, FP: FilterPolicy + Copy>(
         ⟦<CompressorList as Compressors>⟧.codings in
         Answers E.Env formats (Some engine.old) env.old
         (machine.write (map change_of items.now) sync) (done_or result) (Some engine.new) env.new }
-    ensures options { engine.new.options ≡ engine.old.options }
     ensures later { E.failures env.old ≤ E.failures env.new }
     ensures time { TimeGoesOn E.Env env.old env.new }
 {

@@ -10,9 +10,9 @@ pub invariant_of-self : goal.invariant_of-self
 invariant_of-self g c =
     let old = c.self.inside.versions in
     let new = c.log_and_apply.new.self in
-    let edit = table_edit c.self.inside.log.number (new_file_of (0, c.args.file)) in
-    let made : edit_of c.add_file.new.self ≡ edit = table_edit_made c.new-edit.result c.set_log_num.new.self c.add_file.new.self c.self.inside.log.number c.args.file c.new-edit.ensures c.set_log_num.ensures c.in_ok-add_file.ensures.ok c.in_ok-add_file.ensures.others in
-    let fits = table_edit_fits c.self.inside.log.number c.args.file in
+    let edit = table_edit c.self.inside.log.number (new_file_of (c.args.level, c.args.file)) in
+    let made : edit_of c.add_file.new.self ≡ edit = table_edit_made c.new-edit.result c.set_log_num.new.self c.add_file.new.self c.self.inside.log.number c.args.level c.args.file c.new-edit.ensures c.set_log_num.ensures c.in_ok-add_file.ensures.ok c.in_ok-add_file.ensures.others in
+    let fits = table_edit_fits c.self.inside.log.number c.args.level c.args.file c.requires.level in
     let logged : LogEditResult g.E.Env.models_disk old edit (g.E.Env.observed c.args.env.now) (g.E.Env.failures c.args.env.now) c.log_and_apply.result new (g.E.Env.observed c.log_and_apply.new.env) (g.E.Env.failures c.log_and_apply.new.env) =
     subst (λ e. LogEditResult g.E.Env.models_disk old e (g.E.Env.observed c.args.env.now) (g.E.Env.failures c.args.env.now) c.log_and_apply.result new (g.E.Env.observed c.log_and_apply.new.env) (g.E.Env.failures c.log_and_apply.new.env)) made c.log_and_apply.ensures.log in
     let used = in_use_of old.manifest c.self.invariant.5 (λ e. c.requires.usable (ap (λ v. v.set.manifest) (sym c.self.view_is) ∙ e)) in
@@ -21,8 +21,8 @@ invariant_of-self g c =
 
 pub returns-clause-logs : goal.returns-clause-logs
 returns-clause-logs g c =
-    let edit = table_edit c.self.inside.log.number (new_file_of (0, c.args.file)) in
-    let made : edit_of c.add_file.new.self ≡ edit = table_edit_made c.new-edit.result c.set_log_num.new.self c.add_file.new.self c.self.inside.log.number c.args.file c.new-edit.ensures c.set_log_num.ensures c.in_ok-add_file.ensures.ok c.in_ok-add_file.ensures.others in
-    let fits = table_edit_fits c.self.inside.log.number c.args.file in
+    let edit = table_edit c.self.inside.log.number (new_file_of (c.args.level, c.args.file)) in
+    let made : edit_of c.add_file.new.self ≡ edit = table_edit_made c.new-edit.result c.set_log_num.new.self c.add_file.new.self c.self.inside.log.number c.args.level c.args.file c.new-edit.ensures c.set_log_num.ensures c.in_ok-add_file.ensures.ok c.in_ok-add_file.ensures.others in
+    let fits = table_edit_fits c.self.inside.log.number c.args.level c.args.file c.requires.level in
     let logged = rw made at c.log_and_apply.ensures.log in
     rw (← c.self.view_is) (logged.used fits)

@@ -1,16 +1,18 @@
 use Rattle.std.proofs.Common.{◌∙◌, Ok, ap, inl, refl}
 use Rattle.std.proofs.lemmas.Result.{err_from_is_err_and}
-use Rattle.leveldb_store.proofs.RoomLemmas.{no_room_made, room_tried, step_in_order, step_of_switch, step_then, usable_switched}
+use Rattle.leveldb_store.proofs.RoomLemmas.{fails_first, no_room_made, room_tried, step_for, step_switched, step_tabled, usable_switched}
 use Rattle.leveldb_store.proofs.open_store.OpenStore.make_room.Goals as goal
 
 pub returns-in_err-table_if_waiting-clause-makes : goal.returns-in_err-table_if_waiting-clause-makes
 returns-in_err-table_if_waiting-clause-makes g c =
     let old = c.args.self.now in
+    let from = c.args.env.now in
+    let cmp = g.C.Cmp.cmp old.cmp in
     let p = err_from_is_err_and c.from_residual.result c.from_residual.ensures.1 in
     let failed = c.in_err-table_if_waiting.ensures in
     rw (p.1, p.2)
-    (no_room_made g.E.Env (g.C.Cmp.cmp old.cmp) _ _ old c.args.env.now _ c.table_if_waiting.new.self c.table_if_waiting.new.env (c.if-not-is_full.ensures.0 refl)
-    failed.step (inl failed.recent))
+    (no_room_made g.E.Env cmp _ _ old from _ c.table_if_waiting.new.self c.table_if_waiting.new.env (c.if-not-is_full.ensures.0 refl)
+    (step_for g.E.Env cmp _ (fails_first g.E.Env cmp _ old from) old from _ c.table_if_waiting.new.self c.table_if_waiting.new.env failed.step) (inl failed.recent))
 
 pub returns-in_err-table_if_waiting-clause-sound : goal.returns-in_err-table_if_waiting-clause-sound
 returns-in_err-table_if_waiting-clause-sound g c =
@@ -31,25 +33,15 @@ returns-in_err-switch_log-clause-makes g c =
     let p = err_from_is_err_and c.from_residual-in_err-switch_log.result c.from_residual-in_err-switch_log.ensures.1 in
     rw (p.1, p.2)
     (no_room_made g.E.Env (order old.cmp) _ _ old from _ new to (c.if-not-is_full.ensures.0 refl)
-    (step_then g.E.Env (order old.cmp) _ old mid from at first.step _ new to
-    (step_in_order g.E.Env order _ mid at _ new to first.step.rest.cmp
-    (step_of_switch g.E.Env (order mid.cmp) _ mid at first.step.usable _ new to failed.switches failed.keeps failed.sound)))
+    (step_switched g.E.Env order _ old mid from at first.step first.numbers _ new to failed.switches failed.keeps failed.sound)
     (inl (failed.switches.err.2 ∙ first.recent)))
 
 pub returns-in_err-switch_log-clause-sound : goal.returns-in_err-switch_log-clause-sound
 returns-in_err-switch_log-clause-sound g c =
-    let old = c.args.self.now in
-    let order = g.C.Cmp.cmp in
-    let mid = c.table_if_waiting.new.self in
-    let at = c.table_if_waiting.new.env in
-    let new = c.switch_log.new.self in
-    let to = c.switch_log.new.env in
     let first = c.in_ok-table_if_waiting.ensures in
     let failed = c.in_err-switch_log.ensures in
     let p = err_from_is_err_and c.from_residual-in_err-switch_log.result c.from_residual-in_err-switch_log.ensures.1 in
-    let step = step_then g.E.Env (order old.cmp) _ old mid c.args.env.now at first.step _ new to
-    (step_in_order g.E.Env order _ mid at _ new to first.step.rest.cmp
-    (step_of_switch g.E.Env (order mid.cmp) _ mid at first.step.usable _ new to failed.switches failed.keeps failed.sound)) in
+    let step = step_switched g.E.Env g.C.Cmp.cmp _ c.args.self.now c.table_if_waiting.new.self c.args.env.now c.table_if_waiting.new.env first.step first.numbers _ c.switch_log.new.self c.switch_log.new.env failed.switches failed.keeps failed.sound in
     rw (p.1, p.2) step.sound
 
 pub table_if_waiting-requires-2-clause-usable : goal.table_if_waiting-requires-2-clause-usable
@@ -73,13 +65,10 @@ returns-clause-makes g c =
     let first = c.in_ok-table_if_waiting.ensures in
     let done = c.in_ok-switch_log.ensures in
     let last = c.table_if_waiting-2.ensures in
-    let second = step_then g.E.Env (order old.cmp) _ old mid from at first.step (Ok tt) switched begun
-    (step_in_order g.E.Env order _ mid at (Ok tt) switched begun first.step.rest.cmp
-    (step_of_switch g.E.Env (order mid.cmp) _ mid at first.step.usable (Ok tt) switched begun done.switches done.keeps done.sound)) in
+    let second = step_switched g.E.Env order _ old mid from at first.step first.numbers (Ok tt) switched begun done.switches done.keeps done.sound in
     room_tried g.E.Env (order old.cmp) _ _ old from result new to (c.if-not-is_full.ensures.0 refl)
-    (step_then g.E.Env (order old.cmp) _ old switched from begun second result new to
-    (step_in_order g.E.Env order _ switched begun result new to second.rest.cmp last.step))
-    (ap (λ kept. kept.entries) last.recent ∙ done.switches.empty) last.none_waits last.waits
+    (step_tabled g.E.Env order _ old mid from at first.step first.numbers first.recent switched begun done.switches second result new to last.step)
+    (ap (λ kept. kept.entries) last.recent ∙ done.switches.empty) (ap (λ kept. kept.places) last.recent ∙ done.switches.places) last.none_waits last.waits
 
 pub returns-clause-sound : goal.returns-clause-sound
 returns-clause-sound g c =
@@ -90,14 +79,9 @@ returns-clause-sound g c =
     let at = c.table_if_waiting.new.env in
     let switched = c.switch_log.new.self in
     let begun = c.switch_log.new.env in
-    let new = c.table_if_waiting-2.new.self in
-    let to = c.table_if_waiting-2.new.env in
-    let result = c.table_if_waiting-2.result in
     let first = c.in_ok-table_if_waiting.ensures in
     let done = c.in_ok-switch_log.ensures in
-    let second = step_then g.E.Env (order old.cmp) _ old mid from at first.step (Ok tt) switched begun
-    (step_in_order g.E.Env order _ mid at (Ok tt) switched begun first.step.rest.cmp
-    (step_of_switch g.E.Env (order mid.cmp) _ mid at first.step.usable (Ok tt) switched begun done.switches done.keeps done.sound)) in
-    let all = step_then g.E.Env (order old.cmp) _ old switched from begun second result new to
-    (step_in_order g.E.Env order _ switched begun result new to second.rest.cmp c.table_if_waiting-2.ensures.step) in
+    let second = step_switched g.E.Env order _ old mid from at first.step first.numbers (Ok tt) switched begun done.switches done.keeps done.sound in
+    let all = step_tabled g.E.Env order _ old mid from at first.step first.numbers first.recent switched begun done.switches second c.table_if_waiting-2.result c.table_if_waiting-2.new.self c.table_if_waiting-2.new.env
+    c.table_if_waiting-2.ensures.step in
     all.sound

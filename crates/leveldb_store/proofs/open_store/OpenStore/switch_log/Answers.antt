@@ -1,6 +1,7 @@
 use Rattle.std.proofs.Common.{◌≡◌, ◌∙◌, ◌+◌, ◌<◌, ◌^◌, List, ℕ, Ok, Err, Some, ap, subst, sym}
 use Rattle.std.specs.Prelude.{IsTrue}
 use Rattle.std.proofs.lemmas.Result.{err_from_is_err_and}
+use Rattle.leveldb_env.proofs.AppendedLemmas.{emptied_bytes, synced_bytes}
 use Rattle.leveldb_base.specs.History.{AreUpTo}
 use Rattle.leveldb_env.specs.Env.{BeforeOrAfter, ChangesFiles, emptied}
 use Rattle.leveldb_version.specs.Paths.{log_path}
@@ -8,7 +9,7 @@ use Rattle.leveldb_store.specs.OpenStore.{HasOwnManifest}
 use Rattle.leveldb_store.specs.Write.{SyncsLog}
 use Rattle.leveldb_store.specs.Written.{KeepsStore, SparesRest}
 use Rattle.leveldb_store.proofs.SwitchLemmas.{after_giving, keeps_given, keeps_switched, keeps_unmade, spared_by_sync, switched, sync_made, unmade, unsynced, unsynced_keeps}
-use Rattle.leveldb_store.proofs.SoundLemmas.{call_goes_on, empty_bytes, given_unbroken, goes_on_then, nothing_goes_on, sound_ok, sound_unbroken, sound_unsynced, sync_bytes}
+use Rattle.leveldb_store.proofs.SoundLemmas.{call_goes_on, given_unbroken, goes_on_then, nothing_goes_on, sound_ok, sound_unbroken, sound_unsynced}
 use Rattle.leveldb_store.specs.SoundCall.{IsSoundCall, any_meaning}
 use Rattle.leveldb_store.proofs.open_store.OpenStore.switch_log.Goals as goal
 
@@ -103,6 +104,7 @@ returns-clause-switches g c =
     switched g.E.Env old from more mid sync rest to (Ok c.in_ok-file.file) opening c.in_ok-file.ensures.locks _
     (ap (λ v. v.cmp) same) (ap (λ v. v.set) same) (λ i. record { number = number_is i; writer = c.new.ensures i })
     (ap (λ m. m.kept.entries) c.replace.ensures.after ∙ c.new-fresh.ensures.entries)
+    (ap (λ m. m.kept.places) c.replace.ensures.after ∙ c.new-fresh.ensures.places)
     (ap (λ m. Some m.kept) c.replace.ensures.value ∙ ap (λ v. Some v.recent) same) c.in_ok-file.ensures.cause.ok
 
 pub returns-clause-keeps : goal.returns-clause-keeps
@@ -205,8 +207,8 @@ returns-in_err-file-clause-sound g c =
     let p = err_from_is_err_and c.from_residual-in_err-file.result c.from_residual-in_err-file.ensures.1 in
     rw (p.1, p.2, c.in_ok-sync.ensures.syncs.ok ∙ given)
     (sound_unbroken g.E.Env (g.C.Cmp.cmp old.cmp) any_meaning old from status _ to
-    (goes_on_then g.E.Env (call_goes_on g.E.Env from mid sync.does (sync_bytes _))
-    (call_goes_on g.E.Env mid to (λ modelled. c.in_err-file.ensures.does) (empty_bytes _))) (given_unbroken old))
+    (goes_on_then g.E.Env (call_goes_on g.E.Env from mid sync.does (synced_bytes _))
+    (call_goes_on g.E.Env mid to (λ modelled. c.in_err-file.ensures.does) (emptied_bytes _))) (given_unbroken old))
 
 pub returns-clause-sound : goal.returns-clause-sound
 returns-clause-sound g c =
@@ -217,5 +219,5 @@ returns-clause-sound g c =
     let given = after_giving _ old c.self.view_is c.new_file_number.new.self c.in_ok-number.ensures.ok in
     let sync = sync_made g.E.Env from c.in_ok-sync.ensures.syncs.ok given mid c.in_ok-sync.ensures.syncs in
     sound_ok g.E.Env (g.C.Cmp.cmp old.cmp) any_meaning old from tt _ to
-    (goes_on_then g.E.Env (call_goes_on g.E.Env from mid sync.does (sync_bytes _))
-    (call_goes_on g.E.Env mid to (λ modelled. c.in_ok-file.ensures.does) (empty_bytes _)))
+    (goes_on_then g.E.Env (call_goes_on g.E.Env from mid sync.does (synced_bytes _))
+    (call_goes_on g.E.Env mid to (λ modelled. c.in_ok-file.ensures.does) (emptied_bytes _)))

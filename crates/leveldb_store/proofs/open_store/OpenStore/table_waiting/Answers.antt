@@ -5,7 +5,7 @@ use Rattle.leveldb_base.specs.CmpLaws.{total_order}
 use Rattle.leveldb_version.specs.VersionSetValue.{VersionSetValue, broken}
 use Rattle.leveldb_base.specs.History.{AreUpTo}
 use Rattle.leveldb_store.specs.OpenStore.{HasOwnManifest, OpenStoreValue}
-use Rattle.leveldb_store.proofs.TableWaitingLemmas.{in_use_of, keeps_done, keeps_failed, keeps_unmade, tables_logged, tables_unbuilt, tables_unlogged, unlogged_sound, waiting_has_entries}
+use Rattle.leveldb_store.proofs.TableWaitingLemmas.{in_use_of, keeps_done, keeps_failed, keeps_unmade, tables_logged, tables_unbuilt, tables_unlogged, tables_unpicked, unlogged_sound, waiting_has_entries}
 use Rattle.leveldb_store.proofs.SoundLemmas.{edit_goes_on, given_unbroken, goes_on_then, sound_ok, sound_unbroken, table_goes_on}
 use Rattle.leveldb_store.proofs.open_store.OpenStore.table_waiting.Goals as goal
 
@@ -27,6 +27,21 @@ returns-in_err-file-clause-keeps g c =
     (λ modelled meaning agrees. keeps_unmade (g.C.Cmp.cmp c.self.inside.cmp) meaning _ c.in_ok-number.ensures.fits (g.E.Env.observed c.args.env.now) (g.E.Env.observed c.build_waiting.new.env)
     (made.run modelled) (made.bytes modelled))
 
+pub returns-in_err-level-clause-tables : goal.returns-in_err-level-clause-tables
+returns-in_err-level-clause-tables g c =
+    let p = err_from_is_err_and c.from_residual-in_err-level.result c.from_residual-in_err-level.ensures.1 in
+    let usable = not_broken c.self.inside.versions c.is_broken.result c.is_broken.ensures.1 c.if-is_broken.false in
+    let made = rw (c.in_ok-number.ensures.number, c.in_ok-number.ensures.ok) at c.in_ok-file.ensures.makes in
+    rw (← c.self.view_is, c.in_ok-number.ensures.ok, p.1, p.2)
+    (tables_unpicked g.E.Env _ _ c.args.env.now usable c.in_ok-number.ensures.fits c.build_waiting.new.env c.in_ok-file.file made _ c.in_err-level.ensures.memory)
+
+pub returns-in_err-level-clause-keeps : goal.returns-in_err-level-clause-keeps
+returns-in_err-level-clause-keeps g c =
+    let made = rw (c.in_ok-number.ensures.number, c.in_ok-number.ensures.ok) at c.in_ok-file.ensures.makes in
+    rw (← c.self.view_is, c.in_ok-number.ensures.ok)
+    (λ modelled meaning agrees. keeps_unmade (g.C.Cmp.cmp c.self.inside.cmp) meaning _ c.in_ok-number.ensures.fits (g.E.Env.observed c.args.env.now) (g.E.Env.observed c.build_waiting.new.env)
+    (made.run modelled) (made.bytes modelled))
+
 pub returns-in_err-log_table-clause-tables : goal.returns-in_err-log_table-clause-tables
 returns-in_err-log_table-clause-tables g c =
     let p = err_from_is_err_and c.from_residual-in_err-log_table.result c.from_residual-in_err-log_table.ensures.1 in
@@ -35,7 +50,7 @@ returns-in_err-log_table-clause-tables g c =
     let logs = rw c.in_ok-number.ensures.ok at c.in_err-log_table.ensures.logs in
     let used = in_use_of c.self.inside.versions.manifest c.self.invariant.5 usable in
     rw (← c.self.view_is, c.log_table.ensures.rest, p.1, p.2)
-    (tables_unlogged g.E.Env _ _ c.args.env.now usable c.in_ok-number.ensures.fits c.build_waiting.new.env c.in_ok-file.file made used.0 used.1 c.self.invariant.4 c.log_table.ensures.locks
+    (tables_unlogged g.E.Env _ _ c.args.env.now usable c.in_ok-number.ensures.fits c.build_waiting.new.env c.in_ok-level.level c.in_ok-file.file made used.0 used.1 c.self.invariant.4 c.log_table.ensures.locks
     c.log_table.new.self.set _ (logs used.0 used.1))
 
 pub returns-in_err-log_table-clause-keeps : goal.returns-in_err-log_table-clause-keeps
@@ -46,9 +61,10 @@ returns-in_err-log_table-clause-keeps g c =
     let some = waiting_has_entries c.self.inside.waiting (rw (← c.self.view_is) at c.requires.waits) c.self.invariant.7 in
     let order = rw (← c.self.view_is) at c.requires.order in
     let total : IsTotalOrder (g.C.Cmp.cmp cmp) = total_order (g.met.C.Cmp.preorder cmp) (g.met.C.UserCmp.accepts_all cmp) in
+    let picked = rw c.in_ok-number.ensures.ok at c.in_ok-level.ensures.level in
     rw (← c.self.view_is, c.log_table.ensures.rest)
-    (λ modelled meaning agrees. keeps_failed g.E.Env _ _ c.args.env.now c.build_waiting.new.env c.in_ok-file.file some c.build_waiting.ensures.entries made modelled (g.C.Cmp.cmp cmp) order meaning agrees
-    c.in_ok-number.ensures.fits total c.log_table.new.env c.log_table.new.self.set _ logs)
+    (λ modelled meaning agrees. keeps_failed g.E.Env _ _ c.args.env.now c.build_waiting.new.env c.in_ok-level.level c.in_ok-file.file some c.build_waiting.ensures.entries made modelled (g.C.Cmp.cmp cmp) order meaning agrees
+    c.in_ok-number.ensures.fits total picked c.log_table.new.env c.log_table.new.self.set _ logs)
 
 pub returns-clause-tables : goal.returns-clause-tables
 returns-clause-tables g c =
@@ -57,9 +73,11 @@ returns-clause-tables g c =
     let logs = rw c.in_ok-number.ensures.ok at c.in_ok-log_table.ensures.logs in
     let used = in_use_of c.self.inside.versions.manifest c.self.invariant.5 usable in
     let gone = ap (λ (v : OpenStoreValue g.row.C.Denot). record v { waiting = None }) (c.self-2.view_is ∙ c.log_table.ensures.rest) in
+    let order = rw (← c.self.view_is) at c.requires.order in
+    let picked = rw (c.in_ok-number.ensures.ok, ← order) at c.in_ok-level.ensures.level in
     rw (← c.self.view_is, gone)
-    (tables_logged g.E.Env _ _ c.args.env.now usable c.in_ok-number.ensures.fits c.build_waiting.new.env c.in_ok-file.file made used.0 used.1 c.self.invariant.4 c.log_table.ensures.locks
-    c.log_table.new.self.set (logs used.0 used.1))
+    (tables_logged g.E.Env _ _ c.args.env.now usable c.in_ok-number.ensures.fits c.build_waiting.new.env c.in_ok-level.level c.in_ok-file.file made used.0 used.1 c.self.invariant.4 c.log_table.ensures.locks
+    c.log_table.new.self.set picked (logs used.0 used.1))
 
 pub returns-clause-keeps : goal.returns-clause-keeps
 returns-clause-keeps g c =
@@ -69,10 +87,11 @@ returns-clause-keeps g c =
     let some = waiting_has_entries c.self.inside.waiting (rw (← c.self.view_is) at c.requires.waits) c.self.invariant.7 in
     let order = rw (← c.self.view_is) at c.requires.order in
     let total : IsTotalOrder (g.C.Cmp.cmp cmp) = total_order (g.met.C.Cmp.preorder cmp) (g.met.C.UserCmp.accepts_all cmp) in
+    let picked = rw c.in_ok-number.ensures.ok at c.in_ok-level.ensures.level in
     let gone = ap (λ (v : OpenStoreValue g.row.C.Denot). record v { waiting = None }) (c.self-2.view_is ∙ c.log_table.ensures.rest) in
     rw (← c.self.view_is, gone)
-    (λ modelled meaning agrees. keeps_done g.E.Env _ _ c.args.env.now c.build_waiting.new.env c.in_ok-file.file some c.build_waiting.ensures.entries made modelled (g.C.Cmp.cmp cmp) order meaning agrees
-    c.in_ok-number.ensures.fits total c.log_table.new.env c.log_table.new.self.set logs)
+    (λ modelled meaning agrees. keeps_done g.E.Env _ _ c.args.env.now c.build_waiting.new.env c.in_ok-level.level c.in_ok-file.file some c.build_waiting.ensures.entries made modelled (g.C.Cmp.cmp cmp) order meaning agrees
+    c.in_ok-number.ensures.fits total picked c.log_table.new.env c.log_table.new.self.set logs)
 
 pub invariant_of-self : goal.invariant_of-self
 invariant_of-self g c =
@@ -108,6 +127,12 @@ returns-in_err-file-clause-sound g c =
     rw (← c.self.view_is, c.in_ok-number.ensures.ok, p.1)
     (sound_unbroken g.E.Env _ _ _ c.args.env.now _ _ c.build_waiting.new.env (table_goes_on g.E.Env c.in_err-file.ensures.makes) (given_unbroken _))
 
+pub returns-in_err-level-clause-sound : goal.returns-in_err-level-clause-sound
+returns-in_err-level-clause-sound g c =
+    let p = err_from_is_err_and c.from_residual-in_err-level.result c.from_residual-in_err-level.ensures.1 in
+    rw (← c.self.view_is, c.in_ok-number.ensures.ok, p.1)
+    (sound_unbroken g.E.Env _ _ _ c.args.env.now _ _ c.build_waiting.new.env (table_goes_on g.E.Env c.in_ok-file.ensures.makes) (given_unbroken _))
+
 pub returns-in_err-log_table-clause-sound : goal.returns-in_err-log_table-clause-sound
 returns-in_err-log_table-clause-sound g c =
     let p = err_from_is_err_and c.from_residual-in_err-log_table.result c.from_residual-in_err-log_table.ensures.1 in
@@ -116,7 +141,7 @@ returns-in_err-log_table-clause-sound g c =
     let logs = rw c.in_ok-number.ensures.ok at c.in_err-log_table.ensures.logs in
     let used = in_use_of c.self.inside.versions.manifest c.self.invariant.5 usable in
     rw (← c.self.view_is, c.log_table.ensures.rest, p.1, p.2)
-    (unlogged_sound g.E.Env _ _ c.args.env.now usable c.in_ok-number.ensures.fits c.build_waiting.new.env c.in_ok-file.file made used.0 used.1 c.self.invariant.4 c.log_table.ensures.locks
+    (unlogged_sound g.E.Env _ _ c.args.env.now usable c.in_ok-number.ensures.fits c.build_waiting.new.env c.in_ok-level.level c.in_ok-file.file made used.0 used.1 c.self.invariant.4 c.log_table.ensures.locks
     c.log_table.new.self.set _ _ _ _ (logs used.0 used.1))
 
 pub returns-clause-sound : goal.returns-clause-sound
@@ -129,4 +154,4 @@ returns-clause-sound g c =
     let logged = logs used.0 used.1 in
     sound_ok g.E.Env _ _ _ c.args.env.now tt _ to
     (goes_on_then g.E.Env (table_goes_on g.E.Env c.in_ok-file.ensures.makes)
-    (edit_goes_on g.E.Env used.0 _ _ _ (c.in_ok-file.ensures.makes.fits 0) mid to _ _ logged))
+    (edit_goes_on g.E.Env used.0 _ _ _ (c.in_ok-file.ensures.makes.fits c.in_ok-level.level) mid to _ _ logged))

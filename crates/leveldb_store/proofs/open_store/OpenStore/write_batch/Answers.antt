@@ -1,6 +1,8 @@
-use Rattle.std.proofs.Common.{inl, inr}
+use Rattle.std.proofs.Common.{◌≡◌, ◌≤◌, List, length, ap, subst, inl, inr, arith}
+use Rattle.leveldb_base.specs.History.{Item}
+use Rattle.leveldb_mem.proofs.WriteBatchLemmas.{length-batch_bytes}
 use Rattle.std.proofs.lemmas.Result.{err_from_is_err_and}
-use Rattle.leveldb_mem.specs.WriteBatch.{batch_bytes}
+use Rattle.leveldb_mem.specs.WriteBatch.{Batch, batch_bytes, max_length}
 use Rattle.leveldb_store.proofs.SoundWriteLemmas.{batch_sound, part_sound, prepare_sound}
 use Rattle.leveldb_store.proofs.WriteBatchLemmas.{can_be_inserted, wrote_all, wrote_nothing, wrote_part}
 use Rattle.leveldb_store.proofs.open_store.OpenStore.write_batch.Goals as goal
@@ -67,3 +69,19 @@ returns-clause-sound g c =
     batch_sound g.E.Env (g.C.Cmp.cmp c.args.self.now.cmp) c.args.self.now c.args.env.now c.args.batch _ c.prepare.new.self c.prepare.new.batch c.in_ok-prepare.ensures
     (batch_bytes c.prepare.new.batch.first c.prepare.new.batch.items) c.log_batch.ensures.bytes c.args.sync c.log_batch.new.self c.log_batch.new.env c.insert.new.self
     c.in_ok-log_batch.ensures.logs
+
+-- ---- its length
+
+pub returns-clause-short : goal.returns-clause-short
+returns-clause-short g c =
+    let items : c.prepare.new.batch.items ≡ c.args.batch.items =
+    ap (λ (b : Batch). b.items) c.in_ok-prepare.ensures.ok in
+    let limited : length (batch_bytes c.prepare.new.batch.first c.args.batch.items) ≤ max_length =
+    subst (λ (list : List Item). length (batch_bytes c.prepare.new.batch.first list) ≤ max_length) items
+    c.log_batch.ensures.encoded.limited in
+    omega (
+      arith,
+      limited,
+      length-batch_bytes c.prepare.new.batch.first c.args.batch.items,
+      length-batch_bytes 0 c.args.batch.items,
+    )

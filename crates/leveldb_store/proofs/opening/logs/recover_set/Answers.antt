@@ -1,4 +1,4 @@
-use Rattle.std.proofs.Common.{◌≡◌, ◌⊎◌, ◌<◌, ◌^◌, ap, map, subst, sym, string_bytes}
+use Rattle.std.proofs.Common.{◌≡◌, ◌⊎◌, ◌<◌, ◌^◌, ℕ, ap, map, subst, sym, string_bytes}
 use Rattle.std.specs.Prelude.{IsTrue}
 use Rattle.std.proofs.lemmas.Result.{err_from_is_err_and}
 use Rattle.leveldb_base.proofs.HistoryLemmas.{exact_order}
@@ -6,8 +6,8 @@ use Rattle.leveldb_base.specs.Error.{IsOutOfMemory}
 use Rattle.leveldb_base.specs.declared.error.StatusCode.TheVariants.{Corruption}
 use Rattle.leveldb_env.proofs.EnvLemmas.{Run-call}
 use Rattle.leveldb_env.specs.Env.{ListsChildren}
-use Rattle.leveldb_version.specs.VersionSetValue.{VersionSetValue, new_version_set}
-use Rattle.leveldb_store.specs.OpeningSteps.{AreReplayedLogs, HasMisnamedLog, MarksNames}
+use Rattle.leveldb_version.specs.VersionSetValue.{AreFileNumbersUsedUp, VersionSetValue, new_version_set}
+use Rattle.leveldb_store.specs.OpeningSteps.{AreReplayedLogs, HasMisnamedLog, HasNumber, MarksNames}
 use Rattle.leveldb_store.proofs.OpeningCausesLemmas.{listing_found}
 use Rattle.leveldb_store.proofs.RecoverSetLemmas.{is_recovered, logs_misnamed, not_recovered, numbers_used_up, out_of_memory, tables_missing, unlisted}
 use Rattle.leveldb_store.proofs.opening.logs.recover_set.Goals as goal
@@ -37,8 +37,10 @@ returns-in_err-mark_names g c =
     let exact = exact_order (g.C.Cmp.accepts order) (g.C.Cmp.cmp order) (g.met.C.UserCmp.accepts_all order) (g.met.C.Cmp.preorder order) (g.met.C.UserCmp.exact order) in
     let listed = listing_found (λ names. IsTrue g.E.Env.models_disk → ListsChildren (g.E.Env.observed c.args.env.now).disk.files c.args.store.now (map string_bytes names.items)) c.args.store.now c.children.result
     c.in_ok-names.names c.in_ok-names.ensures c.children.ensures.ok c.children.ensures.cause in
+    let used : (n : ℕ) × HasNumber (map string_bytes c.in_ok-names.names.items) n × AreFileNumbersUsedUp n c.in_err-mark_names.field-0.0 =
+    subst (λ vs. (n : ℕ) × HasNumber (map string_bytes vs) n × AreFileNumbersUsedUp n c.in_err-mark_names.field-0.0) c.as_slice.ensures.value c.in_err-mark_names.ensures.cause in
     rw (failed.1, failed.2) (numbers_used_up g.E.Env _ exact c.args.options.now.reuse_manifest c.args.options.now.max_file_size c.args.store.now c.args.env.now c.children.new.self
-    (λ modelled. Run-call modelled c.children.ensures.does) c.children.ensures.locks listed.1 _ c.in_err-mark_names.ensures.cause)
+    (λ modelled. Run-call modelled c.children.ensures.does) c.children.ensures.locks listed.1 (map string_bytes c.in_ok-names.names.items) listed.0 _ used)
 
 pub returns-in_err-is_anew : goal.returns-in_err-is_anew
 returns-in_err-is_anew g c =

@@ -1,4 +1,4 @@
-use Rattle.std.proofs.Common.{None, refl, inl, inr, ◌∙◌}
+use Rattle.std.proofs.Common.{None, arith, refl, inl, inr, ◌∙◌}
 use Rattle.leveldb_env.specs.contracts.compressor.CompressorListCompressors.TheImpl
 use Rattle.leveldb_table.specs.Block.{pairs_of}
 use Rattle.leveldb_table.specs.Table.{filter_key}
@@ -69,5 +69,6 @@ returns g c =
       order = (refl, read.order);
       policy = filters.policy;
       id = (c.in_ok-id.ensures.next, c.in_ok-id.ensures.given);
+      id_fits = omega arith;
       err = tt;
     }

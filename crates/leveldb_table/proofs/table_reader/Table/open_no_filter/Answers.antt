@@ -1,4 +1,4 @@
-use Rattle.std.proofs.Common.{refl, inl, inr}
+use Rattle.std.proofs.Common.{arith, refl, inl, inr}
 use Rattle.leveldb_table.proofs.TableBlockLemmas.{reads_ok, reads_passed, reads_weaker, reads_refused}
 use Rattle.leveldb_table.proofs.TableReaderLemmas.{opens_err}
 use Rattle.leveldb_table.proofs.table_reader.Table.open_no_filter.Goals as goal
@@ -27,5 +27,6 @@ returns g c =
       order = (refl, read.order);
       policy = refl;
       id = (c.in_ok-id.ensures.next, c.in_ok-id.ensures.given);
+      id_fits = omega arith;
       err = tt;
     }

@@ -20,7 +20,6 @@ loop-command-init g c =
     let none : c.reserve.new.self.items ≡ [] = c.reserve.ensures.items ∙ c.new-replies.ensures.items in (
       search rules,
       search rules,
-      search rules,
       [],
       subst (λ items. Given (moment_of c.args.env.now) items []) (sym none) refl,
       subst (λ items. LivesSoFar g.row.C.Denot g.row.FP.Denot ghosts (format_of g.C.Cmp g.FP.FilterPolicy (compressors g.dyn-2).codings) c.args.name.now c.args.env.now (opening_of g.C.Cmp g.FP.FilterPolicy (compressors g.dyn-2).codings c.args.options) [] items [] c.in-Ok.engine c.open.new.env) (sym none)
@@ -39,16 +38,15 @@ loop-command-preserved g c =
     let pushed : c.push.new.self.items ≡ c.loop-command.replies.items ++ (told, reply) ∷ [] = search rules in
     let step = c.answer-reply.ensures.step in
     let more = lives_more g.row.C.Denot g.row.FP.Denot ghosts (format_of g.C.Cmp g.FP.FilterPolicy (compressors g.dyn-2).codings) (record_only_now, record_counts_now) refl c.args.name.now c.args.env.now c.loop-command.env c.answer-reply.new.env (opening_of g.C.Cmp g.FP.FilterPolicy (compressors g.dyn-2).codings c.args.options)
-    (take c.loop-command.command-index c.args.commands.now) c.loop-command.replies.items so_far.3 c.loop-command.engine c.answer-reply.new.engine command told reply so_far.5 step in
+    (take c.loop-command.command-index c.args.commands.now) c.loop-command.replies.items so_far.2 c.loop-command.engine c.answer-reply.new.engine command told reply so_far.4 step in
     let behind = commands_up_to c.args.commands.now c.loop-command.command-index command c.loop-command-test.true c.command-item.is in
     let is : told ≡ moment_of c.answer-reply.new.env - moment_of c.args.env.now = search rules in (
       search rules,
       search rules,
-      search rules,
-      so_far.3 ++ moment_of c.answer-reply.new.env ∷ [],
-      subst (λ items. Given (moment_of c.args.env.now) items (so_far.3 ++ moment_of c.answer-reply.new.env ∷ [])) (sym pushed)
-          (given_more (moment_of c.args.env.now) c.loop-command.replies.items so_far.3 (moment_of c.answer-reply.new.env) told reply so_far.4 is),
-      subst (λ items. LivesSoFar g.row.C.Denot g.row.FP.Denot ghosts (format_of g.C.Cmp g.FP.FilterPolicy (compressors g.dyn-2).codings) c.args.name.now c.args.env.now (opening_of g.C.Cmp g.FP.FilterPolicy (compressors g.dyn-2).codings c.args.options) (take (c.loop-command.command-index + 1) c.args.commands.now) items (so_far.3 ++ moment_of c.answer-reply.new.env ∷ []) c.answer-reply.new.engine c.answer-reply.new.env) (sym pushed)
+      so_far.2 ++ moment_of c.answer-reply.new.env ∷ [],
+      subst (λ items. Given (moment_of c.args.env.now) items (so_far.2 ++ moment_of c.answer-reply.new.env ∷ [])) (sym pushed)
+          (given_more (moment_of c.args.env.now) c.loop-command.replies.items so_far.2 (moment_of c.answer-reply.new.env) told reply so_far.3 is),
+      subst (λ items. LivesSoFar g.row.C.Denot g.row.FP.Denot ghosts (format_of g.C.Cmp g.FP.FilterPolicy (compressors g.dyn-2).codings) c.args.name.now c.args.env.now (opening_of g.C.Cmp g.FP.FilterPolicy (compressors g.dyn-2).codings c.args.options) (take (c.loop-command.command-index + 1) c.args.commands.now) items (so_far.2 ++ moment_of c.answer-reply.new.env ∷ []) c.answer-reply.new.engine c.answer-reply.new.env) (sym pushed)
           (rw behind more),
     )
 
@@ -58,4 +56,4 @@ returns-clause-life g c =
     let all : take c.loop-command.command-index c.args.commands.now ≡ c.args.commands.now = take_all c.loop-command.command-index c.args.commands.now c.loop-command-test.false in
     let step = c.abandon.ensures.step in
     lives_end g.row.C.Denot g.row.FP.Denot ghosts (format_of g.C.Cmp g.FP.FilterPolicy (compressors g.dyn-2).codings) (record_only_now, record_counts_now) refl c.args.name.now c.args.env.now c.loop-command.env c.abandon.new.env (opening_of g.C.Cmp g.FP.FilterPolicy (compressors g.dyn-2).codings c.args.options)
-    c.args.commands.now so_far.3 c.loop-command.engine (done_or c.abandon.result) _ refl so_far.4 (rw all at so_far.5) step
+    c.args.commands.now so_far.2 c.loop-command.engine (done_or c.abandon.result) _ refl so_far.3 (rw all at so_far.4) step

@@ -1,4 +1,4 @@
-use Rattle.std.proofs.Common.{◌≡◌, ◌≤◌, ◌+◌, ◌-◌, ℕ, List, length, take, vec_len, vec_capacity}
+use Rattle.std.proofs.Common.{◌≤◌, ◌+◌, ◌-◌, ℕ, List, length, take, vec_len, vec_capacity}
 use Rattle.leveldb_env.specs.contracts.mem_env.record.RecordEnvEnv.TheImpl.{ghosts}
 use Rattle.leveldb_env.specs.Record.{moment_of}
 use Rattle.leveldb_env.specs.contracts.compressor.CompressorListCompressors.TheImpl.{ghosts as compressors}
@@ -9,7 +9,7 @@ use Rattle.rusty_leveldb.proofs.shell.crash_runs.live.Given as goal
 
 abbrev pub invariant-loop-command : goal.invariant-loop-command
 invariant-loop-command g l =
-    (l.engine.options ≡ l.fn.options) × (moment_of l.fn.env ≤ moment_of l.env)
+    (moment_of l.fn.env ≤ moment_of l.env)
     × (vec_len l.replies + (length l.commands - l.command-index) ≤ vec_capacity l.replies)
     × (given : List ℕ) × Given (moment_of l.fn.env) l.replies.items given
     × LivesSoFar g.row.C.Denot g.row.FP.Denot ghosts (format_of g.C.Cmp g.FP.FilterPolicy (compressors g.dyn-2).codings) l.name l.fn.env (opening_of g.C.Cmp g.FP.FilterPolicy (compressors g.dyn-2).codings l.fn.options) (take l.command-index l.commands) l.replies.items given l.engine l.env

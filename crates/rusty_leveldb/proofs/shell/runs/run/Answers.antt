@@ -3,6 +3,7 @@ use Rattle.std.proofs.Math.Seq.{drop-length, drop-append_seam}
 use Rattle.std.proofs.lemmas.List.{take_all}
 use Rattle.std.proofs.lemmas.Result.{err_from_is_err_and}
 use Rattle.leveldb_env.specs.contracts.compressor.CompressorListCompressors.TheImpl.{ghosts as compressors}
+use Rattle.rusty_leveldb.proofs.UnopenedLemmas.{given_back_under}
 use Rattle.rusty_leveldb.proofs.Playing.{play_first, play_more, play_end, not_opened, not_begun, commands_up_to}
 use Rattle.rusty_leveldb.specs.Engine.{opening_of}
 use Rattle.leveldb_store.specs.Format.{format_of}
@@ -21,13 +22,22 @@ returns-in_err-engine-clause-runs g c =
     rw (failed.1, failed.2) (record {
       plays = not_opened g.row.C.Denot g.row.FP.Denot g.E.Env (format_of g.C.Cmp g.FP.FilterPolicy (compressors g.dyn-2).codings) (g.met.E.Env.only_now, g.met.E.Env.counts_now) c.args.name.now c.args.opt c.args.env.now c.open.new.env (opening_of g.C.Cmp g.FP.FilterPolicy (compressors g.dyn-2).codings c.args.opt) c.args.commands.now
           (drop (length c.args.replies.now.items) c.reserve.new.self.items) c.in_err-engine.field-0.0 none c.in_err-engine.ensures.step;
-      unopened = λ modelled never. (none, c.in_err-engine.ensures.unopened modelled);
+      unopened = λ modelled never. (
+        none,
+        record {
+          lock = given_back_under g.E.Env c.args.name.now _
+              (opening_of g.C.Cmp g.FP.FilterPolicy (compressors g.dyn-2).codings c.args.opt) refl
+              c.args.env.now c.in_err-engine.field-0.0 c.open.new.env
+              (c.in_err-engine.ensures.unopened modelled);
+          files = (c.in_err-engine.ensures.never_opens modelled never).1;
+          others = c.in_err-engine.ensures.others modelled;
+        },
+      );
       misnamed = λ no. ((c.in_err-engine.ensures.misnamed no).0, none, tt);
     })
 
 pub loop-command-init : goal.loop-command-init
 loop-command-init g c = (
-  search rules,
   search rules,
   search rules,
   [],
@@ -48,41 +58,40 @@ loop-command-preserved g c =
     let pushed : c.push.new.self.items ≡ c.loop-command.replies.items ++ reply ∷ [] = search rules in
     let step = c.answer.ensures.step in
     let more = play_more g.row.C.Denot g.row.FP.Denot g.E.Env (format_of g.C.Cmp g.FP.FilterPolicy (compressors g.dyn-2).codings) (g.met.E.Env.only_now, g.met.E.Env.counts_now) c.args.name.now c.args.env.now c.loop-command.env c.answer.new.env (opening_of g.C.Cmp g.FP.FilterPolicy (compressors g.dyn-2).codings c.args.opt)
-    (take c.loop-command.command-index c.args.commands.now) so_far.3 c.loop-command.engine c.answer.new.engine command reply so_far.6 step in
+    (take c.loop-command.command-index c.args.commands.now) so_far.2 c.loop-command.engine c.answer.new.engine command reply so_far.5 step in
     let behind = commands_up_to c.args.commands.now c.loop-command.command-index command c.loop-command-test.true c.command-item.is in (
       search rules,
       search rules,
-      search rules,
-      so_far.3 ++ reply ∷ [],
-      pushed ∙ ap (λ items. items ++ reply ∷ []) so_far.4 ∙ append_assoc c.args.replies.now.items so_far.3 (reply ∷ []),
-      omega (arith, length-append so_far.3 (reply ∷ []), so_far.5),
+      so_far.2 ++ reply ∷ [],
+      pushed ∙ ap (λ items. items ++ reply ∷ []) so_far.3 ∙ append_assoc c.args.replies.now.items so_far.2 (reply ∷ []),
+      omega (arith, length-append so_far.2 (reply ∷ []), so_far.4),
       rw behind more,
-      λ tells. let before = so_far.7 tells in let then = c.answer.ensures.time tells in omega (arith, before, then),
+      λ tells. let before = so_far.6 tells in let then = c.answer.ensures.time tells in omega (arith, before, then),
     )
 
 pub returns-clause-runs : goal.returns-clause-runs
 returns-clause-runs g c =
     let so_far = c.loop-command.invariant in
-    let given : drop (length c.args.replies.now.items) c.loop-command.replies.items ≡ so_far.3 = rw so_far.4 (drop-append_seam c.args.replies.now.items so_far.3) in
+    let given : drop (length c.args.replies.now.items) c.loop-command.replies.items ≡ so_far.2 = rw so_far.3 (drop-append_seam c.args.replies.now.items so_far.2) in
     let all : take c.loop-command.command-index c.args.commands.now ≡ c.args.commands.now = take_all c.loop-command.command-index c.args.commands.now c.loop-command-test.false in
     let step = c.abandon.ensures.step in
     rw given (record {
       plays = play_end g.row.C.Denot g.row.FP.Denot g.E.Env (format_of g.C.Cmp g.FP.FilterPolicy (compressors g.dyn-2).codings) (g.met.E.Env.only_now, g.met.E.Env.counts_now) c.args.name.now c.args.env.now c.loop-command.env c.abandon.new.env (opening_of g.C.Cmp g.FP.FilterPolicy (compressors g.dyn-2).codings c.args.opt)
-          c.args.commands.now so_far.3 c.loop-command.engine c.abandon.result (rw all at so_far.6) step;
-      unopened = λ modelled never. absurd (c.in_ok-engine.ensures.never_opens modelled never);
+          c.args.commands.now so_far.2 c.loop-command.engine c.abandon.result (rw all at so_far.5) step;
+      unopened = λ modelled never. absurd (c.in_ok-engine.ensures.never_opens modelled never).0;
       misnamed = λ no. absurd (c.in_ok-engine.ensures.misnamed no).1;
     })
 
 pub returns-clause-after : goal.returns-clause-after
 returns-clause-after g c =
     let so_far = c.loop-command.invariant in
-    (so_far.3, so_far.4, search rules)
+    (so_far.2, so_far.3, search rules)
 
 pub returns-clause-cause : goal.returns-clause-cause
 returns-clause-cause g c = search rules
 
 pub returns-clause-time : goal.returns-clause-time
 returns-clause-time g c = λ tells.
-    let before = c.loop-command.invariant.7 tells in
+    let before = c.loop-command.invariant.6 tells in
     let last = c.abandon.ensures.time tells in
     omega (arith, before, last)

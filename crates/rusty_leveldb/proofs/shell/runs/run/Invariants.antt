@@ -1,14 +1,15 @@
 use Rattle.std.proofs.Common.{◌≡◌, ◌≤◌, ◌++◌, ◌+◌, ◌-◌, List, length, take, vec_len, vec_capacity}
 use Rattle.leveldb_env.specs.contracts.compressor.CompressorListCompressors.TheImpl.{ghosts as compressors}
 use Rattle.rusty_leveldb.specs.declared.shell.commands.Reply.{Reply}
-use Rattle.rusty_leveldb.specs.Engine.{TimeGoesOn, opening_of}
+use Rattle.rusty_leveldb.specs.Engine.{opening_of}
 use Rattle.leveldb_store.specs.Format.{format_of}
+use Rattle.leveldb_store.specs.SoundCall.{TimeGoesOn}
 use Rattle.rusty_leveldb.proofs.Playing.{PlaysSoFar}
 use Rattle.rusty_leveldb.proofs.shell.runs.run.Given as goal
 
 abbrev pub invariant-loop-command : goal.invariant-loop-command
 invariant-loop-command g l =
-    (l.engine.options ≡ l.fn.opt) × (g.E.Env.failures l.fn.env ≤ g.E.Env.failures l.env)
+    (g.E.Env.failures l.fn.env ≤ g.E.Env.failures l.env)
     × (vec_len l.replies + (length l.commands - l.command-index) ≤ vec_capacity l.replies)
     × (given : List Reply) × (l.replies.items ≡ l.fn.replies.items ++ given) × (length given ≡ l.command-index)
     × PlaysSoFar g.row.C.Denot g.row.FP.Denot g.E.Env (format_of g.C.Cmp g.FP.FilterPolicy (compressors g.dyn-2).codings) l.name l.fn.env (opening_of g.C.Cmp g.FP.FilterPolicy (compressors g.dyn-2).codings l.fn.opt) (take l.command-index l.commands) given l.engine l.env

@@ -23,5 +23,5 @@ pub returns : goal.returns
 returns g c = record {
   makes = rw c.in_ok-number.ensures.ok (MakesRestTable-done g.E.Env _ c.args.self.now c.args.versions.now c.in_ok-number.ensures.fits c.args.store.now c.in_ok-number.number
       c.requires.store c.in_ok-number.ensures.number c.in_ok-file.file c.in_ok-file.ensures.makes c.requires.some c.build_memtable.ensures.entries c.push.new.self c.new.result
-      c.in_ok-push.ensures.items c.new.ensures.entries (c.new.ensures.cmp ∙ sym c.requires.order));
+      c.in_ok-push.ensures.items c.new.ensures.entries c.new.ensures.places (c.new.ensures.cmp ∙ sym c.requires.order));
 }

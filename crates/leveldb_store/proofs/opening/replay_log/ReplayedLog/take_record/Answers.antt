@@ -1,6 +1,6 @@
-use Rattle.std.proofs.Common.{Err, Ok, arith, inl, inr}
+use Rattle.std.proofs.Common.{Err, Ok, ap, arith, inl, inr, length}
 use Rattle.std.proofs.lemmas.Result.{err_from_is_err_and}
-use Rattle.leveldb_store.proofs.ReplayLogLemmas.{TakesRecord-added, TakesRecord-refused, TakesRecord-tabled, no_following_batch, none_of_length}
+use Rattle.leveldb_store.proofs.ReplayLogLemmas.{TakesRecord-added, TakesRecord-refused, TakesRecord-tabled, fails_to_add, no_following_batch, none_of_length}
 use Rattle.leveldb_store.proofs.opening.replay_log.ReplayedLog.take_record.Goals as goal
 use Rattle.leveldb_store.proofs.opening.replay_log.ReplayedLog.take_record.Goals.{then-len-gt0+then-approx_mem_usage-options+in_ok-make_table, else-len-gt0, else-len-gt0-via-then-len-gt0+else-approx_mem_usage-options, else-len-gt0-via-else-len-gt0}
 
@@ -13,12 +13,21 @@ returns-in_err-check_follows g c =
           (inr (inr (why.0, no_following_batch c.args.self.now.last c.args.text.now c.read_batch.new.batch c.in_ok-read_batch.ensures.ok why.1))) _);
     }
 
+pub returns-in_err-add_batch : goal.returns-in_err-add_batch
+returns-in_err-add_batch g c =
+    let failed = err_from_is_err_and c.from_residual-in_err-add_batch.result c.from_residual-in_err-add_batch.ensures.1 in
+    record {
+      takes = rw (failed.1, failed.2) (TakesRecord-refused g.E.Env _ c.args.options.now.write_buffer_size c.args.text.now c.args.self.now c.args.versions.now c.args.env.now _
+          (fails_to_add g.E.Env _ c.args.options.now.write_buffer_size c.args.text.now c.args.self.now c.args.versions.now c.args.env.now _ c.read_batch.new.batch c.in_ok-read_batch.ensures.ok c.in_err-add_batch.ensures.cause) _);
+    }
+
 pub returns-in_err-make_table : goal.returns-in_err-make_table
 returns-in_err-make_table g c =
     let failed = err_from_is_err_and c.from_residual-in_err-make_table.result c.from_residual-in_err-make_table.ensures.1 in
     record {
       takes = rw (failed.1, failed.2) (TakesRecord-tabled g.E.Env _ c.args.options.now.write_buffer_size c.args.text.now c.args.self.now c.args.versions.now c.read_batch.new.batch
-          c.in_ok-read_batch.ensures.ok c.in_ok-check_follows.ensures.ok c.add_batch.new.self c.in_ok-add_batch.ensures.ok (Err _) c.in_err-make_table.ensures.makes);
+          c.in_ok-read_batch.ensures.ok c.in_ok-check_follows.ensures.ok c.add_batch.new.self c.in_ok-add_batch.ensures.ok
+          (λ none. let some = c.if-len-gt0.true in absurd (omega (arith, some, c.len.ensures, ap length none))) (Err _) c.in_err-make_table.ensures.makes);
     }
 
 pub returns : goal.returns
@@ -26,7 +35,8 @@ returns g c =
     elim c.if-len-gt0.branch [
       | then-len-gt0+then-approx_mem_usage-options+in_ok-make_table w ↦ record {
         takes = rw (w.self-is, w.env-is, w.versions-is) (TakesRecord-tabled g.E.Env _ c.args.options.now.write_buffer_size c.args.text.now c.args.self.now c.args.versions.now c.read_batch.new.batch
-            c.in_ok-read_batch.ensures.ok c.in_ok-check_follows.ensures.ok c.add_batch.new.self c.in_ok-add_batch.ensures.ok (Ok _) w.in_ok-make_table.ensures.makes);
+            c.in_ok-read_batch.ensures.ok c.in_ok-check_follows.ensures.ok c.add_batch.new.self c.in_ok-add_batch.ensures.ok
+            (λ none. let some = w.if-len-gt0 in absurd (omega (arith, some, c.len.ensures, ap length none))) (Ok _) w.in_ok-make_table.ensures.makes);
       }
       | else-len-gt0 w ↦ record {
         takes = rw (w.self-is, w.env-is, w.versions-is) (TakesRecord-added g.E.Env _ c.args.options.now.write_buffer_size c.args.text.now c.args.self.now c.args.versions.now c.read_batch.new.batch

@@ -32,6 +32,7 @@ returns-clause-begins g c = λ logged is.
     let usable : c.is_err-self-inside.result ≡ false = search rules in
     record {
       does = λ modelled. made_changes store number bytes c.in_ok-made.was (c.make_manifest-made.ensures.does modelled);
+      bytes = c.make_manifest-made.ensures.bytes;
       ok = begun_view logged _ _ _ c.self.view_is
           (c.apply_reserved.ensures ∙ ap (λ f. full_after f (edit_of c.args.edit)) full_is ∙ ap (full_after set.full) is)
           (c.unwrap_or-self-inside.ensures ∙ ap (λ n. unwrap_or c.args.edit.log_number n) (ap (λ (s : VersionSetValue). s.log_number) c.self.view_is)

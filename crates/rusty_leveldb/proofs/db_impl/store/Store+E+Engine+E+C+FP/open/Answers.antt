@@ -1,4 +1,3 @@
-use Rattle.std.proofs.Common.{refl}
 use Rattle.std.proofs.lemmas.Result.{err_from_is_err_and}
 use Rattle.rusty_leveldb.proofs.db_impl.store.Store+E+Engine+E+C+FP.open.Goals as goal
 

@@ -1,0 +1,10 @@
+use Rattle.std.proofs.Common.{◌≡◌, map, take}
+use Rattle.std.specs.List.{filter}
+use Rattle.leveldb_version.specs.Overlap.{overlaps}
+use Rattle.leveldb_version.specs.Version.{borrowed_files}
+use Rattle.leveldb_version.specs.VersionEdit.{new_file_of}
+use Rattle.leveldb_version.proofs.version.overlap.files_in.Given as goal
+
+abbrev pub invariant-loop-file : goal.invariant-loop-file
+invariant-loop-file g l =
+    borrowed_files l.found.items ≡ filter (overlaps (g.C.Cmp.cmp l.ucmp) l.range) (map new_file_of (take l.file-index l.files))

@@ -1,0 +1,73 @@
+-- A version: the files of a store by levels, and the file that is chosen for a compaction.
+use Rattle.std.specs.Prelude.{◌≡◌, ◌==◌, ◌-◌, ◌&&◌, ℕ, Bool, false, true, if◌then◌else◌, nat_le, List, Option, None, Some, is_none, IsPermutation, IsSorted, filter, map}
+use Rattle.std.specs.Borrow.{Bor}
+use Rattle.std.specs.List.{list_any}
+use Rattle.std.specs.Ordering.{nat_cmp, ordering_then}
+use Rattle.std.specs.declared.cmp.Ordering.{Ordering}
+use Rattle.leveldb_base.specs.KeyTypes.{internal_cmp}
+use Rattle.leveldb_base.specs.declared.types.FileMetaData.{FileMetaData}
+use Rattle.leveldb_version.specs.VersionEdit.{LevelFile, NewFile, new_file_of}
+use Rattle.leveldb_version.specs.VersionSet.{is_same_file, level_file}
+
+-- The comparator of user keys; the files, each with its level; and the level and number of the
+-- file that was chosen for a compaction by its seeks, if one is.
+pub record VersionValue (C : Type 0) : Type 0 where
+  pub cmp : C
+  pub files : List (ℕ × FileMetaData)
+  pub chosen : Option LevelFile
+
+-- the files without the seeks that they may take, as an edit says them
+abbrev pub new_files_of : {C : Type 0} → VersionValue C → List NewFile
+new_files_of version = map new_file_of version.files
+
+-- what borrowed files are
+abbrev pub borrowed_files : List (Bor (ℕ × FileMetaData)) → List NewFile
+borrowed_files files = map (λ file. new_file_of file.now) files
+
+-- the files of a level
+abbrev pub at_level : ℕ → List (ℕ × FileMetaData) → List (ℕ × FileMetaData)
+at_level level files = filter (λ file. file.0 == level) files
+
+-- The order of a version's files: by level, in level 0 by number, and from level 1 on by the
+-- smallest key.
+abbrev pub version_order : (List ℕ → List ℕ → Ordering) → NewFile → NewFile → Ordering
+version_order cmp a b = ordering_then (nat_cmp a.level b.level)
+    (if a.level == 0 then nat_cmp a.number b.number else internal_cmp cmp a.smallest b.smallest)
+
+-- files are in that order
+abbrev pub AreInVersionOrder : (List ℕ → List ℕ → Ordering) → List NewFile → Type 0
+AreInVersionOrder cmp files = IsSorted (version_order cmp) files
+
+-- a version of these files, in order, none of which is chosen
+pub record IsVersionOf {C : Type 0} (order : List ℕ → List ℕ → Ordering) (cmp : C)
+    (files : List (ℕ × FileMetaData)) (version : VersionValue C) : Type 0 where
+  pub cmp_is : version.cmp ≡ cmp
+  pub same_files : IsPermutation files version.files
+  pub in_order : AreInVersionOrder order (new_files_of version)
+  pub none_chosen : version.chosen ≡ None
+
+-- ---- seeks
+
+-- the file has this level and number
+abbrev pub is_named : LevelFile → ℕ × FileMetaData → Bool
+is_named at file = is_same_file (level_file (new_file_of file)) at
+
+-- the file has this level and number, and may take one more seek at most
+abbrev pub is_used_up : LevelFile → ℕ × FileMetaData → Bool
+is_used_up at file = is_named at file && nat_le file.1.allowed_seeks 1
+
+-- the file with one seek less, if it has this level and number
+abbrev pub with_seek : LevelFile → ℕ × FileMetaData → ℕ × FileMetaData
+with_seek at file =
+    if is_named at file
+    then (file.0, record file.1 { allowed_seeks = file.1.allowed_seeks - 1 })
+    else file
+
+-- The version after a look-up that charges this file with a seek, and whether it is chosen by
+-- that. A file that has at most one seek left is chosen if none is; any other takes the seek.
+abbrev pub charged : {C : Type 0} → VersionValue C → Option LevelFile → VersionValue C × Bool
+charged version None = (version, false)
+charged version (Some at) =
+    if is_none version.chosen && list_any (is_used_up at) version.files
+    then (record version { chosen = Some at }, true)
+    else (record version { files = map (with_seek at) version.files }, false)

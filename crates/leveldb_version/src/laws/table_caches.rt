@@ -1,0 +1,12 @@
+//! Laws of a store's open tables.
+ghost use Rattle.leveldb_version.specs.TableCache.{StayMatched};
+
+use leveldb_base::cmp::{Cmp, InternalKeyCmp, UserCmp};
+use leveldb_env::env::Env;
+
+/// Open tables go on to match files that change, if each of their files keeps its bytes or is
+/// deleted. A table may stay open when its file is deleted, and is to be evicted before a file of
+/// its number is made again.
+pub fn open_tables_stay_matched<E: Env, C: UserCmp, FP>()
+    ensures { StayMatched E.Env FP ⟦<InternalKeyCmp<C> as Cmp>⟧ }
+{}

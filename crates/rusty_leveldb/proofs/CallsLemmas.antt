@@ -1,0 +1,395 @@
+-- What each call on an engine does, put together: its step, what becomes of the engine, and why it
+-- fails.
+use Rattle.std.specs.Prelude.{IfErr, IsErrAnd, Result, codes, IfSome, string_bytes, String}
+use Rattle.std.specs.declared.alloc.Global.{Global}
+use Rattle.std.proofs.Common.{◌≡◌, ◌⊎◌, ◌∙◌, ⊎_elim, inl, inr, ℕ, true, false, List, [], refl, sym, ap, subst, arith, Option, Some, None, Ok, Err}
+use Rattle.leveldb_base.specs.Error.{IsOutOfMemory, text_of}
+use Rattle.leveldb_base.specs.declared.cmp.Cmp.{Ghosts as CmpGhosts}
+use Rattle.leveldb_base.specs.declared.error.Status.{Status}
+use Rattle.leveldb_base.specs.declared.error.StatusCode.TheVariants.{InvalidArgument}
+use Rattle.leveldb_env.specs.Env.{ChangesFiles, ChangesLocks, FilesUnchanged, HasCause, lock_set, same}
+use Rattle.leveldb_env.specs.Options.{Boxed, OptionsOf}
+use Rattle.leveldb_env.specs.declared.env.Env.{Ghosts}
+use Rattle.leveldb_env.specs.declared.filter.FilterPolicy.{Ghosts as FilterGhosts}
+use Rattle.leveldb_mem.specs.Log.Writer.{broken_writer}
+use Rattle.leveldb_store.specs.BuildTable.{TableChoices}
+use Rattle.leveldb_store.specs.Format.{Format}
+use Rattle.leveldb_store.specs.OpenStore.{OpenStoreValue}
+use Rattle.leveldb_store.specs.Read.{LooksUpKey}
+use Rattle.leveldb_store.specs.Room.{HasFailed, TellsOnly}
+use Rattle.leveldb_store.specs.SoundCall.{IsSoundCall, any_meaning}
+use Rattle.leveldb_store.specs.Write.{IsLogLost, SyncsLog, with_writer}
+use Rattle.leveldb_store.specs.WriteBatch.{SyncsBatches}
+use Rattle.rusty_leveldb.specs.declared.db_impl.engine.Mode.{Mode}
+use Rattle.rusty_leveldb.specs.declared.db_impl.engine.Mode.TheVariants.{Broken, Closed}
+use Rattle.rusty_leveldb.specs.Boxes.{EngineOf}
+use Rattle.rusty_leveldb.specs.Calls.{BecomesOf, EngineServes, HasReason}
+use Rattle.rusty_leveldb.specs.Causes.{IsClosedRefusal, IsBrokenRefusal, IsLongKey, Setting}
+use Rattle.rusty_leveldb.specs.Engine.{AnswersStill, GetExcused, IsClosedOrBroken, RefusedAsBroken, RefusedAsClosed, RefusedByMode, SyncExcused, mode_in, options_in, formats_of}
+use Rattle.rusty_leveldb.specs.Frame.{MayTouch}
+use Rattle.rusty_leveldb.specs.Machine.{Step}
+use Rattle.rusty_leveldb.specs.Serves.{done_or, found_or, refusal_of, setting_between}
+use Rattle.rusty_leveldb.specs.State as machine
+use Rattle.rusty_leveldb.specs.State.{Refusal, Request, State, close, flush, get, refused, write}
+use Rattle.rusty_leveldb.proofs.ClosingLemmas.{close_locked, close_unsynced, closed_now, counted_error, flush_goes}
+use Rattle.rusty_leveldb.proofs.EngineLemmas.{open_mode_is, open_or_broken}
+use Rattle.rusty_leveldb.proofs.Moments.{moments_none}
+use Rattle.rusty_leveldb.proofs.Others.{spares_still}
+use Rattle.rusty_leveldb.proofs.ReadingLemmas.{get_cause, get_closed, get_goes, get_long}
+use Rattle.rusty_leveldb.proofs.RestLemmas.{rest_given, rest_read, rest_still, rest_synced}
+use Rattle.rusty_leveldb.proofs.SyncLemmas.{log_is_data}
+
+-- ---- the mode
+
+-- a text of a broken store
+broken_text : (err : Option (String Global))
+    → IfSome err (λ text. string_bytes text ≡ codes "IOError: reopen the store")
+    → (text_of err ≡ []) ⊎ (text_of err ≡ codes "IOError: reopen the store")
+broken_text None is = inl refl
+broken_text (Some text) is = inr is
+
+-- an engine that is open isn't halted
+pub not_halted : (mode : machine.Mode) → mode ≡ machine.open_mode → IsClosedOrBroken mode → ⊥
+not_halted mode is = ⊎_elim
+    (λ (closed : mode ≡ machine.closed).
+    let never : machine.open_mode ≡ machine.closed = sym is ∙ closed in cc)
+    (λ (broke : mode ≡ machine.broken).
+    let never : machine.open_mode ≡ machine.broken = sym is ∙ broke in cc)
+
+-- nor does its mode refuse a request
+pub not_refused : (mode : machine.Mode) (e : Status) → mode ≡ machine.open_mode
+    → RefusedByMode mode e → ⊥
+not_refused mode e is = ⊎_elim (λ (out : RefusedAsClosed mode e). not_halted mode is (inl out.0))
+    (λ (down : RefusedAsBroken mode e). not_halted mode is (inr down.0))
+
+-- a mode that refuses a request is closed or broken
+pub halted_by : (mode : machine.Mode) (e : Status) → RefusedByMode mode e → IsClosedOrBroken mode
+halted_by mode e = ⊎_elim (λ (out : RefusedAsClosed mode e). inl out.0)
+    (λ (down : RefusedAsBroken mode e). inr down.0)
+
+-- a request that writes
+abbrev pub Writes : Request → Type 0
+Writes (write items sync) = Unit {0}
+Writes flush = Unit {0}
+Writes close = Unit {0}
+Writes request = ⊥
+
+module _ (setting : Setting) (old : State) where
+  closed_step : (request : Request) → Writes request → (refusal : Refusal) → IsClosedRefusal refusal
+      → Step machine.closed setting old request (refused refusal) old
+  closed_step (write items sync) writes refusal says = (says, refl)
+  closed_step flush writes refusal says = (says, refl)
+  closed_step close writes refusal says = (says, refl)
+  closed_step request writes refusal says = absurd writes
+
+  broken_step : (request : Request) → Writes request → (refusal : Refusal) → IsBrokenRefusal refusal
+      → Step machine.broken setting old request (refused refusal) old
+  broken_step (write items sync) writes refusal says = (says, refl)
+  broken_step flush writes refusal says = (says, refl)
+  broken_step close writes refusal says = (says, refl)
+  broken_step request writes refusal says = absurd writes
+
+module _ {E C FP F D P : Type 0} {B : Boxed} {keys : CmpGhosts D} {key_filters : FilterGhosts P}
+    (env : Ghosts E F) (choices : OptionsOf C FP B → TableChoices keys key_filters)
+    (before : EngineOf E C FP F B) where
+  abbrev formats : OptionsOf C FP B → Format
+  formats = formats_of choices
+
+  -- ---- a call that the mode refuses
+
+  -- the machine refuses it so
+  pub halted_still : (request : Request) → Writes request → (status : Status)
+      → RefusedByMode (mode_in before) status
+      → AnswersStill env formats before request (refused (refusal_of status))
+  halted_still request writes status why at store meaning modelled old was = record {
+    new = old;
+    represents = was;
+    later = omega arith;
+    step = ⊎_elim
+        (λ (out : RefusedAsClosed (mode_in before) status).
+        subst (λ m. Step m setting old request (refused (refusal_of status)) old)
+        (sym out.0 ∙ was.memory_is.mode)
+        (closed_step setting old request writes (refusal_of status) out.1))
+        (λ (down : RefusedAsBroken (mode_in before) status).
+        subst (λ m. Step m setting old request (refused (refusal_of status)) old)
+        (sym down.0 ∙ was.memory_is.mode)
+        (broken_step setting old request writes (refusal_of status)
+        (down.1.code, broken_text status.err down.1.text)))
+        why;
+    moments = moments_none store meaning request old (env.observed at) was.disk_is;
+    spares = spares_still store (MayTouch store old.mode request) (env.observed at).disk;
+    bytes = λ syncing path. refl;
+  }
+    where
+      setting : Setting
+      setting = setting_between meaning (env.failures at) (env.failures at)
+
+  halted_becomes : (request : Request) → Writes request → (status : Status)
+      → IsClosedOrBroken (mode_in before)
+      → BecomesOf {T = Unit {0}} before request (Err status) before
+  halted_becomes (write items sync) writes status halted = (tt, inr refl)
+  halted_becomes flush writes status halted = (tt, (inr refl, inl halted))
+  halted_becomes close writes status halted = (
+    tt,
+    ⊎_elim (λ (out : mode_in before ≡ machine.closed). inr (out, out))
+        (λ (broke : mode_in before ≡ machine.broken). inl broke) halted,
+  )
+  halted_becomes request writes status halted = absurd writes
+
+  halted_reason : (request : Request) → Writes request → (status : Status) (at : E)
+      → RefusedByMode (mode_in before) status
+      → HasReason env choices {T = Unit {0}} before at request (Err status) at
+  halted_reason (write items sync) writes status at why =
+      record { later = omega arith; cause = inl (inl why) }
+  halted_reason flush writes status at why =
+      record { later = omega arith; ok = tt; uncounted = λ e. refl; cause = inl (inl why) }
+  halted_reason close writes status at why =
+      record { later = omega arith; ok = tt; uncounted = λ e. refl; cause = inl (inl why, refl) }
+  halted_reason request writes status at why = absurd writes
+
+  pub halted_serves : (request : Request) → Writes request → (status : Status) (at : E)
+      → RefusedByMode (mode_in before) status
+      → EngineServes env choices {T = Unit {0}} done_or before at request (Err status) before at
+  halted_serves request writes status at why = record {
+    options = record { rest = refl; sink = refl };
+    halted = λ halted. (refl, refl, why);
+    becomes = halted_becomes request writes status (halted_by (mode_in before) status why);
+    step = halted_still request writes status why at;
+    rest = rest_still env before at request (Err status) (inr (status, refl));
+    time = λ modelled. omega arith;
+    cause = halted_reason request writes status at why;
+  }
+
+  -- ---- syncs
+
+  module _ (from : E) (opened : mode_in before ≡ machine.open_mode) (value : OpenStoreValue C)
+      (mid : E) where
+    -- a sync keeps the comparator
+    sync_cmp : (result : Result (Unit {0}) Status) → SyncsLog env before.store from result value mid
+        → value.cmp ≡ before.store.cmp
+    sync_cmp (Ok nothing) syncs = ap (λ (v : OpenStoreValue C). v.cmp) syncs.ok
+    sync_cmp (Err status) syncs = ⊎_elim
+        (λ (still : IsOutOfMemory status × (value ≡ before.store) × (mid ≡ from)).
+        ap (λ (v : OpenStoreValue C). v.cmp) still.1)
+        (λ (broke : value ≡ with_writer before.store (broken_writer before.store.log.writer)).
+        ap (λ (v : OpenStoreValue C). v.cmp) broke) syncs.err
+
+    sync_tells : (result : Result (Unit {0}) Status) (m : Mode)
+        → SyncsLog env before.store from result value mid
+        → TellsOnly (options_in before) (options_in {E = E} {C = C} {FP = FP} {F = F} {B = B}
+        (record before { store = value; mode = m }))
+    sync_tells result m syncs = record {
+      rest = ap (λ (c : C). record before.options { cmp = c }) (sync_cmp result syncs);
+      sink = refl;
+    }
+
+    flush_becomes : (result : Result (Unit {0}) Status)
+        → SyncsLog env before.store from result value mid
+        → BecomesOf before flush result (record before { store = value })
+    flush_becomes (Ok nothing) syncs = (
+      ap (λ (v : OpenStoreValue C). mode_in {E = E} {C = C} {FP = FP} {F = F} {B = B}
+          (record before { store = v })) syncs.ok,
+      tt,
+    )
+    flush_becomes (Err status) syncs = (
+      tt,
+      (
+        ⊎_elim (λ opens. inr (opens.0 ∙ sym opened)) (λ broke. inl broke.0)
+            (open_or_broken {E = E} {C = C} {FP = FP} {F = F} {B = B}
+            (record before { store = value }) (open_mode_is before opened)),
+        ⊎_elim
+            (λ (still : IsOutOfMemory status × (value ≡ before.store) × (mid ≡ from)). inr still.0)
+            (λ (broke : value ≡ with_writer before.store (broken_writer before.store.log.writer)).
+            inl (⊎_elim
+            (λ sound. absurd (let never : true ≡ false =
+            sym (ap (λ (v : OpenStoreValue C). v.log.writer.broken) broke) ∙ sound.1.log in cc))
+            (λ is. inr is.0)
+            (open_or_broken {E = E} {C = C} {FP = FP} {F = F} {B = B}
+            (record before { store = value }) (open_mode_is before opened)))) syncs.err,
+      ),
+    )
+
+    flush_cause : (result : Result (Unit {0}) Status)
+        → SyncsLog env before.store from result value mid
+        → HasCause (SyncExcused env formats before from mid) (env.failures from) (env.failures mid)
+        result
+    flush_cause (Ok nothing) syncs = record {
+      later = syncs.cause.later;
+      ok = syncs.cause.ok;
+      uncounted = tt;
+      cause = tt;
+    }
+    flush_cause (Err status) syncs = record {
+      later = syncs.cause.later;
+      ok = tt;
+      uncounted = ⊎_elim
+          (λ (by_mode : RefusedByMode (mode_in before) status).
+          absurd (not_refused (mode_in before) status opened by_mode))
+          (λ (lost : IsLogLost env before.store from mid status). syncs.cause.uncounted lost);
+      cause = ⊎_elim (λ (lost : IsLogLost env before.store from mid status). inl (inr lost))
+          (λ counted. inr counted) syncs.cause.cause;
+    }
+
+    pub flush_serves : (result : Result (Unit {0}) Status)
+        → SyncsLog env before.store from result value mid
+        → SyncsBatches env (formats (options_in before)).order before.store from result value mid
+        → IsSoundCall {T = Unit {0}} env (formats (options_in before)).order any_meaning before.store
+        from result value mid
+        → EngineServes env choices done_or before from flush result (record before { store = value })
+        mid
+    flush_serves result syncs batches sound = record {
+      options = sync_tells result before.mode syncs;
+      halted = λ halted. absurd (not_halted (mode_in before) opened halted);
+      becomes = flush_becomes result syncs;
+      step = flush_goes env formats before from opened value mid result syncs batches sound;
+      rest = rest_synced env before from opened value mid result syncs flush log_is_data tt
+          (inl (λ held. refl)) before.mode;
+      time = sound.time;
+      cause = flush_cause result syncs;
+    }
+
+    pub close_unsynced_serves : (status : Status)
+        → SyncsLog env before.store from (Err status) value mid
+        → SyncsBatches env (formats (options_in before)).order before.store from (Err status) value mid
+        → IsSoundCall {T = Unit {0}} env (formats (options_in before)).order any_meaning before.store
+        from (Err status) value mid
+        → EngineServes env choices {T = Unit {0}} done_or before from close (Err status)
+        (record before { store = value; mode = Broken }) mid
+    close_unsynced_serves status syncs batches sound = record {
+      options = sync_tells (Err status) Broken syncs;
+      halted = λ halted. absurd (not_halted (mode_in before) opened halted);
+      becomes = (tt, inl refl);
+      step = close_unsynced env formats before from opened value mid status syncs batches sound;
+      rest = rest_synced env before from opened value mid (Err status) syncs close log_is_data tt
+          (inr (status, refl)) Broken;
+      time = sound.time;
+      cause = record {
+        later = syncs.cause.later;
+        ok = tt;
+        uncounted = λ excused. excused.1;
+        cause = ⊎_elim (λ (lost : IsLogLost env before.store from mid status).
+            inl (inr lost, syncs.cause.uncounted lost)) (λ counted. inr counted) syncs.cause.cause;
+      };
+    }
+
+    module _ (syncs : SyncsLog env before.store from (Ok tt) value mid)
+        (batches : SyncsBatches env (formats (options_in before)).order before.store from (Ok tt) value
+        mid)
+        (sound : IsSoundCall {T = Unit {0}} env (formats (options_in before)).order any_meaning
+        before.store from (Ok tt) value mid)
+        (to : E) (lock : List ℕ) (lock_is : lock ≡ string_bytes before.lock) where
+      pub close_locked_serves : (status : Status)
+          → ChangesFiles {T = Unit {0}} env.models_disk same FilesUnchanged (env.observed mid)
+          (env.observed to) (Err status)
+          → ChangesLocks {T = Unit {0}} env.models_disk (lock_set lock false) (env.observed mid)
+          (env.observed to) (Err status)
+          → HasCause {T = Unit {0}} (λ _. ⊥) (env.failures mid) (env.failures to) (Err status)
+          → EngineServes env choices {T = Unit {0}} done_or before from close (Err status)
+          (record before { store = value; mode = Broken }) to
+      close_locked_serves status does locks cause = record {
+        options = sync_tells (Ok tt) Broken syncs;
+        halted = λ halted. absurd (not_halted (mode_in before) opened halted);
+        becomes = (tt, inl refl);
+        step = close_locked env formats before from opened value mid syncs batches sound to lock lock_is
+            status does locks cause;
+        rest = rest_given env before from opened value mid (Ok tt) syncs to lock lock_is (Err status)
+            does locks Broken;
+        time = λ modelled.
+            let first = sound.time modelled in
+            let second = does.time.later in omega (arith, first, second);
+        cause = counted_error (env.failures from) (env.failures mid) (env.failures to) status
+            syncs.cause.ok cause;
+      }
+
+      pub closed_serves : ChangesFiles {T = Unit {0}} env.models_disk same FilesUnchanged
+          (env.observed mid) (env.observed to) (Ok tt)
+          → ChangesLocks {T = Unit {0}} env.models_disk (lock_set lock false) (env.observed mid)
+          (env.observed to) (Ok tt)
+          → HasCause {T = Unit {0}} (λ _. ⊥) (env.failures mid) (env.failures to) (Ok tt)
+          → EngineServes env choices {T = Unit {0}} done_or before from close (Ok tt)
+          (record before { store = value; mode = Closed }) to
+      closed_serves does locks cause =
+          let counted = cause.ok ∙ syncs.cause.ok in
+          record {
+            options = sync_tells (Ok tt) Closed syncs;
+            halted = λ halted. absurd (not_halted (mode_in before) opened halted);
+            becomes = (refl, tt);
+            step = closed_now env formats before from opened value mid syncs batches sound to lock
+                lock_is does locks cause;
+            rest = rest_given env before from opened value mid (Ok tt) syncs to lock lock_is (Ok tt)
+                does locks Closed;
+            time = λ modelled.
+                let first = sound.time modelled in
+                let second = does.time.later in omega (arith, first, second);
+            cause = record {
+              later = omega (arith, counted);
+              ok = counted;
+              uncounted = tt;
+              cause = tt;
+            };
+          }
+
+  -- ---- look-ups
+
+  module _ (key : List ℕ) (from : E) where
+    pub get_closed_serves : (status : Status) → RefusedAsClosed (mode_in before) status
+        → EngineServes env choices found_or before from (get None key) (Err status) before from
+    get_closed_serves status why = record {
+      options = record { rest = refl; sink = refl };
+      halted = λ halted. (refl, refl, inl why);
+      becomes = (refl, refl);
+      step = get_closed env formats before key status why from;
+      rest = rest_still env before from (get None key) (Err status) (inr (status, refl));
+      time = λ modelled. omega arith;
+      cause = record { later = omega arith; cause = inl (inl why) };
+    }
+
+    module _ (usable : mode_in before ≡ machine.closed → ⊥) where
+      pub get_long_serves : (result : Result (Option (List ℕ)) Status)
+          → IsErrAnd result (λ status. status.code ≡ InvalidArgument) → IsLongKey key
+          → EngineServes env choices found_or before from (get None key) result before from
+      get_long_serves result fails long = record {
+        options = record { rest = refl; sink = refl };
+        halted = λ halted. absurd (usable halted);
+        becomes = (refl, refl);
+        step = get_long env formats before key usable result fails long from;
+        rest = rest_still env before from (get None key) result (inl (λ held. refl));
+        time = λ modelled. omega arith;
+        cause = record { later = omega arith; cause = by result fails };
+      }
+        where
+          by : (r : Result (Option (List ℕ)) Status)
+              → IsErrAnd r (λ status. status.code ≡ InvalidArgument)
+              → IfErr r (λ e. GetExcused env formats before from key e
+              ⊎ HasFailed (env.failures from) (env.failures from))
+          by (Ok value) fails = absurd fails
+          by (Err status) code = inl (inr (inl (code, long)))
+
+      pub get_serves : (IsLongKey key → ⊥) → (to : E) (result : Result (Option (List ℕ)) Status)
+          → LooksUpKey env (formats (options_in before)).order (formats (options_in before))
+          before.store from key result to
+          → EngineServes env choices found_or before from (get None key) result
+          (record before { options = options_in before }) to
+      get_serves short to result looks = record {
+        options = record { rest = refl; sink = refl };
+        halted = λ halted. absurd (usable halted);
+        becomes = (refl, refl);
+        step = get_goes env formats before key usable short from to result looks;
+        rest = rest_read env before from key result to (options_in before) looks.reads.kept_disk;
+        time = λ modelled. (looks.reads.kept_disk.disk modelled).time.later;
+        cause = get_cause env formats before key usable short from to result looks;
+      }
+
+      -- the same where the options were given the store's order
+      pub get_serves_in : (cmp : C) → cmp ≡ before.store.cmp → (IsLongKey key → ⊥) → (to : E)
+          → (result : Result (Option (List ℕ)) Status)
+          → LooksUpKey env (formats (options_in before)).order
+          (formats (record before.options { cmp = cmp })) before.store from key result to
+          → EngineServes env choices found_or before from (get None key) result
+          (record before { options = record before.options { cmp = cmp } }) to
+      get_serves_in cmp same short to result looks =
+          subst (λ (c : C). EngineServes env choices found_or before from (get None key) result
+          (record before { options = record before.options { cmp = c } }) to) (sym same)
+          (get_serves short to result (subst (λ (c : C).
+          LooksUpKey env (formats (options_in before)).order
+          (formats (record before.options { cmp = c })) before.store from key result to) same looks))

@@ -1,0 +1,222 @@
+-- An opening that is done.
+use Rattle.std.specs.Prelude.{string_bytes}
+use Rattle.std.proofs.Common.{◌≡◌, ◌≢◌, ◌≤◌, ◌∙◌, ⊎_elim, inl, inr, ℕ, Bool, true, false, List, sym, ap, subst, arith, Some, None, Ok, IsTrue}
+use Rattle.leveldb_base.specs.declared.types.FileType.{FileType}
+use Rattle.leveldb_base.specs.declared.types.FileType.TheVariants.{Descriptor, Log, Table, Temp}
+use Rattle.leveldb_base.specs.declared.cmp.Cmp.{Ghosts as CmpGhosts}
+use Rattle.leveldb_env.specs.Env.{Files, Run, in_folder}
+use Rattle.leveldb_env.specs.Options.{Boxed, OptionsOf}
+use Rattle.leveldb_env.specs.declared.env.Env.{Ghosts}
+use Rattle.leveldb_env.specs.declared.filter.FilterPolicy.{Ghosts as FilterGhosts}
+use Rattle.leveldb_env.proofs.EnvLemmas.{Run-mono, SameBut-created}
+use Rattle.leveldb_version.specs.Contents.{made}
+use Rattle.leveldb_version.specs.Paths.{lock_path}
+use Rattle.leveldb_version.specs.StoreSteps.{AppendedAreBytes}
+use Rattle.leveldb_version.specs.VersionSetValue.{VersionSetValue}
+use Rattle.leveldb_version.specs.Writing.{IsObsolete}
+use Rattle.leveldb_store.specs.BuildTable.{TableChoices}
+use Rattle.leveldb_store.specs.Format.{Agrees, Format, Meaning}
+use Rattle.leveldb_store.specs.OpensStore.{IsForbidden, LacksUsableEdits, OpensStore, SameBesideOwn}
+use Rattle.leveldb_store.specs.Room.{TellsOnly, TidiesUp}
+use Rattle.leveldb_store.specs.SoundCall.{BytesAreAppended, TimeGoesOn}
+use Rattle.leveldb_store.specs.Switch.{IsObsoletePath, RemovesNoOther}
+use Rattle.leveldb_store.specs.Written.{IsData, KeepsWritten}
+use Rattle.rusty_leveldb.specs.declared.db_impl.engine.Mode.TheVariants.{Open}
+use Rattle.rusty_leveldb.specs.Boxes.{EngineOf}
+use Rattle.rusty_leveldb.specs.Calls.{EngineOpens}
+use Rattle.rusty_leveldb.specs.Engine.{formats_of, IsOpening, IsStoreName, Recalls, no_engine, options_in, scene}
+use Rattle.rusty_leveldb.specs.Frame.{IsOwn, Spares}
+use Rattle.rusty_leveldb.specs.Serves.{Goes, IsSpared, Represents}
+use Rattle.rusty_leveldb.specs.State.{Opening, State, done, open_store}
+use Rattle.rusty_leveldb.proofs.EngineLemmas.{unbroken_opens}
+use Rattle.rusty_leveldb.proofs.LateOpeningLemmas.{made_bytes}
+use Rattle.rusty_leveldb.proofs.MachineLemmas.{risk_opening}
+use Rattle.rusty_leveldb.proofs.OpeningLemmas.{contents, fits_or_not, is_sound, lock_spares, opened_goes, other_lacks}
+use Rattle.rusty_leveldb.proofs.ReadsLemmas.{IsNamed}
+use Rattle.rusty_leveldb.proofs.UnderLockLemmas.{IsTaken, LooksNoFurther, but, late_spares, never_here}
+
+-- ---- what is deleted
+
+-- an obsolete file is of data
+obsolete_data : (set : VersionSetValue) (kind : FileType) (n : ℕ) → IsObsolete set kind n
+    → IsData kind
+obsolete_data set Log n is = tt
+obsolete_data set Descriptor n is = tt
+obsolete_data set Table n is = tt
+obsolete_data set Temp n is = tt
+obsolete_data set kind n is = absurd is
+
+removed_spares : (set : VersionSetValue) (store : List ℕ) (before after : Files)
+    → set.store ≡ store → RemovesNoOther set before after → SameBesideOwn store before after
+removed_spares set store before after is removes path foreign = ⊎_elim
+    (λ (stays : after path ≡ before path). stays)
+    (λ (gone : IsObsoletePath set path × (after path ≡ None)).
+    let one = gone.0 in absurd (foreign (inl (
+      one.1.1,
+      obsolete_data set one.1.1 one.1.0 one.1.3,
+      (
+        one.0,
+        one.1.0,
+        one.1.2,
+        subst (λ (s : List ℕ). path ≡ in_folder s one.0) is one.2,
+      ),
+    ))))
+    (removes path)
+
+removed_bytes : (set : VersionSetValue) (before after : Files) → RemovesNoOther set before after
+    → AppendedAreBytes before → AppendedAreBytes after
+removed_bytes set before after removes bytes name file there = ⊎_elim
+    (λ (stays : after name ≡ before name). bytes name file (sym stays ∙ there))
+    (λ (gone : IsObsoletePath set name × (after name ≡ None)).
+    absurd (let never : None ≡ Some file = sym gone.1 ∙ there in cc))
+    (removes name)
+
+module _ {E C FP F D P : Type 0} {B : Boxed} {keys : CmpGhosts D} {key_filters : FilterGhosts P}
+    (env : Ghosts E F) (choices : OptionsOf C FP B → TableChoices keys key_filters)
+    (store : List ℕ) (options : OptionsOf C FP B) (asked : Opening) (from taken opened to : E)
+    (engine : EngineOf E C FP F B)
+    (took : IsTrue env.models_disk → IsTaken store (env.observed from) (env.observed taken))
+    (limit : ℕ)
+    (opens : OpensStore env store asked.format asked.create_if_missing asked.error_if_exists taken limit
+    (Ok engine.store) opened)
+    (opens_count : env.failures opened ≡ env.failures taken)
+    (bytes_go : BytesAreAppended env taken opened)
+    (tidies : TidiesUp env asked.format.order engine.store opened to)
+    (tidy_time : TimeGoesOn env opened to) (mode : engine.mode ≡ Open)
+    (lock : string_bytes engine.lock ≡ lock_path store)
+    (tells : TellsOnly options engine.options) (cmp : engine.store.cmp ≡ options.cmp)
+    (ignores : (a b : OptionsOf C FP B) → TellsOnly a b → formats_of choices b ≡ formats_of choices a)
+    (asked_is : formats_of choices options ≡ asked.format)
+    (counted : env.failures taken ≡ env.failures from)
+    (well : IsStoreName store × IsTrue asked.fits × IsTrue asked.compresses) where
+  abbrev formats : OptionsOf C FP B → Format
+  formats = formats_of choices
+
+  abbrev here : Files
+  here = (env.observed taken).disk.files
+
+  tells_in : TellsOnly options (options_in engine)
+  tells_in = record {
+    rest = ap (λ (o : OptionsOf C FP B). record o { cmp = engine.store.cmp }) tells.rest
+        ∙ ap (λ (c : C). record options { log = engine.options.log; cmp = c }) cmp;
+    sink = tells.sink;
+  }
+
+  format : formats (options_in engine) ≡ asked.format
+  format = ignores options (options_in engine) tells_in ∙ asked_is
+
+  later : env.failures from ≤ env.failures to
+  later = omega (arith, counted, opens_count, tidies.later)
+
+  may : IsTrue env.models_disk → LooksNoFurther store asked here → ⊥
+  may modelled looks = (opens.stays modelled looks).0
+
+  same_locks : IsTrue env.models_disk
+      → (env.observed to).disk.locked ≡ (env.observed taken).disk.locked
+  same_locks modelled = tidies.locks modelled ∙ opens.locks modelled
+
+  lock_held : IsTrue env.models_disk → IsTrue ((env.observed to).disk.locked (lock_path store))
+  lock_held modelled = ap (λ (l : List ℕ → Bool). l (lock_path store)) (same_locks modelled)
+      ∙ (took modelled).held
+
+  spares : IsTrue env.models_disk
+      → Spares store (IsOwn store) (env.observed from).disk (env.observed to).disk
+  spares modelled = late_spares store (env.observed from) (env.observed taken) (env.observed to)
+      (took modelled)
+      (λ path foreign. removed_spares engine.store.set store (env.observed opened).disk.files
+      (env.observed to).disk.files opens.path (tidies.others modelled) path foreign
+      ∙ (opens.others modelled).has path foreign)
+      (λ path differs. ap (λ (l : List ℕ → Bool). l path) (same_locks modelled))
+
+  module _ (modelled : IsTrue env.models_disk) (opening : Opening)
+      (is : IsOpening store asked opening) (meaning : Meaning)
+      (agrees : Agrees opening.format meaning) (old : State)
+      (was : Represents store meaning (Recalls {E = E} {C = C} {FP = FP} {F = F} {B = B} formats store
+      meaning) None (env.observed from).disk old) where
+    same_format : opening.format ≡ asked.format
+    same_format = ap (λ (o : Opening). o.format) is.same
+
+    opens_so : OpensStore env store opening.format asked.create_if_missing asked.error_if_exists taken limit
+        (Ok engine.store) opened
+    opens_so = subst (λ (f : Format). OpensStore env store f asked.create_if_missing
+        asked.error_if_exists taken limit
+        (Ok engine.store) opened) (sym same_format) opens
+
+    bytes_taken : AppendedAreBytes here
+    bytes_taken = made_bytes store (env.observed from).disk.files here (took modelled).run.has
+        was.disk_is.bytes
+
+    bytes_end : AppendedAreBytes (env.observed to).disk.files
+    bytes_end = removed_bytes engine.store.set (env.observed opened).disk.files
+        (env.observed to).disk.files (tidies.others modelled) (bytes_go modelled bytes_taken)
+
+    tidied : KeepsWritten opening.format.order meaning engine.store (env.observed opened) engine.store
+        (env.observed to)
+    tidied = subst (λ (f : Format). KeepsWritten f.order meaning engine.store (env.observed opened)
+        engine.store (env.observed to)) (sym same_format) (tidies.keeps modelled meaning)
+
+    early_run : Run (IsSpared store meaning old (risk_opening opening old)) (env.observed from)
+        (env.observed taken)
+    early_run = Run-mono (λ files passes. lock_spares store meaning opening agrees
+        (env.observed from) old was.disk_is files
+        (SameBut-created (lock_path store) (env.observed from).disk.files files passes))
+        (took modelled).run
+
+    allowed : IsForbidden store opening.create_if_missing opening.error_if_exists here → ⊥
+    allowed forbidden = may modelled (inl (subst (λ (o : Opening).
+        IsForbidden store o.create_if_missing o.error_if_exists here) is.same forbidden))
+
+    goes : IsNamed opening.format.order_name old.store
+        → Goes store meaning (Recalls formats store meaning)
+        (scene env (no_engine {E = E} {C = C} {FP = FP} {F = F} {B = B} engine.options) from)
+        (open_store opening) done (scene env (Some engine) to) old
+    goes fits =
+        let same_but = but env store asked from taken took modelled in
+        let found = contents store meaning opening agrees (env.observed from) old was.disk_is fits
+        (env.observed taken) same_but bytes_taken in
+        let sound = is_sound store meaning opening agrees (env.observed from) old was.disk_is fits
+        (env.observed taken) same_but bytes_taken in
+        opened_goes env formats store meaning opening agrees from old was fits (env.observed taken)
+        same_but bytes_taken engine (env.observed opened) to opens.path opens.unbroken
+        (opens_so.keeps modelled meaning agrees found sound)
+        (opens_so.opens modelled meaning agrees found sound) tidied (took modelled).was_free allowed
+        mode lock (format ∙ sym same_format) (is.fits.1 (well.0, well.1))
+        (subst IsTrue (sym (ap (λ (o : Opening). o.compresses) is.same)) well.2) later early_run
+        bytes_end (lock_held modelled) (spares modelled)
+
+    pub done_goes : Goes store meaning (Recalls formats store meaning)
+        (scene env (no_engine {E = E} {C = C} {FP = FP} {F = F} {B = B} engine.options) from)
+        (open_store opening) done (scene env (Some engine) to) old
+    done_goes = ⊎_elim goes
+        (λ (differs : (name : List ℕ) × (old.store ≡ made (Some name))
+        × (name ≢ opening.format.order_name)).
+        absurd (may modelled (inr (inr (subst (λ (f : Format). LacksUsableEdits store f here)
+        same_format (other_lacks store meaning opening agrees (env.observed from) old was.disk_is here
+        (but env store asked from taken took modelled) differs.0 differs.1 differs.2))))))
+        (fits_or_not store meaning opening agrees (env.observed from) old was.disk_is)
+
+  pub done_opens : EngineOpens env choices store options asked from (Ok engine) to
+  done_opens = record {
+    opened = record {
+      mode = unbroken_opens engine mode opens.unbroken;
+      options = tells_in;
+      place = opens.path;
+      lock = lock ∙ ap lock_path (sym opens.path);
+    };
+    held = λ modelled. (
+      λ was_held. let never : true ≡ false = sym was_held ∙ (took modelled).was_free in cc,
+      lock_held modelled,
+    );
+    others = spares;
+    step = λ opening is meaning agrees modelled old was.
+        done_goes modelled opening is meaning agrees old was;
+    time = λ modelled.
+        let first = (took modelled).run.time.later in
+        let second = (opens.others modelled).time.later in
+        let third = tidy_time modelled in omega (arith, first, second, third);
+    misnamed = λ no. absurd (no well);
+    never_opens = λ modelled never.
+        absurd (may modelled (never_here env store asked from taken took modelled never));
+    unopened = tt;
+    cause = record { later = later; cause = tt };
+  }

@@ -1,0 +1,321 @@
+-- What an engine's memory has to do with the disk and the state: its mode, and how what the calls on
+-- its store leave is a step of the machine.
+use Rattle.std.specs.Prelude.{◌||◌}
+use Rattle.std.proofs.Common.{◌≡◌, ◌≢◌, ◌≤◌, ◌+◌, ◌⊎◌, ◌∙◌, ⊎_elim, inl, inr, ℕ, Bool, true, false, List, refl, sym, ap, subst, Option, Some, None, IsTrue}
+use Rattle.std.specs.Prelude.{string_bytes}
+use Rattle.std.specs.declared.cmp.Ordering.{Ordering}
+use Rattle.leveldb_base.specs.History.{Entry, History, count_of, with_batch}
+use Rattle.leveldb_env.specs.Env.{Files, Observed, Run}
+use Rattle.leveldb_env.specs.Options.{Boxed, OptionsOf}
+use Rattle.leveldb_env.specs.declared.env.Env.{Ghosts}
+use Rattle.leveldb_env.proofs.EnvLemmas.{Run-mono}
+use Rattle.leveldb_version.specs.Contents.{Contents, Store, made}
+use Rattle.leveldb_version.specs.Holds.{Carries, Holds, IsSafe}
+use Rattle.leveldb_version.specs.Paths.{lock_path}
+use Rattle.leveldb_version.specs.Store.{IsStore}
+use Rattle.leveldb_version.specs.StoreSteps.{AppendedAreBytes}
+use Rattle.leveldb_version.specs.VersionSetValue.{ManifestState, broken, in_use, unmade}
+use Rattle.leveldb_store.specs.Format.{Agrees, Format, Meaning}
+use Rattle.leveldb_store.specs.OpenStore.{IsUnbroken, OpenStoreValue}
+use Rattle.leveldb_store.specs.WriteBatch.{HoldsBatches, IsOf, SparesBatches}
+use Rattle.leveldb_store.specs.Written.{IsTableOf, IsWritten, Shows}
+use Rattle.rusty_leveldb.specs.declared.db_impl.engine.Mode.{Mode}
+use Rattle.rusty_leveldb.specs.declared.db_impl.engine.Mode.TheVariants.{Open, Broken, Closed}
+use Rattle.rusty_leveldb.specs.Boxes.{EngineOf}
+use Rattle.rusty_leveldb.specs.Engine.{Recalls, is_manifest_broken, is_store_broken, mode_in, mode_with, options_in, scene}
+use Rattle.rusty_leveldb.specs.Frame.{IsSyncing, MayTouch, SameBytes, Spares}
+use Rattle.rusty_leveldb.specs.Machine.{Step, risk_of}
+use Rattle.rusty_leveldb.specs.Serves.{Goes, IsSpared, Reads, Represents, StandsFor, setting_between}
+use Rattle.rusty_leveldb.specs.State as machine
+use Rattle.rusty_leveldb.specs.State.{Answer, IsState, Request, State, SuitsMode, open_mode}
+use Rattle.rusty_leveldb.proofs.Bounds.{carries_allow, safe_allow}
+use Rattle.rusty_leveldb.proofs.MachineLemmas.{step_fits}
+use Rattle.rusty_leveldb.proofs.ReadsLemmas.{IsNamed, holds_in, holds_of, if_stays, may_stay, safe_of, stays_if}
+
+-- ---- the mode
+
+module _ {C : Type 0} (value : OpenStoreValue C) where
+  pub unbroken_is : IsUnbroken value → is_store_broken value ≡ false
+  unbroken_is unbroken = by value.set.manifest unbroken.manifest
+    where
+      by : (m : ManifestState) → m ≢ broken
+          → (is_manifest_broken m || value.log.writer.broken) ≡ false
+      by broken sound = absurd (sound refl)
+      by unmade sound = unbroken.log
+      by (in_use one) sound = unbroken.log
+
+  pub is_unbroken : is_store_broken value ≡ false → IsUnbroken value
+  is_unbroken is = record { manifest = sound value.set.manifest is; log = log value.set.manifest is }
+    where
+      sound : (m : ManifestState) → (is_manifest_broken m || value.log.writer.broken) ≡ false
+          → m ≢ broken
+      sound broken is e = absurd (let never : true ≡ false = is in cc)
+      sound unmade is e = absurd (let never : unmade ≡ broken = e in cc)
+      sound (in_use one) is e = absurd (let never : in_use one ≡ broken = e in cc)
+
+      log : (m : ManifestState) → (is_manifest_broken m || value.log.writer.broken) ≡ false
+          → value.log.writer.broken ≡ false
+      log broken is = absurd (let never : true ≡ false = is in cc)
+      log unmade is = is
+      log (in_use one) is = is
+
+pub when_open : (mode : Mode) (b : Bool) → mode_with mode b ≡ machine.open_mode
+    → (mode ≡ Open) × (b ≡ false)
+when_open Open false is = (refl, refl)
+when_open Open true is = absurd (let never : machine.broken ≡ machine.open_mode = is in cc)
+when_open Broken b is = absurd (let never : machine.broken ≡ machine.open_mode = is in cc)
+when_open Closed b is = absurd (let never : machine.closed ≡ machine.open_mode = is in cc)
+
+pub when_closed : (mode : Mode) (b : Bool) → mode_with mode b ≡ machine.closed → mode ≡ Closed
+when_closed Open false is = absurd (let never : machine.open_mode ≡ machine.closed = is in cc)
+when_closed Open true is = absurd (let never : machine.broken ≡ machine.closed = is in cc)
+when_closed Broken b is = absurd (let never : machine.broken ≡ machine.closed = is in cc)
+when_closed Closed b is = refl
+
+module _ {E C FP F : Type 0} {B : Boxed} (engine : EngineOf E C FP F B) where
+  -- an engine that is open wasn't closed, and its store isn't broken
+  pub open_mode_is : mode_in engine ≡ machine.open_mode → engine.mode ≡ Open
+  open_mode_is opened = (when_open engine.mode (is_store_broken engine.store) opened).0
+
+  pub open_unbroken : mode_in engine ≡ machine.open_mode → IsUnbroken engine.store
+  open_unbroken opened =
+      is_unbroken engine.store (when_open engine.mode (is_store_broken engine.store) opened).1
+
+  pub unbroken_opens : engine.mode ≡ Open → IsUnbroken engine.store
+      → mode_in engine ≡ machine.open_mode
+  unbroken_opens is unbroken = λ i. mode_with (is i) (unbroken_is engine.store unbroken i)
+
+  -- an engine that wasn't closed is open or broken, as its store is
+  pub open_or_broken : engine.mode ≡ Open
+      → ((mode_in engine ≡ machine.open_mode) × IsUnbroken engine.store)
+      ⊎ ((mode_in engine ≡ machine.broken) × (IsUnbroken engine.store → ⊥))
+  open_or_broken is = by (is_store_broken engine.store) refl
+    where
+      by : (b : Bool) → is_store_broken engine.store ≡ b
+          → ((mode_in engine ≡ machine.open_mode) × IsUnbroken engine.store)
+          ⊎ ((mode_in engine ≡ machine.broken) × (IsUnbroken engine.store → ⊥))
+      by false e = inl ((λ i. mode_with (is i) (e i)), is_unbroken engine.store e)
+      by true e = inr (
+        (λ i. mode_with (is i) (e i)),
+        λ unbroken. let never : true ≡ false = sym e ∙ unbroken_is engine.store unbroken in cc,
+      )
+
+-- ---- the laws of a store's files and the machine
+
+-- what is held where these stores may be there is held where these others may
+pub holds_allow : (store : List ℕ) (reads : Files → Contents → Type 0) (some more : Store → Type 0)
+    → ((there : Store) → some there → more there) → (files : Files) (history : History)
+    (last durable : ℕ) (pending : Option (List Entry))
+    → Holds store reads some files history last durable pending
+    → Holds store reads more files history last durable pending
+holds_allow store reads some more may files history last durable pending holds =
+    let bound = last + count_of pending in
+    let all = with_batch history pending in
+    record {
+      now = ⊎_elim
+          (λ (c : Carries store reads some bound history files).
+          inl (carries_allow store reads bound history files may c))
+          (λ (c : Carries store reads some bound all files).
+          inr (carries_allow store reads bound all files may c))
+          holds.now;
+      crash = safe_allow store reads bound durable all files may holds.crash;
+    }
+
+-- the store stays
+abbrev pub Stays : State → Store → Type 0
+Stays old it = IsTrue (may_stay None old.store it)
+
+-- the store of a state is read in the order of the state's format
+module _ (store : List ℕ) (meaning : Meaning) (old : State) (agrees : Agrees old.format meaning)
+    (is_named : old.store ≡ made (Some old.format.order_name)) where
+  -- how the laws of a store's files read them
+  abbrev pub ReadsByOrder : Files → Contents → Type 0
+  ReadsByOrder = IsStore store old.format.order (IsTableOf old.format.order meaning)
+
+  pub store_named : IsNamed old.format.order_name old.store
+  store_named = subst (IsNamed old.format.order_name) (sym is_named) refl
+
+  stays_named : (there : Store) → Stays old there → IsNamed old.format.order_name there
+  stays_named there may =
+      subst (IsNamed old.format.order_name) (sym (stays_if None old.store there may)) store_named
+
+  pub held_by_order : (files : Files) (history : History) (last durable : ℕ)
+      (pending : Option (List Entry))
+      → Holds store (Reads store meaning) (λ now. now ≡ old.store) files history last durable pending
+      → Holds store ReadsByOrder (Stays old) files history last durable pending
+  held_by_order files history last durable pending holds =
+      holds_in store meaning old.format.order_name old.format.order agrees.order (Stays old)
+      stays_named files history last durable pending
+      (holds_allow store (Reads store meaning) (λ now. now ≡ old.store) (Stays old)
+      (if_stays None old.store) files history last durable pending holds)
+
+  pub held_by_state : (files : Files) (history : History) (last durable : ℕ)
+      (pending : Option (List Entry))
+      → Holds store ReadsByOrder (Stays old) files history last durable pending
+      → Holds store (Reads store meaning) (λ now. now ≡ old.store) files history last durable pending
+  held_by_state files history last durable pending holds =
+      holds_allow store (Reads store meaning) (Stays old) (λ now. now ≡ old.store)
+      (stays_if None old.store) files history last durable pending
+      (holds_of store meaning old.format.order_name old.format.order agrees.order (Stays old)
+      stays_named files history last durable pending holds)
+
+  pub spared_by_state : (bound : ℕ) (history : History) (files : Files)
+      → IsSafe store ReadsByOrder (Stays old) bound old.durable history files
+      → IsSpared store meaning old
+      (record { history = history; bound = bound; opening = None }) files
+  spared_by_state bound history files safe =
+      safe_allow store (Reads store meaning) bound old.durable history files
+      (stays_if None old.store)
+      (safe_of store meaning old.format.order_name old.format.order agrees.order (Stays old)
+      stays_named bound old.durable history files safe)
+
+-- ---- a call on an engine that isn't closed
+
+module _ {E C FP F : Type 0} {B : Boxed} (env : Ghosts E F) (formats : OptionsOf C FP B → Format)
+    (store : List ℕ) (meaning : Meaning) (before : EngineOf E C FP F B) (from : E) (old : State)
+    (was : Represents store meaning (Recalls formats store meaning) (Some before)
+    (env.observed from).disk old) (opened : mode_in before ≡ machine.open_mode) where
+  abbrev pub order : List ℕ → List ℕ → Ordering
+  order = old.format.order
+
+  pub state_open : old.mode ≡ open_mode
+  state_open = sym was.memory_is.mode ∙ opened
+
+  pub not_closed : old.mode ≡ machine.closed → ⊥
+  not_closed is = let never : open_mode ≡ machine.closed = sym state_open ∙ is in cc
+
+  pub agreeing : Agrees old.format meaning
+  agreeing = was.disk_is.agrees not_closed
+
+  pub name_is : old.store ≡ made (Some old.format.order_name)
+  name_is = was.memory_is.named not_closed
+
+  pub none : old.pending ≡ None
+  none = (subst (λ m. SuitsMode m old) state_open was.disk_is.is_state.mode).0
+
+  pub same_format : formats (options_in before) ≡ old.format
+  same_format = was.memory_is.format not_closed
+
+  -- the store holds the history, as the laws of its files say it
+  pub is_of : IsOf order meaning (Stays old) before.store (env.observed from).disk.files
+      old.history old.durable
+  is_of =
+      let files = (env.observed from).disk.files in
+      let held = held_by_order store meaning old agreeing name_is files old.history old.last
+      old.durable None
+      (subst (λ p. Holds store (Reads store meaning) (λ now. now ≡ old.store) files old.history
+      old.last old.durable p) none was.disk_is.holds) in
+      let at_path = subst (λ path. Holds path (IsStore path order (IsTableOf order meaning))
+      (Stays old) files old.history old.last old.durable None) (sym was.memory_is.path) held in
+      record {
+        written = was.memory_is.writes state_open;
+        holds = subst (λ last. Holds before.store.set.store
+            (IsStore before.store.set.store order (IsTableOf order meaning)) (Stays old) files
+            old.history last old.durable None) (sym (was.memory_is.last not_closed)) at_path;
+      }
+
+  -- what a store holds in the end, as the machine says it
+  module _ (value : OpenStoreValue C) (path : value.set.store ≡ before.store.set.store) where
+    at_store : value.set.store ≡ store
+    at_store = path ∙ was.memory_is.path
+
+    pub machine_holds : (files : Files) (history : History) (last durable : ℕ)
+        (pending : Option (List Entry)) → value.set.last_sequence ≡ last
+        → HoldsBatches order meaning (Stays old) value files history durable pending
+        → Holds store (Reads store meaning) (λ now. now ≡ old.store) files history last durable
+        pending
+    machine_holds files history last durable pending last_is holds =
+        let at_last = subst (λ l. Holds value.set.store
+        (IsStore value.set.store order (IsTableOf order meaning)) (Stays old) files history l durable
+        pending) last_is holds in
+        held_by_state store meaning old agreeing name_is files history last durable pending
+        (subst (λ p. Holds p (IsStore p order (IsTableOf order meaning)) (Stays old) files history
+        last durable pending) at_store at_last)
+
+    pub machine_spares : (history : History) (last : ℕ) (pending : Option (List Entry))
+        (mid to : Observed) → value.set.last_sequence ≡ last
+        → SparesBatches order meaning (Stays old) value history old.durable pending mid to
+        → Run (IsSpared store meaning old (record {
+          history = with_batch history pending;
+          bound = last + count_of pending;
+          opening = None;
+        })) mid to
+    machine_spares history last pending mid to last_is run =
+        let all = with_batch history pending in
+        Run-mono (λ files safe. spared_by_state store meaning old agreeing name_is
+        (last + count_of pending) all files
+        (subst (λ p. IsSafe p (IsStore p order (IsTableOf order meaning)) (Stays old)
+        (last + count_of pending) old.durable all files) at_store
+        (subst (λ l. IsSafe value.set.store (IsStore value.set.store order (IsTableOf order meaning))
+        (Stays old) (l + count_of pending) old.durable all files) last_is safe))) run
+
+  -- What the engine and the environment are in the end, for this state of the machine. It has the
+  -- store and the format of the state before.
+  pub record Ends (after : EngineOf E C FP F B) (to : E) (new : State) : Type 0 where
+    pub lock : string_bytes after.lock ≡ string_bytes before.lock
+    pub options : formats (options_in after) ≡ formats (options_in before)
+    pub path : after.store.set.store ≡ before.store.set.store
+    pub store_is : new.store ≡ old.store
+    pub format_is : new.format ≡ old.format
+    pub mode : mode_in after ≡ new.mode
+    pub last : after.store.set.last_sequence ≡ new.last
+    pub shows : Shows order meaning after.store (env.observed to).disk.files new.history
+    pub writes : new.mode ≡ open_mode
+        → IsWritten order meaning after.store (env.observed to).disk.files
+    pub holds : HoldsBatches order meaning (Stays old) after.store (env.observed to).disk.files
+        new.history new.durable new.pending
+    pub bytes : AppendedAreBytes (env.observed to).disk.files
+    pub locked : (env.observed to).disk.locked (lock_path store) ≡ new.locked
+
+  module _ (after : EngineOf E C FP F B) (to : E) (new : State) (ends : Ends after to new) where
+    recalled : Recalls formats store meaning after (env.observed to).disk new
+    recalled = record {
+      mode = ends.mode;
+      lock = ends.lock ∙ was.memory_is.lock;
+      path = ends.path ∙ was.memory_is.path;
+      format = λ in_use. ends.options ∙ same_format ∙ sym ends.format_is;
+      named = λ in_use. ends.store_is ∙ name_is
+          ∙ ap (λ (f : Format). made (Some f.order_name)) (sym ends.format_is);
+      last = λ in_use. ends.last;
+      shows = λ in_use. subst (λ (f : Format). Shows f.order meaning after.store
+          (env.observed to).disk.files new.history) (sym ends.format_is) ends.shows;
+      writes = λ is. subst (λ (f : Format). IsWritten f.order meaning after.store
+          (env.observed to).disk.files) (sym ends.format_is) (ends.writes is);
+    }
+
+    stands : IsState new → StandsFor store meaning (env.observed to).disk new
+    stands is = record {
+      is_state = is;
+      holds = subst (λ (s : Store). Holds store (Reads store meaning) (λ now. now ≡ s)
+          (env.observed to).disk.files new.history new.last new.durable new.pending)
+          (sym ends.store_is)
+          (machine_holds after.store ends.path (env.observed to).disk.files new.history new.last
+          new.durable new.pending ends.last ends.holds);
+      bytes = ends.bytes;
+      locked = ends.locked;
+      agrees = λ in_use. subst (λ (f : Format). Agrees f meaning) (sym ends.format_is) agreeing;
+    }
+
+    pub goes : (request : Request) (answer : Answer) → env.failures from ≤ env.failures to
+        → Step old.mode (setting_between meaning (env.failures from) (env.failures to)) old request
+        answer new
+        → Run (IsSpared store meaning old (risk_of request old new)) (env.observed from)
+        (env.observed to)
+        → Spares store (MayTouch store old.mode request) (env.observed from).disk
+        (env.observed to).disk
+        → (IsSyncing request → SameBytes (env.observed from).disk.files (env.observed to).disk.files)
+        → Goes store meaning (Recalls formats store meaning) (scene env (Some before) from) request
+        answer (scene env (Some after) to) old
+    goes request answer later step moments spares bytes = record {
+      new = new;
+      represents = record {
+        disk_is = stands (step_fits (setting_between meaning (env.failures from) (env.failures to))
+            old new request answer was.disk_is.is_state step);
+        memory_is = recalled;
+      };
+      later = later;
+      step = step;
+      moments = moments;
+      spares = spares;
+      bytes = bytes;
+    }

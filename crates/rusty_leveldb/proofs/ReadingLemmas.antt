@@ -1,0 +1,245 @@
+-- The step of the machine in which a key is looked up.
+use Rattle.std.specs.Prelude.{IfErr, IfOk, IsErrAnd, Result}
+use Rattle.std.proofs.Common.{◌≡◌, ◌≤◌, ◌+◌, ◌-◌, ◌^◌, ◌⊎◌, ◌∙◌, inl, inr, ℕ, Bool, List, length, refl, sym, ap, subst, arith, Option, Some, None, Ok, Err, IsTrue}
+use Rattle.leveldb_base.specs.Error.{IsOutOfMemory, text_of}
+use Rattle.leveldb_base.specs.History.{IsValueAt, entries_of, greatest}
+use Rattle.leveldb_base.specs.declared.error.Status.{Status}
+use Rattle.leveldb_base.specs.declared.error.StatusCode.TheVariants.{InvalidArgument}
+use Rattle.leveldb_env.specs.Env.{Disk, Files}
+use Rattle.leveldb_env.specs.Options.{Boxed, OptionsOf}
+use Rattle.leveldb_env.specs.declared.env.Env.{Ghosts}
+use Rattle.leveldb_env.proofs.EnvLemmas.{Run-mono}
+use Rattle.leveldb_mem.specs.WriteBatch.{max_length}
+use Rattle.leveldb_version.specs.Holds.{Holds}
+use Rattle.leveldb_version.specs.Paths.{lock_path}
+use Rattle.leveldb_version.specs.StoreSteps.{AppendedAreBytes}
+use Rattle.leveldb_store.specs.Format.{Agrees, Format, Meaning}
+use Rattle.leveldb_store.specs.Read.{IsUnreadable, LacksCompressor, LooksUpKey}
+use Rattle.leveldb_store.specs.Room.{FailsFor, HasFailed}
+use Rattle.leveldb_store.specs.Written.{IsWritten, Shows}
+use Rattle.rusty_leveldb.specs.Boxes.{EngineOf}
+use Rattle.rusty_leveldb.specs.Causes.{Cause, Comes, IsLongKey, Misfits, Setting, bad_operand, device_failed, lacks_compressor, out_of_memory}
+use Rattle.rusty_leveldb.specs.Engine.{Answers, AnswersStill, GetExcused, Recalls, RefusedAsClosed, mode_in, options_in, scene}
+use Rattle.rusty_leveldb.specs.Frame.{MayTouch}
+use Rattle.rusty_leveldb.specs.Machine.{Responds, Step, risk_between}
+use Rattle.rusty_leveldb.specs.Serves.{Goes, IsSpared, Reads, Represents, found_or, refusal_of, setting_between}
+use Rattle.rusty_leveldb.specs.State as machine
+use Rattle.rusty_leveldb.specs.State.{Answer, State, get, refused}
+use Rattle.rusty_leveldb.proofs.Moments.{moments_none}
+use Rattle.rusty_leveldb.proofs.Others.{spares_same, spares_still}
+
+-- a key up to the limit
+pub within : (key : List ℕ) → length key ≤ max_length → IsLongKey key → ⊥
+within key short long = omega arith
+
+-- a store that isn't closed responds in either mode
+responds_in : (mode : machine.Mode) (setting : Setting) (old : State) (key : List ℕ) (answer : Answer)
+    → (mode ≡ machine.closed → ⊥) → Responds setting old (get None key) answer old
+    → Step mode setting old (get None key) answer old
+responds_in machine.open_mode setting old key answer usable responds = responds
+responds_in machine.broken setting old key answer usable responds = responds
+responds_in machine.closed setting old key answer usable responds = absurd (usable refl)
+
+module _ {E C FP F : Type 0} {B : Boxed} (env : Ghosts E F) (formats : OptionsOf C FP B → Format)
+    (before : EngineOf E C FP F B) (key : List ℕ) where
+  -- ---- where nothing is read
+
+  -- nothing has changed, and the machine responds so
+  still : (answer : Answer) → ((store : List ℕ) (meaning : Meaning) (disk : Disk) (old : State)
+      → Recalls formats store meaning before disk old → (setting : Setting)
+      → Step old.mode setting old (get None key) answer old)
+      → AnswersStill env formats before (get None key) answer
+  still answer steps at store meaning modelled old was = record {
+    new = old;
+    represents = was;
+    later = omega arith;
+    step = steps store meaning (env.observed at).disk old was.memory_is
+        (setting_between meaning (env.failures at) (env.failures at));
+    moments = moments_none store meaning (get None key) old (env.observed at) was.disk_is;
+    spares = spares_still store (MayTouch store old.mode (get None key)) (env.observed at).disk;
+    bytes = λ never. absurd never;
+  }
+
+  -- a closed store
+  pub get_closed : (status : Status) → RefusedAsClosed (mode_in before) status
+      → AnswersStill env formats before (get None key) (refused (refusal_of status))
+  get_closed status out = still (refused (refusal_of status))
+      (λ store meaning disk old recalls setting.
+      subst (λ m. Step m setting old (get None key) (refused (refusal_of status)) old)
+      (sym out.0 ∙ recalls.mode) (out.1, refl))
+
+  module _ (usable : mode_in before ≡ machine.closed → ⊥) where
+    -- a key that is too long
+    long_error : (status : Status) → status.code ≡ InvalidArgument → IsLongKey key
+        → AnswersStill env formats before (get None key) (refused (refusal_of status))
+    long_error status code long = still (refused (refusal_of status))
+        (λ store meaning disk old recalls setting.
+        responds_in old.mode setting old key (refused (refusal_of status))
+        (λ is. usable (recalls.mode ∙ is))
+        (record { cause = bad_operand; comes = (code, inr long); leaves = refl }))
+
+    pub get_long : (result : Result (Option (List ℕ)) Status)
+        → IsErrAnd result (λ status. status.code ≡ InvalidArgument) → IsLongKey key
+        → AnswersStill env formats before (get None key) (found_or result)
+    get_long (Ok value) fails long = absurd fails
+    get_long (Err status) code long = long_error status code long
+
+    -- ---- a look-up
+
+    module _ (short : IsLongKey key → ⊥) (from to : E) (result : Result (Option (List ℕ)) Status)
+        (looks : LooksUpKey env (formats (options_in before)).order (formats (options_in before))
+        before.store from key result to) where
+      module _ (store : List ℕ) (meaning : Meaning) (modelled : IsTrue env.models_disk) (old : State)
+          (was : Represents store meaning (Recalls formats store meaning) (Some before)
+          (env.observed from).disk old) where
+        not_closed : old.mode ≡ machine.closed → ⊥
+        not_closed is = usable (was.memory_is.mode ∙ is)
+
+        same_format : formats (options_in before) ≡ old.format
+        same_format = was.memory_is.format not_closed
+
+        agrees : Agrees (formats (options_in before)) meaning
+        agrees = subst (λ (f : Format). Agrees f meaning) (sym same_format)
+            (was.disk_is.agrees not_closed)
+
+        shows : Shows (formats (options_in before)).order meaning before.store
+            (env.observed from).disk.files old.history
+        shows = subst (λ (f : Format). Shows f.order meaning before.store
+            (env.observed from).disk.files old.history) (sym same_format)
+            (was.memory_is.shows not_closed)
+
+        same_files : (env.observed to).disk.files ≡ (env.observed from).disk.files
+        same_files = (looks.reads.kept_disk.disk modelled).has
+
+        same_locks : (env.observed to).disk.locked ≡ (env.observed from).disk.locked
+        same_locks = looks.reads.kept_disk.locks modelled
+
+        abbrev setting : Setting
+        setting = setting_between meaning (env.failures from) (env.failures to)
+
+        last_is : before.store.set.last_sequence ≡ old.last
+        last_is = was.memory_is.last not_closed
+
+        reached : greatest (entries_of old.history) ≤ before.store.set.last_sequence
+        reached = subst (λ n. greatest (entries_of old.history) ≤ n) (sym last_is)
+            was.disk_is.is_state.reached
+
+        fits : Misfits old (get None key) → ⊥
+        fits (inl held) = held
+        fits (inr long) = short long
+
+        found : (value : Option (List ℕ))
+            → IsValueAt (entries_of old.history) before.store.set.last_sequence key value
+            → Responds setting old (get None key) (machine.found value) old
+        found value looks_up = (
+          record { operands = fits; numbers = λ never. never },
+          (
+            record {
+              sequence = old.last;
+              at_is = refl;
+              looks = subst (λ n. IsValueAt (entries_of old.history) n key value) last_is looks_up;
+            },
+            refl,
+          ),
+        )
+
+        cause_of : (status : Status)
+            → (IsOutOfMemory status ⊎ ((env.failures to ≡ env.failures from)
+            × IsUnreadable env (formats (options_in before)).order (formats (options_in before))
+            before.store from status))
+            ⊎ ((env.failures to ≡ env.failures from + 1)
+            ⊎ ((env.failures from ≡ 2 ^ 64 - 1) × (env.failures to ≡ env.failures from)))
+            → (cause : Cause) × Comes setting old (get None key) (refusal_of status) cause
+        cause_of status (inl (inl memory)) = (out_of_memory, (tt, memory.0, ap text_of memory.1))
+        cause_of status (inl (inr table)) =
+            let lacks = table.1.lacks modelled meaning agrees shows.tables shows.has in (
+              lacks_compressor,
+              (tt, lacks.0, subst (λ (f : Format). LacksCompressor f meaning) same_format lacks.1),
+            )
+        cause_of status (inr (inl more)) = (device_failed, (tt, inl (omega arith)))
+        cause_of status (inr (inr full)) = (device_failed, (tt, inr full.0))
+
+        -- the machine stays in its state
+        went : (answer : Answer) → Responds setting old (get None key) answer old
+            → Goes store meaning (Recalls formats store meaning) (scene env (Some before) from)
+            (get None key) answer (scene env (Some (record before { options = options_in before })) to)
+            old
+        went answer responds = record {
+          new = old;
+          represents = record {
+            disk_is = record {
+              is_state = was.disk_is.is_state;
+              holds = subst (λ (files : Files). Holds store (Reads store meaning)
+                  (λ there. there ≡ old.store) files old.history old.last old.durable old.pending)
+                  (sym same_files) was.disk_is.holds;
+              bytes = subst AppendedAreBytes (sym same_files) was.disk_is.bytes;
+              locked = ap (λ (l : List ℕ → Bool). l (lock_path store)) same_locks
+                  ∙ was.disk_is.locked;
+              agrees = was.disk_is.agrees;
+            };
+            memory_is = record {
+              mode = was.memory_is.mode;
+              lock = was.memory_is.lock;
+              path = was.memory_is.path;
+              format = was.memory_is.format;
+              named = was.memory_is.named;
+              last = was.memory_is.last;
+              shows = λ in_use. subst (λ (files : Files).
+                  Shows old.format.order meaning before.store files old.history) (sym same_files)
+                  (was.memory_is.shows in_use);
+              writes = λ is. subst (λ (files : Files).
+                  IsWritten old.format.order meaning before.store files) (sym same_files)
+                  (was.memory_is.writes is);
+            };
+          };
+          later = looks.reads.cause.later;
+          step = responds_in old.mode setting old key answer not_closed responds;
+          moments = Run-mono (λ files is. subst (IsSpared store meaning old (risk_between old)) (sym is)
+              was.disk_is.holds.crash) (looks.reads.kept_disk.disk modelled);
+          spares = spares_same store (env.observed from).disk (env.observed to).disk
+              (MayTouch store old.mode (get None key)) same_files
+              (λ path apart. ap (λ (l : List ℕ → Bool). l path) same_locks);
+          bytes = λ never. absurd never;
+        }
+
+      pub get_goes : Answers env formats (Some before) from (get None key) (found_or result)
+          (Some (record before { options = options_in before })) to
+      get_goes store meaning modelled old was = by result refl
+        where
+          by : (r : Result (Option (List ℕ)) Status) → result ≡ r
+              → Goes store meaning (Recalls formats store meaning) (scene env (Some before) from)
+              (get None key) (found_or r)
+              (scene env (Some (record before { options = options_in before })) to) old
+          by (Ok value) e = went store meaning modelled old was (machine.found value)
+              (found store meaning modelled old was value
+              (subst (λ r. IfOk r (IsValueAt (entries_of old.history)
+              before.store.set.last_sequence key)) e (looks.finds modelled meaning
+              (agrees store meaning modelled old was) old.history
+              (reached store meaning modelled old was) (shows store meaning modelled old was))))
+          by (Err status) e =
+              let why = cause_of store meaning modelled old was status
+              (subst (λ r. IfErr r (λ e. (IsOutOfMemory e ⊎ ((env.failures to ≡ env.failures from)
+              × IsUnreadable env (formats (options_in before)).order (formats (options_in before))
+              before.store from e)) ⊎ ((env.failures to ≡ env.failures from + 1)
+              ⊎ ((env.failures from ≡ 2 ^ 64 - 1) × (env.failures to ≡ env.failures from))))) e
+              looks.reads.cause.cause) in
+              went store meaning modelled old was (refused (refusal_of status))
+              (record { cause = why.0; comes = why.1; leaves = refl })
+
+      -- why it failed
+      pub get_cause : FailsFor (GetExcused env formats before from key) (env.failures from)
+          (env.failures to) result
+      get_cause = record { later = looks.reads.cause.later; cause = by result looks.reads.cause.cause }
+        where
+          by : (r : Result (Option (List ℕ)) Status)
+              → IfErr r (λ e. (IsOutOfMemory e ⊎ ((env.failures to ≡ env.failures from)
+              × IsUnreadable env (formats (options_in before)).order (formats (options_in before))
+              before.store from e)) ⊎ ((env.failures to ≡ env.failures from + 1)
+              ⊎ ((env.failures from ≡ 2 ^ 64 - 1) × (env.failures to ≡ env.failures from))))
+              → IfErr r (λ e. GetExcused env formats before from key e
+              ⊎ HasFailed (env.failures from) (env.failures to))
+          by (Ok value) why = tt
+          by (Err status) (inl (inl memory)) = inl (inr (inr (inl memory)))
+          by (Err status) (inl (inr table)) = inl (inr (inr (inr table.1)))
+          by (Err status) (inr (inl more)) = inr (inl (omega arith))
+          by (Err status) (inr (inr full)) = inr (inr full.0)

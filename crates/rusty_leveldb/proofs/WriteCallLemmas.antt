@@ -1,0 +1,278 @@
+-- What a write to an engine does, put together: its step, what becomes of the engine, and why it
+-- fails.
+use Rattle.std.specs.Prelude.{OnOk, Result}
+use Rattle.std.proofs.Common.{◌≡◌, ◌<◌, ◌≤◌, ◌+◌, ◌⊎◌, ◌∙◌, ⊎_elim, inl, inr, ℕ, zero, suc, Bool, true, false, List, [], ◌∷◌, ◌++◌, length, refl, sym, ap, subst, arith, Some, Ok, Err}
+use Rattle.leveldb_base.specs.Error.{IsOutOfMemory}
+use Rattle.leveldb_base.specs.History.{Entry, Item, placed}
+use Rattle.leveldb_base.specs.declared.cmp.Cmp.{Ghosts as CmpGhosts}
+use Rattle.leveldb_base.specs.declared.error.Status.{Status}
+use Rattle.leveldb_base.specs.declared.error.StatusCode.TheVariants.{InvalidArgument}
+use Rattle.leveldb_env.specs.Options.{Boxed, OptionsOf}
+use Rattle.leveldb_env.specs.declared.env.Env.{Ghosts}
+use Rattle.leveldb_env.specs.declared.filter.FilterPolicy.{Ghosts as FilterGhosts}
+use Rattle.leveldb_mem.specs.MemTable.{FailsToPrepare, IsUnion, Kept, bytes_in, memory_of_entries}
+use Rattle.leveldb_mem.specs.WriteBatch.{Batch, IsTooLong, batch_bytes, batch_of, max_length, with_item}
+use Rattle.leveldb_store.specs.BuildTable.{TableChoices}
+use Rattle.leveldb_store.specs.Format.{Format}
+use Rattle.leveldb_store.specs.OpenStore.{OpenStoreValue}
+use Rattle.leveldb_store.specs.Room.{FailsFor, FailsToMakeRoom, HasFailed, IsFull, TellsOnly}
+use Rattle.leveldb_store.specs.SoundCall.{IsSoundCall, any_meaning}
+use Rattle.leveldb_store.specs.WriteBatch.{FailsToWrite, WritesBatch}
+use Rattle.rusty_leveldb.specs.Boxes.{EngineOf}
+use Rattle.rusty_leveldb.specs.Calls.{BecomesOf, EngineServes, KeepsModeOrBreaks}
+use Rattle.rusty_leveldb.specs.Causes.{AreUsedUp}
+use Rattle.rusty_leveldb.specs.Engine.{empty_memtable, Answers, WriteExcused, mode_in, options_in, formats_of}
+use Rattle.rusty_leveldb.specs.Serves.{done_or}
+use Rattle.rusty_leveldb.specs.State as machine
+use Rattle.rusty_leveldb.specs.State.{write}
+use Rattle.rusty_leveldb.specs.declared.db_impl.engine.Mode.TheVariants.{Open}
+use Rattle.rusty_leveldb.proofs.Batching.{IsUnmade, not_written}
+use Rattle.rusty_leveldb.proofs.EngineLemmas.{open_mode_is, open_or_broken, unbroken_opens}
+use Rattle.rusty_leveldb.proofs.CallsLemmas.{not_halted}
+use Rattle.rusty_leveldb.proofs.RestLemmas.{rest_roomless, rest_still, rest_written}
+use Rattle.rusty_leveldb.proofs.SyncLemmas.{log_is_there}
+use Rattle.rusty_leveldb.proofs.WritingLemmas.{EngineMakesRoom, batch_tells, failed_later, room_fails, room_tells, write_done, write_fails}
+
+-- ---- a memtable that is full
+
+-- a number is up to another, or above it
+up_to_or_above : (n m : ℕ) → (n ≤ m) ⊎ (m < n)
+up_to_or_above zero m = inl (omega arith)
+up_to_or_above (suc n) zero = inr (omega arith)
+up_to_or_above (suc n) (suc m) = ⊎_elim
+    (λ (up_to : n ≤ m). inl (omega (arith, up_to)))
+    (λ (above : m < n). inr (omega (arith, above)))
+    (up_to_or_above n m)
+
+full_or_not : (limit : ℕ) (kept : Kept) → IsFull limit kept ⊎ (IsFull limit kept → ⊥)
+full_or_not limit kept = by kept.entries refl
+  where
+    by : (entries : List Entry) → kept.entries ≡ entries
+        → IsFull limit kept ⊎ (IsFull limit kept → ⊥)
+    by [] none = inr (λ full. full.0 none)
+    by (first ∷ others) some = ⊎_elim
+        (λ (most : limit ≤ memory_of_entries kept.entries). inl (
+          (λ none. let never : [] ≡ first ∷ others = sym none ∙ some in cc),
+          most,
+        ))
+        (λ (less : memory_of_entries kept.entries < limit).
+        inr (λ full. omega (arith, less, full.1)))
+        (up_to_or_above limit (memory_of_entries kept.entries))
+
+-- ---- a batch of one change
+
+pub one_change : (empty batch : Batch) (item : Item) → empty ≡ batch_of 0 []
+    → batch ≡ with_item empty item → batch.items ≡ item ∷ []
+one_change empty batch item is changed =
+    ap (λ (b : Batch). b.items) changed ∙ ap (λ (b : Batch). b.items ++ item ∷ []) is
+
+pub unmade : (empty : Batch) (item : Item) (status : Status) → empty ≡ batch_of 0 []
+    → (status.code ≡ InvalidArgument) ⊎ IsOutOfMemory status
+    → (status.code ≡ InvalidArgument → IsTooLong (with_item empty item))
+    → IsUnmade (item ∷ []) status
+unmade empty item status is why long = ⊎_elim
+    (λ (code : status.code ≡ InvalidArgument). inr (
+      code,
+      let past : IsTooLong (with_item (batch_of 0 []) item) =
+          subst (λ (b : Batch). IsTooLong (with_item b item)) is (long code) in past,
+    ))
+    (λ (memory : IsOutOfMemory status). inl memory) why
+
+module _ {E C FP F D P : Type 0} {B : Boxed} {keys : CmpGhosts D} {key_filters : FilterGhosts P}
+    (env : Ghosts E F) (choices : OptionsOf C FP B → TableChoices keys key_filters)
+    (before : EngineOf E C FP F B) (from : E) (opened : mode_in before ≡ machine.open_mode)
+    (items : List Item) (sync : Bool) where
+  abbrev formats : OptionsOf C FP B → Format
+  formats = formats_of choices
+
+  -- the batch isn't made
+  pub unmade_serves : (status : Status) → IsUnmade items status
+      → EngineServes env choices {T = Unit {0}} done_or before from (write items sync) (Err status)
+      before from
+  unmade_serves status why = record {
+    options = record { rest = refl; sink = refl };
+    halted = λ halted. absurd (not_halted (mode_in before) opened halted);
+    becomes = (tt, inr refl);
+    step = not_written env formats before opened items sync status why from;
+    rest = rest_still env before from (write items sync) (Err status) (inr (status, refl));
+    time = λ modelled. omega arith;
+    cause = record {
+      later = omega arith;
+      cause = inl (⊎_elim (λ (memory : IsOutOfMemory status). inr (inr (inl memory)))
+          (λ long. inr (inl long)) why);
+    };
+  }
+
+  -- the mode in the end
+  becomes : (after : EngineOf E C FP F B) → after.mode ≡ Open → KeepsModeOrBreaks before after
+  becomes after is = ⊎_elim (λ opens. inr (opens.0 ∙ sym opened)) (λ broke. inl broke.0)
+      (open_or_broken after is)
+
+  module _ (ignores : (a b : OptionsOf C FP B) → TellsOnly a b → formats b ≡ formats a) where
+    -- no room is made
+    pub room_fails_serves : (after : EngineOf E C FP F B) (to : E) (status : Status)
+        → EngineMakesRoom env choices before from (Err status) after to
+        → EngineServes env choices {T = Unit {0}} done_or before from (write items sync) (Err status)
+        after to
+    room_fails_serves after to status made = record {
+      options = room_tells env choices before from (Err status) after to made;
+      halted = λ halted. absurd (not_halted (mode_in before) opened halted);
+      becomes = (
+        tt,
+        becomes after (ap (λ (e : EngineOf E C FP F B). e.mode) made.rest
+            ∙ open_mode_is before opened),
+      );
+      step = λ store meaning modelled old was. room_fails env choices store meaning before from old was
+          opened modelled ignores after to items sync status made;
+      rest = rest_roomless env before from opened choices items sync after to status made;
+      time = made.sound.time;
+      cause = record { later = made.makes.cause.later; cause = excused made.makes.cause.cause };
+    }
+      where
+        -- where it isn't full, nothing fails
+        full : IsFull before.options.write_buffer_size before.store.recent
+        full = ⊎_elim (λ is. is)
+            (λ (room : IsFull before.options.write_buffer_size before.store.recent → ⊥).
+            absurd (made.makes.not_full room).2)
+            (full_or_not before.options.write_buffer_size before.store.recent)
+
+        excused : FailsToMakeRoom env (formats (options_in before)).order before.store from
+            (choices (options_in before)) status ⊎ HasFailed (env.failures from) (env.failures to)
+            → WriteExcused env choices before from items status
+            ⊎ HasFailed (env.failures from) (env.failures to)
+        excused (inl (inl memory)) = inl (inr (inr (inl memory)))
+        excused (inl (inr (inl few))) = inl (inr (inr (inr (inr (inr (inl (full, inl few)))))))
+        excused (inl (inr (inr (inl recent)))) =
+            inl (inr (inr (inr (inr (inr (inl (full, inr (inl recent))))))))
+        excused (inl (inr (inr (inr (inl waiting))))) =
+            inl (inr (inr (inr (inr (inr (inl (full, inr (inr (inl waiting)))))))))
+        excused (inl (inr (inr (inr (inr lost))))) = inl (inr (inr (inr (inr (inr (inr lost))))))
+        excused (inr failed) = inr failed
+
+    module _ (roomy : EngineOf E C FP F B) (mid : E)
+        (made : EngineMakesRoom env choices before from (Ok tt) roomy mid)
+        (value : OpenStoreValue C) (to : E) where
+      room_open : roomy.mode ≡ Open
+      room_open = ap (λ (e : EngineOf E C FP F B). e.mode) made.rest ∙ open_mode_is before opened
+
+      -- a batch is written into a memtable with room
+      batch_becomes : (result : Result (Unit {0}) Status)
+          → WritesBatch env (formats (options_in roomy)).order roomy.store mid items sync result value
+          to → BecomesOf before (write items sync) result (record roomy { store = value })
+      batch_becomes (Ok nothing) writes = (
+        (
+          unbroken_opens (record roomy { store = value }) room_open writes.usable ∙ sym opened,
+          (
+            roomy.store.recent,
+            made.makes.room,
+            subst (λ n. IsUnion roomy.store.recent.entries (placed (n + 1) items)
+                value.recent.entries) made.makes.rest.last writes.gains,
+          ),
+        ),
+        tt,
+      )
+      batch_becomes (Err status) writes =
+          (tt, becomes (record roomy { store = value }) room_open)
+
+      -- the memtable that room was made in is empty
+      in_empty : IsFull before.options.write_buffer_size before.store.recent → {status : Status}
+          → FailsToPrepare roomy.store.recent (length items) (bytes_in items) status
+          → FailsToPrepare empty_memtable (length items) (bytes_in items) status
+      in_empty full (inl large) =
+          let none = ap memory_of_entries (made.makes.none_waits full).0 in
+          let places = made.makes.places full in
+          let most = large.1 in
+          inl (large.0, omega (arith, none, places, most))
+      in_empty full (inr memory) = inr memory
+
+      -- why the batch isn't written
+      batch_excused : (status : Status)
+          → FailsToWrite env (formats (options_in before)).order roomy.store mid items to status
+          → WriteExcused env choices before from items status
+      batch_excused status (inl (inl used, still)) = inr (inr (inr (inl (
+        used.code,
+        subst (λ n. AreUsedUp n (length items)) made.makes.rest.last used.past,
+      ))))
+      batch_excused status (inl (inr fails, still)) = ⊎_elim
+          (λ (full : IsFull before.options.write_buffer_size before.store.recent).
+          inr (inr (inr (inr (inr (inl (full, inr (inr (inr (in_empty full fails))))))))))
+          (λ (room : IsFull before.options.write_buffer_size before.store.recent → ⊥).
+          inr (inr (inr (inr (inl (subst (λ (v : OpenStoreValue C).
+          FailsToPrepare v.recent (length items) (bytes_in items) status)
+          (made.makes.not_full room).0 fails))))))
+          (full_or_not before.options.write_buffer_size before.store.recent)
+      batch_excused status (inr (inl (inl memory))) = inr (inr (inl memory))
+      batch_excused status (inr (inl (inr missing))) = inr (inr (inr (inr (inr (inr (
+        missing.0.code,
+        λ modelled meaning agrees written.
+            let kept = made.makes.keeps modelled meaning agrees (λ it. true) written in
+            log_is_there (formats (options_in before)).order meaning roomy.store
+            (env.observed mid).disk.files
+            (kept.written made.makes.usable) (missing.1 modelled),
+      ))))))
+      batch_excused status (inr (inr broke)) = absurd (let never : true ≡ false = sym broke.0
+          ∙ made.makes.usable.log in cc)
+
+      batch_cause : (result : Result (Unit {0}) Status)
+          → WritesBatch env (formats (options_in before)).order roomy.store mid items sync result value
+          to → FailsFor (WriteExcused env choices before from items) (env.failures from)
+          (env.failures to) result
+      batch_cause (Ok nothing) writes = record {
+        later = omega (arith, made.makes.cause.later, writes.cause.later);
+        cause = tt;
+      }
+      batch_cause (Err status) writes = record {
+        later = omega (arith, made.makes.cause.later, writes.cause.later);
+        cause = ⊎_elim
+            (λ (why : FailsToWrite env (formats (options_in before)).order roomy.store mid items to
+            status). inl (batch_excused status why))
+            (λ counted. inr (failed_later (env.failures from) (env.failures mid) (env.failures to)
+            made.makes.cause.later writes.cause.later (⊎_elim
+            (λ (more : env.failures to ≡ env.failures mid + 1). inl (omega (arith, more)))
+            (λ full. inr full.0) counted))) writes.cause.cause;
+      }
+
+      step : (result : Result (Unit {0}) Status)
+          → OnOk result (length (batch_bytes 0 items) ≤ max_length)
+          → WritesBatch env (formats (options_in before)).order roomy.store mid items sync result value
+          to → IsSoundCall {T = Unit {0}} env (formats (options_in before)).order any_meaning
+          roomy.store mid result value to
+          → Answers env formats (Some before) from (write items sync) (done_or result)
+          (Some (record roomy { store = value })) to
+      step (Ok nothing) short writes sound store meaning modelled old was =
+          write_done env choices store meaning before from old was opened modelled ignores roomy mid
+          made items sync value to short writes sound
+      step (Err status) short writes sound store meaning modelled old was =
+          write_fails env choices store meaning before from old was opened modelled ignores roomy mid
+          made items sync value to status writes sound
+
+      same_format : formats (options_in roomy) ≡ formats (options_in before)
+      same_format = ignores (options_in before) (options_in roomy)
+          (room_tells env choices before from (Ok tt) roomy mid made)
+
+      -- the batch is written, or isn't
+      pub batch_serves : (result : Result (Unit {0}) Status)
+          → OnOk result (length (batch_bytes 0 items) ≤ max_length)
+          → WritesBatch env (formats (options_in roomy)).order roomy.store mid items sync result value
+          to → IsSoundCall {T = Unit {0}} env (formats (options_in roomy)).order any_meaning
+          roomy.store mid result value to
+          → EngineServes env choices done_or before from (write items sync) result
+          (record roomy { store = value }) to
+      batch_serves result short writes_in sound_in =
+          let writes = subst (λ (f : Format).
+          WritesBatch env f.order roomy.store mid items sync result value to) same_format writes_in in
+          let sound = subst (λ (f : Format). IsSoundCall {T = Unit {0}} env f.order any_meaning
+          roomy.store mid result value to) same_format sound_in in
+          record {
+            options = batch_tells env choices before from roomy mid made value
+                (ap (λ (v : OpenStoreValue C). v.cmp) writes.rest);
+            halted = λ halted. absurd (not_halted (mode_in before) opened halted);
+            becomes = batch_becomes result writes_in;
+            step = step result short writes sound;
+            rest = rest_written env before from opened choices items sync roomy mid made value to
+                result writes_in;
+            time = λ modelled.
+                let first = made.sound.time modelled in
+                let second = sound.time modelled in omega (arith, first, second);
+            cause = batch_cause result writes;
+          }

@@ -1,0 +1,199 @@
+//! Which files openings leave, and what they hold.
+use crate::acts::{Act, Setting, play};
+use crate::crash_disks::{Side, Tails, crash};
+use crate::stores::{
+    DefaultEngine, STORE, contents_of, file_bytes, has_files, reopen, reusing, store_of,
+};
+use leveldb_base::error::Result;
+use leveldb_env::mem_env::{Pick, RecordEnv};
+use leveldb_env::options::Options;
+use std::alloc::Global;
+
+/// The record of a new store's manifest: its comparator, a log number of 0, the next file's number 2 and a last number of 0.
+/// The manifest has 7 bytes before it.
+const NEW_MANIFEST: &[u8] = b"\x01\x1aleveldb.BytewiseComparator\x02\0\x03\x02\x04\0";
+
+const NEW_STORE: &[Act] = &[
+    Act::Open(Setting::Defaults),
+    Act::HasFiles("000003.log:0 CURRENT:16 LOCK:0 MANIFEST-000001:41 "),
+    Act::EndsWith("CURRENT", b"MANIFEST-000001\n"),
+    Act::EndsWith("MANIFEST-000001", NEW_MANIFEST),
+    Act::Holds("0:"),
+];
+
+#[test]
+fn new_store(rt: HostRuntime) -> Result<()> {
+    assert!(rt; NEW_MANIFEST.len() == 34);
+    play(&rt, rt.alloc(), NEW_STORE)
+}
+
+const USED_ON: &[Act] = &[
+    Act::Put(Setting::Defaults, &[("a", "1")]),
+    Act::Open(Setting::Defaults),
+    Act::HasFiles("000003.log:24 CURRENT:16 LOCK:0 MANIFEST-000001:41 "),
+    Act::Put(Setting::Defaults, &[("b", "2")]),
+    Act::Holds("2: 1a 2b"),
+];
+
+/// Where the last log and the manifest are used on, an opening changes no file.
+#[test]
+fn used_on(rt: HostRuntime) -> Result<()> {
+    play(&rt, rt.alloc(), USED_ON)
+}
+
+const NEITHER_USED_ON: &[Act] = &[
+    Act::Put(Setting::Defaults, &[("a", "1")]),
+    Act::Open(Setting::Reuses(false, false)),
+    Act::HasFiles("000005.ldb:177 000006.log:0 CURRENT:16 LOCK:0 MANIFEST-000004:75 "),
+    Act::Holds("1: 1a"),
+    Act::Put(Setting::Defaults, &[("b", "2")]),
+    Act::Holds("2: 1a 2b"),
+];
+
+/// Where neither is, the new manifest's number is given first, then the table's, then the log's.
+#[test]
+fn neither_used_on(rt: HostRuntime) -> Result<()> {
+    play(&rt, rt.alloc(), NEITHER_USED_ON)
+}
+
+const ONE_USED_ON: &[Act] = &[
+    Act::Put(Setting::Defaults, &[("a", "1")]),
+    Act::Open(Setting::Reuses(false, true)),
+    Act::HasFiles("000004.ldb:177 000005.log:0 CURRENT:16 LOCK:0 MANIFEST-000001:81 "),
+    Act::Open(Setting::FileSize(81)),
+    Act::HasFiles("000004.ldb:177 000005.log:0 CURRENT:16 LOCK:0 MANIFEST-000007:75 "),
+];
+
+/// A log that isn't used on becomes a table, and a manifest of `max_file_size` bytes or more is made anew.
+#[test]
+fn one_used_on(rt: HostRuntime) -> Result<()> {
+    play(&rt, rt.alloc(), ONE_USED_ON)
+}
+
+const SEVERAL_LOGS: &[Act] = &[
+    Act::Put(Setting::Defaults, &[("a", "1")]),
+    Act::Log("000004.log", &[(2, "b"), (3, "a")]),
+    Act::Log("000006.log", &[(5, "c")]),
+    Act::Put(Setting::Defaults, &[("d", "4")]),
+    Act::HasFiles(
+        "000006.log:48 000007.ldb:177 000008.ldb:190 CURRENT:16 LOCK:0 MANIFEST-000001:106 ",
+    ),
+    Act::Holds("6: 1a 3a 2b 5c 6d"),
+];
+
+/// The last log is used on, and all entries of those before it come to tables, one for each.
+#[test]
+fn several_logs(rt: HostRuntime) -> Result<()> {
+    play(&rt, rt.alloc(), SEVERAL_LOGS)
+}
+
+const TORN_LOG: &[Act] = &[
+    Act::Put(Setting::Defaults, &[("a", "1"), ("b", "2")]),
+    Act::Cut("000003.log", 47),
+    Act::Open(Setting::Defaults),
+    Act::HasFiles("000004.ldb:177 000005.log:0 CURRENT:16 LOCK:0 MANIFEST-000001:81 "),
+    Act::Holds("1: 1a"),
+];
+
+/// A log that ends badly isn't used on.
+#[test]
+fn torn_log(rt: HostRuntime) -> Result<()> {
+    play(&rt, rt.alloc(), TORN_LOG)
+}
+
+const SMALL_MEMTABLE: &[Act] = &[
+    Act::Put(Setting::Defaults, &[("a", "1"), ("b", "2"), ("c", "3")]),
+    Act::Open(Setting::Buffer(250)),
+    Act::HasFiles(
+        "000004.ldb:190 000005.ldb:177 000006.log:0 CURRENT:16 LOCK:0 MANIFEST-000001:106 ",
+    ),
+    Act::Holds("3: 1a 2b 3c"),
+];
+
+/// A log that fills a memtable goes to tables.
+#[test]
+fn small_memtable(rt: HostRuntime) -> Result<()> {
+    play(&rt, rt.alloc(), SMALL_MEMTABLE)
+}
+
+/// What a crash without tails leaves of a store that was opened, and not synced before.
+fn crash_after_opening(alloc: Global, reuses: bool) -> Result<String> {
+    let mut env = store_of(alloc, &[("a", "1"), ("b", "2")])?;
+    reopen(alloc, &mut env, reusing(reuses, reuses))?;
+    let pick = Pick {
+        tails: Vec::new(alloc),
+        after: false,
+    };
+    contents_of(alloc, &mut env.crashed(alloc, &pick)?)
+}
+
+/// All that an opening has found is durable.
+#[test]
+fn found_is_durable(rt: HostRuntime) -> Result<()> {
+    assert!(rt; crash_after_opening(rt.alloc(), true)?.as_str() == "2: 1a 2b");
+    assert!(rt; crash_after_opening(rt.alloc(), false)?.as_str() == "2: 1a 2b");
+    Ok(())
+}
+
+const LEFT_OVER_FILES: &[Act] = &[
+    Act::Make("MANIFEST-000001", b"x"),
+    Act::Make("000007.dbtmp", b"x"),
+    Act::Open(Setting::Defaults),
+    Act::HasFiles("000008.log:0 CURRENT:16 LOCK:0 MANIFEST-000001:41 "),
+];
+
+/// A folder with a manifest and a temporary file alone has no store: one is made, and the temporary file is deleted.
+#[test]
+fn left_over_files(rt: HostRuntime) -> Result<()> {
+    play(&rt, rt.alloc(), LEFT_OVER_FILES)
+}
+
+/// What `CURRENT` names after a crash without tails at this moment, and then the value of k.
+fn crash_in_opening(alloc: Global, env: &RecordEnv, moment: u64) -> Result<Vec<u8>> {
+    let side = Side {
+        moment,
+        after: false,
+    };
+    let mut left = crash(alloc, env, side, Tails::Nothing)?;
+    let mut found = file_bytes(alloc, &mut left, "CURRENT")?;
+    let mut engine = DefaultEngine::open(alloc, STORE, &mut left, Options::default())?;
+    if let Some(value) = engine.get(&mut left, b"k")? {
+        found.extend_from_slice(value.as_slice())?;
+    }
+    Ok(found)
+}
+
+/// At how many moments a crash leaves the first manifest in use, the fourth, or anything else.
+fn count_crashes(alloc: Global, env: &RecordEnv, from: u64) -> Result<(u64, u64, u64)> {
+    let (mut first, mut fourth, mut others) = (0_u64, 0_u64, 0_u64);
+    for moment in from..=env.moment() {
+        match crash_in_opening(alloc, env, moment)?.as_slice() {
+            b"MANIFEST-000001\n1" => first = first.saturating_add(1),
+            b"MANIFEST-000004\n1" => fourth = fourth.saturating_add(1),
+            _ => others = others.saturating_add(1),
+        }
+    }
+    Ok((first, fourth, others))
+}
+
+/// A device with a store that was closed, whose key k has the value 1.
+fn closed_store(alloc: Global) -> Result<RecordEnv> {
+    let mut env = RecordEnv::new(alloc);
+    let mut engine = DefaultEngine::open(alloc, STORE, &mut env, Options::default())?;
+    engine.put(&mut env, b"k", b"1")?;
+    engine.close(&mut env)?;
+    Ok(env)
+}
+
+/// A crash before the rename finds the old manifest, and one after it the new one.
+#[test]
+fn crashes_around_a_new_manifest(rt: HostRuntime) -> Result<()> {
+    let mut env = closed_store(rt.alloc())?;
+    let from = env.moment();
+    reopen(rt.alloc(), &mut env, reusing(true, false))?;
+    let wanted = "000003.log:24 CURRENT:16 LOCK:0 MANIFEST-000004:50 ";
+    assert!(rt; has_files(rt.alloc(), &mut env, wanted)?);
+    let (first, fourth, others) = count_crashes(rt.alloc(), &env, from)?;
+    assert!(rt; first > 10 && fourth > 5 && others == 0);
+    Ok(())
+}

@@ -1,0 +1,129 @@
+//! What isn't opened: an opening fails, changes no file but the lock's, and gives back the lock.
+use crate::acts::{Act, Setting, is_damaged, play};
+use crate::stores::{Row, put_file};
+use leveldb_base::error::{Result, StatusCode};
+use leveldb_env::mem_env::MemEnv;
+use std::alloc::Global;
+
+const UNWANTED: &[Act] = &[
+    Act::Put(Setting::Defaults, &[("a", "1")]),
+    Act::HasFiles("000003.log:24 CURRENT:16 LOCK:0 MANIFEST-000001:41 "),
+    Act::Fails(Setting::MustBeNew, StatusCode::AlreadyExists),
+    Act::HasFiles("000003.log:24 CURRENT:16 LOCK:0 MANIFEST-000001:41 "),
+];
+
+/// A store that must not be.
+#[test]
+fn unwanted(rt: HostRuntime) -> Result<()> {
+    play(&rt, rt.alloc(), UNWANTED)
+}
+
+const MISSING: &[Act] = &[
+    Act::Fails(Setting::MustExist, StatusCode::InvalidArgument),
+    Act::HasFiles("LOCK:0 "),
+];
+
+/// A store that must be.
+#[test]
+fn missing(rt: HostRuntime) -> Result<()> {
+    play(&rt, rt.alloc(), MISSING)
+}
+
+/// Whether a folder with this file and a lock alone is damaged.
+fn is_damaged_beside(alloc: Global, name: &str) -> Result<bool> {
+    let mut env = MemEnv::new(alloc);
+    put_file(alloc, &mut env, "LOCK", b"")?;
+    put_file(alloc, &mut env, name, b"")?;
+    is_damaged(alloc, &mut env)
+}
+
+/// A table or a log where `CURRENT` is missing.
+#[test]
+fn without_current(rt: HostRuntime) -> Result<()> {
+    for name in &["000005.ldb", "5.sst", "000003.log", "3.log"] {
+        assert!(rt; is_damaged_beside(rt.alloc(), *name)?);
+    }
+    Ok(())
+}
+
+const WITHOUT_A_TABLE: &[Act] = &[
+    Act::Put(Setting::Defaults, &[("a", "1")]),
+    Act::Open(Setting::Reuses(false, true)),
+    Act::Rename("db/000004.ldb", "db/000004.sst"),
+    Act::IsDamaged,
+    Act::Delete("db/000004.sst"),
+    Act::IsDamaged,
+];
+
+/// A live table that is missing, or there under another name.
+#[test]
+fn without_a_table(rt: HostRuntime) -> Result<()> {
+    play(&rt, rt.alloc(), WITHOUT_A_TABLE)
+}
+
+const MISNAMED_LOGS: &[Act] = &[
+    Act::Put(Setting::Defaults, &[("a", "1")]),
+    Act::Make("0004.log", b""),
+    Act::IsDamaged,
+    Act::Delete("db/0004.log"),
+    Act::Open(Setting::Reuses(false, true)),
+    Act::Make("3.log", b""),
+    Act::Open(Setting::Defaults),
+    Act::HasFiles("000004.ldb:177 000005.log:0 CURRENT:16 LOCK:0 MANIFEST-000001:81 "),
+];
+
+/// A log under another name of its number, which counts where that number is replayed; elsewhere it is an obsolete file.
+#[test]
+fn misnamed_logs(rt: HostRuntime) -> Result<()> {
+    play(&rt, rt.alloc(), MISNAMED_LOGS)
+}
+
+/// The rows of a log.
+const A: Row = (1, "a");
+
+const B: Row = (2, "b");
+
+const AFTER_A_BAD_END: &[Act] = &[
+    Act::Open(Setting::Defaults),
+    Act::Log("000003.log", &[A, B]),
+    Act::Cut("000003.log", 47),
+    Act::Log("000004.log", &[B]),
+    Act::Fails(Setting::Defaults, StatusCode::Corruption),
+    Act::Log("000004.log", &[]),
+    Act::Open(Setting::Defaults),
+    Act::HasFiles("000004.log:0 000006.ldb:177 CURRENT:16 LOCK:0 MANIFEST-000001:81 "),
+    Act::Holds("1: 1a"),
+];
+
+/// A log after one that ends badly: it must be empty. A refused opening may leave a table that it made.
+#[test]
+fn after_a_bad_end(rt: HostRuntime) -> Result<()> {
+    play(&rt, rt.alloc(), AFTER_A_BAD_END)
+}
+
+const OUT_OF_ORDER: &[Act] = &[
+    Act::Open(Setting::Defaults),
+    Act::Log("000003.log", &[B]),
+    Act::Log("000004.log", &[A]),
+    Act::Fails(Setting::Defaults, StatusCode::Corruption),
+];
+
+/// Batches that don't rise from log to log.
+#[test]
+fn out_of_order(rt: HostRuntime) -> Result<()> {
+    play(&rt, rt.alloc(), OUT_OF_ORDER)
+}
+
+const DAMAGED_MANIFESTS: &[Act] = &[
+    Act::Put(Setting::Defaults, &[("a", "1")]),
+    Act::Cut("MANIFEST-000001", 40),
+    Act::IsDamaged,
+    Act::Cut("MANIFEST-000001", 0),
+    Act::IsDamaged,
+];
+
+/// A manifest that is damaged from its first byte on, and one that is empty.
+#[test]
+fn damaged_manifests(rt: HostRuntime) -> Result<()> {
+    play(&rt, rt.alloc(), DAMAGED_MANIFESTS)
+}

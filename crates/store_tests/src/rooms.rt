@@ -1,0 +1,388 @@
+//! A store with a memtable of one byte: each write but the first makes a table of the batch before.
+use crate::stores::{
+    DefaultEngine, DefaultOptions, STORE, buffered, failed_with, has_files, has_levels, holds,
+    put_all, reopen, text_of,
+};
+use leveldb_base::error::{Result, StatusCode};
+use leveldb_env::env::Env;
+use leveldb_env::infolog::{InfoSink, Logger};
+use leveldb_env::mem_env::{MemEnv, Pick, RecordEnv};
+use leveldb_env::options::Options;
+use leveldb_mem::write_batch::WriteBatch;
+use std::alloc::Global;
+use std::cell::Cell;
+use std::process::Abort;
+use std::rc::Rc;
+
+type RecordEngine = DefaultEngine<RecordEnv>;
+
+/// The key's value, or `none`.
+fn value_of(
+    alloc: Global,
+    env: &mut RecordEnv,
+    engine: &mut RecordEngine,
+    key: &str,
+) -> Result<String> {
+    match &engine.get(env, key.as_bytes())? {
+        None => Ok(String::from_str(alloc, "none")?),
+        Some(value) => text_of(alloc, value.as_slice()),
+    }
+}
+
+/// The values of the keys a, b and c.
+fn values_of(alloc: Global, env: &mut RecordEnv, engine: &mut RecordEngine) -> Result<String> {
+    let a = value_of(alloc, env, engine, "a")?;
+    let b = value_of(alloc, env, engine, "b")?;
+    let c = value_of(alloc, env, engine, "c")?;
+    Ok(format!(in alloc; "{a} {b} {c}")?)
+}
+
+/// The values of the three keys in a store that is opened for that.
+fn found_in(alloc: Global, env: &mut RecordEnv) -> Result<String> {
+    let mut engine = DefaultEngine::open(alloc, STORE, env, Options::default())?;
+    let found = values_of(alloc, env, &mut engine)?;
+    engine.abandon(env)?;
+    Ok(found)
+}
+
+/// Whether these are the values of the three keys.
+fn finds(
+    alloc: Global,
+    env: &mut RecordEnv,
+    engine: &mut RecordEngine,
+    wanted: &str,
+) -> Result<bool> {
+    Ok(values_of(alloc, env, engine)?.as_str() == wanted)
+}
+
+/// Whether this is the key's value.
+fn finds_one(
+    alloc: Global,
+    env: &mut RecordEnv,
+    engine: &mut RecordEngine,
+    key: &str,
+    wanted: &str,
+) -> Result<bool> {
+    Ok(value_of(alloc, env, engine, key)?.as_str() == wanted)
+}
+
+/// What is done to an open store and its files, or asked of them.
+#[derive(Clone, Copy)]
+enum Act {
+    Put(&'static str, &'static str),
+    /// A put of this key fails since the device failed, or since the store is broken.
+    PutFails(&'static str),
+    Delete(&'static str),
+    /// Writes an empty batch.
+    WriteNothing,
+    /// Deletes the file at this path.
+    Lose(&'static str),
+    /// The nth call of the device from now on fails.
+    Fail(u64),
+    /// The values of the keys a, b and c are these.
+    Finds(&'static str),
+    /// The value of this key is this one, or `none`.
+    FindsOne(&'static str, &'static str),
+    /// A look-up of this key finds damage.
+    FindsDamage(&'static str),
+    /// The names of the store's folder and the sizes of its files are these.
+    HasFiles(&'static str),
+    /// The store's tables are in these levels.
+    HasLevels(&'static str),
+    /// The slow store reads this.
+    Holds(&'static str),
+}
+
+fn change(alloc: Global, env: &mut RecordEnv, engine: &mut RecordEngine, act: &Act) -> Result<()> {
+    match act {
+        Act::Put(key, value) => engine.put(env, key.as_bytes(), value.as_bytes()),
+        Act::Delete(key) => engine.delete(env, key.as_bytes()),
+        Act::WriteNothing => engine.write(env, WriteBatch::new(alloc)?, false),
+        Act::Lose(path) => env.delete(path),
+        _ => Ok(()),
+    }
+}
+
+fn put_fails(env: &mut RecordEnv, engine: &mut RecordEngine, key: &str) -> Result<bool> {
+    failed_with(engine.put(env, key.as_bytes(), b"2"), StatusCode::IOError)
+}
+
+fn finds_damage(env: &mut RecordEnv, engine: &mut RecordEngine, key: &str) -> Result<bool> {
+    failed_with(engine.get(env, key.as_bytes()), StatusCode::Corruption)
+}
+
+/// Does what is to be done, and returns whether what is asked is so.
+fn is_right(
+    alloc: Global,
+    env: &mut RecordEnv,
+    engine: &mut RecordEngine,
+    act: &Act,
+) -> Result<bool> {
+    match act {
+        Act::PutFails(key) => put_fails(env, engine, key),
+        Act::Fail(nth) => {
+            env.fail(*nth, false);
+            Ok(true)
+        }
+        Act::Finds(wanted) => finds(alloc, env, engine, wanted),
+        Act::FindsOne(key, wanted) => finds_one(alloc, env, engine, key, wanted),
+        Act::FindsDamage(key) => finds_damage(env, engine, key),
+        Act::HasFiles(wanted) => has_files(alloc, env, wanted),
+        Act::HasLevels(wanted) => has_levels(alloc, env, wanted),
+        Act::Holds(wanted) => holds(alloc, env, wanted),
+        _ => {
+            change(alloc, env, engine, act)?;
+            Ok(true)
+        }
+    }
+}
+
+/// Does and asks all this, one after another.
+fn play_on(
+    rt: &impl Abort,
+    alloc: Global,
+    env: &mut RecordEnv,
+    engine: &mut RecordEngine,
+    acts: &[Act],
+) -> Result<()> {
+    for (at, act) in acts.iter().enumerate() {
+        assert!(rt; is_right(alloc, env, engine, act)?, "row {at}");
+    }
+    Ok(())
+}
+
+/// The device of a store with a memtable of one byte, for which all this was done, and which gave back its lock.
+fn played(rt: &impl Abort, alloc: Global, acts: &[Act]) -> Result<RecordEnv> {
+    let mut env = RecordEnv::new(alloc);
+    let mut engine = DefaultEngine::open(alloc, STORE, &mut env, buffered(1))?;
+    play_on(rt, alloc, &mut env, &mut engine, acts)?;
+    engine.abandon(&mut env)?;
+    Ok(env)
+}
+
+/// Does and asks all this, and then finds these values of the three keys when the store is opened again.
+fn play(rt: &impl Abort, alloc: Global, acts: &[Act], found: &str) -> Result<()> {
+    let mut env = played(rt, alloc, acts)?;
+    assert!(rt; found_in(alloc, &mut env)?.as_str() == found);
+    Ok(())
+}
+
+const ONE_TABLE: &[Act] = &[
+    Act::Put("a", "1"),
+    Act::Put("b", "2"),
+    Act::HasFiles("000004.log:24 000005.ldb:177 CURRENT:16 LOCK:0 MANIFEST-000001:81 "),
+    Act::HasLevels("level 2: 1 files, 177 bytes ([(5, 177)]); "),
+    Act::Holds("2: 1a 2b"),
+];
+
+/// The batch before is a table then, of level 2 where no other file is; its log is deleted, and the manifest has one more edit.
+#[test]
+fn a_table_of_the_batch_before(rt: HostRuntime) -> Result<()> {
+    play(&rt, rt.alloc(), ONE_TABLE, "1 2 none")
+}
+
+const NEWEST_FIRST: &[Act] = &[
+    Act::Put("a", "1"),
+    Act::Put("b", "2"),
+    Act::Put("a", "3"),
+    Act::Put("a", "4"),
+    Act::Put("c", "5"),
+    Act::Finds("4 2 5"),
+    Act::Delete("b"),
+    Act::Put("c", "6"),
+    Act::Finds("4 none 6"),
+    Act::HasLevels(
+        "level 0: 1 files, 177 bytes ([(11, 177)]); level 1: 2 files, 353 bytes ([(9, 177), (15, 176)]); \
+        level 2: 3 files, 531 bytes ([(5, 177), (7, 177), (13, 177)]); ",
+    ),
+];
+
+/// Of tables in several levels the newest one that has the key decides, and a deletion is an entry like any other.
+#[test]
+fn the_newest_table_first(rt: HostRuntime) -> Result<()> {
+    play(&rt, rt.alloc(), NEWEST_FIRST, "4 none 6")
+}
+
+const ONE_KEY: &[Act] = &[
+    Act::Put("a", "1"),
+    Act::Put("a", "2"),
+    Act::Put("a", "3"),
+    Act::HasLevels(
+        "level 1: 1 files, 177 bytes ([(7, 177)]); level 2: 1 files, 177 bytes ([(5, 177)]); ",
+    ),
+    Act::FindsOne("a", "3"),
+];
+
+const ONE_KEY_ON: &[Act] = &[
+    Act::Put("a", "1"),
+    Act::Put("a", "2"),
+    Act::Put("a", "3"),
+    Act::Put("a", "4"),
+    Act::Put("a", "5"),
+    Act::HasLevels(
+        "level 0: 2 files, 354 bytes ([(9, 177), (11, 177)]); level 1: 1 files, 177 bytes ([(7, 177)]); \
+        level 2: 1 files, 177 bytes ([(5, 177)]); ",
+    ),
+    Act::FindsOne("a", "5"),
+];
+
+/// Each table of one key is in a level above the ones before it, and in level 0 once that has one.
+#[test]
+fn tables_above_what_they_overlap(rt: HostRuntime) -> Result<()> {
+    play(&rt, rt.alloc(), ONE_KEY, "3 none none")?;
+    play(&rt, rt.alloc(), ONE_KEY_ON, "5 none none")
+}
+
+const EMPTY_BATCHES: &[Act] = &[
+    Act::WriteNothing,
+    Act::WriteNothing,
+    Act::HasFiles("000003.log:38 CURRENT:16 LOCK:0 MANIFEST-000001:41 "),
+    Act::Put("a", "1"),
+    Act::HasFiles("000003.log:62 CURRENT:16 LOCK:0 MANIFEST-000001:41 "),
+    Act::Holds("1: 1a"),
+];
+
+/// An empty batch comes to the log, and doesn't make the memtable full.
+#[test]
+fn empty_batches(rt: HostRuntime) -> Result<()> {
+    play(&rt, rt.alloc(), EMPTY_BATCHES, "1 none none")
+}
+
+const LOST_TABLE: &[Act] = &[
+    Act::Put("a", "1"),
+    Act::Put("a", "2"),
+    Act::Put("b", "3"),
+    Act::Lose("db/000007.ldb"),
+    Act::FindsDamage("a"),
+    Act::FindsOne("b", "3"),
+    Act::FindsOne("c", "none"),
+];
+
+/// A table that can't be read is an error, and never passed over; keys outside its range are found all the same.
+#[test]
+fn a_table_that_is_lost(rt: HostRuntime) -> Result<()> {
+    played(&rt, rt.alloc(), LOST_TABLE)?;
+    Ok(())
+}
+
+const WAITING: &[Act] = &[
+    Act::Put("a", "1"),
+    Act::Fail(3),
+    Act::PutFails("b"),
+    Act::Finds("1 none none"),
+    Act::Put("b", "2"),
+    Act::HasFiles("000003.log:24 000004.log:24 CURRENT:16 LOCK:0 MANIFEST-000001:41 "),
+    Act::Put("c", "3"),
+    Act::HasFiles(
+        "000006.ldb:177 000007.log:24 000008.ldb:177 CURRENT:16 LOCK:0 MANIFEST-000001:121 ",
+    ),
+    Act::Finds("1 2 3"),
+];
+
+/// Where no table is made, the entries wait, and are found. They come to a table before the next switch.
+#[test]
+fn entries_that_wait(rt: HostRuntime) -> Result<()> {
+    play(&rt, rt.alloc(), WAITING, "1 2 3")
+}
+
+/// A write whose nth call fails breaks the store, which is read on and finds the same when it is opened again.
+fn break_at(rt: &impl Abort, alloc: Global, nth: u64) -> Result<()> {
+    let acts = [
+        Act::Put("a", "1"),
+        Act::Fail(nth),
+        Act::PutFails("b"),
+        Act::PutFails("c"),
+        Act::Finds("1 none none"),
+    ];
+    play(rt, alloc, &acts, "1 none none")
+}
+
+/// The sync of the log at a switch, and the append and the sync of the edit.
+#[test]
+fn switches_that_break_the_store(rt: HostRuntime) -> Result<()> {
+    for nth in &[1, 6, 7] {
+        break_at(&rt, rt.alloc(), *nth)?;
+    }
+    Ok(())
+}
+
+/// A sink that counts its lines.
+#[derive(Drop)]
+struct Counts(Rc<Cell<usize>>);
+
+impl InfoSink for Counts {
+    fn write(&mut self, _line: &[u8]) -> Result<()> {
+        self.0.set(self.0.get().saturating_add(1));
+        Ok(())
+    }
+}
+
+/// Options with a memtable of one byte and a sink that counts its lines here.
+fn counted(alloc: Global, lines: &Rc<Cell<usize>>) -> Result<DefaultOptions> {
+    let mut options = buffered(1);
+    options.log = Some(Logger(Box::new(alloc, Counts(lines.clone()?))?));
+    Ok(options)
+}
+
+const LOG_LEFT: &[Act] = &[
+    Act::Put("b", "2"),
+    Act::HasFiles(
+        "000003.log:24 000004.log:24 000005.ldb:177 CURRENT:16 LOCK:0 MANIFEST-000001:81 ",
+    ),
+];
+
+const LOG_DELETED: &[Act] = &[
+    Act::Put("c", "3"),
+    Act::HasFiles(
+        "000005.ldb:177 000006.log:24 000007.ldb:177 CURRENT:16 LOCK:0 MANIFEST-000001:121 ",
+    ),
+];
+
+/// A folder that can't be listed, or an obsolete log that can't be deleted, is a line for the sink and no error; the next switch
+/// deletes what is left.
+fn leave_a_log(rt: &impl Abort, alloc: Global, nth: u64) -> Result<()> {
+    let lines = Rc::new(alloc, Cell::new(0))?;
+    let mut env = RecordEnv::new(alloc);
+    let mut engine = DefaultEngine::open(alloc, STORE, &mut env, counted(alloc, &lines)?)?;
+    engine.put(&mut env, b"a", b"1")?;
+    env.fail(nth, false);
+    play_on(rt, alloc, &mut env, &mut engine, LOG_LEFT)?;
+    assert!(rt; lines.get() == 1);
+    play_on(rt, alloc, &mut env, &mut engine, LOG_DELETED)?;
+    assert!(rt; lines.get() == 1);
+    Ok(())
+}
+
+#[test]
+fn obsolete_files_that_stay(rt: HostRuntime) -> Result<()> {
+    leave_a_log(&rt, rt.alloc(), 8)?;
+    leave_a_log(&rt, rt.alloc(), 9)
+}
+
+/// How many calls an opening and an `abandon` of this disk take.
+fn calls_of_opening(alloc: Global, env: &RecordEnv) -> Result<u64> {
+    let pick = Pick {
+        tails: Vec::new(alloc),
+        after: false,
+    };
+    let mut trial = env.disk_at(alloc, env.moment(), &pick)?;
+    reopen(alloc, &mut trial, Options::default())?;
+    Ok(trial.moment() / 2)
+}
+
+/// An obsolete file that an opening can't delete is no error either.
+#[test]
+fn an_opening_beside_obsolete_files(rt: HostRuntime) -> Result<()> {
+    let mut env = RecordEnv::new(rt.alloc());
+    put_all(rt.alloc(), &mut env, Options::default(), &[("a", "1")])?;
+    drop(env.open_writable_file("db/000007.dbtmp")?);
+    let calls = calls_of_opening(rt.alloc(), &env)?;
+    env.fail(calls.saturating_sub(1), false);
+    reopen(rt.alloc(), &mut env, Options::default())?;
+    let wanted = "000003.log:24 000007.dbtmp:0 CURRENT:16 LOCK:0 MANIFEST-000001:41 ";
+    assert!(rt; has_files(rt.alloc(), &mut env, wanted)?);
+    reopen(rt.alloc(), &mut env, Options::default())?;
+    let wanted = "000003.log:24 CURRENT:16 LOCK:0 MANIFEST-000001:41 ";
+    assert!(rt; has_files(rt.alloc(), &mut env, wanted)?);
+    Ok(())
+}

@@ -1,0 +1,175 @@
+//! What several tests do with a store's files: their names and sizes, what they hold, and logs and manifests that are made by hand.
+use leveldb_base::cmp::DefaultCmp;
+use leveldb_base::error::{Result, StatusCode};
+use leveldb_base::types::SequenceNumber;
+use leveldb_env::env::Env;
+use leveldb_env::env::whole_files::read_file;
+use leveldb_env::filter::BloomPolicy;
+use leveldb_env::mem_env::MemEnv;
+use leveldb_env::options::Options;
+use leveldb_mem::log::LogWriter;
+use leveldb_mem::write_batch::WriteBatch;
+use leveldb_version::version_set::VersionSet;
+use rusty_leveldb::db_impl::Engine;
+use slow_history::Entry;
+use slow_store::read_store;
+use std::alloc::Global;
+
+/// The path of the store.
+pub const STORE: &str = "db";
+
+pub type DefaultOptions = Options<DefaultCmp, BloomPolicy>;
+
+pub type DefaultEngine<E> = Engine<E, DefaultCmp, BloomPolicy>;
+
+/// Options that use on, or not, the last log and the manifest.
+pub fn reusing(logs: bool, manifest: bool) -> DefaultOptions {
+    let mut options = Options::default();
+    options.reuse_logs = logs;
+    options.reuse_manifest = manifest;
+    options
+}
+
+/// Options with a memtable of so many bytes.
+pub fn buffered(write_buffer_size: usize) -> DefaultOptions {
+    let mut options = Options::default();
+    options.write_buffer_size = write_buffer_size;
+    options
+}
+
+/// Opens the store, and gives back its lock at once.
+pub fn reopen<E: Env>(alloc: Global, env: &mut E, options: DefaultOptions) -> Result<()> {
+    Engine::open(alloc, STORE, env, options)?.abandon(env)
+}
+
+/// Opens the store, puts each of these pairs in a batch of its own, and gives back its lock.
+pub fn put_all<E: Env>(
+    alloc: Global,
+    env: &mut E,
+    options: DefaultOptions,
+    pairs: &[(&str, &str)],
+) -> Result<()> {
+    let mut engine = Engine::open(alloc, STORE, env, options)?;
+    for (key, value) in pairs {
+        engine.put(env, key.as_bytes(), value.as_bytes())?;
+    }
+    engine.abandon(env)
+}
+
+/// A disk with a store of these pairs in one log.
+pub fn store_of(alloc: Global, pairs: &[(&str, &str)]) -> Result<MemEnv> {
+    let mut env = MemEnv::new(alloc);
+    put_all(alloc, &mut env, Options::default(), pairs)?;
+    Ok(env)
+}
+
+/// These bytes as a text.
+pub fn text_of(alloc: Global, bytes: &[u8]) -> Result<String> {
+    let text = std::str::from_utf8(bytes).unwrap_or("?");
+    Ok(String::from_str(alloc, text)?)
+}
+
+/// A file's name and its size.
+fn line_of<E: Env>(alloc: Global, env: &mut E, name: &str) -> Result<String> {
+    let path = format!(in alloc; "{STORE}/{name}")?;
+    let size = env.size_of(&path)?;
+    Ok(format!(in alloc; "{name}:{size} ")?)
+}
+
+/// The names of the store's folder and the sizes of its files, in the order of names.
+pub fn files_of<E: Env>(alloc: Global, env: &mut E) -> Result<String> {
+    let mut names = env.children(alloc, STORE)?;
+    names.sort()?;
+    let mut text = String::new(alloc);
+    for name in &names {
+        text.push_str(&line_of(alloc, env, name)?)?;
+    }
+    Ok(text)
+}
+
+/// Whether these are the names of the store's folder and the sizes of its files.
+pub fn has_files<E: Env>(alloc: Global, env: &mut E, wanted: &str) -> Result<bool> {
+    Ok(files_of(alloc, env)?.as_str() == wanted)
+}
+
+/// Which levels the live files of the store's manifest are in. No file changes.
+fn levels_of<E: Env>(alloc: Global, env: &mut E) -> Result<String> {
+    let mut set = VersionSet::new(alloc, STORE, &DefaultCmp)?;
+    let _ = set.recover(env, &reusing(false, false))?;
+    set.current_summary()
+}
+
+/// Whether the live files are in these levels.
+pub fn has_levels<E: Env>(alloc: Global, env: &mut E, wanted: &str) -> Result<bool> {
+    Ok(levels_of(alloc, env)?.as_str() == wanted)
+}
+
+/// A number and its key.
+fn word_of(alloc: Global, entry: &Entry) -> Result<String> {
+    let key = std::str::from_utf8(entry.key.as_slice()).unwrap_or("?");
+    Ok(format!(in alloc; " {}{key}", entry.sequence)?)
+}
+
+/// What the slow store reads: the last number, and each number with its key.
+pub fn contents_of<E: Env>(alloc: Global, env: &mut E) -> Result<String> {
+    let Some(contents) = read_store(alloc, env, &DefaultCmp, STORE)? else {
+        return Ok(String::from_str(alloc, "none")?);
+    };
+    let mut text = format!(in alloc; "{}:", contents.last)?;
+    for entry in &contents.entries {
+        text.push_str(&word_of(alloc, entry)?)?;
+    }
+    Ok(text)
+}
+
+/// Whether this is what the slow store reads.
+pub fn holds<E: Env>(alloc: Global, env: &mut E, wanted: &str) -> Result<bool> {
+    Ok(contents_of(alloc, env)?.as_str() == wanted)
+}
+
+/// The bytes of a file of the store.
+pub fn file_bytes<E: Env>(alloc: Global, env: &mut E, name: &str) -> Result<Vec<u8>> {
+    let path = format!(in alloc; "{STORE}/{name}")?;
+    read_file(alloc, env, &path)
+}
+
+/// Makes a file of the store of these bytes.
+pub fn put_file(alloc: Global, env: &mut MemEnv, name: &str, bytes: &[u8]) -> Result<()> {
+    let path = format!(in alloc; "{STORE}/{name}")?;
+    let mut file = env.open_writable_file(&path)?;
+    env.append(&mut file, bytes)?;
+    env.sync(&mut file)
+}
+
+/// Cuts a file of the store to so many bytes.
+pub fn cut_file(alloc: Global, env: &mut MemEnv, name: &str, size: usize) -> Result<()> {
+    let mut bytes = file_bytes(alloc, env, name)?;
+    bytes.truncate(size);
+    put_file(alloc, env, name, bytes.as_slice())
+}
+
+/// A number, and a key whose value is `v`.
+pub type Row = (SequenceNumber, &'static str);
+
+/// Makes a log of these rows, each in a batch of its own: 24 bytes for a key of one byte.
+pub fn put_log(alloc: Global, env: &mut MemEnv, name: &str, rows: &[Row]) -> Result<()> {
+    let mut writer = LogWriter::new(alloc, Vec::new(alloc));
+    for (sequence, key) in rows {
+        let mut batch = WriteBatch::new(alloc)?;
+        batch.put(key.as_bytes(), b"v")?;
+        batch.set_sequence(*sequence);
+        writer.add_record(batch.contents())?;
+    }
+    put_file(alloc, env, name, writer.sink.as_slice())
+}
+
+/// Whether an answer is an error of this code. Out of memory is passed on.
+pub fn failed_with<T: Drop>(answer: Result<T>, code: StatusCode) -> Result<bool> {
+    let Err(status) = answer else {
+        return Ok(false);
+    };
+    if status.code == StatusCode::OutOfMemory {
+        return Err(status);
+    }
+    Ok(status.code == code)
+}

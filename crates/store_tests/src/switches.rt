@@ -1,0 +1,149 @@
+//! A store with a memtable of 300 bytes on a recording device: logs are switched and tables are made. Crashes and failures come at each
+//! moment and call of its script.
+use crate::crash_disks::{Script, Setting, Tails, assert_tally};
+use crate::steps::Step;
+use crate::sweep::{crash_everywhere, crash_twice_everywhere, fail_everywhere};
+use leveldb_base::error::Result;
+
+/// Two lives of one store, the first closed, the second abandoned. Each begins with a look-up, whose reply shows when its opening returned.
+/// Three entries fill the memtable, and the next write makes a table of them; most of these weren't durable before. If the last table
+/// isn't made, since a call fails, a synced batch comes to the new log while those before it wait.
+const FIRST: &[Step] = &[
+    Step::Get("a"),
+    Step::Put("a", "1"),
+    Step::Write(true, &[("b", Some("2"))]),
+    Step::Put("c", "3"),
+    Step::Put("d", "4"),
+    Step::Delete("a"),
+    Step::Write(false, &[("b", Some("5")), ("c", None)]),
+    Step::Get("a"),
+    Step::Put("e", ""),
+    Step::Flush,
+    Step::Write(false, &[]),
+    Step::Put("a", "6"),
+    Step::Get("b"),
+    Step::Close,
+];
+
+const SECOND: &[Step] = &[
+    Step::Get("e"),
+    Step::Put("c", "7"),
+    Step::Write(true, &[("a", None), ("", Some("8"))]),
+    Step::Put("d", "9"),
+    Step::Get("d"),
+    Step::Put("e", "0"),
+    Step::Write(true, &[("", None)]),
+    Step::Put("b", "1"),
+];
+
+/// The last log and the manifest are used on by each opening.
+const REUSING: Script = Script {
+    setting: Setting {
+        write_buffer_size: 300,
+        reuses: true,
+    },
+    lives: &[FIRST, SECOND],
+};
+
+/// Each opening makes a new manifest, and a table of what the logs have.
+const ANEW: Script = Script {
+    setting: Setting {
+        write_buffer_size: 300,
+        reuses: false,
+    },
+    lives: &[FIRST, SECOND],
+};
+
+/// Where a switch has synced the log, a crash loses less than it may.
+#[test]
+fn crashes_without_tails(rt: HostRuntime) -> Result<()> {
+    let tally = crash_everywhere(&rt, rt.alloc(), REUSING, Tails::Nothing)?;
+    assert_tally(
+        &rt,
+        tally,
+        tally.shortest > 20 && tally.shortest < tally.open,
+    );
+    Ok(())
+}
+
+#[test]
+fn crashes_with_whole_tails(rt: HostRuntime) -> Result<()> {
+    let tally = crash_everywhere(&rt, rt.alloc(), REUSING, Tails::Whole)?;
+    assert_tally(&rt, tally, tally.longest > 20);
+    Ok(())
+}
+
+#[test]
+fn crashes_without_the_last_byte(rt: HostRuntime) -> Result<()> {
+    let tally = crash_everywhere(&rt, rt.alloc(), REUSING, Tails::WithoutLast)?;
+    assert_tally(&rt, tally, tally.shortest > 20);
+    Ok(())
+}
+
+#[test]
+fn crashes_with_wrong_bytes(rt: HostRuntime) -> Result<()> {
+    let tally = crash_everywhere(&rt, rt.alloc(), REUSING, Tails::WrongBytes)?;
+    assert_tally(&rt, tally, tally.shortest > 20);
+    Ok(())
+}
+
+#[test]
+fn crashes_of_new_manifests(rt: HostRuntime) -> Result<()> {
+    let tally = crash_everywhere(&rt, rt.alloc(), ANEW, Tails::Nothing)?;
+    assert_tally(
+        &rt,
+        tally,
+        tally.shortest > 20 && tally.shortest < tally.open,
+    );
+    Ok(())
+}
+
+#[test]
+fn crashes_of_new_manifests_with_tails(rt: HostRuntime) -> Result<()> {
+    let tally = crash_everywhere(&rt, rt.alloc(), ANEW, Tails::Whole)?;
+    assert_tally(&rt, tally, tally.longest > 20);
+    let tally = crash_everywhere(&rt, rt.alloc(), ANEW, Tails::WrongBytes)?;
+    assert_tally(&rt, tally, tally.shortest > 20);
+    Ok(())
+}
+
+#[test]
+fn second_crashes(rt: HostRuntime) -> Result<()> {
+    let kinds = (Tails::WithoutLast, Tails::Nothing);
+    crash_twice_everywhere(&rt, rt.alloc(), REUSING, kinds)
+}
+
+#[test]
+fn second_crashes_with_wrong_bytes(rt: HostRuntime) -> Result<()> {
+    let kinds = (Tails::Whole, Tails::WrongBytes);
+    crash_twice_everywhere(&rt, rt.alloc(), REUSING, kinds)
+}
+
+#[test]
+fn second_crashes_of_new_manifests(rt: HostRuntime) -> Result<()> {
+    let kinds = (Tails::Nothing, Tails::WithoutLast);
+    crash_twice_everywhere(&rt, rt.alloc(), ANEW, kinds)
+}
+
+#[test]
+fn failures_without_their_change(rt: HostRuntime) -> Result<()> {
+    let tally = fail_everywhere(&rt, rt.alloc(), REUSING, false)?;
+    assert_tally(&rt, tally, tally.shortest > 20 && tally.longest > 20);
+    Ok(())
+}
+
+#[test]
+fn failures_with_their_change(rt: HostRuntime) -> Result<()> {
+    let tally = fail_everywhere(&rt, rt.alloc(), REUSING, true)?;
+    assert_tally(&rt, tally, tally.shortest > 20 && tally.longest > 20);
+    Ok(())
+}
+
+#[test]
+fn failures_of_new_manifests(rt: HostRuntime) -> Result<()> {
+    let tally = fail_everywhere(&rt, rt.alloc(), ANEW, false)?;
+    assert_tally(&rt, tally, tally.shortest > 20 && tally.longest > 20);
+    let tally = fail_everywhere(&rt, rt.alloc(), ANEW, true)?;
+    assert_tally(&rt, tally, tally.shortest > 20 && tally.longest > 20);
+    Ok(())
+}
