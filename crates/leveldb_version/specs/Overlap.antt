@@ -1,5 +1,6 @@
--- Which files of a level have user keys in a range, and what follows from it: the files that a
--- compaction of the range takes, and the level that a memtable's table goes to.
+-- Which files of a level have a range of user keys that meets another, and what follows from it:
+-- the files with which a compaction of the range begins, and the level that a memtable's table goes
+-- to.
 use Rattle.std.specs.Prelude.{◌≡◌, ◌≢◌, ◌<◌, ◌+◌, ◌*◌, ◌^◌, ◌&&◌, ◌||◌, ◌⊎◌, ℕ, Bool, false, true, not, if◌then◌else◌, nat_le, List, [], ◌∷◌, Option, None, Some, Contains, IfSome, IsSomeAnd, filter, length, take_while}
 use Rattle.std.specs.List.{list_any}
 use Rattle.std.specs.List.Sorted.{IsPartitionPoint, IsPartitionedBy}

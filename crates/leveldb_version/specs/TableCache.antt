@@ -123,7 +123,7 @@ module _ {E F : Type 0} (env : EnvGhosts E F) where
     pub there : IsSomeAnd (file_at state path) (λ file. bytes_of file ≡ bytes)
     pub fits : length bytes < 2 ^ 64
 
-  -- the file at a path has this property, whatever bytes it has
+  -- the file at a path has this property, whatever bytes it has; of a missing one nothing is said
   abbrev pub ForBytesAt : E → List ℕ → (List ℕ → Type 0) → Type 0
   ForBytesAt state path P = (bytes : List ℕ) → HasBytesAt state path bytes → P bytes
 
@@ -303,8 +303,8 @@ module _ {E C FP F : Type 0} {order : CmpGhosts (InternalKeyCmp C)} (env : EnvGh
 -- ---- a law
 
 -- A cache goes on to match files that change, if each open table's file keeps its bytes or is
--- deleted, and so it does if none changes. So a table may stay open when its file is deleted, but
--- must be closed before a file of its number is made again.
+-- deleted, and so it does if none changes. So a table may stay open when its file is deleted, of
+-- which nothing more is said, but must be closed before a file of its number is made again.
 pub record StayMatched {E F : Type 0} (env : EnvGhosts E F) {C : Type 0} (FP : Type 0)
     (order : CmpGhosts (InternalKeyCmp C)) : Type 0 where
   pub changed : (by : TableOptions C FP) (cache : TableCache E C FP F order)

@@ -21,8 +21,9 @@ use std::alloc::Global;
 // How many files a store has open that are no tables.
 const OTHER_FILES: usize = 10;
 
-/// The open tables of a store, of which the least recently used is closed first, and the blocks of
-/// them that are in memory. The calls that use the disk are given the environment and the options.
+/// The open tables of a store, of which the least recently used is closed first, and blocks of
+/// tables, of closed ones too, as long as there is room. The calls that use the disk are given the
+/// environment and the options.
 #[derive(Drop)]
 pub struct TableCache<E: Env, C: UserCmp + Copy + Drop, FP: FilterPolicy + Copy + Drop>
 where
@@ -58,7 +59,9 @@ impl<E: Env, C: UserCmp + Copy + Drop, FP: FilterPolicy + Copy + Drop> TableCach
 
     /// The first pair at or after an internal key in the table of this number, or none if the
     /// filters rule the key out or there is no such pair. The table is opened if it isn't open, and
-    /// is the one used last then. `Corruption` if its file is missing or is no table.
+    /// is the one used last then; one that was opened for a look-up that fails is closed again.
+    /// `Corruption` if its file is missing or is no table, `NotSupported` if a block's compressor
+    /// isn't set or the numbers of the block cache are used up.
     pub fn get(
         &mut self,
         env: &mut E,
@@ -95,7 +98,8 @@ impl<E: Env, C: UserCmp + Copy + Drop, FP: FilterPolicy + Copy + Drop> TableCach
     }
 
     /// Makes sure that the table of this number is open, unless there is room for none. It is the
-    /// one used last then. `Corruption` if its file is missing or is no table.
+    /// one used last then. `Corruption` if its file is missing or is no table, `NotSupported` if a
+    /// block's compressor isn't set or the numbers of the block cache are used up.
     pub fn open_table(
         &mut self,
         env: &mut E,
@@ -124,7 +128,7 @@ impl<E: Env, C: UserCmp + Copy + Drop, FP: FilterPolicy + Copy + Drop> TableCach
         self.tables.insert(&name, table)
     }
 
-    /// The table of this number, if it is open.
+    /// The table of this number, if it is open. This doesn't count as a use.
     pub fn get_table(
         &self,
         number: FileNum,

@@ -207,7 +207,8 @@ impl<C: UserCmp> Version<C> {
         is_overlapped(&self.cmp, self.files(level), range)
     }
 
-    /// The file of a level from 1 on that has a user key in its range, if its files are apart.
+    /// The file of a level from 1 on that has a user key in its range, if its files are apart and
+    /// none is turned round. Of level 0 nothing is said.
     pub fn file_for(&self, level: usize, key: UserKey<'_>) -> Option<&(usize, FileMetaData)>
         requires { level < 7 }
         ensures { let files = files_of_level level (new_files_of self.now) in
@@ -219,7 +220,7 @@ impl<C: UserCmp> Version<C> {
     }
 
     /// Charges a file with a seek. Returns whether that chooses it for a compaction: if it has at
-    /// most one seek left and none is chosen. Else it has one less from now on.
+    /// most one seek left and none is chosen. Else it has one less from now on, if it has any.
     pub fn update_stats(&mut self, stats: GetStats) -> bool
         ensures { (self.new, result) ≡ charged self.old stats.file }
     {

@@ -30,9 +30,9 @@ use leveldb_version::version::Version;
 use leveldb_version::version_edit::VersionEdit;
 
 impl<E: Env, C: UserCmp + Copy + Drop> OpenStore<E, C> {
-    /// Makes a table of the entries that wait, and logs it in the level that a version picks for it:
-    /// then the logs that had them aren't needed any more. Returns `IOError`, and does nothing, if a
-    /// call on the manifest failed before.
+    /// Makes a table of the entries that wait, and logs it in the level that a version picks for
+    /// it: then the logs that had them aren't needed any more. Returns `IOError`, and does nothing,
+    /// if a call on the manifest failed before.
     pub fn table_waiting<FP: FilterPolicy + Copy + Drop>(
         &mut self,
         env: &mut E,

@@ -27,8 +27,9 @@ impl<E: Env, C: UserCmp + Copy, FP: FilterPolicy + Copy> Engine<E, C, FP> {
     /// opened, or `AlreadyExists` if they say so; a locked one is `LockError`. Options that
     /// `Options::check` refuses make no call. An opening that fails gives back the lock that it
     /// took, unless the device failed once more. A store that is locked, or is missing and isn't to
-    /// be made, or is there and must not be, or whose manifest is damaged, is never opened; its
-    /// files stay as they are, but that its lock's file may be made.
+    /// be made, or is there and must not be, or that has tables or logs and no `CURRENT`, or a
+    /// manifest whose edits can't be used, is never opened; its files stay as they are, but that
+    /// its lock's file may be made.
     pub fn open(
         alloc: Global,
         name: &str,

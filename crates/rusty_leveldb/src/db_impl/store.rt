@@ -57,7 +57,8 @@ impl<'e, E: Env, C: UserCmp + Copy, FP: FilterPolicy + Copy> Store<'e, E, Engine
     /// opened, or `AlreadyExists` if they say so; a locked one is `LockError`. Options that
     /// `Options::check` refuses make no call. An opening that fails gives back the lock that it
     /// took, unless the device failed once more. A store that is locked, or is missing and isn't to
-    /// be made, or is there and must not be, or whose manifest is damaged, is never opened.
+    /// be made, or is there and must not be, or that has tables or logs and no `CURRENT`, or a
+    /// manifest whose edits can't be used, is never opened.
     ///
     /// After an Err nothing is said of which environment is left: `left` is only some one, since
     /// the borrow of the environment is gone with the store that wasn't opened. `Engine::open` says

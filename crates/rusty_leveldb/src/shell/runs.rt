@@ -27,8 +27,9 @@ use std::alloc::Global;
 /// Opens a store, answers the commands one after another, and gives back its lock if no command
 /// did. A command that fails is answered, and the run goes on. The replies come after those that
 /// are there, also if the run fails: out of memory before it begins, or since the store isn't
-/// opened or its lock isn't given back. A store that is locked, or whose manifest is damaged, or
-/// that is missing and isn't to be made, is never opened.
+/// opened or its lock isn't given back. A store that is locked, or is missing and isn't to be made,
+/// or that has tables or logs and no `CURRENT`, or a manifest whose edits can't be used, is never
+/// opened.
 pub fn run<E: Env, C: UserCmp + Copy, FP: FilterPolicy + Copy>(
     env: &mut E,
     name: &str,
