@@ -12,11 +12,18 @@ pub const MOST_NUM: u64 = 10_000_000;
 /// The greatest `--value_size`.
 pub const MOST_VALUE_SIZE: usize = 1 << 20;
 
+/// The least `--cache_size`, one block of a table, and the greatest.
+pub const LEAST_CACHE_SIZE: u64 = 4096;
+
+pub const MOST_CACHE_SIZE: u64 = 1 << 30;
+
 /// How much a row does. A row of several sizes does up to twice the `--num`.
 #[derive(Clone, Copy, Debug)]
 pub struct Scale {
     pub num: u64,
     pub value_size: usize,
+    /// Bytes of blocks that a store which is read keeps in memory.
+    pub cache_size: usize,
     pub ghost some: { 0 < num },
     pub ghost few: { num ≤ 20000000 },
     pub ghost short: { value_size ≤ 1048576 },
@@ -28,6 +35,7 @@ pub struct Flags<'a> {
     pub rows: Vec<Row>,
     pub num: u64,
     pub value_size: usize,
+    pub cache_size: usize,
     pub db: &'a str,
     pub ghost some: { 0 < num },
     pub ghost few: { num ≤ 10000000 },
@@ -47,7 +55,7 @@ impl fmt::Display for Fault {
     fn fmt<W: fmt::Write>(&self, f: &mut fmt::Formatter<W>) -> fmt::Result {
         match self {
             Fault::Usage => f.write_str(
-                "usage: db_bench [--benchmarks=ROW,..] [--num=N] [--value_size=N] [--db=NAME]",
+                "usage: db_bench [--benchmarks=ROW,..] [--num=N] [--value_size=N] [--cache_size=N] [--db=NAME]",
             ),
             Fault::Failed(status) => write!(f, "db_bench: {status}"),
         }
@@ -79,12 +87,13 @@ impl From<io::Error> for Fault {
 }
 
 /// Reads the flags; a later one replaces an earlier one.
-/// Without flags each row is run, over 100000 entries of 100 bytes.
+/// Without flags each row is run, over 100000 entries of 100 bytes, with 4 MiB of blocks in memory.
 pub fn parse<'a>(alloc: Global, words: &'a [String]) -> Result<Flags<'a>, Fault> {
     let mut flags = Flags {
         rows: Vec::from_slice(alloc, &Row::ALL)?,
         num: 100_000,
         value_size: 100,
+        cache_size: 4 << 20,
         db: "bench",
     };
     for word in words {
@@ -101,6 +110,8 @@ fn set<'a>(alloc: Global, flags: &mut Flags<'a>, word: &'a str) -> Result<(), Fa
         flags.num = read_number(digits, 1, MOST_NUM)?;
     } else if let Some(digits) = word.strip_prefix("--value_size=") {
         flags.value_size = read_number(digits, 0, MOST_VALUE_SIZE as u64)? as usize;
+    } else if let Some(digits) = word.strip_prefix("--cache_size=") {
+        flags.cache_size = read_number(digits, LEAST_CACHE_SIZE, MOST_CACHE_SIZE)? as usize;
     } else if let Some(name) = word.strip_prefix("--db=") {
         flags.db = name;
     } else {

@@ -90,6 +90,7 @@ fn add_task(tasks: &mut Vec<Task>, flags: &Flags<'_>, row: Row, num: u64) -> Res
     let scale = Scale {
         num,
         value_size: flags.value_size,
+        cache_size: flags.cache_size,
     };
     tasks.push(Task { row, scale })?;
     Ok(())

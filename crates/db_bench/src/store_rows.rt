@@ -7,7 +7,9 @@ ghost use Rattle.std.specs.Prelude.{◌≡◌, ◌+◌, ◌/◌, IfOk};
 use crate::keys::{Numbers, Values, key_of, missing_key_of};
 use crate::report::{Run, Tally, Timer};
 use crate::rows::Job;
+use leveldb_base::cmp::DefaultCmp;
 use leveldb_env::env::Env;
+use leveldb_env::filter::BloomPolicy;
 use rusty_leveldb::{DB, MemEnv, Options, Result, WriteBatch};
 use std::alloc::Global;
 use std::time::Clock;
@@ -76,7 +78,24 @@ fn put_all_synced<K: Clock, E: Env>(
     Ok(run)
 }
 
-// Gets the values of keys at random from the store of this name, or of the keys between these, and closes it.
+// The options of a store that is read from its tables alone: as it is opened, what its log has becomes one.
+fn options_of(job: Job) -> Options<DefaultCmp, BloomPolicy> {
+    let mut options = Options::default();
+    options.reuse_logs = false;
+    options.block_cache_capacity_bytes = job.scale.cache_size;
+    options
+}
+
+// The key between two that are there, or the one before it, which is.
+fn sought(key: &[u8; 17], missing: bool) -> &[u8] {
+    if missing {
+        return key;
+    }
+    &key[..16]
+}
+
+// Gets the values of keys at random from the tables of the store of this name, or of the keys between these, and closes
+// it. The first half of the look-ups isn't timed: it fills the caches.
 fn get_all<K: Clock, E: Env>(
     alloc: Global,
     clock: &K,
@@ -88,13 +107,17 @@ fn get_all<K: Clock, E: Env>(
     ensures { IfOk result (λ run. run.outcome.ops ≡ job.scale.num) }
 {
     let mut numbers = Numbers::random(job.scale.num);
-    let length = if missing { 17 } else { 16 };
-    let mut db = DB::open(alloc, name, env, Options::default())?;
+    let mut db = DB::open(alloc, name, env, options_of(job))?;
     let mut tally = Tally::new(job.checked);
-    let timer = Timer::start(clock)?;
-    for _ in 0..job.scale.num {
+    let mut timer = Timer::start(clock)?;
+    for turn in 0..2 * job.scale.num {
+        if turn == job.scale.num {
+            numbers = Numbers::random(job.scale.num);
+            tally = Tally::new(job.checked);
+            timer = Timer::start(clock)?;
+        }
         let key = missing_key_of(numbers.next_number());
-        if let Some(value) = db.get(&key[..length])? {
+        if let Some(value) = db.get(sought(&key, missing))? {
             tally.see(value.as_slice());
         }
     }

@@ -26,11 +26,11 @@ use Rattle.leveldb_store.proofs.HistoryLemmas.{keeps_history, written_shows}
 use Rattle.leveldb_store.proofs.SwitchLemmas.{shows_stay, tables_same, written_as}
 use Rattle.leveldb_store.proofs.SyncBatchLemmas.{log_there, written_after_sync}
 use Rattle.leveldb_store.proofs.TableKeepsLemmas.{KeepsHistory-refl, appending_and_syncing}
-use Rattle.leveldb_store.specs.Format.{Meaning}
+use Rattle.leveldb_version.specs.Format.{IsTableOf, Meaning}
 use Rattle.leveldb_store.specs.OpenStore.{OpenStoreValue}
 use Rattle.leveldb_store.specs.Write.{HasNumbers, logged, open_log_path, with_recent, with_writer}
 use Rattle.leveldb_store.specs.WriteBatch.{AddsBatch, HoldsBatches, IsOf, LeavesHistory, next_batch}
-use Rattle.leveldb_store.specs.Written.{IsTableOf, IsWritten, memory_of}
+use Rattle.leveldb_store.specs.Written.{IsWritten, memory_of}
 
 -- the store after a batch of these items, whose record has this text
 abbrev pub after_batch : {C : Type 0} → OpenStoreValue C → List Item → List ℕ → Kept

@@ -22,7 +22,7 @@ use Rattle.leveldb_version.specs.VersionSetValue.{VersionSetValue, new_version_s
 use Rattle.leveldb_store.proofs.OpeningFrontLemmas.{IsFoundOrMade}
 use Rattle.leveldb_store.proofs.OpeningMadeLemmas.{made_edits, made_edits_there, made_no_log_there, named_manifest, there_before}
 use Rattle.leveldb_store.specs.FoundLogs.{LogBeginsWith}
-use Rattle.leveldb_store.specs.Format.{Format}
+use Rattle.leveldb_version.specs.Format.{Format}
 use Rattle.leveldb_store.specs.OpeningSteps.{ComesAfterFound, HasNumber, IsMade, IsUnsupported, MarksNames}
 use Rattle.leveldb_store.specs.OpensStore.{HasHugeManifest, HasSharedUserKey, IsNumberFound, IsNumberOf, LeavesFewNumbers}
 

@@ -18,10 +18,10 @@ use Rattle.leveldb_version.specs.Store.{HasTable, IsStore}
 use Rattle.leveldb_version.specs.StoreSteps.{KeepsHistory}
 use Rattle.leveldb_version.specs.VersionEdit.{NewFile}
 use Rattle.leveldb_store.proofs.TableKeepsLemmas.{live_tables, one_reading_of}
-use Rattle.leveldb_store.specs.Format.{Meaning}
+use Rattle.leveldb_version.specs.Format.{IsTableOf, Meaning}
 use Rattle.leveldb_store.specs.OpenStore.{IsUnbroken, OpenStoreValue}
 use Rattle.leveldb_store.specs.WriteBatch.{AddsBatch, HoldsBatches, IsOf, LeavesHistory, MakesDurable, SparesBatches}
-use Rattle.leveldb_store.specs.Written.{HasLiveTables, IsTableOf, IsWritten, KeepsStore, Shows, memory_of}
+use Rattle.leveldb_store.specs.Written.{HasLiveTables, IsWritten, KeepsStore, Shows, memory_of}
 
 -- ---- what is shown
 

@@ -1,15 +1,13 @@
 -- The level that is picked for a table, whatever the order of the files.
-use Rattle.std.proofs.Common.{◌≡◌, ◌∙◌, ◌∷◌, ◌+◌, ◌-◌, ◌<◌, ◌^◌, ◌==◌, ℕ, Bool, true, false, cond, List, [], ap, arith, leb, length, map, not, refl, sym}
-use Rattle.std.proofs.lemmas.List.Sorted.{IsPermutation-map, list_any-IsPermutation, sum_by-IsPermutation}
+use Rattle.std.proofs.Common.{◌≡◌, ◌∙◌, ◌∷◌, ◌+◌, ◌-◌, ◌<◌, ◌^◌, ◌==◌, ℕ, Bool, true, false, cond, List, [], ap, arith, leb, length, not, refl, sym}
+use Rattle.std.proofs.lemmas.List.Sorted.{list_any-IsPermutation, sum_by-IsPermutation}
 use Rattle.std.proofs.lemmas.List.Sums.{sum_by-cons, take_while-cons}
 use Rattle.std.specs.List.{filter, list_any, sum_by}
 use Rattle.std.specs.Prelude.{◌&&◌, ◌||◌, IsPermutation, min}
 use Rattle.std.specs.declared.cmp.Ordering.{Ordering}
-use Rattle.leveldb_base.specs.declared.types.FileMetaData.{FileMetaData}
 use Rattle.leveldb_version.specs.Overlap.{UserRange, greatest_overlap, is_overlapped, may_go_to, output_level, overlapping, overlaps}
 use Rattle.leveldb_version.specs.Summary.{files_of_level, total_size}
-use Rattle.leveldb_version.specs.Version.{IsVersionOf, VersionValue, new_files_of}
-use Rattle.leveldb_version.specs.VersionEdit.{NewFile, new_file_of}
+use Rattle.leveldb_version.specs.VersionEdit.{NewFile}
 
 -- ---- lists
 
@@ -111,13 +109,3 @@ module _ (cmp : List ℕ → List ℕ → Ordering) (range : UserRange) where
         ∙ ap (λ second. steps_made (is_overlapped cmp 0 range those)
         (may_go_to cmp range those 1) second) (goes_alike 2)
         ∙ sym (level_is those)
-
--- a version picks the level for its files
-pub version_level : {C : Type 0} (order : List ℕ → List ℕ → Ordering) (cmp : C)
-    (files : List (ℕ × FileMetaData)) (version : VersionValue C) (range : UserRange)
-    → IsVersionOf order cmp files version
-    → output_level order range (new_files_of version)
-    ≡ output_level order range (map new_file_of files)
-version_level order cmp files version range is =
-    sym (output_level_alike order range (map new_file_of files) (new_files_of version)
-    (IsPermutation-map new_file_of files version.files is.same_files))

@@ -5,17 +5,18 @@ mod OpeningCausesLemmas
 mod OpeningSyncsLemmas
 pub mod SwitchLemmas
 pub mod RemoveLemmas
+pub mod GivenTablesLemmas
+pub mod OpenTablesLemmas
 mod LevelForLemmas
+mod CurrentVersionLemmas
+mod LevelsApartLemmas
 pub mod TableKeepsLemmas
 pub mod TableWaitingLemmas
 pub mod NotTabledLemmas
 pub mod SoundLemmas
 pub mod RoomLemmas
-mod ReadTableLemmas
-mod NewestLemmas
-mod SearchLemmas
-mod ReadFileLemmas
 mod ReadLemmas
+pub mod GivenNumbersLemmas
 mod ReplayFilesLemmas
 mod ReplayLogLemmas
 mod ReplayTextLemmas

@@ -18,7 +18,7 @@ use Rattle.leveldb_table.specs.TableBuilderAdd.{IsAddError, IsNotAdded, IsNotClo
 use Rattle.leveldb_table.specs.TableBuilderFinish.{IsFinishError, StopsFromFilters, StopsFromIndex}
 use Rattle.leveldb_table.specs.declared.table_builder.builder_core.BuilderCore.{BuilderCore}
 use Rattle.leveldb_store.specs.BuildTable.{IsNotTabled, TableChoices, flushes_in_memory, puts_in_memory}
-use Rattle.leveldb_store.specs.Format.{HasCompressorError}
+use Rattle.leveldb_version.specs.Format.{HasCompressorError}
 
 -- why a builder that isn't broken fails that puts into memory: out of memory, what isn't supported,
 -- or a compressor that is set

@@ -25,8 +25,11 @@ use Rattle.leveldb_version.specs.LogEdit.{LogEditResult}
 use Rattle.leveldb_version.specs.Opening.{tables_edit}
 use Rattle.leveldb_version.specs.Paths.{IsFilePath, log_path, table_path}
 use Rattle.leveldb_version.specs.StoreSteps.{KeepsHistory}
-use Rattle.leveldb_version.specs.VersionSetValue.{AreFileNumbersUsedUp, ManifestState, OpenManifest, VersionSetValue, broken, in_use, unmade}
+use Rattle.leveldb_version.specs.Search.{AreDisjointLevels}
+use Rattle.leveldb_version.specs.VersionEdit.{Edit, NewFile}
+use Rattle.leveldb_version.specs.VersionSetValue.{AreFileNumbersUsedUp, ManifestState, OpenManifest, VersionSetValue, broken, in_use, unmade, with_number_given}
 use Rattle.leveldb_store.proofs.FoundLogsLemmas.{lacks_one_more}
+use Rattle.leveldb_store.proofs.GivenNumbersLemmas.{given_later}
 use Rattle.leveldb_store.proofs.OpeningBytesLemmas.{log_bytes, logging_bytes, made_keys_bytes}
 use Rattle.leveldb_store.proofs.OpeningEndLemmas.{IsOpenValue, edit_logged, log_spared, logged_manifest, logging_keeps, logging_spares, made_levels_fit, went_on}
 use Rattle.leveldb_store.proofs.OpeningFrontLemmas.{keeps_found_then}
@@ -35,16 +38,15 @@ use Rattle.leveldb_store.proofs.OpeningRecoverLemmas.{cause_of_step}
 use Rattle.leveldb_store.proofs.OpeningSameLemmas.{spares_then}
 use Rattle.leveldb_store.proofs.TableKeepsLemmas.{is_log_path, is_table_path, types_apart}
 use Rattle.leveldb_store.specs.BuildTable.{TableChoices}
-use Rattle.leveldb_store.specs.Format.{Agrees, Format, Meaning}
+use Rattle.leveldb_version.specs.Format.{Agrees, Format, IsTableOf, Meaning}
 use Rattle.leveldb_store.specs.FoundLogs.{HasLogNotKept, LacksNumbersFor, LogsBeginWith}
-use Rattle.leveldb_store.specs.OpenStore.{HasOwnManifest, OpenStoreValue}
+use Rattle.leveldb_store.specs.OpenStore.{AreNumbersGiven, HasOwnManifest, OpenStoreValue}
 use Rattle.leveldb_store.specs.Opening.{SameButTables}
 use Rattle.leveldb_store.specs.OpeningSteps.{AreDamagedLogs, BeginsWriting, LogsIfWanted, MayBeWritten, OpensLog, ReplaysLogs, WasRecovered, WhyNotBegun, WhyNotReplayed, entries_to_write, files_to_write, made_files, number_to_write, set_to_write, size_to_write}
 use Rattle.leveldb_store.specs.OpensStore.{IsOpenedAs, KeepsFound, SameBesideOwn}
 use Rattle.leveldb_store.specs.ReplayLog.{HasCauseOr}
 use Rattle.leveldb_store.specs.Room.{IsFull}
 use Rattle.leveldb_store.specs.SoundCall.{BytesAreAppended}
-use Rattle.leveldb_store.specs.Written.{IsTableOf}
 use Rattle.leveldb_store.specs.declared.open_store.OpenLog.{OpenLog}
 use Rattle.leveldb_store.specs.declared.opening.replay.Replay.{Replay}
 use Rattle.leveldb_store.specs.declared.opening.replay.UsedLog.{UsedLog}
@@ -66,6 +68,20 @@ set_to_write_is (Some used) set = (refl, refl, refl)
 last_to_write : {C : Type 0} (used : Option (UsedLog C)) (set : VersionSetValue) → (set_to_write used set).last_sequence ≡ set.last_sequence
 last_to_write None set = refl
 last_to_write (Some used) set = refl
+
+-- the same files
+full_to_write : {C : Type 0} (used : Option (UsedLog C)) (set : VersionSetValue) → (set_to_write used set).full ≡ set.full
+full_to_write None set = refl
+full_to_write (Some used) set = refl
+
+-- numbers that were given stay so, and those of live files are
+given_to_write : {C : Type 0} (used : Option (UsedLog C)) (set : VersionSetValue) (files : List NewFile) → AreNumbersGiven set files → AreNumbersGiven (set_to_write used set) files
+given_to_write None set files given = given_later set (with_number_given set) (omega arith) files given
+given_to_write (Some used) set files given = given
+
+live_to_write : {C : Type 0} (used : Option (UsedLog C)) (set : VersionSetValue) → AreNumbersGiven set set.full.added → AreNumbersGiven (set_to_write used set) (set_to_write used set).full.added
+live_to_write None set given = given_later set (with_number_given set) (omega arith) set.full.added given
+live_to_write (Some used) set given = given
 
 -- a memtable with its entries isn't full if that of the log that is used on isn't
 not_full_to_write : {C : Type 0} (limit : ℕ) (used : Option (UsedLog C)) → IfSome used (λ it. IsFull limit it.entries.kept → ⊥) → (kept : Kept) → kept.entries ≡ entries_to_write used → IsFull limit kept → ⊥
@@ -94,7 +110,7 @@ own_still : (old new : VersionSetValue) → SameManifest old new → HasOwnManif
 own_still old new same own manifest used = subst (λ s. IsFilePath Descriptor s manifest.path) (sym same.store) (own manifest (sym same.manifest ∙ used))
 
 module _ {E F D FP : Type 0} (env : Ghosts E F) {order : CmpGhosts D} {filters : FilterGhosts FP} (choices : TableChoices order filters) (limit : ℕ) (store : List ℕ) (anew : Bool) (set : VersionSetValue) (logs : List ℕ)
-    (from : E) (may : MayBeWritten env.models_disk store anew set (env.observed from).disk.files) where
+    (from : E) (may : MayBeWritten env.models_disk choices.format.order store anew set (env.observed from).disk.files) where
   abbrev format : Format
   format = choices.format
 
@@ -147,6 +163,12 @@ module _ {E F D FP : Type 0} (env : Ghosts E F) {order : CmpGhosts D} {filters :
       manifest = ap (λ (s : VersionSetValue). s.manifest) replays.spares.numbers.set;
       number = ap (λ (s : VersionSetValue). s.manifest_number) replays.spares.numbers.set;
     }
+
+    given1 : AreNumbersGiven set1 set1.full.added
+    given1 =
+        let numbers = replays.spares.numbers in
+        subst (λ (s : VersionSetValue). AreNumbersGiven s s.full.added) (sym numbers.set)
+        (given_later set (record set { next_file = set1.next_file; given = set1.given }) numbers.rises set.full.added may.given)
 
     -- a path is no table's that was made
     unmade_path : (path : List ℕ) → ((n : ℕ) → n < 2 ^ 64 → path ≢ table_path store n) → (now : Files) → SameButTables set set1 first now → now path ≡ first path
@@ -295,6 +317,19 @@ module _ {E F D FP : Type 0} (env : Ghosts E F) {order : CmpGhosts D} {filters :
           (log_opened store format.order meaning contents replay.leaves_log made set2 replayed_files replay.used (replayed modelled meaning agrees contents was) opens.fits (env.observed e2).disk.files
           (opens.does.ok modelled)))
 
+      -- the numbers of live files were given, and those of the tables that were made
+      live3 : AreNumbersGiven set3 set3.full.added
+      live3 = subst (λ (s : VersionSetValue). AreNumbersGiven s s.full.added) (sym opens.set) (live_to_write replay.used set2
+          (subst (λ (s : VersionSetValue). AreNumbersGiven s s.full.added) (sym set2_is) (given1 (Ok replay) set1 e1 replays)))
+
+      apart3 : AreDisjointLevels format.order set3.full.added
+      apart3 = subst (λ (e : Edit). AreDisjointLevels format.order e.added)
+          (sym (ap (λ (s : VersionSetValue). s.full) opens.set ∙ full_to_write replay.used set2 ∙ ap (λ (s : VersionSetValue). s.full) set2_is ∙ ap (λ (s : VersionSetValue). s.full) replays.spares.numbers.set)) may.apart
+
+      made3 : AreNumbersGiven set3 (made_files made)
+      made3 = subst (λ (s : VersionSetValue). AreNumbersGiven s (made_files made)) (sym opens.set) (given_to_write replay.used set2 (made_files made)
+          (subst (λ (s : VersionSetValue). AreNumbersGiven s (made_files made)) (sym set2_is) replays.given))
+
       module _ (wanted : Bool) (unwanted : wanted ≡ false → (anew ≡ false) × (replay.leaves_log ≡ false)) where
         module _ (result : Result (Unit {0}) Status) (set4 : VersionSetValue) (e3 : E) where
           -- what is logged, whether an edit is wanted or not
@@ -381,6 +416,8 @@ module _ {E F D FP : Type 0} (env : Ghosts E F) {order : CmpGhosts D} {filters :
             pub is_in_use : set4.manifest ≡ in_use used
             pub last : set4.last_sequence ≡ set3.last_sequence
             pub own : IsTrue env.models_disk → IsFilePath Descriptor store used.path
+            pub given : AreNumbersGiven set4 set4.full.added
+            pub apart : AreDisjointLevels format.order set4.full.added
 
           ended_by : (b : Bool) → wanted ≡ b → LogsIfWanted env b N made set3 e2 (Ok done) set4 e3 → IsEnded
           ended_by true is logs =
@@ -391,6 +428,8 @@ module _ {E F D FP : Type 0} (env : Ghosts E F) {order : CmpGhosts D} {filters :
                 is_in_use = it.is_in_use;
                 last = it.last;
                 own = λ modelled. subst (λ s. IsFilePath Descriptor s it.manifest.path) path3 (it.own (own3 modelled) fits3);
+                given = it.given live3 made3;
+                apart = it.apart format.order apart3;
               }
           ended_by false is same =
               let on = may.goes_on (unwanted is).0 in
@@ -400,6 +439,8 @@ module _ {E F D FP : Type 0} (env : Ghosts E F) {order : CmpGhosts D} {filters :
                 is_in_use = ap (λ (s : VersionSetValue). s.manifest) same.0 ∙ same3.manifest ∙ on.1;
                 last = ap (λ (s : VersionSetValue). s.last_sequence) same.0;
                 own = λ modelled. subst (λ s. IsFilePath Descriptor s on.0.path) may.path (may.own modelled on.0 on.1);
+                given = subst (λ (s : VersionSetValue). AreNumbersGiven s s.full.added) (sym same.0) live3;
+                apart = subst (λ (s : VersionSetValue). AreDisjointLevels format.order s.full.added) (sym same.0) apart3;
               }
 
           is_ended : IsEnded
@@ -413,6 +454,12 @@ module _ {E F D FP : Type 0} (env : Ghosts E F) {order : CmpGhosts D} {filters :
               let same = one_in_use manifest is_ended.used (sym used ∙ is_ended.is_in_use) in
               subst (λ s. IsFilePath Descriptor s manifest.path) (sym is_ended.path) (subst (λ (m : OpenManifest). IsFilePath Descriptor store m.path) (sym same) (is_ended.own modelled))
 
+          pub ended_given : AreNumbersGiven set4 set4.full.added
+          ended_given = is_ended.given
+
+          pub ended_apart : AreDisjointLevels format.order set4.full.added
+          ended_apart = is_ended.apart
+
           pub ended_made : set4.manifest ≡ unmade → ⊥
           ended_made is = not_unmade is_ended.used (sym is_ended.is_in_use ∙ is)
 
@@ -422,6 +469,26 @@ module _ {E F D FP : Type 0} (env : Ghosts E F) {order : CmpGhosts D} {filters :
               let most = replays.up_to entry (subst (λ es. Contains es entry) is c) in
               let last = is_ended.last ∙ ap (λ (s : VersionSetValue). s.last_sequence) opens.set ∙ last_to_write replay.used set2 ∙ ap (λ (s : VersionSetValue). s.last_sequence) set2_is in
               omega (arith, most, last)
+
+          -- nothing was counted
+          counted : (b : Bool) → LogsIfWanted env b N made set3 e2 (Ok done) set4 e3 → env.failures e3 ≡ env.failures e2
+          counted true (inl none) = absurd none.0
+          counted true (inr logs) = by set3.manifest refl
+            where
+              by : (state : ManifestState) → set3.manifest ≡ state → env.failures e3 ≡ env.failures e2
+              by unmade at = (logs.not_made (made_levels_fit N made) at).cause.ok
+              by (in_use manifest) at = (logs.used (made_levels_fit N made) manifest at).cause.ok
+              by broken at = absurd (unbroken3 at)
+          counted false same = ap env.failures same.1
+
+          none_counted : env.failures e3 ≡ env.failures from
+          none_counted = counted wanted logged ∙ opens.cause.ok ∙ replays.cause.ok
+
+          -- there is no memory for the list of live files
+          pub ended_refused : (status : Status) → IsOutOfMemory status → Begins C (Err status) e3
+          ended_refused status memory = refused_at C e3 status (all_keep (Ok done) set4 e3 logged locks) (all_spare (Ok done) set4 e3 logged locks)
+              (all_bytes (Ok done) set4 e3 logged locks) (all_locks (Ok done) set4 e3 logged locks)
+              (record { later = omega (arith, none_counted); ok = tt; uncounted = λ why. none_counted; cause = inl (inl memory) })
 
           module _ (value : OpenStoreValue C) (is : IsOpenValue set4 N (size_to_write replay.used) (entries_to_write replay.used) value) where
             opened_by : (b : Bool) → wanted ≡ b → LogsIfWanted env b N made set3 e2 (Ok done) set4 e3 → IsTrue env.models_disk → (meaning : Meaning) → Agrees format meaning → (contents : Contents)
@@ -436,30 +503,18 @@ module _ {E F D FP : Type 0} (env : Ghosts E F) {order : CmpGhosts D} {filters :
                 (has_open modelled meaning agrees contents was) on.0 (same3.manifest ∙ on.1) (unwanted want).1 value
                 (subst (λ s. IsOpenValue s N (size_to_write replay.used) (entries_to_write replay.used) value) same.0 is))
 
-            counted : (b : Bool) → LogsIfWanted env b N made set3 e2 (Ok done) set4 e3 → env.failures e3 ≡ env.failures e2
-            counted true (inl none) = absurd none.0
-            counted true (inr logs) = by set3.manifest refl
-              where
-                by : (state : ManifestState) → set3.manifest ≡ state → env.failures e3 ≡ env.failures e2
-                by unmade at = (logs.not_made (made_levels_fit N made) at).cause.ok
-                by (in_use manifest) at = (logs.used (made_levels_fit N made) manifest at).cause.ok
-                by broken at = absurd (unbroken3 at)
-            counted false same = ap env.failures same.1
-
             pub all_begun : Begins C (Ok value) e3
-            all_begun =
-                let count = counted wanted logged ∙ opens.cause.ok ∙ replays.cause.ok in
-                record {
-                  path = ap (λ (s : VersionSetValue). s.store) is.set_is ∙ is_ended.path;
-                  unbroken = record {
-                    manifest = λ e. in_use_unbroken is_ended.used (sym is_ended.is_in_use ∙ sym (ap (λ (s : VersionSetValue). s.manifest) is.set_is) ∙ e);
-                    log = ap (λ (w : WriterState). w.broken) is.writer;
-                  };
-                  room = not_full_to_write limit replay.used replays.room value.recent is.recent_is;
-                  keeps = all_keep (Ok done) set4 e3 logged locks;
-                  opens = opened_by wanted refl logged;
-                  others = all_spare (Ok done) set4 e3 logged locks;
-                  bytes = all_bytes (Ok done) set4 e3 logged locks;
-                  locks = all_locks (Ok done) set4 e3 logged locks;
-                  cause = record { later = omega (arith, count); ok = count; uncounted = tt; cause = tt };
-                }
+            all_begun = record {
+              path = ap (λ (s : VersionSetValue). s.store) is.set_is ∙ is_ended.path;
+              unbroken = record {
+                manifest = λ e. in_use_unbroken is_ended.used (sym is_ended.is_in_use ∙ sym (ap (λ (s : VersionSetValue). s.manifest) is.set_is) ∙ e);
+                log = ap (λ (w : WriterState). w.broken) is.writer;
+              };
+              room = not_full_to_write limit replay.used replays.room value.recent is.recent_is;
+              keeps = all_keep (Ok done) set4 e3 logged locks;
+              opens = opened_by wanted refl logged;
+              others = all_spare (Ok done) set4 e3 logged locks;
+              bytes = all_bytes (Ok done) set4 e3 logged locks;
+              locks = all_locks (Ok done) set4 e3 logged locks;
+              cause = record { later = omega (arith, none_counted); ok = none_counted; uncounted = tt; cause = tt };
+            }

@@ -23,7 +23,7 @@ use Rattle.leveldb_version.specs.VersionEdit.{Edit, NewFile}
 use Rattle.leveldb_version.specs.VersionSetValue.{ManifestState, VersionSetValue, broken, in_use, unmade}
 use Rattle.leveldb_store.proofs.OpeningEndLemmas.{made_levels_fit}
 use Rattle.leveldb_store.proofs.SoundLemmas.{appending_bytes}
-use Rattle.leveldb_store.specs.Format.{Agrees, Format, Meaning}
+use Rattle.leveldb_version.specs.Format.{Agrees, Format, Meaning}
 use Rattle.leveldb_store.specs.OpeningSteps.{AreBeingKept, HasReplayedLogs, LogsIfWanted, OpensLog, RecoversSet, files_to_write, made_files, with_log_kept, with_logs_kept}
 use Rattle.leveldb_store.specs.SoundCall.{BytesAreAppended}
 use Rattle.leveldb_store.specs.declared.open_store.OpenLog.{OpenLog}

@@ -1,9 +1,9 @@
 -- Which files are damaged: no store is read of them, in whatever order.
-use Rattle.std.specs.Prelude.{◌≢◌, Contains, IsSome}
+use Rattle.std.specs.Prelude.{◌≢◌, ◌^◌, All, Contains, IsSome}
 use Rattle.std.proofs.Common.{◌≡◌, ◌⊎◌, inl, inr, ⊎_elim, ℕ, ◌≤◌, ◌<◌, true, List, [], ◌∷◌, ◌++◌, length, nat_le, Option, None, Some, refl, sym, ◌∙◌, ap, subst, arith}
 use Rattle.std.proofs.lemmas.Bool.{and_parts}
 use Rattle.std.proofs.lemmas.Bool.Decides.{nat_tests}
-use Rattle.std.proofs.lemmas.List.Elements.{Contains-push}
+use Rattle.std.proofs.lemmas.List.Elements.{All-contains_itself, All-weaker, Contains-push}
 use Rattle.std.specs.Cmp.{IsTotalOrder}
 use Rattle.std.specs.List.{AllByRecursion}
 use Rattle.std.specs.Option.{unwrap_or}
@@ -12,11 +12,14 @@ use Rattle.std.specs.declared.cmp.Ordering.{Ordering}
 use Rattle.std.specs.declared.cmp.Ordering.TheVariants.{Equal, Greater, Less}
 use Rattle.leveldb_base.proofs.EntriesLemmas.{internal_is_total}
 use Rattle.leveldb_base.proofs.HistoryLemmas.{in_cases, in_front, in_none}
+use Rattle.leveldb_base.proofs.NamesLemmas.{made_name}
 use Rattle.leveldb_base.specs.Cmp.{IsExactOrder, internal_accepts}
 use Rattle.leveldb_base.specs.KeyTypes.{internal_cmp, sequence_part, user_part}
+use Rattle.leveldb_base.specs.Names.{file_name}
 use Rattle.leveldb_base.specs.Types.{Pair}
 use Rattle.leveldb_base.specs.declared.error.Status.{Status}
 use Rattle.leveldb_base.specs.declared.error.StatusCode.TheVariants.{Corruption, InvalidArgument, NotSupported}
+use Rattle.leveldb_base.specs.declared.types.FileType.TheVariants.{Table}
 use Rattle.leveldb_env.specs.Env.{File, Files, ListsChildren, bytes_of, in_folder}
 use Rattle.leveldb_mem.proofs.LawsLemmas.{log_laws}
 use Rattle.leveldb_mem.specs.Log.{IsLogFile}
@@ -34,10 +37,10 @@ use Rattle.leveldb_version.specs.Recover.{AreBeside, HasRecordOfNoEdit, IsNamed,
 use Rattle.leveldb_version.specs.Store.{HasEdits, HasTable, IsManagedBy, LogIsReplayed, any_user_key}
 use Rattle.leveldb_version.specs.VersionEdit.{Edit, IsEdit, NewFile}
 use Rattle.leveldb_version.specs.VersionSet.{IsKeyRange, level_file, live_after}
-use Rattle.leveldb_store.specs.Format.{Format, Meaning}
+use Rattle.leveldb_version.specs.Writing.{NumbersAreBelow}
+use Rattle.leveldb_version.specs.Format.{Format, IsTableOf, Meaning}
 use Rattle.leveldb_store.specs.OpeningSteps.{HasMisnamedLog, IsReplayed, LacksTable, IsUnsupported}
 use Rattle.leveldb_store.specs.OpensStore.{HasOtherComparator, IsDamaged, IsOrderFor}
-use Rattle.leveldb_store.specs.Written.{IsTableOf}
 
 -- ---- the keys of a table are a range
 
@@ -163,6 +166,22 @@ module _ (store : List ℕ) (format : Format) (files : Files) where
         stays (table_path store lacks.file.number)
         (λ gone. is_there (files (table_path store all.0.file.number)) table.file table.there (ap (λ (f : NewFile). files (table_path store f.number)) all.2 ∙ gone))
         lacks.missing)
+
+    -- a live table's number isn't below one that all numbers of names are below
+    pub number_unlisted : (next : ℕ) → NumbersAreBelow store files next → (live : List NewFile)
+        → ((file : NewFile) → Contains live file → (live_after edits).file (level_file file) ≡ Some file)
+        → (All (λ (file : NewFile). file.number < next) live → ⊥) → Damaged
+    number_unlisted next below live are not = damaged_edits (λ meaning order contents for m.
+        not (All-weaker (Contains live) (λ (file : NewFile). file.number < next)
+        (λ file is_live.
+        let all = m.has_tables.all file (are file is_live) in
+        let has = m.has_tables.each all.0 all.1 in
+        let table = has.0 in
+        let fits = subst (λ (f : NewFile). f.number < 2 ^ 64) all.2 has.2 in
+        let there = subst (λ (f : NewFile). files (table_path store f.number) ≡ Some table.file) all.2 table.there in
+        below (file_name Table file.number) file.number Table (made_name Table file.number fits)
+        (is_there (files (table_path store file.number)) table.file there))
+        live (All-contains_itself live)))
 
     -- a log that is replayed is under another name than its number's
     pub log_misnamed : IsSome (live_after edits).log_number → (names : List (List ℕ)) → ListsChildren files store names

@@ -1,8 +1,8 @@
 -- The end of an opening: the edit that has tables in place of logs is logged, or none is, and the
 -- store is open.
-use Rattle.std.specs.Prelude.{Contains, IsTrue}
+use Rattle.std.specs.Prelude.{All, Contains, IsTrue}
 use Rattle.std.proofs.Common.{◌≡◌, ◌∙◌, inl, inr, ◌≤◌, ◌<◌, ◌^◌, ◌%◌, ℕ, Bool, true, false, List, [], ◌∷◌, ◌++◌, length, None, Option, Some, Ok, Result, ap, arith, refl, subst, sym}
-use Rattle.std.proofs.lemmas.List.Elements.{All-contains_itself, All-weaker}
+use Rattle.std.proofs.lemmas.List.Elements.{All-cons, All-contains_itself, All-nil, All-weaker}
 use Rattle.std.specs.Cmp.Lexicographic.{bytes_decides}
 use Rattle.std.specs.Str.{bytes_eq}
 use Rattle.std.specs.declared.cmp.Ordering.{Ordering}
@@ -23,23 +23,27 @@ use Rattle.leveldb_version.proofs.OpeningEndLemmas.{openings_end, openings_go_on
 use Rattle.leveldb_version.specs.Contents.{Contents, Store, made}
 use Rattle.leveldb_version.specs.CurrentFile.{temp_path}
 use Rattle.leveldb_version.specs.Holds.{Holds}
+use Rattle.leveldb_version.specs.FullEdit.{full_after}
 use Rattle.leveldb_version.specs.LogEdit.{AppendingAndSyncing, AppendsEdit, BeginsManifest, LogEditResult, edit_record, new_manifest, new_records, set_appended, set_begun, with_bytes_kept, written_edit}
 use Rattle.leveldb_version.specs.NewManifest.{MakingManifest, manifest_bytes, with_manifest}
 use Rattle.leveldb_version.specs.Opening.{opened_memory, tables_edit}
 use Rattle.leveldb_version.specs.OpeningLaws.{EndsOpening, IsOpened}
 use Rattle.leveldb_version.specs.Paths.{IsFilePath, current_path, log_path, manifest_path}
+use Rattle.leveldb_version.specs.Search.{AreDisjointLevels}
 use Rattle.leveldb_version.specs.Store.{IsStore}
 use Rattle.leveldb_version.specs.StoreSteps.{KeepsHistory}
 use Rattle.leveldb_version.specs.VersionEdit.{Edit, LevelsFit, NewFile, new_file_of}
 use Rattle.leveldb_version.specs.VersionSetValue.{ManifestState, OpenManifest, VersionSetValue, broken, in_use, unmade}
 use Rattle.leveldb_version.specs.Writing.{IsWrittenBy}
-use Rattle.leveldb_store.specs.Format.{Meaning}
-use Rattle.leveldb_store.specs.OpenStore.{HasOwnManifest, OpenStoreValue}
+use Rattle.leveldb_version.specs.Format.{IsTableOf, Meaning}
+use Rattle.leveldb_store.specs.OpenStore.{AreNumbersGiven, HasOwnManifest, OpenStoreValue}
 use Rattle.leveldb_store.specs.OpeningSteps.{LogsTables, files_to_write, made_files, number_to_write}
 use Rattle.leveldb_store.specs.OpensStore.{IsOpenedAs, IsOwnPath, SameBesideOwn}
 use Rattle.leveldb_store.specs.Write.{open_log_path}
-use Rattle.leveldb_store.specs.Written.{IsTableOf, memory_of, waiting_entries}
+use Rattle.leveldb_store.specs.Written.{memory_of, waiting_entries}
 use Rattle.leveldb_store.specs.declared.opening.replay.UsedLog.{UsedLog}
+use Rattle.leveldb_store.proofs.GivenNumbersLemmas.{all_with_each, given_later}
+use Rattle.leveldb_store.proofs.LevelsApartLemmas.{apart_with_zeros}
 use Rattle.leveldb_store.proofs.OpeningLogLemmas.{HasLogOpen}
 use Rattle.leveldb_store.proofs.SwitchLemmas.{keeps_same, written_as}
 use Rattle.leveldb_store.proofs.TableKeepsLemmas.{appending_and_syncing, is_log_path, one_reading_of, types_apart}
@@ -344,6 +348,13 @@ manifest_spared store n fits bytes old now making other spared =
         by true e = absurd (spared (subst (IsOwnPath store) ((bytes_decides path other).0 e) own))
         by false e = e
 
+-- files that are made are of level 0
+made_zeros : (built : List FileMetaData)
+    → All (λ (file : NewFile). file.level ≡ 0) (made_files built)
+made_zeros [] = All-nil (λ (file : NewFile). file.level ≡ 0)
+made_zeros (file ∷ built) = All-cons (λ (one : NewFile). one.level ≡ 0) (new_file_of (0, file))
+    (made_files built) refl (made_zeros built)
+
 module _ {E F : Type 0} (env : Ghosts E F) (built : List FileMetaData) (set : VersionSetValue)
     (log : ℕ) (from to : E) (new : VersionSetValue) where
   abbrev tables : Edit
@@ -384,6 +395,27 @@ module _ {E F : Type 0} (env : Ghosts E F) (built : List FileMetaData) (set : Ve
     pub last : new.last_sequence ≡ set.last_sequence
     pub own : HasOwnManifest set → set.manifest_number < 2 ^ 64
         → IsFilePath Descriptor set.store manifest.path
+    -- the number of each live file was given, if it was of each before and of each that is added
+    pub given : AreNumbersGiven set set.full.added → AreNumbersGiven set (made_files built)
+        → AreNumbersGiven new new.full.added
+    pub apart : (cmp : List ℕ → List ℕ → Ordering) → AreDisjointLevels cmp set.full.added
+        → AreDisjointLevels cmp new.full.added
+
+  -- the files that are added are in level 0
+  apart_after : (next : VersionSetValue) → next.full ≡ full_after set.full tables
+      → (cmp : List ℕ → List ℕ → Ordering) → AreDisjointLevels cmp set.full.added
+      → AreDisjointLevels cmp next.full.added
+  apart_after next full cmp apart = subst (λ (e : Edit). AreDisjointLevels cmp e.added) (sym full)
+      (apart_with_zeros cmp (made_files built) set.full.added (made_zeros built) apart)
+
+  given_after : (next : VersionSetValue) → next.full ≡ full_after set.full tables
+      → next.next_file ≡ set.next_file → AreNumbersGiven set set.full.added
+      → AreNumbersGiven set (made_files built) → AreNumbersGiven next next.full.added
+  given_after next full same live added =
+      given_later set next (omega (arith, same)) next.full.added
+      (subst (λ (e : Edit). AreNumbersGiven set e.added) (sym full)
+      (all_with_each (λ (file : NewFile). file.number < set.next_file) (made_files built)
+      set.full.added live added))
 
   pub logged_manifest : (done : Unit {0}) → LogsTables env log built set from (Ok done) new to
       → HasLogged
@@ -404,6 +436,9 @@ module _ {E F : Type 0} (env : Ghosts E F) (built : List FileMetaData) (set : Ve
               made_name Descriptor set.manifest_number fits,
               refl,
             );
+            given = given_after new (ap (λ (v : VersionSetValue). v.full) l.ok)
+                (ap (λ (v : VersionSetValue). v.next_file) l.ok);
+            apart = apart_after new (ap (λ (v : VersionSetValue). v.full) l.ok);
           }
       by (in_use manifest) is =
           let l = logs.used (made_levels_fit log built) manifest is in
@@ -415,5 +450,8 @@ module _ {E F : Type 0} (env : Ghosts E F) (built : List FileMetaData) (set : Ve
             is_in_use = ap (λ (v : VersionSetValue). v.manifest) l.ok;
             last = ap (λ (v : VersionSetValue). v.last_sequence) l.ok;
             own = λ own fits. own manifest is;
+            given = given_after new (ap (λ (v : VersionSetValue). v.full) l.ok)
+                (ap (λ (v : VersionSetValue). v.next_file) l.ok);
+            apart = apart_after new (ap (λ (v : VersionSetValue). v.full) l.ok);
           }
       by broken is = absurd (logs.broken_before is).0

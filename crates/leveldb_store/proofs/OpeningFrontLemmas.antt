@@ -15,11 +15,10 @@ use Rattle.leveldb_version.specs.Store.{contents_of}
 use Rattle.leveldb_version.specs.VersionSet.{live_after}
 use Rattle.leveldb_store.proofs.OpeningMadeLemmas.{made_contents, made_edits, made_edits_there, made_is_managed, made_is_sound}
 use Rattle.leveldb_store.proofs.TableKeepsLemmas.{KeepsHistory-trans}
-use Rattle.leveldb_store.specs.Format.{Format, Meaning}
+use Rattle.leveldb_version.specs.Format.{Format, IsTableOf, Meaning}
 use Rattle.leveldb_store.specs.OpeningState.{with_comparator}
 use Rattle.leveldb_store.specs.OpeningSteps.{IsMade}
 use Rattle.leveldb_store.specs.OpensStore.{HasOtherComparator, IsDamaged, IsSound, KeepsFound, LacksCurrent}
-use Rattle.leveldb_store.specs.Written.{IsTableOf}
 
 -- ---- histories
 

@@ -47,11 +47,10 @@ use Rattle.leveldb_version.specs.VersionEdit.{Edit, NewFile}
 use Rattle.leveldb_version.specs.VersionSet.{FileSet, level_file, live_after}
 use Rattle.leveldb_version.specs.VersionSetValue.{VersionSetValue, with_number_given}
 use Rattle.leveldb_version.specs.Writing.{IsRecoveredBy}
-use Rattle.leveldb_store.specs.Format.{Meaning}
+use Rattle.leveldb_version.specs.Format.{IsTableOf, Meaning}
 use Rattle.leveldb_store.specs.Opening.{IsMadeTable}
 use Rattle.leveldb_store.specs.OpeningSteps.{AreTabledBut, HasReplayedLogs, entries_to_write, files_to_write, made_files, number_to_write, set_to_write, size_to_write}
 use Rattle.leveldb_store.specs.ReplayLog.{MakesTablesOnly}
-use Rattle.leveldb_store.specs.Written.{IsTableOf}
 use Rattle.leveldb_store.specs.declared.opening.replay.Replay.{Replay}
 use Rattle.leveldb_store.specs.declared.opening.replay.UsedLog.{UsedLog}
 use Rattle.leveldb_store.specs.OpeningState.{IsRecoveredWith}

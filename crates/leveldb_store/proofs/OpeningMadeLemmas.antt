@@ -38,10 +38,9 @@ use Rattle.leveldb_version.specs.VersionEdit.{Edit, IsEncodable, edit_bytes}
 use Rattle.leveldb_version.specs.VersionSet.{live_after}
 use Rattle.leveldb_version.specs.VersionSetLaws.{NewStoreIsKept}
 use Rattle.leveldb_store.proofs.TableKeepsLemmas.{KeepsHistory-refl}
-use Rattle.leveldb_store.specs.Format.{Meaning}
+use Rattle.leveldb_version.specs.Format.{IsTableOf, Meaning}
 use Rattle.leveldb_store.specs.OpeningSteps.{IsBeingMade, IsMade}
 use Rattle.leveldb_store.specs.OpensStore.{IsOwnPath, IsSound, SameBesideOwn}
-use Rattle.leveldb_store.specs.Written.{IsTableOf}
 
 first_fits : 1 < 2 ^ 64
 first_fits = omega arith

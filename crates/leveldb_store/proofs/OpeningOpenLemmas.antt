@@ -14,7 +14,7 @@ use Rattle.leveldb_store.proofs.OpeningSameLemmas.{spares_then}
 use Rattle.leveldb_store.proofs.FoundLogsLemmas.{logs_same}
 use Rattle.leveldb_store.specs.BuildTable.{TableChoices}
 use Rattle.leveldb_store.specs.FoundLogs.{LacksNumbersFor}
-use Rattle.leveldb_store.specs.Format.{Agrees, Format, Meaning}
+use Rattle.leveldb_version.specs.Format.{Agrees, Format, Meaning}
 use Rattle.leveldb_store.specs.OpenStore.{OpenStoreValue}
 use Rattle.leveldb_store.specs.OpeningState.{with_comparator}
 use Rattle.leveldb_store.specs.OpeningSteps.{BeginsWriting, RecoversStore, WasRecovered, WhyNotBegun}

@@ -19,13 +19,12 @@ use Rattle.leveldb_store.proofs.OpeningNamesLemmas.{sorted_none}
 use Rattle.leveldb_store.proofs.OpeningRecoveredLemmas.{comparator_is, edits_read, have_numbers, in_use_is, is_read, is_recovered, leaving_keeps, log_was, logs_read, logs_there, manifest_below, manifest_there, numbers_after, own_is, path_is, then_bytes, unbroken_is}
 use Rattle.leveldb_store.proofs.OpeningSameLemmas.{keeping_keeps, keeping_spares, spares_then}
 use Rattle.leveldb_store.specs.FoundLogs.{LogBeginsWith}
-use Rattle.leveldb_store.specs.Format.{Format, Meaning}
+use Rattle.leveldb_version.specs.Format.{Format, IsTableOf, Meaning}
 use Rattle.leveldb_store.specs.OpeningState.{IsRecoveredWith, with_comparator}
 use Rattle.leveldb_store.specs.OpeningSteps.{AreBeingKept, AreDamagedLogs, ComesAfterFound, FindsStore, IsBeingMade, IsUnsupported, RecoversSet, RecoversStore, WhyNotFound, WhyNotRecovered, with_logs_kept}
 use Rattle.leveldb_store.specs.OpensStore.{HasHugeManifest, HasSharedUserKey, IsDamaged, IsForbidden, IsSound, KeepsFound, LacksCurrent, LacksNumbers, LacksUsableEdits, SameBesideOwn, WhyNotOpenable}
 use Rattle.leveldb_store.specs.ReplayLog.{HasCauseOr}
 use Rattle.leveldb_store.specs.SoundCall.{BytesAreAppended}
-use Rattle.leveldb_store.specs.Written.{IsTableOf}
 use Rattle.leveldb_store.specs.declared.opening.logs.RecoveredSet.{RecoveredSet}
 
 -- ---- causes
@@ -291,6 +290,8 @@ module _ {E F : Type 0} (env : Ghosts E F) (format : Format) (store : List ℕ) 
                 may = record {
                   path = path_is env format reuse limit store mid then it.is_anew it.versions logs sets.ok;
                   fits = sets.ok.fits;
+                  given = sets.ok.given;
+                  apart = sets.ok.apart;
                   manifest_fits = manifest_below env format reuse limit store mid then it.is_anew it.versions logs sets.ok;
                   unbroken = unbroken_is env format reuse limit store mid then it.is_anew it.versions logs sets.ok;
                   goes_on = in_use_is env format reuse limit store mid then it.is_anew it.versions logs sets.ok;

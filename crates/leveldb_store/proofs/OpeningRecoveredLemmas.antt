@@ -34,13 +34,12 @@ use Rattle.leveldb_store.proofs.OpeningNumbersLemmas.{NumbersAre, bad_ends_end, 
 use Rattle.leveldb_store.proofs.OpeningSameLemmas.{AreThere, HaveNumbers, SameText, SameText-refl, SameText-trans, logs_recovered, logs_same_text, managed_again, still_there, sync_same_text}
 use Rattle.leveldb_store.specs.OpeningState.{IsRecoveredWith}
 use Rattle.leveldb_store.proofs.TableKeepsLemmas.{KeepsHistory-refl}
-use Rattle.leveldb_store.specs.Format.{Format, Meaning}
+use Rattle.leveldb_version.specs.Format.{Format, IsTableOf, Meaning}
 use Rattle.leveldb_store.specs.OpenStore.{HasOwnManifest}
 use Rattle.leveldb_store.proofs.FoundNumbersLemmas.{edits_after}
 use Rattle.leveldb_store.specs.FoundLogs.{BeginsWithBatches, LogBeginsWith}
 use Rattle.leveldb_store.specs.OpeningSteps.{AreDamagedLogs, ComesAfterFound, IsRecoveredSet, with_logs_kept}
 use Rattle.leveldb_store.specs.OpensStore.{IsSound}
-use Rattle.leveldb_store.specs.Written.{IsTableOf}
 
 not_none : {A : Type 0} (o : Option A) → IsSome o → o ≢ None
 not_none None is none = absurd (cc)
@@ -51,7 +50,7 @@ not_broken manifest e = cc
 
 -- ---- whether a manifest is used on
 
-reuse_or_not : (reuse : Bool) (limit : ℕ) (manifest : ReadManifest) → IsReusable reuse limit manifest ⊎ (IsReusable reuse limit manifest → ⊥)
+pub reuse_or_not : (reuse : Bool) (limit : ℕ) (manifest : ReadManifest) → IsReusable reuse limit manifest ⊎ (IsReusable reuse limit manifest → ⊥)
 reuse_or_not false limit manifest = inr (λ it. let never : false ≡ true = it.wanted in cc)
 reuse_or_not true limit manifest = by_end manifest.end refl
   where

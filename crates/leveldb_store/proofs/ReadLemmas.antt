@@ -1,44 +1,42 @@
--- What a look-up finds in memtables and in the live tables together, and what that is of a history.
-use Rattle.std.specs.Prelude.{All, Contains, IfErr, IfOk, IsTrue, min, unwrap_or}
-use Rattle.std.proofs.Common.{◌≡◌, inl, ⊎_elim, ℕ, ◌<◌, ◌≤◌, ◌^◌, List, [], ◌∷◌, ◌++◌, map, Option, None, Some, Result, Ok, Err, refl, sym, ◌∙◌, ap, subst, append_assoc, arith}
+-- What a look-up finds in memory and in tables together, and what that is of a history.
+use Rattle.std.specs.Prelude.{All, Contains, IfErr, IfOk, IsPermutation, IsSome, min, unwrap_or}
+use Rattle.std.proofs.Common.{◌≡◌, inl, inr, ⊎_elim, ℕ, ◌<◌, ◌≤◌, ◌^◌, List, [], ◌∷◌, ◌++◌, Option, None, Some, Result, Ok, Err, refl, sym, ◌∙◌, subst, append_assoc, arith}
 use Rattle.std.specs.declared.cmp.Ordering.{Ordering}
 use Rattle.std.proofs.lemmas.List.Elements.{All-contains, Contains-append_cases, Contains-append_left}
-use Rattle.leveldb_base.proofs.EntriesLemmas.{finds_after, in_map, map_in}
+use Rattle.std.proofs.lemmas.List.Sorted.{Contains-permutation, IsPermutation-sym}
+use Rattle.leveldb_base.proofs.EntriesLemmas.{finds_after, in_map}
 use Rattle.leveldb_base.proofs.HistoryLemmas.{in_cases, in_none}
 use Rattle.leveldb_base.proofs.LayersLemmas.{found_is_value}
-use Rattle.leveldb_base.proofs.OrderLemmas.{exact_total}
-use Rattle.leveldb_base.specs.Cmp.{IsExactOrder}
 use Rattle.leveldb_base.specs.CmpLaws.{sequence_part-internal_key, user_part-internal_key}
 use Rattle.leveldb_base.specs.Entries.{FindsNewest, HasNewest}
 use Rattle.leveldb_base.specs.Error.{IsOutOfMemory}
 use Rattle.leveldb_base.specs.History.{AreUpTo, Entry, History, IsValueAt, SameView, entries_of, greatest}
-use Rattle.leveldb_base.specs.KeyTypes.{greatest_sequence, internal_cmp, internal_key, sequence_part, user_part}
+use Rattle.leveldb_base.specs.KeyTypes.{greatest_sequence, sequence_part, user_part}
 use Rattle.leveldb_base.specs.Layers.{IsOlder, value_found}
+use Rattle.leveldb_base.specs.declared.cmp.Cmp.{Ghosts as CmpGhosts}
+use Rattle.leveldb_base.specs.declared.cmp.internal.InternalKeyCmp.{InternalKeyCmp}
 use Rattle.leveldb_base.specs.declared.error.Status.{Status}
-use Rattle.leveldb_base.specs.declared.key_types.ValueType.{ValueType}
-use Rattle.leveldb_base.specs.declared.types.FileMetaData.{FileMetaData}
-use Rattle.leveldb_env.specs.Compressor.{Decodes}
-use Rattle.leveldb_env.specs.Env.{Files, bytes_of}
+use Rattle.leveldb_base.specs.declared.key_types.ValueType.TheVariants.{TypeValue}
+use Rattle.leveldb_env.specs.Env.{Files}
 use Rattle.leveldb_env.specs.declared.env.Env.{Ghosts as EnvGhosts}
-use Rattle.leveldb_table.proofs.TableBlockLemmas.{KeepsDisk-refl, KeepsDisk-trans, reads_ok, reads_own, reads_refused, reads_then, same_files}
-use Rattle.leveldb_table.proofs.TableReaderLemmas.{decodes_one, one_table as one_list}
-use Rattle.leveldb_table.specs.TableBlock.{KeepsDisk}
-use Rattle.leveldb_version.proofs.BatchesLemmas.{each_one}
-use Rattle.leveldb_version.proofs.OneStoreLemmas.{in_flat, one_entry}
-use Rattle.leveldb_version.proofs.SafeLemmas.{some_is}
-use Rattle.leveldb_version.proofs.TablesLemmas.{one_store_table, tables_bounded}
+use Rattle.leveldb_table.proofs.TableBlockLemmas.{KeepsDisk-refl, fails_ok, fails_own, fails_refused, reads_ok, reads_own, reads_refused}
+use Rattle.leveldb_table.specs.TableBlock.{FailsFor, ReadsFile}
+use Rattle.leveldb_version.proofs.OneStoreLemmas.{in_flat}
 use Rattle.leveldb_version.specs.Batches.{Each}
-use Rattle.leveldb_version.specs.Levels.{LiveTable, table_entries}
-use Rattle.leveldb_version.specs.Paths.{table_path}
+use Rattle.leveldb_version.specs.Format.{Agrees, IsTableOf, Meaning}
+use Rattle.leveldb_version.specs.Levels.{LevelOrder, LiveTable, table_entries}
+use Rattle.leveldb_version.specs.Search.{AreDisjointLevels, AreOpenTablesMatched, AreVersionTables, LooksUpNewest}
 use Rattle.leveldb_version.specs.Store.{HasTable, IsInternalPair}
-use Rattle.leveldb_version.specs.VersionEdit.{NewFile, new_file_of}
-use Rattle.leveldb_store.specs.Format.{Agrees, Format, Meaning}
-use Rattle.leveldb_store.specs.OpenStore.{OpenStoreValue}
-use Rattle.leveldb_store.specs.Read.{IsUnreadable, LooksUpKey}
-use Rattle.leveldb_store.specs.ReadTable.{FindsInTable, IsUnreadableTable}
-use Rattle.leveldb_store.specs.Search.{IsNext, SearchesTables, search_rank}
-use Rattle.leveldb_store.specs.Written.{HasLiveTables, IsTableOf, Shows, waiting_entries}
-use Rattle.leveldb_store.proofs.SearchLemmas.{AreTables, NoneUpTo, found_next, none_at_all, none_next_too}
+use Rattle.leveldb_version.specs.TableCache.{TableOptions, files_at, table_at}
+use Rattle.leveldb_version.specs.Version.{new_files_of}
+use Rattle.leveldb_version.specs.VersionEdit.{NewFile}
+use Rattle.leveldb_version.specs.declared.table_cache.TableCache.{TableCache}
+use Rattle.leveldb_version.specs.declared.version.GetStats.{GetStats}
+use Rattle.leveldb_store.proofs.LevelsApartLemmas.{permuted_apart}
+use Rattle.leveldb_store.specs.OpenStore.{AreNumbersGiven, IsCurrent, OpenStoreValue}
+use Rattle.leveldb_store.specs.OpenTables.{AreOpenTablesOf}
+use Rattle.leveldb_store.specs.Read.{FindsInMemory, HasOpenTables, LooksUpKey, charge_of, in_memory, sought_key, value_searched, with_charge}
+use Rattle.leveldb_store.specs.Written.{HasLiveTables, Shows, waiting_entries}
 
 -- ---- newer entries and older ones
 
@@ -101,122 +99,18 @@ each_in R (a ∷ xs) (b ∷ ys) y each c = ⊎_elim
     (λ (rest : Contains ys y). each_in R xs ys y each.1 rest)
     (in_cases b y ys c)
 
-module _ {cmp : List ℕ → List ℕ → Ordering} (exact : IsExactOrder cmp) (meaning : Meaning) (store : List ℕ) (files : Files) (tables : List LiveTable) (each : All (HasTable store cmp (IsTableOf cmp meaning) files) tables) where
-  has : (table : LiveTable) → Contains tables table → HasTable store cmp (IsTableOf cmp meaning) files table
-  has table there = All-contains (HasTable store cmp (IsTableOf cmp meaning) files) tables table each there
-
-  -- a number has one table
-  one_number : (a b : LiveTable) → Contains tables a → Contains tables b → a.file.number ≡ b.file.number → a.entries ≡ b.entries
-  one_number a b in_a in_b same =
-      let p = has a in_a in
-      let q = has b in_b in
-      let file = some_is p.file q.file (sym p.there ∙ ap (λ n. files (table_path store n)) same ∙ q.there) in
-      let one = one_store_table (Decodes meaning.codings) cmp meaning.filters (decodes_one meaning.codings) (one_list (Decodes meaning.codings) (internal_cmp cmp)) in
-      let pairs = one (bytes_of q.file) p.pairs q.pairs (subst (λ f. IsTableOf cmp meaning (bytes_of f) p.pairs) file p.read) q.read in
-      each_one IsInternalPair one_entry q.pairs a.entries b.entries (subst (λ ps. Each IsInternalPair ps a.entries) pairs p.each) q.each
-
-  pub are_tables : ((table : LiveTable) → Contains tables table → table.file.number < 2 ^ 64) → AreTables cmp tables
-  are_tables fit = record {
-    bounded = λ table there. tables_bounded cmp (exact_total exact) (Decodes meaning.codings) meaning.filters store files table (has table there);
-    fit = fit;
-    one = one_number;
-  }
-
-  -- no entry of a table has a number past the greatest
-  pub tables_up_to : AreUpTo greatest_sequence (table_entries tables)
-  tables_up_to entry c =
-      let from = in_flat (λ (t : LiveTable). t.entries) tables entry c in
-      let table = has from.0 from.1 in
-      let pair = each_in IsInternalPair table.pairs from.0.entries entry table.each from.2 in
-      let fits = pair.1.fits in omega (arith, fits)
-
--- where the live tables are there, by whatever their names and ids mean, those up to a rank have no entry of the key
-abbrev pub NoneYet : {E F C : Type 0} → EnvGhosts E F → (List ℕ → List ℕ → Ordering) → Format → OpenStoreValue C → E → List ℕ → Option ℕ → Type 0
-NoneYet env cmp format value from key last =
-    IsTrue env.models_disk → (meaning : Meaning) → Agrees format meaning → (tables : List LiveTable) → HasLiveTables cmp meaning value (env.observed from).disk.files tables
-    → NoneUpTo tables (min value.set.last_sequence greatest_sequence) key last
-
-module _ {E F C : Type 0} (env : EnvGhosts E F) {cmp : List ℕ → List ℕ → Ordering} (exact : IsExactOrder cmp) (format : Format) (value : OpenStoreValue C) (from : E) (files : List (ℕ × FileMetaData)) (files_are : map new_file_of files ≡ value.set.full.added) (key : List ℕ) where
-  -- the files that the set has are those of the tables
-  table_of : {meaning : Meaning} {tables : List LiveTable} → HasLiveTables cmp meaning value (env.observed from).disk.files tables → (file : NewFile) → Contains (map new_file_of files) file → (table : LiveTable) × Contains tables table × (table.file ≡ file)
-  table_of {tables = tables} live file there = in_map (λ (table : LiveTable). table.file) tables file (subst (λ fs. Contains fs file) (files_are ∙ sym live.files_are) there)
-
-  file_of : {meaning : Meaning} {tables : List LiveTable} → HasLiveTables cmp meaning value (env.observed from).disk.files tables → (table : LiveTable) → Contains tables table → Contains (map new_file_of files) table.file
-  file_of {tables = tables} live table there = subst (λ fs. Contains fs table.file) (live.files_are ∙ sym files_are) (map_in (λ (one : LiveTable). one.file) tables table there)
-
-  module _ (numbers : All (λ file. file.1.num < 2 ^ 64) files) where
-    tables_fit : {meaning : Meaning} {tables : List LiveTable} → HasLiveTables cmp meaning value (env.observed from).disk.files tables → (table : LiveTable) → Contains tables table → table.file.number < 2 ^ 64
-    tables_fit live table there =
-        let file = in_map new_file_of files table.file (file_of live table there) in
-        let fits = All-contains (λ (one : ℕ × FileMetaData). one.1.num < 2 ^ 64) files file.0 numbers file.1 in
-        subst (λ (one : NewFile). one.number < 2 ^ 64) file.2 fits
-
-    of_store : (meaning : Meaning) (tables : List LiveTable) → HasLiveTables cmp meaning value (env.observed from).disk.files tables → AreTables cmp tables
-    of_store meaning tables live = are_tables exact meaning value.set.store (env.observed from).disk.files tables live.each (tables_fit live)
-
-  -- ---- the search
-
-  module _ (last : Option ℕ) (none : NoneYet env cmp format value from key last) (numbers : All (λ file. file.1.num < 2 ^ 64) files) where
-    -- after the last one
-    pub search_ends : {to : E} → IsNext cmp (map new_file_of files) last key None → KeepsDisk env from to → env.failures to ≡ env.failures from → SearchesTables env cmp format value from key (Ok None) to
-    search_ends no_next kept counted = record {
-      finds = λ modelled meaning agrees tables live order.
-          finds_up_to (table_entries tables) value.set.last_sequence key None (tables_up_to exact meaning value.set.store (env.observed from).disk.files tables live.each)
-          (none_at_all (exact_total exact) tables (of_store numbers meaning tables live) (min value.set.last_sequence greatest_sequence) key (map new_file_of files) (file_of live) last (none modelled meaning agrees tables live) no_next);
-      reads = reads_ok env kept counted;
-    }
-
-    module _ (file : ℕ × FileMetaData) (next : IsNext cmp (map new_file_of files) last key (Some (new_file_of file))) {mid : E} (kept : KeepsDisk env from mid) (counted : env.failures mid ≡ env.failures from)
-        (sought : List ℕ) (kind : ValueType) (sought_is : sought ≡ internal_key key (min value.set.last_sequence greatest_sequence) kind) where
-      -- the table is there after calls that leave the disk as it is
-      still_there : IsTrue env.models_disk → {meaning : Meaning} {tables : List LiveTable} → HasLiveTables cmp meaning value (env.observed from).disk.files tables → (table : LiveTable) → Contains tables table
-          → HasTable value.set.store cmp (IsTableOf cmp meaning) (env.observed mid).disk.files table
-      still_there modelled {meaning} {tables} live table there =
-          subst (λ fs. HasTable value.set.store cmp (IsTableOf cmp meaning) fs table) (sym (same_files env kept modelled)) (All-contains (HasTable value.set.store cmp (IsTableOf cmp meaning) (env.observed from).disk.files) tables table live.each there)
-
-      -- what is found in it
-      found_here : {to : E} (result : Result (Option (Option (List ℕ))) Status) → FindsInTable env cmp format mid value.set.store (new_file_of file) sought result to → IsTrue env.models_disk → (meaning : Meaning) → Agrees format meaning → (tables : List LiveTable)
-          → (live : HasLiveTables cmp meaning value (env.observed from).disk.files tables) → IfOk result (FindsNewest (table_of live (new_file_of file) next.0.there).0.entries (min value.set.last_sequence greatest_sequence) key)
-      found_here result finds modelled meaning agrees tables live =
-          let table = table_of live (new_file_of file) next.0.there in
-          let at : sequence_part sought ≡ (min value.set.last_sequence greatest_sequence) = ap sequence_part sought_is ∙ sequence_part-internal_key key (min value.set.last_sequence greatest_sequence) kind (omega arith) in
-          let user : user_part sought ≡ key = ap user_part sought_is ∙ user_part-internal_key key (min value.set.last_sequence greatest_sequence) kind in
-          subst (λ k. IfOk result (FindsNewest table.0.entries (min value.set.last_sequence greatest_sequence) k)) user
-          (subst (λ n. IfOk result (FindsNewest table.0.entries n (user_part sought))) at
-          (finds.finds modelled meaning agrees table.0 table.2 (still_there modelled live table.0 table.1)))
-
-      -- it has no entry of the key
-      pub search_passes : {to : E} → FindsInTable env cmp format mid value.set.store (new_file_of file) sought (Ok None) to → NoneYet env cmp format value from key (Some (search_rank (new_file_of file)))
-      search_passes finds modelled meaning agrees tables live =
-          let table = table_of live (new_file_of file) next.0.there in
-          none_next_too (exact_total exact) tables (of_store numbers meaning tables live) (min value.set.last_sequence greatest_sequence) key (map new_file_of files) (file_of live) last (none modelled meaning agrees tables live) (new_file_of file) next table.0 table.1 table.2
-          (found_here (Ok None) finds modelled meaning agrees tables live)
-
-      -- it has one
-      pub search_stops : {to : E} (found : Option (List ℕ)) → FindsInTable env cmp format mid value.set.store (new_file_of file) sought (Ok (Some found)) to → SearchesTables env cmp format value from key (Ok (Some found)) to
-      search_stops found finds = record {
-        finds = λ modelled meaning agrees tables live order.
-            let table = table_of live (new_file_of file) next.0.there in
-            finds_up_to (table_entries tables) value.set.last_sequence key (Some found) (tables_up_to exact meaning value.set.store (env.observed from).disk.files tables live.each)
-            (found_next (exact_total exact) tables (of_store numbers meaning tables live) (min value.set.last_sequence greatest_sequence) key (map new_file_of files) (file_of live) last (none modelled meaning agrees tables live) order (new_file_of file) next table.0 table.1 table.2 found
-            (found_here (Ok (Some found)) finds modelled meaning agrees tables live));
-        reads = reads_ok env (KeepsDisk-trans env kept finds.reads.kept_disk) (finds.reads.cause.ok ∙ counted);
-      }
-
-      -- it can't be read
-      pub search_fails : {to : E} (status : Status) → FindsInTable env cmp format mid value.set.store (new_file_of file) sought (Err status) to → SearchesTables env cmp format value from key (Err status) to
-      search_fails status finds = record {
-        finds = λ modelled meaning agrees tables live order. tt;
-        reads = reads_then env (Err status) kept counted why finds.reads;
-      }
-        where
-          why : (other : Status) → IsUnreadableTable env cmp format mid value.set.store (new_file_of file) other → IsUnreadable env cmp format value from other
-          why other unread = record {
-            fault = unread.fault;
-            lacks = λ modelled meaning agrees tables live.
-                let table = table_of live (new_file_of file) next.0.there in
-                unread.lacks modelled meaning agrees table.0 table.2 (still_there modelled live table.0 table.1);
-          }
+-- no entry of a table has a number past the greatest
+tables_up_to : (cmp : List ℕ → List ℕ → Ordering) (meaning : Meaning) (store : List ℕ)
+    (files : Files) (live : List LiveTable)
+    → All (HasTable store cmp (IsTableOf cmp meaning) files) live
+    → AreUpTo greatest_sequence (table_entries live)
+tables_up_to cmp meaning store files live each entry c =
+    let from = in_flat (λ (t : LiveTable). t.entries) live entry c in
+    let table = All-contains (HasTable store cmp (IsTableOf cmp meaning) files) live from.0 each
+    from.1 in
+    let pair = each_in IsInternalPair table.pairs from.0.entries entry table.each from.2 in
+    let fits = pair.1.fits in
+    omega (arith, fits)
 
 -- ---- a history
 
@@ -230,49 +124,210 @@ value_same : (these those : List Entry) (s : ℕ) (key : List ℕ) (found : Opti
 value_same these those s key None same none = λ value there. none value ((same key value).1 there)
 value_same these those s key (Some value) same there = (same key value).0 there
 
-module _ {E F C : Type 0} (env : EnvGhosts E F) (cmp : List ℕ → List ℕ → Ordering) (format : Format) (value : OpenStoreValue C) (from : E) (key : List ℕ) where
-  -- the entries in memory
-  abbrev pub in_memory : List Entry
-  in_memory = value.recent.entries ++ waiting_entries value.waiting
+module _ {E F C FP : Type 0} {order : CmpGhosts (InternalKeyCmp C)} (env : EnvGhosts E F)
+    (by : TableOptions C FP) (old : OpenStoreValue C) (from : E)
+    (tables : TableCache E C FP F order) (key : List ℕ) where
+  abbrev Gets : Result (Option (List ℕ)) Status → OpenStoreValue C → E
+      → TableCache E C FP F order → Type 0
+  Gets = LooksUpKey env by old from tables key
 
   -- what memory and tables have is the key's value in the history that they show
-  shown : {meaning : Meaning} {files : Files} {history : History} → greatest (entries_of history) ≤ value.set.last_sequence → (shows : Shows cmp meaning value files history) → (found : Option (Option (List ℕ)))
-      → FindsNewest (in_memory ++ table_entries shows.tables) value.set.last_sequence key found → IsValueAt (entries_of history) value.set.last_sequence key (value_found found)
+  shown : {meaning : Meaning} {files : Files} {history : History}
+      → greatest (entries_of history) ≤ old.set.last_sequence
+      → (shows : Shows by.format.order meaning old files history)
+      → (found : Option (Option (List ℕ)))
+      → FindsNewest (in_memory old ++ table_entries shows.tables) old.set.last_sequence key found
+      → IsValueAt (entries_of history) old.set.last_sequence key (value_found found)
   shown {history = history} bound shows found all =
-      let recent = value.recent.entries in
-      let waiting = waiting_entries value.waiting in
-      let tables = table_entries shows.tables in
-      value_same (recent ++ (waiting ++ tables)) (entries_of history) value.set.last_sequence key (value_found found) (shows.shows.same value.set.last_sequence bound)
-      (found_is_value (recent ++ (waiting ++ tables)) value.set.last_sequence key found (subst (λ es. FindsNewest es value.set.last_sequence key found) (append_assoc recent waiting tables) all))
+      let recent = old.recent.entries in
+      let waiting = waiting_entries old.waiting in
+      let entries = table_entries shows.tables in
+      let last = old.set.last_sequence in
+      value_same (recent ++ (waiting ++ entries)) (entries_of history) last key (value_found found)
+      (shows.shows.same last bound)
+      (found_is_value (recent ++ (waiting ++ entries)) last key found
+      (subst (λ es. FindsNewest es last key found) (append_assoc recent waiting entries) all))
 
-  -- ---- it is found in memory
+  -- ---- memory has the key
 
-  module _ (given : Option (List ℕ)) (finds : IsOlder (waiting_entries value.waiting) value.recent.entries → FindsNewest in_memory value.set.last_sequence key (Some given)) where
-    pub got_in_memory : (result : Result (Option (List ℕ)) Status) → IfOk result (λ copy. copy ≡ given) → IfErr result IsOutOfMemory → LooksUpKey env cmp format value from key result from
-    got_in_memory (Ok copy) is memory = record {
-      finds = λ modelled meaning agrees history bound shows.
-          subst (IsValueAt (entries_of history) value.set.last_sequence key) (sym is)
-          (shown bound shows (Some given) (finds_before in_memory (table_entries shows.tables) value.set.last_sequence key given shows.shows.tables_older (finds shows.shows.waiting_older)));
-      reads = reads_ok env (KeepsDisk-refl env from) refl;
-    }
-    got_in_memory (Err status) is memory = record {
-      finds = λ modelled meaning agrees history bound shows. tt;
-      reads = reads_own env {P = IsOutOfMemory} (Err status) (KeepsDisk-refl env from) refl memory (λ other out. inl out);
-    }
+  pub got_in_memory : (value : Option (List ℕ)) → FindsInMemory old key (Some value)
+      → (result : Result (Option (List ℕ)) Status) → IfOk result (λ copy. copy ≡ value)
+      → IfErr result IsOutOfMemory → Gets result old from tables
+  got_in_memory value finds result copy memory = record {
+    finds = λ opened meaning agrees history bound shows. by_result history result copy
+        (shown bound shows (Some value) (finds_before (in_memory old) (table_entries shows.tables)
+        old.set.last_sequence key value shows.shows.tables_older
+        (finds shows.shows.waiting_older)));
+    reads = read result memory;
+    lacks = λ meaning live has. fails_of result memory;
+    still_open = λ opened. opened.are;
+    way = inl (record {
+      value = value;
+      finds = finds;
+      copy = copy;
+      memory = memory;
+      nothing_changes = (refl, refl, refl);
+    });
+  }
+    where
+      by_result : (history : History) (result : Result (Option (List ℕ)) Status)
+          → IfOk result (λ copy. copy ≡ value)
+          → IsValueAt (entries_of history) old.set.last_sequence key value
+          → IfOk result (IsValueAt (entries_of history) old.set.last_sequence key)
+      by_result history (Ok copy) same is =
+          subst (IsValueAt (entries_of history) old.set.last_sequence key) (sym same) is
+      by_result history (Err status) same is = tt
 
-  -- ---- or in the tables
+      read : {Why : Status → Type 0} (result : Result (Option (List ℕ)) Status)
+          → IfErr result IsOutOfMemory → ReadsFile env Why from from result
+      read (Ok copy) memory = reads_ok env (KeepsDisk-refl env from) refl
+      read (Err status) memory = reads_own env {P = IsOutOfMemory} (Err status)
+          (KeepsDisk-refl env from) refl memory (λ other out. inl out)
 
-  module _ {to : E} where
-    pub got_in_tables : (IsOlder (waiting_entries value.waiting) value.recent.entries → FindsNewest in_memory value.set.last_sequence key None) → (found : Option (Option (List ℕ))) → SearchesTables env cmp format value from key (Ok found) to
-        → LooksUpKey env cmp format value from key (Ok (value_found found)) to
-    got_in_tables none found search = record {
-      finds = λ modelled meaning agrees history bound shows.
-          shown bound shows found (finds_after in_memory (table_entries shows.tables) value.set.last_sequence key found (none shows.shows.waiting_older) (search.finds modelled meaning agrees shows.tables shows.has shows.shows.levels));
-      reads = reads_ok env search.reads.kept_disk search.reads.cause.ok;
-    }
+      fails_of : {Why : Status → Type 0} (result : Result (Option (List ℕ)) Status)
+          → IfErr result IsOutOfMemory → FailsFor env Why from from result
+      fails_of {Why} result memory = (read {Why = Why} result memory).cause
 
-    pub not_got : (status : Status) → SearchesTables env cmp format value from key (Err status) to → LooksUpKey env cmp format value from key (Err status) to
-    not_got status search = record {
-      finds = λ modelled meaning agrees history bound shows. tt;
-      reads = reads_refused env (Err status) refl search.reads;
-    }
+  -- ---- it is searched for in tables
+
+  module _ (current : IsCurrent old.cmp old.set old.current)
+      (given : AreNumbersGiven old.set old.set.full.added)
+      (apart : AreDisjointLevels by.format.order old.set.full.added) (none : FindsInMemory old key None)
+      (searched : Result (Option (Option (List ℕ)) × GetStats) Status) {to : E}
+      {now : TableCache E C FP F order}
+      (searches : LooksUpNewest env by (sought_key old key) from tables old.current searched to now)
+    where
+      matched : HasOpenTables env by old from tables
+          → AreOpenTablesMatched env by (sought_key old key) from tables
+      matched opened = record { modelled = opened.modelled; matches = opened.are.matches }
+
+      -- the live tables are the version's
+      version_tables : HasOpenTables env by old from tables → (meaning : Meaning)
+          → (live : List LiveTable)
+          → HasLiveTables by.format.order meaning old (files_at env from) live
+          → LevelOrder by.format.order live
+          → AreVersionTables env by (sought_key old key) from tables old.current meaning live
+      version_tables opened meaning live has levels = record {
+        files_are = subst (λ files. IsPermutation files (new_files_of old.current))
+            (sym has.files_are) current.same_files;
+        each = subst (λ s. All (HasTable s by.format.order (IsTableOf by.format.order meaning)
+            (files_at env from)) live) (sym opened.are.path) has.each;
+        levels = levels;
+      }
+
+      -- each table that is open has a number that was given
+      open_given : HasOpenTables env by old from tables → (number : ℕ) → number < 2 ^ 64
+          → IsSome (table_at now number) → number < old.set.next_file
+      open_given opened number fits is_open = ⊎_elim
+          (λ before. opened.are.given number fits before)
+          (λ there.
+          let file = in_map (λ (it : NewFile). it.number) (new_files_of old.current) number there in
+          let live = Contains-permutation (new_files_of old.current) old.set.full.added file.0
+          (IsPermutation-sym old.set.full.added (new_files_of old.current) current.same_files)
+          file.1 in
+          let below = All-contains (λ (it : NewFile). it.number < old.set.next_file)
+          old.set.full.added file.0 given live in
+          subst (λ n. n < old.set.next_file) file.2 below)
+          (searches.cache.opened number fits is_open)
+
+      still_open : HasOpenTables env by old from tables
+          → AreOpenTablesOf env by old.set (files_at env to) now
+      still_open opened = record {
+        path = searches.cache.path ∙ opened.are.path;
+        given = open_given opened;
+        matches = searches.cache.matches (matched opened);
+      }
+
+      -- the key's value is what memory and tables have of it
+      finds_value : HasOpenTables env by old from tables → (meaning : Meaning)
+          → Agrees by.format meaning → (history : History)
+          → greatest (entries_of history) ≤ old.set.last_sequence
+          → (shows : Shows by.format.order meaning old (files_at env from) history)
+          → (found : Option (Option (List ℕ)))
+          → FindsNewest (table_entries shows.tables) (sequence_part (sought_key old key))
+          (user_part (sought_key old key)) found
+          → IsValueAt (entries_of history) old.set.last_sequence key (unwrap_or found None)
+      finds_value opened meaning agrees history bound shows found finds =
+          let last = old.set.last_sequence in
+          let n = min last greatest_sequence in
+          let entries = table_entries shows.tables in
+          let here : FindsNewest entries n key found =
+          subst (λ k. FindsNewest entries n k found) (user_part-internal_key key n TypeValue)
+          (subst (λ m. FindsNewest entries m (user_part (sought_key old key)) found)
+          (sequence_part-internal_key key n TypeValue (omega arith)) finds) in
+          subst (IsValueAt (entries_of history) last key) (or_none found)
+          (shown bound shows found (finds_after (in_memory old) entries last key found
+          (none shows.shows.waiting_older)
+          (finds_up_to entries last key found (tables_up_to by.format.order meaning old.set.store
+          (files_at env from) shows.tables shows.has.each) here)))
+
+      pub got_in_tables : Gets (value_searched searched)
+          (with_charge old (charge_of searched)) to now
+      got_in_tables = record {
+        finds = λ opened meaning agrees history bound shows. value_of
+            (FindsNewest (table_entries shows.tables) (sequence_part (sought_key old key))
+            (user_part (sought_key old key)))
+            (IsValueAt (entries_of history) old.set.last_sequence key) searched
+            (λ found finds. finds_value opened meaning agrees history bound shows found finds)
+            (searches.finds (matched opened) meaning agrees shows.tables
+            (version_tables opened meaning shows.tables shows.has shows.shows.levels));
+        reads = read_of searched searches.reads;
+        lacks = λ meaning live has. fails_of searched (searches.lacks (matched has.has_open) meaning
+            has.agrees live (version_tables has.has_open meaning live has.has_live has.levels));
+        still_open = still_open;
+        way = inr (record {
+          none = none;
+          apart = permuted_apart by.format.order old.set.full.added (new_files_of old.current)
+              current.same_files apart;
+          searched = searched;
+          searches = searches;
+          result_is = refl;
+          charges = refl;
+        });
+      }
+        where
+          value_of : (P : Option (Option (List ℕ)) → Type 0) (Q : Option (List ℕ) → Type 0)
+              (searched : Result (Option (Option (List ℕ)) × GetStats) Status)
+              → ((found : Option (Option (List ℕ))) → P found → Q (unwrap_or found None))
+              → IfOk searched (λ found. P found.0)
+              → IfOk (value_searched searched) Q
+          value_of P Q (Ok it) to finds = to it.0 finds
+          value_of P Q (Err status) to finds = tt
+
+          read_of : {Why : Status → Type 0}
+              (searched : Result (Option (Option (List ℕ)) × GetStats) Status)
+              → ReadsFile env Why from to searched
+              → ReadsFile env Why from to (value_searched searched)
+          read_of (Ok it) reads = reads_ok env reads.kept_disk reads.cause.ok
+          read_of (Err status) reads = reads_refused env (Err status) refl reads
+
+          fails_of : {Why : Status → Type 0}
+              (searched : Result (Option (Option (List ℕ)) × GetStats) Status)
+              → FailsFor env Why from to searched
+              → FailsFor env Why from to (value_searched searched)
+          fails_of (Ok it) cause = fails_ok env cause.ok
+          fails_of (Err status) cause = fails_refused env (Err status) refl cause
+
+  -- ---- there is no memory for the key that is searched for
+
+  pub not_searched : (status : Status) → IsOutOfMemory status
+      → LooksUpNewest env by (sought_key old key) from tables old.current (Err status) from tables
+  not_searched status memory = record {
+    finds = λ matched meaning agrees live are. tt;
+    goes = λ apart. tt;
+    reads = reads_own env {P = IsOutOfMemory} (Err status) (KeepsDisk-refl env from) refl memory
+        (λ other out. inl out);
+    unread = λ matched. fails_own env {P = IsOutOfMemory} (Err status) refl memory
+        (λ other out. inl out);
+    stops = λ apart matched. fails_own env {P = IsOutOfMemory} (Err status) refl memory
+        (λ other out. inl out);
+    lacks = λ matched meaning agrees live are. fails_own env {P = IsOutOfMemory} (Err status) refl
+        memory (λ other out. inl out);
+    cache = record {
+      path = refl;
+      room = refl;
+      block_room = refl;
+      matches = λ matched. matched.matches;
+      opened = λ number fits is_open. inl is_open;
+    };
+  }

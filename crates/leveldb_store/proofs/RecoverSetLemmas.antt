@@ -4,6 +4,7 @@ use Rattle.std.proofs.Common.{◌≡◌, ◌⊎◌, inl, inr, ⊎_elim, ℕ, ◌
 use Rattle.std.specs.BTreeSet.{BTreeSet}
 use Rattle.std.specs.Option.{unwrap_or}
 use Rattle.std.specs.declared.cmp.Ordering.{Ordering}
+use Rattle.leveldb_base.proofs.OrderLemmas.{exact_total}
 use Rattle.leveldb_base.specs.Cmp.{IsExactOrder}
 use Rattle.leveldb_base.specs.Error.{IsOutOfMemory}
 use Rattle.leveldb_base.specs.declared.error.Status.{Status}
@@ -19,20 +20,25 @@ use Rattle.leveldb_version.proofs.UsableLemmas.{full_of_all}
 use Rattle.leveldb_version.specs.Current.{IsCurrentText}
 use Rattle.leveldb_version.specs.FullEdit.{full_after}
 use Rattle.leveldb_version.specs.Paths.{current_path}
-use Rattle.leveldb_version.specs.Recover.{HasRecordOfNoEdit, IsNamed, IsRead, LeavesFiles, RecoverResult, Recovers, WhyUnrecovered, lost, next_number_after, no_edit, set_going_on, set_starting_anew, too_long, unread, unusable, used_up}
+use Rattle.leveldb_version.specs.Recover.{HasRecordOfNoEdit, IsNamed, IsRead, IsReusable, LeavesFiles, RecoverResult, Recovers, WhyUnrecovered, lost, next_number_after, no_edit, set_going_on, set_starting_anew, too_long, unread, unusable, used_up}
 use Rattle.leveldb_version.specs.Store.{HasEdits}
 use Rattle.leveldb_version.specs.VersionEdit.{Edit, NewFile, empty_edit}
-use Rattle.leveldb_version.specs.VersionSet.{level_file, live_after}
+use Rattle.leveldb_version.specs.VersionSet.{ListsFiles, level_file, live_after}
 use Rattle.leveldb_version.specs.VersionSetValue.{AreFileNumbersUsedUp, VersionSetValue, new_version_set}
-use Rattle.leveldb_store.specs.Format.{Format}
+use Rattle.leveldb_version.specs.Format.{Format}
+use Rattle.leveldb_version.specs.Writing.{NumbersAreBelow}
+use Rattle.leveldb_store.specs.OpenStore.{AreNumbersGiven}
+use Rattle.leveldb_store.proofs.GivenNumbersLemmas.{below_later}
 use Rattle.leveldb_store.proofs.FoundNumbersLemmas.{edits_after, few_after_name, few_after_next, names_after}
 use Rattle.leveldb_store.specs.OpeningSteps.{AreReplayedLogs, ComesAfterFound, HasMisnamedLog, HasNumber, IsRecoveredSet, IsUnsupported, LacksTable, MarksNames, RecoversSet, WhyNotRecovered}
 use Rattle.leveldb_store.specs.OpensStore.{HasOtherComparator, IsDamaged, SameBesideOwn}
 use Rattle.leveldb_store.proofs.OpeningSameLemmas.{naming_spares}
 use Rattle.leveldb_store.specs.ReplayLog.{HasCauseOr}
 use Rattle.leveldb_store.specs.declared.opening.logs.RecoveredSet.{RecoveredSet}
+use Rattle.leveldb_store.proofs.LevelsApartLemmas.{usable_apart}
 use Rattle.leveldb_store.proofs.OpeningCausesLemmas.{folder_bare}
-use Rattle.leveldb_store.proofs.OpeningDamageLemmas.{log_misnamed, manifest_lost, no_use, record_damaged, table_missing, text_damaged}
+use Rattle.leveldb_store.proofs.OpeningRecoveredLemmas.{reuse_or_not}
+use Rattle.leveldb_store.proofs.OpeningDamageLemmas.{log_misnamed, manifest_lost, no_use, number_unlisted, record_damaged, table_missing, text_damaged}
 use Rattle.leveldb_store.proofs.OpeningFindLemmas.{listed, no_slash_in_name}
 
 -- ---- files
@@ -181,29 +187,31 @@ module _ (models_disk : Bool) (format : Format) (exact : IsExactOrder format.ord
 
 -- ---- the set
 
--- what a recovered set has of its edits, whichever manifest it goes on with
-record HasLeft (set : VersionSetValue) (edits : List Edit) : Type 0 where
+-- what a recovered set has of its edits, whichever manifest it goes on with: no number is given
+-- again that was given before the set was recovered
+record HasLeft (next : ℕ) (set : VersionSetValue) (edits : List Edit) : Type 0 where
+  least : next ≤ set.next_file
   full : set.full ≡ fold full_after empty_edit edits
   log : set.log_number ≡ unwrap_or (live_after edits).log_number 0
   previous : set.previous_log ≡ unwrap_or (live_after edits).previous_log 0
 
 -- it can't be that a recovered set hasn't
 not_left : {models_disk : Bool} {cmp : List ℕ → List ℕ → Ordering} {comparator : List ℕ} {reuse : Bool} {limit : ℕ} (old : VersionSetValue) (from : Observed) (anew : Bool) (set : VersionSetValue) (to : Observed)
-    (recovers : Recovers models_disk cmp comparator reuse limit old from anew set to) → (HasLeft set recovers.manifest.edits → ⊥) → ⊥
+    (recovers : Recovers models_disk cmp comparator reuse limit old from anew set to) → (HasLeft old.next_file set recovers.manifest.edits → ⊥) → ⊥
 not_left {models_disk} {cmp} {comparator} {reuse} {limit} old from anew set to recovers none =
     none (here (recovers.starts_anew (λ reusable. none (there (recovers.goes_on reusable).1))).1)
   where
     edits : List Edit
     edits = recovers.manifest.edits
 
-    there : set ≡ set_going_on old recovers.manifest → HasLeft set edits
-    there is = record { full = ap (λ (s : VersionSetValue). s.full) is; log = ap (λ (s : VersionSetValue). s.log_number) is; previous = ap (λ (s : VersionSetValue). s.previous_log) is }
+    there : set ≡ set_going_on old recovers.manifest → HasLeft old.next_file set edits
+    there is = record { least = omega (arith, ap (λ (s : VersionSetValue). s.next_file) is); full = ap (λ (s : VersionSetValue). s.full) is; log = ap (λ (s : VersionSetValue). s.log_number) is; previous = ap (λ (s : VersionSetValue). s.previous_log) is }
 
-    here : set ≡ set_starting_anew old recovers.manifest → HasLeft set edits
-    here is = record { full = ap (λ (s : VersionSetValue). s.full) is; log = ap (λ (s : VersionSetValue). s.log_number) is; previous = ap (λ (s : VersionSetValue). s.previous_log) is }
+    here : set ≡ set_starting_anew old recovers.manifest → HasLeft old.next_file set edits
+    here is = record { least = omega (arith, ap (λ (s : VersionSetValue). s.next_file) is); full = ap (λ (s : VersionSetValue). s.full) is; log = ap (λ (s : VersionSetValue). s.log_number) is; previous = ap (λ (s : VersionSetValue). s.previous_log) is }
 
 -- the live files of such a set
-left_live : (set : VersionSetValue) (edits : List Edit) → HasLeft set edits → (live : List NewFile) → live ≡ set.full.added
+left_live : {next : ℕ} (set : VersionSetValue) (edits : List Edit) → HasLeft next set edits → (live : List NewFile) → live ≡ set.full.added
     → (file : NewFile) → Contains live file → (live_after edits).file (level_file file) ≡ Some file
 left_live set edits left live are file is_live =
     ((full_of_all edits).added.live file).0 (subst (λ fs. Contains fs file) (are ∙ ap (λ (e : Edit). e.added) left.full) is_live)
@@ -302,7 +310,7 @@ module _ {E F : Type 0} (env : Ghosts E F) (format : Format) (exact : IsExactOrd
         has_edits modelled = subst (λ s. HasEdits s (env.observed from).disk.files edits) in_store (subst (λ f. HasEdits marked.store f edits) (same_files modelled) (made.ok.read modelled).has_edits)
 
         -- by what the set has of its edits the files are damaged
-        set_damaged : (IsTrue env.models_disk → HasLeft set edits → IsDamaged store format (env.observed from).disk.files) → IsTrue env.models_disk → IsDamaged store format (env.observed from).disk.files
+        set_damaged : (IsTrue env.models_disk → HasLeft marked.next_file set edits → IsDamaged store format (env.observed from).disk.files) → IsTrue env.models_disk → IsDamaged store format (env.observed from).disk.files
         set_damaged by modelled meaning order contents for is = not_left marked (env.observed mid) anew set (env.observed then) made.ok (λ left. by modelled left meaning order contents for is)
 
         -- a table is missing
@@ -343,6 +351,33 @@ module _ {E F : Type 0} (env : Ghosts E F) (format : Format) (exact : IsExactOrd
                 why);
           })
 
+          -- the set has the files that its edits leave
+          full_is : set.full ≡ fold full_after empty_edit edits
+          full_is = ⊎_elim
+              (λ (reusable : IsReusable reuse limit made.ok.manifest). ap (λ (s : VersionSetValue). s.full) (made.ok.goes_on reusable).1)
+              (λ (not : IsReusable reuse limit made.ok.manifest → ⊥). ap (λ (s : VersionSetValue). s.full) (made.ok.starts_anew not).1)
+              (reuse_or_not reuse limit made.ok.manifest)
+
+          -- what is in the folder has numbers below the next one
+          below : IsTrue env.models_disk → NumbersAreBelow store (env.observed from).disk.files marked.next_file
+          below modelled name n kind is some = marks.used name n kind (listed store (env.observed from).disk.files names (lists modelled) name (no_slash_in_name name n kind is) some) is
+
+          -- a live table has a number that isn't given
+          pub number_not_given : (status : Status) → (status.code ≡ Corruption) × (AreNumbersGiven set set.full.added → ⊥) → Recovered (Err status) to
+          number_not_given status why = done (Err status) tt (record {
+            later = omega (arith, counted_none);
+            ok = tt;
+            uncounted = λ excused. counted_none;
+            cause = inl (inr (
+              inr (inr (inl (
+                why.0,
+                set_damaged (λ modelled left. number_unlisted store format (env.observed from).disk.files edits (has_edits modelled) marked.next_file (below modelled) set.full.added
+                    (left_live set edits left set.full.added refl) (λ given. why.1 (below_later marked.next_file set.next_file left.least set.full.added given))),
+              ))),
+              counted_none,
+            ));
+          })
+
           recovers_here : Recovers env.models_disk format.order format.order_name reuse limit marked (env.observed from) anew set (env.observed to)
           recovers_here = record {
             manifest = made.ok.manifest;
@@ -354,14 +389,17 @@ module _ {E F : Type 0} (env : Ghosts E F) (format : Format) (exact : IsExactOrd
           }
 
           -- the set is recovered, and its logs are found
-          pub is_recovered : (logs : BTreeSet ℕ) → AreReplayedLogs names set.log_number set.previous_log logs.keys → set.next_file < 2 ^ 64 → Recovered (Ok (record { versions = set; is_anew = anew; logs = logs })) to
-          is_recovered logs are fits = done (Ok (record { versions = set; is_anew = anew; logs = logs })) (record {
+          pub is_recovered : (logs : BTreeSet ℕ) → AreReplayedLogs names set.log_number set.previous_log logs.keys → AreNumbersGiven set set.full.added → set.next_file < 2 ^ 64 → Recovered (Ok (record { versions = set; is_anew = anew; logs = logs })) to
+          is_recovered logs are given fits = done (Ok (record { versions = set; is_anew = anew; logs = logs })) (record {
             marked = marked;
             gives = marks.gives;
-            below = λ modelled name n kind is some. marks.used name n kind (listed store (env.observed from).disk.files names (lists modelled) name (no_slash_in_name name n kind is) some) is;
+            below = below;
             after_names = after_names;
             recovers = recovers_here;
             fits = fits;
+            given = given;
+            apart = usable_apart format.order (exact_total exact) format.order_name edits made.ok.usable set.full.added
+                (subst (λ (full : Edit). ListsFiles (live_after edits) full.added) (sym full_is) (full_of_all edits).added);
             names = names;
             lists = lists;
             logs_are = are;

@@ -44,10 +44,10 @@ use Rattle.leveldb_version.specs.VersionEdit.{NewFile}
 use Rattle.leveldb_version.specs.VersionSet.{live_after}
 use Rattle.leveldb_version.specs.VersionSetValue.{VersionSetValue, broken, numbers_in_order}
 use Rattle.leveldb_version.specs.Writing.{IsObsolete}
-use Rattle.leveldb_store.specs.Format.{Meaning}
+use Rattle.leveldb_version.specs.Format.{IsTableOf, Meaning}
 use Rattle.leveldb_store.specs.OpenStore.{OpenStoreValue}
 use Rattle.leveldb_store.specs.Switch.{AreRemoved, DeletesFile, HasFirstCause, IsObsoleteName, IsObsoletePath, RemovesName, RemovesNames, RemovesNoOther, RemovesObsolete, without_files}
-use Rattle.leveldb_store.specs.Written.{IsTableOf, IsWritten, KeepsStore, Shows, memory_of}
+use Rattle.leveldb_store.specs.Written.{IsWritten, KeepsStore, Shows, memory_of}
 use Rattle.leveldb_store.proofs.SwitchLemmas.{Keeps, keeps_same, shows_stay, written_as}
 
 -- ---- the numbers of live files

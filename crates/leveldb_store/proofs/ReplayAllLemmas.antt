@@ -6,9 +6,10 @@ use Rattle.leveldb_base.proofs.HistoryLemmas.{in_cases, in_none}
 use Rattle.leveldb_env.specs.declared.env.Env.{Ghosts}
 use Rattle.leveldb_version.specs.Levels.{LiveTable, table_entries}
 use Rattle.leveldb_version.specs.VersionSetValue.{VersionSetValue}
-use Rattle.leveldb_store.specs.Format.{Format}
+use Rattle.leveldb_version.specs.Format.{Format}
 use Rattle.leveldb_store.specs.Opening.{IsMadeTable}
 use Rattle.leveldb_store.specs.OpeningSteps.{TablesAll}
+use Rattle.leveldb_store.proofs.GivenNumbersLemmas.{one_more_given}
 use Rattle.leveldb_store.specs.ReplayLog.{TablesRest, table_files}
 use Rattle.leveldb_store.specs.declared.opening.replay_log.ReplayedLog.{ReplayedLog}
 
@@ -26,6 +27,7 @@ module _ {E F C : Type 0} (env : Ghosts E F) (format : Format) (log : ReplayedLo
       rising = λ i j d less within. absurd (omega (arith, within));
     };
     entries = λ entry. (λ c. absurd (in_none entry c), λ c. subst (λ es. Contains es entry) none c);
+    given = λ before. before;
     few = inl refl;
   }
 
@@ -46,6 +48,7 @@ module _ {E F C : Type 0} (env : Ghosts E F) (format : Format) (log : ReplayedLo
       λ c. subst (λ es. Contains es entry) is c,
       λ c. subst (λ es. Contains es entry) (sym is) c,
     );
+    given = one_more_given env format log set new now at made;
     few = inr (some, ap (λ (v : VersionSetValue). v.next_file) made.given);
   }
     where

@@ -24,11 +24,10 @@ use Rattle.leveldb_version.specs.VersionEdit.{Edit, NewFile}
 use Rattle.leveldb_version.specs.VersionSet.{live_after}
 use Rattle.leveldb_version.specs.VersionSetValue.{VersionSetValue, with_number_given}
 use Rattle.leveldb_version.specs.Writing.{IsRecoveredBy}
-use Rattle.leveldb_store.specs.Format.{Meaning}
+use Rattle.leveldb_version.specs.Format.{IsTableOf, Meaning}
 use Rattle.leveldb_store.specs.Opening.{GivesNumbers, SameButTables}
 use Rattle.leveldb_store.specs.ReplayLog.{MakesTablesOnly}
 use Rattle.leveldb_store.specs.SoundCall.{BytesAreAppended}
-use Rattle.leveldb_store.specs.Written.{IsTableOf}
 
 -- ---- a new table in a store that is recovered
 

@@ -42,12 +42,13 @@ use Rattle.leveldb_version.specs.StoreSteps.{IsKept}
 use Rattle.leveldb_version.specs.VersionEdit.{NewFile, new_file_of}
 use Rattle.leveldb_version.specs.VersionSetValue.{AreFileNumbersUsedUp, VersionSetValue, with_number_given}
 use Rattle.leveldb_store.specs.BuildTable.{IsNotTabled, MakesTable, TableChoices}
-use Rattle.leveldb_store.specs.Format.{Agrees, Format, Meaning}
+use Rattle.leveldb_version.specs.Format.{Agrees, Format, IsTableOf, Meaning}
 use Rattle.leveldb_store.specs.FoundLogs.{AreLastEntries, FailsToKeep, FailsToTable}
 use Rattle.leveldb_store.specs.Opening.{IsMadeTable, SameButTables}
 use Rattle.leveldb_store.specs.ReplayLog.{TakesBatch, FailsAtRecord, FailsToTableRest, Follows, HasReplayed, IsNoNextBatch, IsNotFull, MakesRestTable, MakesTablesOnly, TablesRest, TakesRecord, table_files}
-use Rattle.leveldb_store.specs.Written.{IsTableOf}
 use Rattle.leveldb_store.specs.declared.opening.replay_log.ReplayedLog.{ReplayedLog}
+use Rattle.leveldb_store.specs.OpenStore.{AreNumbersGiven}
+use Rattle.leveldb_store.proofs.GivenNumbersLemmas.{none_given, one_more_given}
 use Rattle.leveldb_store.proofs.ReplayFilesLemmas.{GivesNumbers-refl, GivesNumbers-trans, MakesTablesOnly-made, MakesTablesOnly-none, same_store}
 
 -- ---- lists
@@ -308,6 +309,7 @@ module _ {E F : Type 0} (env : Ghosts E F) (format : Format) {C : Type 0} where
       λ c. absurd (in_none entry c),
     );
     newer = λ a b c d. absurd (in_none a c);
+    given = none_given set log no_tables;
     in_memory = last_none [] log.rest.kept.entries none;
     places = places;
     few = omega arith;
@@ -384,6 +386,8 @@ module _ {E F : Type 0} (env : Ghosts E F) (format : Format) {C : Type 0} where
         let is = was.last_is in let above = follows.above in
         omega (arith, most, least, is, above))
         (Contains-append_cases old.rest.kept.entries (batch_entries batch) b ((adds.gains b).0 d));
+    given = subst (λ (log : ReplayedLog C). AreNumbersGiven set (table_files log)) (sym adds.rest)
+        was.given;
     in_memory = last_more batches old.rest.kept.entries new.rest.kept.entries batch was.in_memory
         adds.gains adds.grows;
     places = adds.places was.places;
@@ -450,6 +454,7 @@ module _ {E F : Type 0} (env : Ghosts E F) (format : Format) {C : Type 0} where
         ∙ ap (λ es. table_entries was.tables ++ es) made.entries))
         was.entries;
     newer = λ a b c d. absurd (in_none b (subst (λ es. Contains es b) made.none_left d));
+    given = one_more_given env format old set new now to made was.given;
     in_memory = last_none batches new.rest.kept.entries made.none_left;
     places = made.places;
     few =

@@ -1,7 +1,7 @@
 -- The replay of logs one after another, up to the last one.
 use Rattle.std.specs.Prelude.{Contains, IfSome, IsSome, IsTrue}
-use Rattle.std.proofs.Common.{◌≡◌, ◌∙◌, ◌⊎◌, inl, inr, ⊎_elim, ◌≤◌, ℕ, Bool, true, false, List, [], ◌∷◌, ◌++◌, None, Option, Some, Ok, Err, ap, append_assoc, arith, length-append, map, refl, subst, sym}
-use Rattle.std.proofs.lemmas.List.Elements.{Contains-append_right}
+use Rattle.std.proofs.Common.{◌≡◌, ◌∙◌, ◌⊎◌, inl, inr, ⊎_elim, ◌≤◌, ◌<◌, ℕ, Bool, true, false, List, [], ◌∷◌, ◌++◌, None, Option, Some, Ok, Err, ap, append_assoc, arith, length-append, map, refl, subst, sym}
+use Rattle.std.proofs.lemmas.List.Elements.{All-nil, Contains-append_right}
 use Rattle.std.proofs.lemmas.Option.{IfSome_then}
 use Rattle.leveldb_base.proofs.HistoryLemmas.{in_front, in_none}
 use Rattle.leveldb_base.specs.Error.{IsOutOfMemory}
@@ -17,12 +17,13 @@ use Rattle.leveldb_env.specs.declared.filter.FilterPolicy.{Ghosts as FilterGhost
 use Rattle.leveldb_version.proofs.RecoverLemmas.{cause_of_error}
 use Rattle.leveldb_mem.specs.WriteBatch.{Batch}
 use Rattle.leveldb_version.specs.Paths.{log_path}
-use Rattle.leveldb_version.specs.VersionEdit.{new_file_of}
+use Rattle.leveldb_version.specs.VersionEdit.{NewFile, new_file_of}
 use Rattle.leveldb_version.specs.VersionSetValue.{VersionSetValue}
 use Rattle.leveldb_store.specs.BuildTable.{TableChoices}
-use Rattle.leveldb_store.specs.Format.{Agrees, Format, Meaning}
+use Rattle.leveldb_version.specs.Format.{Agrees, Format, Meaning}
 use Rattle.leveldb_store.specs.FoundLogs.{LogBeginsWith, LogsBeginWith}
-use Rattle.leveldb_store.specs.OpeningSteps.{AreDamagedLogs, AreTabledBut, DamagesLogs, HasReplayedLogs, MakeFewTables, ReplaysLogs, ReplaysNext, WhyNotReplayed, entries_to_write}
+use Rattle.leveldb_store.specs.OpeningSteps.{AreDamagedLogs, AreTabledBut, DamagesLogs, HasReplayedLogs, MakeFewTables, ReplaysLogs, ReplaysNext, WhyNotReplayed, entries_to_write, made_files}
+use Rattle.leveldb_store.specs.OpenStore.{AreNumbersGiven}
 use Rattle.leveldb_store.specs.ReplayLog.{FailsAtLog, MakesTablesOnly}
 use Rattle.leveldb_store.specs.Room.{IsFull}
 use Rattle.leveldb_store.specs.declared.opening.replay.Replay.{Replay}
@@ -59,6 +60,7 @@ module _ {E F D FP C : Type 0} (env : Ghosts E F) {order : CmpGhosts D} {filters
     pub is_last : IsSome replay.used → rest ≡ []
     pub up_to : AreUpTo replay.last (entries_to_write replay.used)
     pub room : IfSome replay.used (λ used. IsFull limit used.entries.kept → ⊥)
+    pub given : AreNumbersGiven now (made_files replay.tables.items)
     pub few : MakeFewTables env front set from now
 
   -- none is replayed yet
@@ -98,6 +100,8 @@ module _ {E F D FP C : Type 0} (env : Ghosts E F) {order : CmpGhosts D} {filters
     up_to = subst (AreUpTo replay.last) (sym (ap entries_to_write unused))
         (λ entry c. absurd (in_none entry c));
     room = subst (λ used. IfSome used (λ it. IsFull limit it.entries.kept → ⊥)) (sym unused) tt;
+    given = subst (λ made. AreNumbersGiven set (made_files made)) (sym no_tables)
+        (All-nil (λ (file : NewFile). file.number < set.next_file));
     few = ([], λ modelled. refl, omega arith);
   }
     where
@@ -144,6 +148,7 @@ module _ {E F D FP C : Type 0} (env : Ghosts E F) {order : CmpGhosts D} {filters
         is_last = λ some. last_of new.used next.used some;
         up_to = next.up_to;
         room = next.room;
+        given = next.given so_far.given;
         few = (
           so_far.few.0 ++ next.few.0,
           λ modelled. logs_then set.store (env.observed from).disk.files so_far.front so_far.few.0
@@ -170,6 +175,7 @@ module _ {E F D FP C : Type 0} (env : Ghosts E F) {order : CmpGhosts D} {filters
         from_log = tt;
         up_to = tt;
         room = tt;
+        given = tt;
         few = tt;
         cause = cause_of_error status
             (λ why. ⊎_elim (λ memory. inl memory)

@@ -21,7 +21,7 @@ use Rattle.leveldb_version.specs.Paths.{log_path}
 use Rattle.leveldb_version.specs.Store.{HasLog, ReplayedLog as StoreLog, SameEntries, log_batches, log_entries}
 use Rattle.leveldb_version.specs.VersionEdit.{NewFile, new_file_of}
 use Rattle.leveldb_version.specs.VersionSetValue.{VersionSetValue}
-use Rattle.leveldb_store.specs.Format.{Meaning}
+use Rattle.leveldb_version.specs.Format.{Meaning}
 use Rattle.leveldb_store.specs.Opening.{AreMadeTables, GivesNumbers, IsMadeTable, ReplaysLog, SameButTables}
 use Rattle.leveldb_store.specs.OpeningSteps.{AreDamagedLogs, AreLogs, AreTabledBut, HasReplayedLogs}
 use Rattle.leveldb_store.specs.ReplayLog.{IsDamagedLog, log_in_memory, table_files}

@@ -16,13 +16,15 @@ use Rattle.leveldb_version.proofs.RecoverLemmas.{cause_of_error}
 use Rattle.leveldb_version.specs.VersionEdit.{new_file_of}
 use Rattle.leveldb_version.specs.VersionSetValue.{VersionSetValue}
 use Rattle.leveldb_store.specs.BuildTable.{TableChoices}
-use Rattle.leveldb_store.specs.OpeningSteps.{MakesFewTables, ReplaysNext, TablesAll, entries_to_write}
+use Rattle.leveldb_store.specs.OpenStore.{AreNumbersGiven}
+use Rattle.leveldb_store.specs.OpeningSteps.{MakesFewTables, ReplaysNext, TablesAll, entries_to_write, made_files}
 use Rattle.leveldb_store.specs.ReplayLog.{FailsAtLog, FailsToTableRest, HasCauseOr, IsNotFull, KeepsBatches, MakesTablesOnly, ReplaysFile}
 use Rattle.leveldb_store.specs.Room.{IsFull}
 use Rattle.leveldb_store.specs.declared.opening.replay.Replay.{Replay}
 use Rattle.leveldb_store.specs.declared.opening.replay.UsedLog.{UsedLog}
 use Rattle.leveldb_store.specs.declared.opening.replay_log.ReplayedLog.{ReplayedLog}
 use Rattle.leveldb_store.proofs.FoundLogsLemmas.{front_few}
+use Rattle.leveldb_store.proofs.GivenNumbersLemmas.{given_append, given_later}
 use Rattle.leveldb_store.proofs.ReplayFilesLemmas.{MakesTablesOnly-trans}
 use Rattle.leveldb_store.proofs.ReplayLogLemmas.{fails_of_rest, some_last}
 use Rattle.leveldb_store.proofs.ReplayMoreLemmas.{HasReplayedLogs-tabled, HasReplayedLogs-used, damaged_after, missing_after, torn_after}
@@ -73,6 +75,7 @@ module _ {E F D FP C : Type 0} (env : Ghosts E F) {order : CmpGhosts D} {filters
     used = tt;
     up_to = tt;
     room = tt;
+    given = tt;
     few = tt;
     cause = cause_of_error status
         (λ why. ⊎_elim
@@ -136,6 +139,7 @@ module _ {E F D FP C : Type 0} (env : Ghosts E F) {order : CmpGhosts D} {filters
       used = tt;
       up_to = tt;
       room = tt;
+      given = tt;
       few = tt;
       cause = record {
         later = replays.cause.later;
@@ -181,6 +185,9 @@ module _ {E F D FP C : Type 0} (env : Ghosts E F) {order : CmpGhosts D} {filters
                 (subst (λ n. AreUpTo n log.rest.kept.entries) (sym last) replays.up_to);
             room = subst (λ it. IfSome it (λ some. IsFull limit some.entries.kept → ⊥))
                 (sym used_is) (not_full limit log replays.room used.entries.kept entries_is);
+            given = λ before. subst (λ made. AreNumbersGiven mid (made_files made)) (sym items)
+                (given_later set mid replays.spares.numbers.rises (made_files old.tables.items)
+                before);
             few = few_made mid (inl refl);
             cause = record {
               later = replays.cause.later;
@@ -222,6 +229,7 @@ module _ {E F D FP C : Type 0} (env : Ghosts E F) {order : CmpGhosts D} {filters
           used = tt;
           up_to = tt;
           room = tt;
+          given = tt;
           few = tt;
           cause = cause_of_error status
               (λ why. ⊎_elim (λ memory. inl memory)
@@ -242,6 +250,7 @@ module _ {E F D FP C : Type 0} (env : Ghosts E F) {order : CmpGhosts D} {filters
             used = tt;
             up_to = tt;
             room = tt;
+            given = tt;
             few = tt;
             cause = record {
               later = let later = replays.cause.later in omega (arith, later, counted);
@@ -274,6 +283,10 @@ module _ {E F D FP C : Type 0} (env : Ghosts E F) {order : CmpGhosts D} {filters
                 (λ entry c. absurd (in_none entry c));
             room = subst (λ it. IfSome it (λ some. IsFull limit some.entries.kept → ⊥))
                 (sym unused) tt;
+            given = λ before. subst (λ made. AreNumbersGiven now (made_files made)) (sym items)
+                (given_append now old.tables.items files
+                (given_later set now both.numbers.rises (made_files old.tables.items) before)
+                (all.given replays.given));
             few = few_made now all.few;
             cause = record {
               later = let later = replays.cause.later in omega (arith, later, counted);

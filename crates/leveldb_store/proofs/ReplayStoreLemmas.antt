@@ -68,6 +68,7 @@ module _ {E F D FP : Type 0} (env : Ghosts E F) {order : CmpGhosts D} {filters :
     spares = MakesTablesOnly-none env set from;
     replays = λ modelled meaning agrees. tt;
     room = tt;
+    given = tt;
     up_to = tt;
     batches = tt;
     cause = record {
@@ -102,6 +103,7 @@ module _ {E F D FP : Type 0} (env : Ghosts E F) {order : CmpGhosts D} {filters :
           spares = still;
           replays = λ modelled meaning agrees. tt;
           room = tt;
+          given = tt;
           up_to = tt;
           batches = tt;
           cause = record {
@@ -141,6 +143,7 @@ module _ {E F D FP : Type 0} (env : Ghosts E F) {order : CmpGhosts D} {filters :
         spares = MakesTablesOnly-trans env still replays.spares;
         replays = λ modelled meaning agrees. tt;
         room = tt;
+        given = tt;
         up_to = tt;
         batches = tt;
         cause = record {
@@ -223,6 +226,7 @@ module _ {E F D FP : Type 0} (env : Ghosts E F) {order : CmpGhosts D} {filters :
               newer = h.replayed.newer;
             };
         room = replays.ok.room;
+        given = replays.ok.replayed.given;
         up_to = rest_up_to log replays.ok;
         batches = record {
           batches = replays.ok.batches;

@@ -366,6 +366,7 @@ module _ {E F D FP C S : Type 0} (env : Ghosts E F) {order : CmpGhosts D}
           made_tables = was.made_tables;
           entries = was.entries;
           newer = was.newer;
+          given = was.given;
           in_memory = was.in_memory;
           places = was.places;
           few = was.few;

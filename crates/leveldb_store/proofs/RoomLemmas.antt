@@ -17,17 +17,18 @@ use Rattle.leveldb_mem.specs.MemTable.{Kept}
 use Rattle.leveldb_version.specs.StoreSteps.{KeepsHistory}
 use Rattle.leveldb_version.specs.VersionSetValue.{AreFileNumbersUsedUp, OpenManifest, VersionSetValue, in_use}
 use Rattle.leveldb_version.specs.Writing.{IsObsolete}
+use Rattle.leveldb_store.proofs.GivenTablesLemmas.{given_removed, given_same, given_then}
 use Rattle.leveldb_store.proofs.SoundLemmas.{failed_later, failed_once, goes_on_then, never_broken, nothing_goes_on, sound_ok, written_log, written_manifest}
 use Rattle.leveldb_store.proofs.TableKeepsLemmas.{KeepsHistory-trans}
 use Rattle.leveldb_store.proofs.TableWaitingLemmas.{keeps_nothing}
 use Rattle.leveldb_store.specs.BuildTable.{IsNotTabled, TableChoices}
-use Rattle.leveldb_store.specs.Format.{Agrees, Format, Meaning}
+use Rattle.leveldb_version.specs.Format.{Agrees, Format, IsTableOf, Meaning}
 use Rattle.leveldb_store.specs.OpenStore.{IsUnbroken, OpenLogValue, OpenStoreValue}
 use Rattle.leveldb_store.specs.Room.{AreEntriesNotTabled, FailsFor, FailsToMakeRoom, IsFileLost, IsFull, MakesRoom, TidiesUp}
 use Rattle.leveldb_store.specs.RoomSteps.{FailsToTableIfWaiting, IsStepToRoom}
 use Rattle.leveldb_store.specs.SoundCall.{BytesAreAppended, IsSoundCall, TimeGoesOn, any_meaning}
 use Rattle.leveldb_store.specs.Switch.{FailsToSwitch, FailsToTableWaiting, IsObsoletePath, RemovesNoOther, SwitchesLog, TablesWaiting}
-use Rattle.leveldb_store.specs.Written.{IsData, IsDataPath, IsTableOf, IsWritten, KeepsWritten, SparesRest, waiting_entries}
+use Rattle.leveldb_store.specs.Written.{IsData, IsDataPath, IsWritten, KeepsWritten, SparesRest, waiting_entries}
 
 -- ---- why a call fails
 
@@ -67,13 +68,16 @@ module _ {C : Type 0} {models_disk : Bool} where
   pub spares_then : {old mid new : OpenStoreValue C} {v0 v1 v2 : Observed}
       → SparesRest models_disk old v0 mid v1 → SparesRest models_disk mid v1 new v2
       → SparesRest models_disk old v0 new v2
-  spares_then first second = record {
+  spares_then {old} {mid} {new} {v0} {v1} {v2} first second = record {
     store = second.store ∙ first.store;
     cmp = second.cmp ∙ first.cmp;
     last = second.last ∙ first.last;
     files = λ modelled path spared. second.files modelled path
         (λ its. spared (subst (λ (s : List ℕ). IsDataPath s path) first.store its))
         ∙ first.files modelled path spared;
+    numbers = let least = first.numbers in let more = second.numbers in omega (arith, least, more);
+    tables = λ modelled. given_then old.set mid.set first.store first.numbers v0.disk.files
+        v1.disk.files v2.disk.files (first.tables modelled) (second.tables modelled);
     locks = λ modelled. second.locks modelled ∙ first.locks modelled;
   }
 
@@ -131,6 +135,9 @@ module _ {E F C : Type 0} (env : Ghosts E F) (cmp : List ℕ → List ℕ → Or
       cmp = refl;
       last = refl;
       files = λ modelled path spared. refl;
+      numbers = omega arith;
+      tables = λ modelled. given_same old.set (env.observed from).disk.files
+          (env.observed from).disk.files (λ number fits given. refl);
       locks = λ modelled. refl;
     };
     cause = record { later = omega arith; cause = tt };
@@ -149,6 +156,9 @@ module _ {E F C : Type 0} (env : Ghosts E F) (cmp : List ℕ → List ℕ → Or
       cmp = refl;
       last = refl;
       files = λ modelled. others_stay old.set (env.observed from).disk.files
+          (env.observed to).disk.files (tidied.others modelled);
+      numbers = omega arith;
+      tables = λ modelled. given_removed old.set (env.observed from).disk.files
           (env.observed to).disk.files (tidied.others modelled);
       locks = tidied.locks;
     };

@@ -26,7 +26,7 @@ use Rattle.leveldb_version.specs.VersionEdit.{NewFile}
 use Rattle.leveldb_version.specs.VersionSetValue.{OpenManifest, VersionSetValue, broken, in_use, with_number_given}
 use Rattle.leveldb_version.specs.Writing.{table_edit}
 use Rattle.leveldb_store.specs.BuildTable.{MakesTable, TableChoices}
-use Rattle.leveldb_store.specs.Format.{Meaning}
+use Rattle.leveldb_version.specs.Format.{Meaning}
 use Rattle.leveldb_store.specs.OpenStore.{IsUnbroken, OpenStoreValue}
 use Rattle.leveldb_store.specs.Room.{HasFailed}
 use Rattle.leveldb_store.specs.SoundCall.{BytesAreAppended, IsSoundCall, TimeGoesOn}

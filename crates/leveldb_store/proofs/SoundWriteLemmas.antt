@@ -12,7 +12,7 @@ use Rattle.leveldb_mem.specs.Log.Writer.{frame}
 use Rattle.leveldb_mem.specs.WriteBatch.{Batch}
 use Rattle.leveldb_version.proofs.LogKeepsLemmas.{framed_are_bytes}
 use Rattle.leveldb_store.proofs.SoundLemmas.{GoesOn, appending_bytes, call_goes_on, failed_once, nothing_goes_on, sound_ok, sound_unbroken, written_log, written_unbroken}
-use Rattle.leveldb_store.specs.Format.{Meaning}
+use Rattle.leveldb_version.specs.Format.{Meaning}
 use Rattle.leveldb_store.specs.OpenStore.{OpenStoreValue}
 use Rattle.leveldb_store.specs.SoundCall.{IsSoundCall, any_meaning}
 use Rattle.leveldb_store.specs.Write.{IsLogLost, LogsText, PreparesBatch, SyncsLog, open_log_path, with_recent}

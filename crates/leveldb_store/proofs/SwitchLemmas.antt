@@ -1,5 +1,5 @@
 -- What a switch of the log makes of an open store, and that the store is written on.
-use Rattle.std.proofs.Common.{◌≡◌, ◌∙◌, ◌∷◌, ◌++◌, ◌+◌, ◌-◌, ◌^◌, ◌<◌, ◌%◌, inl, inr, ⊎_elim, ℕ, Bool, true, false, List, [], None, Some, Ok, Err, Result, ap, append-nil, arith, drop, get_or, length, length-append, refl, subst, sym}
+use Rattle.std.proofs.Common.{◌≡◌, ◌∙◌, ◌∷◌, ◌++◌, ◌+◌, ◌-◌, ◌^◌, ◌<◌, ◌≤◌, ◌%◌, inl, inr, ⊎_elim, ℕ, Bool, true, false, List, [], None, Some, Ok, Err, Result, ap, append-nil, arith, drop, get_or, length, length-append, refl, subst, sym}
 use Rattle.std.specs.Prelude.{◌≢◌, All, Contains, IsTrue, codes, slice_index_or}
 use Rattle.std.specs.Cmp.Lexicographic.{bytes_decides}
 use Rattle.std.specs.Str.{bytes_eq}
@@ -36,11 +36,12 @@ use Rattle.leveldb_version.specs.VersionEdit.{Edit, NewFile}
 use Rattle.leveldb_version.specs.VersionSetValue.{AreFileNumbersUsedUp, VersionSetValue, with_number_given}
 use Rattle.leveldb_version.specs.Writing.{EngineMemory, IsWrittenBy, ShowsHistory, switched_memory}
 use Rattle.leveldb_version.specs.WritingLaws.{NewLogIsWritten}
-use Rattle.leveldb_store.specs.Format.{Meaning}
+use Rattle.leveldb_version.specs.Format.{IsTableOf, Meaning}
 use Rattle.leveldb_store.specs.OpenStore.{OpenLogValue, OpenStoreValue}
+use Rattle.leveldb_store.proofs.GivenTablesLemmas.{given_same}
 use Rattle.leveldb_store.specs.Switch.{MayGiveNumber, SwitchesLog}
 use Rattle.leveldb_store.specs.Write.{StaysOrBreaks, SyncsLog, open_log_path, with_writer}
-use Rattle.leveldb_store.specs.Written.{HasLiveTables, IsDataPath, IsTableOf, IsWritten, KeepsStore, Shows, SparesRest, memory_of, waiting_entries}
+use Rattle.leveldb_store.specs.Written.{HasLiveTables, IsDataPath, IsWritten, KeepsStore, KeepsTables, Shows, SparesRest, memory_of, waiting_entries}
 
 -- ---- names
 
@@ -320,6 +321,9 @@ module _ {E F C : Type 0} (env : Ghosts E F) (old : OpenStoreValue C) (from : E)
     last = left_by_sync (λ (v : OpenStoreValue C). v.set.last_sequence ≡ old.set.last_sequence) (λ writer. refl) result new to sync;
     files = λ modelled. others_stay old.set.store old.log.number fits (env.observed from).disk.files (env.observed to).disk.files
         (SameBut-synced (open_log_path old) (env.observed from).disk.files (env.observed to).disk.files ((sync.does modelled).now modelled));
+    numbers = left_by_sync (λ (v : OpenStoreValue C). old.set.next_file ≤ v.set.next_file) (λ writer. omega arith) result new to sync;
+    tables = λ modelled. given_same old.set (env.observed from).disk.files (env.observed to).disk.files (λ number fits given. tables_same old.set.store old.log.number (env.observed from).disk.files (env.observed to).disk.files
+        (SameBut-synced (open_log_path old) (env.observed from).disk.files (env.observed to).disk.files ((sync.does modelled).now modelled)) number);
     locks = sync.locks;
   }
 
@@ -331,7 +335,15 @@ module _ {E F C : Type 0} (env : Ghosts E F) (old : OpenStoreValue C) (from : E)
 
   -- what spares the rest after a number was given spares it before
   abbrev pub spares_before : {models_disk : Bool} {at : Observed} {new : OpenStoreValue C} {to : Observed} → SparesRest models_disk next at new to → SparesRest models_disk old at new to
-  spares_before rest = record { store = rest.store; cmp = rest.cmp; last = rest.last; files = rest.files; locks = rest.locks }
+  spares_before rest = record {
+    store = rest.store;
+    cmp = rest.cmp;
+    last = rest.last;
+    files = rest.files;
+    numbers = let least = rest.numbers in omega (arith, least);
+    tables = λ modelled number fits given. rest.tables modelled number fits (omega (arith, given));
+    locks = rest.locks;
+  }
 
   number_left : (status : Status) → AreFileNumbersUsedUp old.set.next_file status → ⊥
   number_left status up = let last = up.last in omega (arith, last, more)
@@ -345,6 +357,9 @@ module _ {E F C : Type 0} (env : Ghosts E F) (old : OpenStoreValue C) (from : E)
     empty = tt;
     places = tt;
     err = stays_or_breaks env next from (λ (v : OpenStoreValue C). MayGiveNumber old.set v.set × (v.log.number ≡ old.log.number) × (v.recent ≡ old.recent) × (v.waiting ≡ old.waiting)) (λ writer. (inr refl, refl, refl, refl)) new to status sync.err;
+    current = stays_or_breaks env next from (λ (v : OpenStoreValue C). v.current ≡ old.current) (λ writer. refl) new to status sync.err;
+    tables = stays_or_breaks env next from (λ (v : OpenStoreValue C). KeepsTables env.models_disk old.set (env.observed from) v.set (env.observed to))
+        (λ writer. record { live = λ file there. there; files = λ modelled number fits given. ap (λ (f : Files). f (table_path old.set.store number)) (sync.undone modelled) }) new to status sync.err;
     rest = spares_before rest;
     cause = cause_same (Err status) (λ e lost. inr lost) (λ e fails. ⊎_elim (λ up. absurd (number_left e up)) (λ lost. lost) fails) sync.cause;
   }
@@ -352,6 +367,20 @@ module _ {E F C : Type 0} (env : Ghosts E F) (old : OpenStoreValue C) (from : E)
   module _ (mid : E) (sync : SyncsLog env next from (Ok tt) next mid) (rest : SparesRest env.models_disk next (env.observed from) next (env.observed mid)) (to : E)
       {T : Type 0} (result : Result T Status) (opening : ChangesFiles env.models_disk (emptied (log_path old.set.store old.set.next_file)) (BeforeOrAfter (emptied (log_path old.set.store old.set.next_file))) (env.observed mid) (env.observed to) result)
       (locks : SameLocks env.models_disk (env.observed mid) (env.observed to)) where
+    -- no table changes
+    same_tables : IsTrue env.models_disk → (number : ℕ) → (env.observed to).disk.files (table_path old.set.store number) ≡ (env.observed from).disk.files (table_path old.set.store number)
+    same_tables modelled number =
+        tables_same old.set.store old.set.next_file (env.observed mid).disk.files (env.observed to).disk.files
+        (SameBut-emptied (log_path old.set.store old.set.next_file) (env.observed mid).disk.files (env.observed to).disk.files (opening.now modelled)) number
+        ∙ tables_same old.set.store old.log.number (env.observed from).disk.files (env.observed mid).disk.files
+        (SameBut-synced (open_log_path old) (env.observed from).disk.files (env.observed mid).disk.files ((sync.does modelled).now modelled)) number
+
+    keeps_tables : (new : OpenStoreValue C) → new.set ≡ with_number_given old.set → KeepsTables env.models_disk old.set (env.observed from) new.set (env.observed to)
+    keeps_tables new set = record {
+      live = λ file there. subst (λ (v : VersionSetValue). Contains v.full.added file) (sym set) there;
+      files = λ modelled number fits given. same_tables modelled number;
+    }
+
     spares : (new : OpenStoreValue C) → new.set ≡ with_number_given old.set → new.cmp ≡ old.cmp → SparesRest env.models_disk old (env.observed from) new (env.observed to)
     spares new set same_cmp = record {
       store = ap (λ (v : VersionSetValue). v.store) set;
@@ -360,6 +389,8 @@ module _ {E F C : Type 0} (env : Ghosts E F) (old : OpenStoreValue C) (from : E)
       files = λ modelled path other. others_stay old.set.store old.set.next_file (omega (arith, more)) (env.observed mid).disk.files (env.observed to).disk.files
           (SameBut-emptied (log_path old.set.store old.set.next_file) (env.observed mid).disk.files (env.observed to).disk.files (opening.now modelled)) path other
           ∙ rest.files modelled path other;
+      numbers = omega (arith, ap (λ (v : VersionSetValue). v.next_file) set);
+      tables = λ modelled. given_same old.set (env.observed from).disk.files (env.observed to).disk.files (λ number fits given. same_tables modelled number);
       locks = λ modelled. locks modelled ∙ rest.locks modelled;
     }
 
@@ -372,6 +403,8 @@ module _ {E F C : Type 0} (env : Ghosts E F) (old : OpenStoreValue C) (from : E)
       empty = tt;
       places = tt;
       err = (inr refl, refl, refl, refl);
+      current = refl;
+      tables = keeps_tables next refl;
       rest = spares next refl refl;
       cause = record {
         later = omega (arith, cause.later, sync.cause.ok);
@@ -387,15 +420,17 @@ module _ {E F C : Type 0} (env : Ghosts E F) (old : OpenStoreValue C) (from : E)
     }
 
     -- the log was switched
-    pub switched : (new : OpenStoreValue C) → new.cmp ≡ old.cmp → new.set ≡ with_number_given old.set → new.log ≡ record { number = old.set.next_file; writer = new_writer log_block_size 0 } → new.recent.entries ≡ [] → new.recent.places ≡ 0 → new.waiting ≡ Some old.recent
+    pub switched : (new : OpenStoreValue C) → new.cmp ≡ old.cmp → new.current ≡ old.current → new.set ≡ with_number_given old.set → new.log ≡ record { number = old.set.next_file; writer = new_writer log_block_size 0 } → new.recent.entries ≡ [] → new.recent.places ≡ 0 → new.waiting ≡ Some old.recent
         → env.failures to ≡ env.failures mid → SwitchesLog env old from (Ok tt) new to
-    switched new same_cmp set log empty places waits counted = record {
+    switched new same_cmp same_current set log empty places waits counted = record {
       set = set;
       log = log;
       waits = waits;
       empty = empty;
       places = places;
       err = tt;
+      current = same_current;
+      tables = keeps_tables new set;
       rest = spares new set same_cmp;
       cause = record { later = omega (arith, counted, sync.cause.ok); ok = counted ∙ sync.cause.ok; uncounted = tt; cause = tt };
     }

@@ -19,11 +19,11 @@ use Rattle.leveldb_version.specs.StoreSteps.{KeepsHistory}
 use Rattle.leveldb_store.proofs.HistoryLemmas.{keeps_history}
 use Rattle.leveldb_store.proofs.SwitchLemmas.{shows_stay, written_as}
 use Rattle.leveldb_store.proofs.TableKeepsLemmas.{KeepsHistory-refl}
-use Rattle.leveldb_store.specs.Format.{Meaning}
+use Rattle.leveldb_version.specs.Format.{IsTableOf, Meaning}
 use Rattle.leveldb_store.specs.OpenStore.{OpenStoreValue}
 use Rattle.leveldb_store.specs.Write.{SyncsLog, open_log_path, with_writer}
 use Rattle.leveldb_store.specs.WriteBatch.{IsOf, LeavesHistory, MakesDurable, SyncsBatches}
-use Rattle.leveldb_store.specs.Written.{IsTableOf, IsWritten, KeepsStore, memory_of}
+use Rattle.leveldb_store.specs.Written.{IsWritten, KeepsStore, memory_of}
 
 module _ {C : Type 0} (cmp : List ℕ → List ℕ → Ordering) (meaning : Meaning)
     (allowed : Store → Type 0) where

@@ -50,9 +50,9 @@ use Rattle.leveldb_version.specs.VersionSetValue.{VersionSetValue, with_number_g
 use Rattle.leveldb_version.specs.Writing.{EngineMemory, IsNumberedUpTo, IsWrittenBy, ShowsHistory, table_edit}
 use Rattle.leveldb_version.specs.WritingLaws.{HasWaiting, TablesAreInRange, WaitingIsTabled}
 use Rattle.leveldb_store.proofs.LevelForLemmas.{output_level_fits}
-use Rattle.leveldb_store.specs.Format.{Meaning}
+use Rattle.leveldb_version.specs.Format.{IsTableOf, Meaning}
 use Rattle.leveldb_store.specs.OpenStore.{OpenStoreValue}
-use Rattle.leveldb_store.specs.Written.{HasLiveTables, IsTableOf, IsWritten, Shows, memory_of, waiting_entries}
+use Rattle.leveldb_store.specs.Written.{HasLiveTables, IsWritten, Shows, memory_of, waiting_entries}
 
 -- ---- lists
 

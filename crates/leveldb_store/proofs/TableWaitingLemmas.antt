@@ -1,15 +1,14 @@
 -- How the entries that wait become a table: its edit, the ends of the call, and what it keeps.
-use Rattle.std.specs.Prelude.{◌≢◌, IsTrue, IfSome}
+use Rattle.std.specs.Prelude.{◌≢◌, All, Contains, IsTrue, IfSome}
 use Rattle.std.proofs.Common.{◌≡◌, ◌⊎◌, ◌∙◌, ◌∷◌, ◌++◌, ◌+◌, ◌-◌, ◌≤◌, ◌<◌, ◌^◌, inl, inr, ⊎_elim, ℕ, Bool, true, false, List, [], map, Option, None, Some, Ok, Err, Result, ap, arith, refl, subst, sym}
 use Rattle.std.proofs.lemmas.List.{map-append}
-use Rattle.std.proofs.lemmas.List.Elements.{All-cons, All-nil}
+use Rattle.std.proofs.lemmas.List.Elements.{All-cons, All-nil, Contains-append_left}
 use Rattle.std.specs.Cmp.{IsTotalOrder}
 use Rattle.std.specs.Option.{option_map}
 use Rattle.std.specs.Cmp.Lexicographic.{bytes_decides}
 use Rattle.std.specs.Str.{bytes_eq}
 use Rattle.std.specs.declared.cmp.Ordering.{Ordering}
 use Rattle.leveldb_base.specs.Entries.{internal_pair}
-use Rattle.leveldb_base.specs.Error.{IsOutOfMemory}
 use Rattle.leveldb_base.specs.History.{Entry}
 use Rattle.leveldb_base.specs.KeyTypes.{user_part}
 use Rattle.leveldb_base.specs.Types.{Pair}
@@ -40,16 +39,19 @@ use Rattle.leveldb_version.specs.Store.{HasTable, IsInternalPair}
 use Rattle.leveldb_version.specs.StoreSteps.{AppendedAreBytes, IsKept, KeepsHistory}
 use Rattle.leveldb_version.specs.VersionEdit.{Edit, LevelsFit, NewFile, edit_of, empty_edit, new_file_of}
 use Rattle.leveldb_version.specs.VersionSetValue.{AreFileNumbersUsedUp, ManifestState, OpenManifest, VersionSetValue, broken, in_use, unmade, with_number_given}
+use Rattle.leveldb_version.specs.Version.{HasOneFileMore, VersionValue}
 use Rattle.leveldb_version.specs.Writing.{IsWrittenBy, table_edit}
 use Rattle.leveldb_version.specs.declared.version_edit.VersionEdit.{VersionEdit}
+use Rattle.leveldb_store.proofs.CurrentVersionLemmas.{lower_stay}
+use Rattle.leveldb_store.proofs.GivenTablesLemmas.{SameGiven, given_same, same_beside, same_beside_new, same_or_gone, same_then}
 use Rattle.leveldb_store.proofs.TableKeepsLemmas.{KeepsHistory-refl, KeepsHistory-trans, appending_and_syncing, is_table_path, keeps_logged, keeps_made, shows_done, shows_failed, shows_made, types_apart, w_made, written_done, written_made}
 use Rattle.leveldb_store.proofs.SoundLemmas.{edit_goes_on, goes_on_then, sound_unlogged, table_goes_on}
 use Rattle.leveldb_store.specs.BuildTable.{MakesTable, TableChoices}
-use Rattle.leveldb_store.specs.Format.{Agrees, Format, Meaning}
-use Rattle.leveldb_store.specs.OpenStore.{HasOwnManifest, OpenStoreValue}
+use Rattle.leveldb_version.specs.Format.{Agrees, Format, IsTableOf, Meaning}
+use Rattle.leveldb_store.specs.OpenStore.{AreNumbersGiven, HasOwnManifest, OpenStoreValue}
 use Rattle.leveldb_store.specs.SoundCall.{IsSoundCall}
 use Rattle.leveldb_store.specs.Switch.{FailsToTableWaiting, TablesWaiting}
-use Rattle.leveldb_store.specs.Written.{IsData, IsDataPath, IsTableOf, IsWritten, KeepsWritten, Shows, SparesRest, memory_of, waiting_entries}
+use Rattle.leveldb_store.specs.Written.{IsData, IsDataPath, IsWritten, KeepsStore, KeepsWritten, Shows, SparesRest, memory_of, waiting_entries}
 
 -- ---- the edit
 
@@ -153,6 +155,22 @@ module _ {old : VersionSetValue} (manifest : OpenManifest)
       (λ memory. subst (KeepsManifest old) (sym memory.1) was)
       (λ now. subst (KeepsManifest old) (sym now) broke) a.err
 
+-- an edit that isn't logged leaves the files and their numbers
+pub files_left : {models_disk : Bool} {manifest : OpenManifest} {old : VersionSetValue}
+    {edit : Edit} {before after : Observed} {failed now_failed : ℕ} {new : VersionSetValue}
+    {status : Status}
+    → AppendsEdit models_disk manifest old edit before failed (Err status) new after now_failed
+    → (new.full ≡ old.full) × (new.next_file ≡ old.next_file)
+files_left a = ⊎_elim
+    (λ memory. (
+      ap (λ (s : VersionSetValue). s.full) memory.1,
+      ap (λ (s : VersionSetValue). s.next_file) memory.1,
+    ))
+    (λ now. (
+      ap (λ (s : VersionSetValue). s.full) now,
+      ap (λ (s : VersionSetValue). s.next_file) now,
+    )) a.err
+
 -- a set of the same paths has its own manifest, too
 pub own_again : (old new : VersionSetValue) → KeepsManifest old new → HasOwnManifest old
     → HasOwnManifest new
@@ -176,7 +194,7 @@ agreed_decode_more format meaning agrees id stored text decoded =
     by (Some coding) e found =
         ap (λ (o : Option Coding). decoded_under o stored) (agrees.codings id coding e) ∙ found
 
-some_pairs : (entries : List Entry) → entries ≢ [] → map internal_pair entries ≢ []
+pub some_pairs : (entries : List Entry) → entries ≢ [] → map internal_pair entries ≢ []
 some_pairs [] some e = some refl
 some_pairs (entry ∷ entries) some e =
     let never : internal_pair entry ∷ map internal_pair entries ≡ [] = e in cc
@@ -329,6 +347,10 @@ module _ {E F C D FP : Type 0} {order : CmpGhosts D} {filters : FilterGhosts FP}
     cmp = refl;
     last = refl;
     files = λ modelled path other. refl;
+    numbers = omega arith;
+    tables = λ modelled number fits given. same_or_gone
+        ((env.observed from).disk.files (table_path old.set.store number))
+        ((env.observed from).disk.files (table_path old.set.store number)) refl;
     locks = λ modelled. refl;
   }
 
@@ -339,6 +361,9 @@ module _ {E F C D FP : Type 0} {order : CmpGhosts D} {filters : FilterGhosts FP}
     logged = tt;
     none_waits = tt;
     waits = refl;
+    current = tt;
+    same_current = refl;
+    tables = record { live = λ file there. there; files = λ modelled number fits given. refl };
     err = inl (inl refl);
     broken_before = λ is. (refl, refl);
     recent = refl;
@@ -380,6 +405,12 @@ module _ {E F C D FP : Type 0} {order : CmpGhosts D} {filters : FilterGhosts FP}
     spares_made result m modelled path spared = (m.run modelled).has path
         (away (table_path old.set.store old.set.next_file) path Table tt is_new_path spared)
 
+    same_made : (result : Result FileMetaData Status) → Makes result → IsTrue env.models_disk
+        → SameGiven old.set (env.observed from).disk.files (env.observed mid).disk.files
+    same_made result m modelled = same_beside_new old.set old.set.next_file
+        (omega (arith, next_fits)) (omega arith) (env.observed from).disk.files
+        (env.observed mid).disk.files (m.run modelled).has
+
     -- no table was built
     pub tables_unbuilt : (status : Status) → Makes (Err status)
         → Tables (Err status) (record old { set = given_set }) mid
@@ -387,6 +418,9 @@ module _ {E F C D FP : Type 0} {order : CmpGhosts D} {filters : FilterGhosts FP}
       logged = tt;
       none_waits = tt;
       waits = refl;
+      current = tt;
+      same_current = refl;
+      tables = record { live = λ file there. there; files = same_made (Err status) m };
       err = inl (inr refl);
       broken_before = λ is. absurd (usable is);
       recent = refl;
@@ -396,6 +430,9 @@ module _ {E F C D FP : Type 0} {order : CmpGhosts D} {filters : FilterGhosts FP}
         cmp = refl;
         last = refl;
         files = spares_made (Err status) m;
+        numbers = omega arith;
+        tables = λ modelled. given_same old.set (env.observed from).disk.files
+            (env.observed mid).disk.files (same_made (Err status) m modelled);
         locks = m.locks;
       };
       cause = record {
@@ -418,32 +455,6 @@ module _ {E F C D FP : Type 0} {order : CmpGhosts D} {filters : FilterGhosts FP}
         uncounted (inr (inr (inr (inl lost)))) = ⊎_elim
             (λ memory. m.cause.uncounted (inl memory)) (λ missing. missing.2) lost.2
         uncounted (inr (inr (inr (inr broke)))) = absurd (usable broke.0)
-
-    -- no level was picked for it
-    pub tables_unpicked : (file : FileMetaData) → Makes (Ok file) → (status : Status)
-        → IsOutOfMemory status → Tables (Err status) (record old { set = given_set }) mid
-    tables_unpicked file m status memory = record {
-      logged = tt;
-      none_waits = tt;
-      waits = refl;
-      err = inl (inr refl);
-      broken_before = λ is. absurd (usable is);
-      recent = refl;
-      log = refl;
-      rest = record {
-        store = refl;
-        cmp = refl;
-        last = refl;
-        files = spares_made (Ok file) m;
-        locks = m.locks;
-      };
-      cause = record {
-        later = m.cause.later;
-        ok = tt;
-        uncounted = λ excused. m.cause.ok;
-        cause = inl (inr (inl memory));
-      };
-    }
 
     -- ---- the edit was logged, or not
 
@@ -470,6 +481,16 @@ module _ {E F C D FP : Type 0} {order : CmpGhosts D} {filters : FilterGhosts FP}
           (env.observed to).disk.files ((l.does modelled).now modelled) path
           (away manifest.path path Descriptor tt (own modelled manifest used) spared)
           ∙ spares_made (Ok file) m modelled path spared
+
+      same_logged : (result : Result (Unit {0}) Status) → Logged result → IsTrue env.models_disk
+          → SameGiven old.set (env.observed from).disk.files (env.observed to).disk.files
+      same_logged result l modelled = same_then old.set (env.observed from).disk.files
+          (env.observed mid).disk.files (env.observed to).disk.files
+          (same_made (Ok file) m modelled)
+          (same_beside old.set manifest.path Descriptor (own modelled manifest used) (λ e. cc)
+          (env.observed mid).disk.files (env.observed to).disk.files
+          (appending_and_syncing manifest.path _ (env.observed mid).disk.files
+          (env.observed to).disk.files ((l.does modelled).now modelled)))
 
       locks_all : SameLocks env.models_disk (env.observed from) (env.observed to)
       locks_all modelled = locks modelled ∙ m.locks modelled
@@ -517,6 +538,13 @@ module _ {E F C D FP : Type 0} {order : CmpGhosts D} {filters : FilterGhosts FP}
         logged = tt;
         none_waits = tt;
         waits = refl;
+        current = tt;
+        same_current = refl;
+        tables = record {
+          live = λ file there. subst (λ (full : Edit). Contains full.added file)
+              (sym (files_left l).0) there;
+          files = same_logged (Err status) l;
+        };
         err = ⊎_elim (λ memory. inl (inr memory.1)) (λ broke. inr broke) l.err;
         broken_before = λ is. absurd (usable is);
         recent = refl;
@@ -526,6 +554,9 @@ module _ {E F C D FP : Type 0} {order : CmpGhosts D} {filters : FilterGhosts FP}
           cmp = refl;
           last = either (λ s. s.last_sequence) refl refl;
           files = spares_logged (Err status) l;
+          numbers = rises;
+          tables = λ modelled. given_same old.set (env.observed from).disk.files
+              (env.observed to).disk.files (same_logged (Err status) l modelled);
           locks = locks_all;
         };
         cause = record {
@@ -543,6 +574,11 @@ module _ {E F C D FP : Type 0} {order : CmpGhosts D} {filters : FilterGhosts FP}
           either part same broke = ⊎_elim (λ memory. ap part memory.1 ∙ same)
               (λ is. ap part is ∙ broke) l.err
 
+          rises : old.set.next_file ≤ set.next_file
+          rises = ⊎_elim
+              (λ memory. omega (arith, ap (λ (s : VersionSetValue). s.next_file) memory.1))
+              (λ is. omega (arith, ap (λ (s : VersionSetValue). s.next_file) is)) l.err
+
           uncounted : FailsToTableWaiting env old from choices pairs to status
               → env.failures to ≡ env.failures from
           uncounted (inl numbers) = never_used_up status numbers
@@ -552,12 +588,12 @@ module _ {E F C D FP : Type 0} {order : CmpGhosts D} {filters : FilterGhosts FP}
               (λ memory. l.cause.uncounted (inl memory) ∙ same_count) (λ missing. missing.2) lost.2
           uncounted (inr (inr (inr (inr broke)))) = absurd (usable broke.0)
 
-      -- it was
-      pub tables_logged
-          : level ≡ output_level choices.format.order (file_range (new_file_of (level, file)))
+      -- it was: `next` is the version then
+      pub tables_logged : AreNumbersGiven old.set old.set.full.added → (next : VersionValue C)
+          → HasOneFileMore choices.format.order (level, file) old.current next → level ≡ output_level choices.format.order (file_range (new_file_of (level, file)))
           old.set.full.added → Logged (Ok tt)
-          → Tables (Ok tt) (record old { set = set; waiting = None }) to
-      tables_logged picked l = record {
+          → Tables (Ok tt) (record old { set = set; current = next; waiting = None }) to
+      tables_logged given next gains picked l = record {
         logged = record {
           manifest = manifest;
           was_in_use = used;
@@ -568,6 +604,9 @@ module _ {E F C D FP : Type 0} {order : CmpGhosts D} {filters : FilterGhosts FP}
         };
         none_waits = refl;
         waits = tt;
+        current = ((level, file), gains);
+        same_current = tt;
+        tables = record { live = still_live; files = same_logged (Ok tt) l };
         err = tt;
         broken_before = λ is. absurd (usable is);
         recent = refl;
@@ -577,6 +616,9 @@ module _ {E F C D FP : Type 0} {order : CmpGhosts D} {filters : FilterGhosts FP}
           cmp = refl;
           last = ap (λ (s : VersionSetValue). s.last_sequence) l.ok;
           files = spares_logged (Ok tt) l;
+          numbers = omega (arith, ap (λ (s : VersionSetValue). s.next_file) l.ok);
+          tables = λ modelled. given_same old.set (env.observed from).disk.files
+              (env.observed to).disk.files (same_logged (Ok tt) l modelled);
           locks = locks_all;
         };
         cause = record {
@@ -586,6 +628,18 @@ module _ {E F C D FP : Type 0} {order : CmpGhosts D} {filters : FilterGhosts FP}
           cause = tt;
         };
       }
+        where
+          still_live : (live : NewFile) → Contains old.set.full.added live
+              → Contains set.full.added live
+          still_live live there =
+              let it = new_file_of (level, file) in
+              let lower = lower_stay it old.set.full.added
+              (subst (λ n. All (λ (one : NewFile). one.number < n) old.set.full.added)
+              (sym m.number_is.0) given) in
+              subst (λ files. Contains files live)
+              (sym (ap (λ (s : VersionSetValue). s.full.added) l.ok
+              ∙ ap (λ files. files ++ it ∷ []) lower))
+              (Contains-append_left old.set.full.added (it ∷ []) live there)
 
 -- ---- what the call keeps, by what it made
 
@@ -654,3 +708,32 @@ module _ {E F C D FP : Type 0} {order : CmpGhosts D} {filters : FilterGhosts FP}
         (m.run modelled) (m.bytes modelled) total (new_file_of (level, file)) picked m.number_is.0
         (m.fits level) has_made kept_made env.models_disk modelled (env.observed to)
         (env.failures mid) (env.failures to) set logs
+
+-- ---- the files by levels
+
+module _ {C : Type 0} (next : VersionValue C) where
+  -- the store with another version
+  abbrev pub with_current : OpenStoreValue C → OpenStoreValue C
+  with_current value = record value { current = next }
+
+  -- what is kept doesn't depend on it
+  pub keeps_with_current : (cmp : List ℕ → List ℕ → Ordering) (meaning : Meaning)
+      (old : OpenStoreValue C) (v0 : Observed) (new : OpenStoreValue C) (v1 : Observed)
+      → KeepsWritten cmp meaning old v0 new v1
+      → KeepsWritten cmp meaning old v0 (with_current new) v1
+  keeps_with_current cmp meaning old v0 new v1 keeps allowed is =
+      let kept : KeepsStore cmp meaning (λ store. IsTrue (allowed store)) old v0 new v1 =
+      keeps allowed is in
+      record {
+        moments = kept.moments;
+        written = λ unbroken.
+            let w = kept.written (record { manifest = unbroken.manifest; log = unbroken.log }) in
+            record { edits = w.edits; by = w.by; writer = w.writer };
+        shows = λ history shown.
+            let s = kept.shows history shown in
+            record {
+              tables = s.tables;
+              has = record { files_are = s.has.files_are; each = s.has.each };
+              shows = s.shows;
+            };
+      }

@@ -27,7 +27,7 @@ use Rattle.leveldb_version.specs.Paths.{table_path}
 use Rattle.leveldb_version.specs.Store.{HasTable, IsFirstKey, IsInternalPair, IsLastKey, IsStoreTable}
 use Rattle.leveldb_version.specs.StoreSteps.{AppendedAreBytes}
 use Rattle.leveldb_version.specs.VersionEdit.{new_file_of}
-use Rattle.leveldb_store.specs.Format.{Format, format_of}
+use Rattle.leveldb_version.specs.Format.{Format, format_of}
 
 -- ---- how a builder gets the pairs of a walk
 

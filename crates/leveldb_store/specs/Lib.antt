@@ -1,13 +1,11 @@
-pub mod Format
 pub mod BuildTable
 pub mod FoundLogs
 pub mod OpenStore
+pub mod OpenTables
 pub mod Write
 pub mod Written
 pub mod Switch
 pub mod Read
-pub mod ReadTable
-pub mod Search
 pub mod Opening
 pub mod OpensStore
 pub mod ReplayLog

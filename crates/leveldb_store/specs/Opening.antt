@@ -14,8 +14,7 @@ use Rattle.leveldb_version.specs.StoreSteps.{IsKept, KeepsHistory}
 use Rattle.leveldb_version.specs.VersionEdit.{Edit, NewFile}
 use Rattle.leveldb_version.specs.VersionSetValue.{VersionSetValue}
 use Rattle.leveldb_version.specs.Writing.{IsRecoveredBy}
-use Rattle.leveldb_store.specs.Format.{Meaning}
-use Rattle.leveldb_store.specs.Written.{IsTableOf}
+use Rattle.leveldb_version.specs.Format.{IsTableOf, Meaning}
 
 -- ---- one log
 

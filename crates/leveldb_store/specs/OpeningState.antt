@@ -13,8 +13,7 @@ use Rattle.leveldb_version.specs.VersionEdit.{Edit}
 use Rattle.leveldb_version.specs.VersionSet.{live_after}
 use Rattle.leveldb_version.specs.VersionSetValue.{VersionSetValue}
 use Rattle.leveldb_version.specs.Writing.{IsRecoveredBy}
-use Rattle.leveldb_store.specs.Format.{Meaning}
-use Rattle.leveldb_store.specs.Written.{IsTableOf}
+use Rattle.leveldb_version.specs.Format.{IsTableOf, Meaning}
 
 -- the contents with this comparator's name: of a store that is there, or of a new one in place of
 -- none

@@ -28,13 +28,14 @@ use Rattle.leveldb_version.specs.Contents.{Contents}
 use Rattle.leveldb_version.specs.Opening.{tables_edit}
 use Rattle.leveldb_version.specs.Paths.{current_path, log_path, table_path}
 use Rattle.leveldb_version.specs.Recover.{LeavesFiles, Recovers}
+use Rattle.leveldb_version.specs.Search.{AreDisjointLevels}
 use Rattle.leveldb_version.specs.Store.{HasLog, HasNoStore, ReplayedLog as StoreLog, SameEntries, log_batches, log_entries}
 use Rattle.leveldb_version.specs.VersionEdit.{IsEncodable, NewFile, new_file_of}
 use Rattle.leveldb_version.specs.VersionSetValue.{AreFileNumbersUsedUp, OpenManifest, VersionSetValue, broken, in_use, new_version_set, with_number_given}
 use Rattle.leveldb_version.specs.Writing.{NumbersAreBelow}
 use Rattle.leveldb_store.specs.BuildTable.{TableChoices}
-use Rattle.leveldb_store.specs.Format.{Agrees, Format, Meaning}
-use Rattle.leveldb_store.specs.OpenStore.{HasOwnManifest, IsUnbroken, OpenStoreValue}
+use Rattle.leveldb_version.specs.Format.{Agrees, Format, Meaning}
+use Rattle.leveldb_store.specs.OpenStore.{AreNumbersGiven, HasOwnManifest, IsUnbroken, OpenStoreValue}
 use Rattle.leveldb_store.specs.Opening.{AreMadeTables, GivesNumbers, SameButTables}
 use Rattle.leveldb_store.specs.OpeningState.{HasComparator, IsRecoveredWith, with_comparator}
 use Rattle.leveldb_store.specs.OpensStore.{HasHugeManifest, HasOtherComparator, HasSharedUserKey, IsBareFolder, IsDamaged, IsForbidden, IsForbiddenAs, IsNumberFound, IsOpenedAs, IsSound, IsTableOrLog, KeepsFound, LacksCurrent, LacksUsableEdits, LeavesFewNumbers, SameBesideOwn, WhyNotOpenable}
@@ -277,6 +278,8 @@ pub record TablesAll {E F C : Type 0} (env : Ghosts E F) (format : Format) (log 
   pub made_tables : IsTrue env.models_disk → (meaning : Meaning) → Agrees format meaning
       → AreMadeTables format.order meaning old new (env.observed at).disk.files tables
   pub entries : SameEntries (table_entries tables) log.rest.kept.entries
+  -- each table's number was given, if those of the tables before were
+  pub given : AreNumbersGiven old (table_files log) → AreNumbersGiven new files
   -- where there was an entry, a number was given
   pub few : (new.next_file ≡ old.next_file)
       ⊎ ((log.rest.kept.entries ≢ []) × (new.next_file ≡ old.next_file + 1))
@@ -391,6 +394,9 @@ module _ {E F D FP : Type 0} (env : Ghosts E F) {order : CmpGhosts D} {filters :
     -- no entry in memory has a number past the last one, and the memtable isn't full
     pub up_to : OnOk result (AreUpTo new.last (entries_to_write new.used))
     pub room : OnOk result (IfSome new.used (λ used. IsFull limit used.entries.kept → ⊥))
+    -- each table's number was given, if those of the tables before were
+    pub given : OnOk result (AreNumbersGiven set (made_files old.tables.items)
+        → AreNumbersGiven now (made_files new.tables.items))
     pub few : OnOk result (MakesFewTables env number set from now)
     pub cause : HasCauseOr (λ status. FailsAtLog env choices set number from status
         ⊎ ((status.code ≡ Corruption)
@@ -413,6 +419,8 @@ module _ {E F D FP : Type 0} (env : Ghosts E F) {order : CmpGhosts D} {filters :
     pub up_to : IfOk result (λ replay. AreUpTo replay.last (entries_to_write replay.used))
     pub room : IfOk result (λ replay. IfSome replay.used (λ used.
         IsFull limit used.entries.kept → ⊥))
+    -- each table's number was given
+    pub given : IfOk result (λ replay. AreNumbersGiven new (made_files replay.tables.items))
     pub few : OnOk result (MakeFewTables env numbers old from new)
     pub cause : HasCauseOr (WhyNotReplayed old.store (env.observed from).disk.files numbers
         old.next_file) (env.failures from) (env.failures to) result
@@ -446,6 +454,9 @@ module _ {E F : Type 0} (env : Ghosts E F) (format : Format) (reuse : Bool) (lim
     pub recovers : Recovers env.models_disk format.order format.order_name reuse limit marked
         (env.observed from) anew set (env.observed to)
     pub fits : set.next_file < 2 ^ 64
+    -- the number of each live table was given, and the levels are apart
+    pub given : AreNumbersGiven set set.full.added
+    pub apart : AreDisjointLevels format.order set.full.added
     pub names : List (List ℕ)
     pub lists : IsTrue env.models_disk
         → ListsChildren (env.observed from).disk.files store names
@@ -478,13 +489,16 @@ module _ {E F : Type 0} (env : Ghosts E F) (format : Format) (reuse : Bool) (lim
 
 -- ---- the store
 
--- The set of a store that may be written once its logs are replayed: its numbers fit, and it may
--- log edits. Its manifest is in use, unless the next edit begins a new one.
-pub record MayBeWritten (models_disk : Bool) (store : List ℕ) (anew : Bool) (set : VersionSetValue)
-    (files : Files) : Type 0 where
+-- The set of a store that may be written once its logs are replayed: its numbers fit, those of live
+-- tables were given, its levels are apart in this order of user keys, and it may log edits. Its
+-- manifest is in use, unless the next edit begins a new one.
+pub record MayBeWritten (models_disk : Bool) (order : List ℕ → List ℕ → Ordering)
+    (store : List ℕ) (anew : Bool) (set : VersionSetValue) (files : Files) : Type 0 where
   pub path : set.store ≡ store
   pub fits : set.next_file < 2 ^ 64
   pub manifest_fits : set.manifest_number < set.next_file
+  pub given : AreNumbersGiven set set.full.added
+  pub apart : AreDisjointLevels order set.full.added
   pub unbroken : set.manifest ≢ broken
   pub goes_on : anew ≡ false → (manifest : OpenManifest) × (set.manifest ≡ in_use manifest)
   -- a manifest in use is there, in the store's folder
@@ -496,7 +510,7 @@ module _ {E F : Type 0} (env : Ghosts E F) (format : Format) (store : List ℕ)
     (create_if_missing error_if_exists : Bool) (from : E) where
   -- A set that was recovered, with the numbers of its logs.
   pub record IsRecoveredStore (it : RecoveredSet E F) (to : E) : Type 0 where
-    pub may : MayBeWritten env.models_disk store it.is_anew it.versions
+    pub may : MayBeWritten env.models_disk format.order store it.is_anew it.versions
         (env.observed to).disk.files
     -- of sound files it is the store that they were, or a new one
     pub recovered : IsTrue env.models_disk → (meaning : Meaning) → Agrees format meaning

@@ -26,10 +26,10 @@ use Rattle.leveldb_version.specs.VersionEdit.{Edit, NewFile}
 use Rattle.leveldb_version.specs.VersionSet.{FileSet, live_after}
 use Rattle.leveldb_store.specs.BuildTable.{TableChoices}
 use Rattle.leveldb_store.specs.FoundLogs.{HasLogNotKept, LogsBeginWith}
-use Rattle.leveldb_store.specs.Format.{Agrees, Format, Meaning}
+use Rattle.leveldb_version.specs.Format.{Agrees, Format, IsTableOf, Meaning}
 use Rattle.leveldb_store.specs.OpenStore.{IsUnbroken, OpenStoreValue}
 use Rattle.leveldb_store.specs.Room.{IsFull}
-use Rattle.leveldb_store.specs.Written.{IsDataPath, IsTableOf, IsWritten}
+use Rattle.leveldb_store.specs.Written.{IsDataPath, IsWritten}
 
 -- ---- files that change
 

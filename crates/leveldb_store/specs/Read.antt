@@ -1,57 +1,119 @@
--- What a look-up in an open store returns, and why it fails.
-use Rattle.std.specs.Prelude.{◌≡◌, ◌≤◌, ◌⊎◌, ℕ, List, Option, None, Some, IsSome, Result, IfOk, IsTrue}
-use Rattle.std.specs.declared.cmp.Ordering.{Ordering}
-use Rattle.leveldb_base.specs.History.{History, IsValueAt, entries_of, greatest}
+-- What a look-up in an open store returns and leaves, and why it fails.
+use Rattle.std.specs.Prelude.{◌≡◌, ◌≤◌, ◌++◌, ◌⊎◌, ℕ, List, Option, None, Some, Result, Ok, Err, IfErr, IfOk, IsTrue, min, unwrap_or}
+use Rattle.leveldb_base.specs.Entries.{FindsNewest}
+use Rattle.leveldb_base.specs.Error.{IsOutOfMemory}
+use Rattle.leveldb_base.specs.History.{Entry, History, IsValueAt, entries_of, greatest}
+use Rattle.leveldb_base.specs.KeyTypes.{greatest_sequence, internal_key}
+use Rattle.leveldb_base.specs.Layers.{IsOlder}
+use Rattle.leveldb_base.specs.declared.cmp.Cmp.{Ghosts as CmpGhosts}
+use Rattle.leveldb_base.specs.declared.cmp.internal.InternalKeyCmp.{InternalKeyCmp}
 use Rattle.leveldb_base.specs.declared.error.Status.{Status}
-use Rattle.leveldb_base.specs.declared.error.StatusCode.{StatusCode}
-use Rattle.leveldb_base.specs.declared.error.StatusCode.TheVariants.{Corruption, NotSupported}
-use Rattle.leveldb_env.specs.Compressor.{Coding}
+use Rattle.leveldb_base.specs.declared.error.StatusCode.TheVariants.{NotSupported}
+use Rattle.leveldb_base.specs.declared.key_types.ValueType.TheVariants.{TypeValue}
 use Rattle.leveldb_env.specs.declared.env.Env.{Ghosts}
-use Rattle.leveldb_table.specs.TableBlock.{ReadsFile}
-use Rattle.leveldb_version.specs.Levels.{LiveTable}
-use Rattle.leveldb_store.specs.Format.{Agrees, Format, Meaning}
+use Rattle.leveldb_table.specs.TableBlock.{FailsFor, ReadsFile}
+use Rattle.leveldb_version.specs.Format.{Agrees, IsTableFault, LacksCompressor, Meaning}
+use Rattle.leveldb_version.specs.Levels.{LevelOrder, LiveTable}
+use Rattle.leveldb_version.specs.Search.{AreDisjointLevels, LooksUpNewest}
+use Rattle.leveldb_version.specs.TableCache.{TableOptions, files_at}
+use Rattle.leveldb_version.specs.Version.{charged, new_files_of}
+use Rattle.leveldb_version.specs.VersionEdit.{LevelFile}
+use Rattle.leveldb_version.specs.declared.table_cache.TableCache.{TableCache}
+use Rattle.leveldb_version.specs.declared.version.GetStats.{GetStats}
 use Rattle.leveldb_store.specs.OpenStore.{OpenStoreValue}
-use Rattle.leveldb_store.specs.Written.{HasLiveTables, Shows}
+use Rattle.leveldb_store.specs.OpenTables.{AreOpenTablesOf}
+use Rattle.leveldb_store.specs.Written.{HasLiveTables, Shows, waiting_entries}
 
--- an id has a compressor in the files, and none in this format
-abbrev pub LacksCompressor : Format → Meaning → Type 0
-LacksCompressor format meaning =
-    (id : ℕ) × IsSome (meaning.codings id) × (format.codings id ≡ None)
+-- ---- what is searched for
 
--- a compressor of the format fails with this code for some text, which it decodes to no block
-pub record HasDecodingError (format : Format) (code : StatusCode) : Type 0 where
-  pub id : ℕ
-  pub coding : Coding
-  pub is_set : format.codings id ≡ Some coding
-  pub text : List ℕ
-  pub none : coding.decoded text ≡ None
-  pub fails : IsTrue (coding.decode_fails text code)
+-- the entries in memory
+abbrev pub in_memory : {C : Type 0} → OpenStoreValue C → List Entry
+in_memory value = value.recent.entries ++ waiting_entries value.waiting
 
--- what may be said of a table that can't be read: it is damaged or missing, an id has no
--- compressor, or the compressor fails
-abbrev pub IsTableFault : Format → StatusCode → Type 0
-IsTableFault format code =
-    (code ≡ Corruption) ⊎ (code ≡ NotSupported) ⊎ HasDecodingError format code
+-- what memory has of a key at the last number, if the entries that wait are the older ones: a value,
+-- a deletion, or nothing
+abbrev pub FindsInMemory : {C : Type 0} → OpenStoreValue C → List ℕ
+    → Option (Option (List ℕ)) → Type 0
+FindsInMemory value key found = IsOlder (waiting_entries value.waiting) value.recent.entries
+    → FindsNewest (in_memory value) value.set.last_sequence key found
 
-module _ {E F C : Type 0} (env : Ghosts E F) (cmp : List ℕ → List ℕ → Ordering) (format : Format)
-    (value : OpenStoreValue C) (from : E) where
-  -- A table can't be read. Where the live tables are there, by whatever their names and ids mean,
-  -- that is only since the format lacks a compressor.
-  pub record IsUnreadable (status : Status) : Type 0 where
-    pub fault : IsTableFault format status.code
-    pub lacks : IsTrue env.models_disk → (meaning : Meaning) → Agrees format meaning
-        → (tables : List LiveTable)
-        → HasLiveTables cmp meaning value (env.observed from).disk.files tables
-        → (status.code ≡ NotSupported) × LacksCompressor format meaning
+-- the internal key that is searched for in tables
+abbrev pub sought_key : {C : Type 0} → OpenStoreValue C → List ℕ → List ℕ
+sought_key value key =
+    internal_key key (min value.set.last_sequence greatest_sequence) TypeValue
 
-  -- what a look-up of a key returns and leaves
-  pub record LooksUpKey (key : List ℕ) (result : Result (Option (List ℕ)) Status) (to : E)
-      : Type 0 where
-    -- the key's value at the last number, or none, in each history that memory and tables show
-    pub finds : IsTrue env.models_disk → (meaning : Meaning) → Agrees format meaning
-        → (history : History) → greatest (entries_of history) ≤ value.set.last_sequence
-        → Shows cmp meaning value (env.observed from).disk.files history
-        → IfOk result (IsValueAt (entries_of history) value.set.last_sequence key)
-    -- No file changes, nor does a lock. An error is out of memory, a table that can't be read,
-    -- which counts no failure, or a failure that was counted.
-    pub reads : ReadsFile env IsUnreadable from to result
+-- the file that a search charges with a seek, if one
+abbrev pub charge_of : Result (Option (Option (List ℕ)) × GetStats) Status → Option LevelFile
+charge_of (Ok searched) = searched.1.file
+charge_of (Err status) = None
+
+-- what a look-up returns by what the search finds: the value, or none
+abbrev pub value_searched : Result (Option (Option (List ℕ)) × GetStats) Status
+    → Result (Option (List ℕ)) Status
+value_searched (Ok searched) = Ok (unwrap_or searched.0 None)
+value_searched (Err status) = Err status
+
+-- the store once a file of its version is charged with a seek
+abbrev pub with_charge : {C : Type 0} → OpenStoreValue C → Option LevelFile → OpenStoreValue C
+with_charge value charge = record value { current = (charged value.current charge).0 }
+
+-- ---- the call
+
+-- `by` says what tables are opened with; the store, the environment and the open tables are those at
+-- the beginning.
+module _ {E F C FP : Type 0} {order : CmpGhosts (InternalKeyCmp C)} (env : Ghosts E F)
+    (by : TableOptions C FP) (old : OpenStoreValue C) (from : E)
+    (tables : TableCache E C FP F order) where
+  -- the disk is modelled, and the open tables are those of the store
+  pub record HasOpenTables : Type 0 where
+    pub modelled : IsTrue env.models_disk
+    pub are : AreOpenTablesOf env by old.set (files_at env from) tables
+
+  -- the live tables are there in their levels, by what names and ids mean, and the open ones are
+  -- the store's
+  pub record HasTablesToRead (meaning : Meaning) (live : List LiveTable) : Type 0 where
+    pub agrees : Agrees by.format meaning
+    pub has_open : HasOpenTables
+    pub has_live : HasLiveTables by.format.order meaning old (files_at env from) live
+    pub levels : LevelOrder by.format.order live
+
+  module _ (key : List ℕ) (result : Result (Option (List ℕ)) Status) (new : OpenStoreValue C)
+      (to : E) (now : TableCache E C FP F order) where
+    -- Memory has the key, whose value is copied. Nothing changes.
+    pub record GetsFromMemory : Type 0 where
+      pub value : Option (List ℕ)
+      pub finds : FindsInMemory old key (Some value)
+      pub copy : IfOk result (λ copy. copy ≡ value)
+      pub memory : IfErr result IsOutOfMemory
+      pub nothing_changes : (new ≡ old) × (to ≡ from) × (now ≡ tables)
+
+    -- Memory lacks the key, which is searched for in the tables of the version, whose levels are
+    -- apart. The file that the search charges has one seek less then, and nothing else of the store
+    -- changes.
+    pub record GetsFromTables : Type 0 where
+      pub none : FindsInMemory old key None
+      pub apart : AreDisjointLevels by.format.order (new_files_of old.current)
+      pub searched : Result (Option (Option (List ℕ)) × GetStats) Status
+      pub searches : LooksUpNewest env by (sought_key old key) from tables old.current searched to
+          now
+      pub result_is : result ≡ value_searched searched
+      pub charges : new ≡ with_charge old (charge_of searched)
+
+    -- what a look-up of a key returns and leaves
+    pub record LooksUpKey : Type 0 where
+      -- the key's value at the last number, or none, in each history that memory and tables show
+      pub finds : HasOpenTables → (meaning : Meaning) → Agrees by.format meaning
+          → (history : History) → greatest (entries_of history) ≤ old.set.last_sequence
+          → Shows by.format.order meaning old (files_at env from) history
+          → IfOk result (IsValueAt (entries_of history) old.set.last_sequence key)
+      -- No file changes, nor does a lock. An error is out of memory, a table that can't be read,
+      -- which counts no failure, or a failure that was counted.
+      pub reads : ReadsFile env (λ status. IsTableFault by.format status.code) from to result
+      -- where the live tables are there, that is since the format lacks a compressor
+      pub lacks : (meaning : Meaning) (live : List LiveTable) → HasTablesToRead meaning live
+          → FailsFor env (λ status. (status.code ≡ NotSupported)
+          × LacksCompressor by.format meaning) from to result
+      -- the open tables are those of the store still
+      pub still_open : HasOpenTables → AreOpenTablesOf env by new.set (files_at env to) now
+      -- memory first, and then the tables
+      pub way : GetsFromMemory ⊎ GetsFromTables

@@ -22,8 +22,9 @@ use Rattle.leveldb_version.specs.Store.{HasLog, ReplayedLog as StoreLog, SameEnt
 use Rattle.leveldb_version.specs.VersionEdit.{NewFile, new_file_of}
 use Rattle.leveldb_version.specs.VersionSetValue.{AreFileNumbersUsedUp, VersionSetValue, with_number_given}
 use Rattle.leveldb_store.specs.BuildTable.{IsNotTabled, TableChoices}
-use Rattle.leveldb_store.specs.Format.{Agrees, Format, Meaning}
+use Rattle.leveldb_version.specs.Format.{Agrees, Format, Meaning}
 use Rattle.leveldb_store.specs.FoundLogs.{AreLastEntries, BeginsWithBatches, FailsToTable, LogBeginsWith}
+use Rattle.leveldb_store.specs.OpenStore.{AreNumbersGiven}
 use Rattle.leveldb_store.specs.Opening.{AreMadeTables, GivesNumbers, IsMadeTable, KeepsRecovered, LogInMemory, ReplaysLog, SameButTables}
 use Rattle.leveldb_store.specs.SoundCall.{BytesAreAppended}
 use Rattle.leveldb_store.specs.declared.opening.replay_log.ReplayedLog.{ReplayedLog}
@@ -108,6 +109,8 @@ module _ {E F : Type 0} (env : Ghosts E F) where
           (all_entries batches)
       pub newer : (a b : Entry) → Contains (table_entries tables) a
           → Contains log.rest.kept.entries b → a.sequence < b.sequence
+      -- each table's number was given
+      pub given : AreNumbersGiven now (table_files log)
       -- in memory are those of the last batches, and no room for more; and there is at most a table
       -- for each batch before
       pub in_memory : AreLastEntries batches log.rest.kept.entries
@@ -266,6 +269,8 @@ module _ {E F D FP : Type 0} (env : Ghosts E F) {order : CmpGhosts D} {filters :
       -- no entry in memory has a number past the last one
       pub up_to : IfOk result (λ log. AreUpTo log.last log.rest.kept.entries)
       pub room : IfOk result (IsNotFull limit)
+      -- each table's number was given
+      pub given : IfOk result (λ log. AreNumbersGiven now (table_files log))
       pub batches : IfOk result (λ log. KeepsBatches env set number from log now)
       pub cause : HasCause (FailsToReplay set last number from to) (env.failures from)
           (env.failures to) result

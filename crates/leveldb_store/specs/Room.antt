@@ -13,9 +13,9 @@ use Rattle.leveldb_env.specs.declared.env.Env.{Ghosts}
 use Rattle.leveldb_env.specs.declared.filter.FilterPolicy.{Ghosts as FilterGhosts}
 use Rattle.leveldb_mem.specs.MemTable.{Kept, memory_of_entries}
 use Rattle.leveldb_store.specs.BuildTable.{IsNotTabled, TableChoices}
-use Rattle.leveldb_store.specs.Format.{Agrees, Format, Meaning}
+use Rattle.leveldb_version.specs.Format.{Agrees, Format, Meaning}
 use Rattle.leveldb_store.specs.OpenStore.{IsUnbroken, OpenStoreValue}
-use Rattle.leveldb_store.specs.Switch.{AreFileNumbersTooFew, RemovesNoOther}
+use Rattle.leveldb_store.specs.Switch.{AreFileNumbersTooFew, RemovesNoOther, RemovesObsolete}
 use Rattle.leveldb_store.specs.Written.{IsWritten, KeepsWritten, SparesRest}
 
 -- ---- why a call fails that may tell some failures to a sink alone
@@ -92,6 +92,9 @@ module _ {E F C : Type 0} (env : Ghosts E F) (cmp : List ℕ → List ℕ → Or
 
   -- Obsolete files are deleted, and what failed of that is told.
   pub record TidiesUp (to : E) : Type 0 where
+    -- the removal, which may have failed
+    pub removal : Result (Unit {0}) Status
+    pub removes : RemovesObsolete env old.set from removal to
     pub others : IsTrue env.models_disk
         → RemovesNoOther old.set (env.observed from).disk.files (env.observed to).disk.files
     pub keeps : IsTrue env.models_disk → (meaning : Meaning)

@@ -8,6 +8,7 @@ use Rattle.std.specs.declared.cmp.Ordering.{Ordering}
 use Rattle.leveldb_base.specs.declared.cmp.Cmp.{Ghosts as CmpGhosts}
 use Rattle.leveldb_base.specs.declared.error.Status.{Status}
 use Rattle.leveldb_base.specs.declared.error.StatusCode.TheVariants.{NotFound, NotSupported}
+use Rattle.leveldb_base.specs.declared.types.FileMetaData.{FileMetaData}
 use Rattle.leveldb_base.specs.declared.types.FileType.{FileType}
 use Rattle.leveldb_env.specs.Env.{BeforeOrAfter, ChangesFiles, Files, HasCause, IsEmptyFolder, IsMissing, Run, SameLocks, deleted, in_folder}
 use Rattle.leveldb_env.specs.WholeFiles.{IsLost}
@@ -17,13 +18,14 @@ use Rattle.leveldb_mem.specs.Log.{log_block_size}
 use Rattle.leveldb_mem.specs.Log.Writer.{IsWriterBroken, new_writer}
 use Rattle.leveldb_version.specs.LogEdit.{set_appended}
 use Rattle.leveldb_version.specs.Overlap.{file_range, output_level}
+use Rattle.leveldb_version.specs.Version.{HasOneFileMore, VersionValue}
 use Rattle.leveldb_version.specs.VersionEdit.{NewFile}
 use Rattle.leveldb_version.specs.VersionSetValue.{AreFileNumbersUsedUp, OpenManifest, VersionSetValue, broken, in_use, with_number_given}
 use Rattle.leveldb_version.specs.Writing.{IsObsolete, table_edit}
 use Rattle.leveldb_store.specs.BuildTable.{IsNotTabled, TableChoices}
 use Rattle.leveldb_store.specs.OpenStore.{OpenStoreValue}
 use Rattle.leveldb_store.specs.Write.{IsLogLost}
-use Rattle.leveldb_store.specs.Written.{SparesRest}
+use Rattle.leveldb_store.specs.Written.{KeepsTables, SparesRest}
 
 -- the set is as it was, or one more number is given
 abbrev pub MayGiveNumber : VersionSetValue → VersionSetValue → Type 0
@@ -44,6 +46,11 @@ pub record LogsTable (cmp : List ℕ → List ℕ → Ordering) (old : VersionSe
   pub level : file.level ≡ output_level cmp (file_range file) old.full.added
   pub number : file.number ≡ old.next_file
   pub set : new ≡ set_appended manifest (with_number_given old) (table_edit log file)
+
+-- a version has one file more
+abbrev pub GainsFile : {C : Type 0} → (List ℕ → List ℕ → Ordering) → VersionValue C
+    → VersionValue C → Type 0
+GainsFile order old new = (file : ℕ × FileMetaData) × HasOneFileMore order file old new
 
 module _ {E F C : Type 0} (env : Ghosts E F) (old : OpenStoreValue C) (from : E) where
   -- ---- a switch of the log
@@ -68,6 +75,8 @@ module _ {E F C : Type 0} (env : Ghosts E F) (old : OpenStoreValue C) (from : E)
     pub err : OnErr result (MayGiveNumber old.set new.set
         × (new.log.number ≡ old.log.number)
         × (new.recent ≡ old.recent) × (new.waiting ≡ old.waiting))
+    pub current : new.current ≡ old.current
+    pub tables : KeepsTables env.models_disk old.set (env.observed from) new.set (env.observed to)
     pub rest : SparesRest env.models_disk old (env.observed from) new (env.observed to)
     pub cause : HasCause (FailsToSwitch to) (env.failures from) (env.failures to) result
 
@@ -98,6 +107,11 @@ module _ {E F C : Type 0} (env : Ghosts E F) (old : OpenStoreValue C) (from : E)
     pub logged : OnOk result (LogsTable choices.format.order old.set old.log.number new.set)
     pub none_waits : OnOk result (new.waiting ≡ None)
     pub waits : OnErr result (new.waiting ≡ old.waiting)
+    -- the version has the file more, and else stays as it was
+    pub current : OnOk result
+        (GainsFile choices.format.order old.current new.current)
+    pub same_current : OnErr result (new.current ≡ old.current)
+    pub tables : KeepsTables env.models_disk old.set (env.observed from) new.set (env.observed to)
     pub err : OnErr result (MayGiveNumber old.set new.set
         ⊎ (new.set ≡ record (with_number_given old.set) { manifest = broken }))
     -- where the set was broken before, no call is made

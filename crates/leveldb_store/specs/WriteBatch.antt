@@ -9,10 +9,10 @@ use Rattle.leveldb_mem.specs.MemTable.{FailsToPrepare, IsUnion, bytes_in}
 use Rattle.leveldb_version.specs.Contents.{Store}
 use Rattle.leveldb_version.specs.Holds.{Holds, IsSafe}
 use Rattle.leveldb_version.specs.Store.{IsStore}
-use Rattle.leveldb_store.specs.Format.{Meaning}
+use Rattle.leveldb_version.specs.Format.{IsTableOf, Meaning}
 use Rattle.leveldb_store.specs.OpenStore.{IsUnbroken, OpenStoreValue}
 use Rattle.leveldb_store.specs.Write.{AreNumbersUsedUp, HasNumbers, IsLogLost, open_log_path}
-use Rattle.leveldb_store.specs.Written.{IsTableOf, IsWritten, Shows}
+use Rattle.leveldb_store.specs.Written.{IsWritten, Shows}
 
 -- the batch that these items make after a store's last entry
 abbrev pub next_batch : {C : Type 0} → OpenStoreValue C → List Item → List Entry

@@ -1,23 +1,23 @@
 -- What an open store's memory has to do with the files, and what a call keeps of that.
-use Rattle.std.specs.Prelude.{◌≡◌, ◌≤◌, ◌%◌, ℕ, Bool, List, [], Option, None, Some, All, IsTrue, length, map}
+use Rattle.std.specs.Prelude.{◌≡◌, ◌≤◌, ◌<◌, ◌%◌, ◌^◌, ℕ, Bool, List, [], Option, None, Some, All, Contains, IsTrue, length, map}
 use Rattle.std.specs.declared.cmp.Ordering.{Ordering}
 use Rattle.leveldb_base.specs.History.{Entry, History, entries_of, greatest}
-use Rattle.leveldb_base.specs.Types.{Pair}
 use Rattle.leveldb_base.specs.declared.types.FileType.{FileType}
 use Rattle.leveldb_base.specs.declared.types.FileType.TheVariants.{Log, Table, Descriptor, Temp}
-use Rattle.leveldb_env.specs.Compressor.{Decodes}
 use Rattle.leveldb_env.specs.Env.{Files, Observed, Run, SameLocks, bytes_of}
 use Rattle.leveldb_mem.specs.Log.{log_block_size}
 use Rattle.leveldb_mem.specs.Log.Writer.{new_writer}
 use Rattle.leveldb_mem.specs.MemTable.{Kept}
 use Rattle.leveldb_version.specs.Contents.{Store}
+use Rattle.leveldb_version.specs.Format.{IsTableOf, Meaning}
 use Rattle.leveldb_version.specs.Levels.{LiveTable}
-use Rattle.leveldb_version.specs.Paths.{IsFilePath}
-use Rattle.leveldb_version.specs.Store.{HasTable, IsStoreTable}
+use Rattle.leveldb_version.specs.Paths.{IsFilePath, table_path}
+use Rattle.leveldb_version.specs.Store.{HasTable}
 use Rattle.leveldb_version.specs.StoreSteps.{KeepsHistory}
-use Rattle.leveldb_version.specs.VersionEdit.{Edit}
+use Rattle.leveldb_version.specs.TableCache.{IsSameOrGone}
+use Rattle.leveldb_version.specs.VersionEdit.{Edit, NewFile}
+use Rattle.leveldb_version.specs.VersionSetValue.{VersionSetValue}
 use Rattle.leveldb_version.specs.Writing.{EngineMemory, IsWrittenBy, ShowsHistory}
-use Rattle.leveldb_store.specs.Format.{Meaning}
 use Rattle.leveldb_store.specs.OpenStore.{IsUnbroken, OpenStoreValue}
 
 -- ---- memory
@@ -37,10 +37,6 @@ memory_of value = record {
 }
 
 -- ---- files
-
--- bytes are a table of a store whose names and ids mean this, in this order of user keys
-abbrev pub IsTableOf : (List ℕ → List ℕ → Ordering) → Meaning → List ℕ → List Pair → Type 0
-IsTableOf cmp meaning = IsStoreTable (Decodes meaning.codings) cmp meaning.filters
 
 -- the types of files that change while a store is open
 abbrev pub IsData : FileType → Type 0
@@ -98,8 +94,23 @@ module _ {C : Type 0} (cmp : List ℕ → List ℕ → Ordering) (meaning : Mean
   KeepsWritten old from new to = (allowed : Store → Bool) → IsWritten old from.disk.files
       → KeepsStore (λ store. IsTrue (allowed store)) old from new to
 
+-- A call deletes no table: each live file stays live, and no table changes whose number was given
+-- before.
+pub record KeepsTables (models_disk : Bool) (old : VersionSetValue) (from : Observed)
+    (new : VersionSetValue) (to : Observed) : Type 0 where
+  pub live : (file : NewFile) → Contains old.full.added file → Contains new.full.added file
+  pub files : IsTrue models_disk → (number : ℕ) → number < 2 ^ 64 → number < old.next_file
+      → to.disk.files (table_path old.store number)
+      ≡ from.disk.files (table_path old.store number)
+
+-- the table of each number that was given has the bytes that it had, or is gone
+abbrev pub KeepsGivenTables : VersionSetValue → Files → Files → Type 0
+KeepsGivenTables set before after = (number : ℕ) → number < 2 ^ 64 → number < set.next_file
+    → IsSameOrGone (before (table_path set.store number)) (after (table_path set.store number))
+
 -- What a call leaves alone that adds no batch: the store's path, its order and its last number, all
--- files but logs, tables, manifests and temporary files of the store, and all locks.
+-- files but logs, tables, manifests and temporary files of the store, and all locks. Numbers that
+-- were given stay so, and their tables keep their bytes or are gone.
 pub record SparesRest {C : Type 0} (models_disk : Bool) (old : OpenStoreValue C) (from : Observed)
     (new : OpenStoreValue C) (to : Observed) : Type 0 where
   pub store : new.set.store ≡ old.set.store
@@ -107,4 +118,6 @@ pub record SparesRest {C : Type 0} (models_disk : Bool) (old : OpenStoreValue C)
   pub last : new.set.last_sequence ≡ old.set.last_sequence
   pub files : IsTrue models_disk → (path : List ℕ) → (IsDataPath old.set.store path → ⊥)
       → to.disk.files path ≡ from.disk.files path
+  pub numbers : old.set.next_file ≤ new.set.next_file
+  pub tables : IsTrue models_disk → KeepsGivenTables old.set from.disk.files to.disk.files
   pub locks : SameLocks models_disk from to

@@ -96,6 +96,8 @@ pub fn build_memtable<E: Env, C: UserCmp + Copy + Drop, FP: FilterPolicy + Copy 
         number env.old result env.new }
     ensures entries { Each IsInternalPair (map internal_pair memtable.now.kept.entries)
         memtable.now.kept.entries }
+    ensures rising { AreRising (internal_cmp (C.cmp options.now.cmp))
+        (map internal_pair memtable.now.kept.entries) }
 {
     let mut walk = memtable.iter();
     build_table(alloc, env, store, options, &mut walk, number)

@@ -4,9 +4,7 @@ ghost use Rattle.leveldb_store.specs.OpenStore.{IsUnbroken};
 
 mod obsolete;
 mod read;
-mod read_table;
 mod room;
-mod search;
 mod switch;
 mod table;
 mod write;
@@ -17,6 +15,7 @@ use leveldb_base::types::{FileNum, SequenceNumber};
 use leveldb_env::env::Env;
 use leveldb_mem::log::WriterCore;
 use leveldb_mem::memtable::MemTable;
+use leveldb_version::version::Version;
 use leveldb_version::version_set::VersionSet;
 use std::alloc::Global;
 use std::marker::Model;
@@ -37,6 +36,8 @@ pub struct OpenStore<E: Env, C: Cmp> {
     pub(crate) name: String,
     pub(crate) cmp: C,
     pub(crate) versions: VersionSet<E>,
+    // The live files of the version set by levels.
+    pub(crate) current: Version<C>,
     pub(crate) log: OpenLog<E>,
     // The entries of the log's batches.
     pub(crate) recent: MemTable<C>,
@@ -49,14 +50,16 @@ impl<E: Env, C: Cmp> Model for OpenStore<E, C> {
     ghost use Rattle.std.specs.Option.{option_map};
     ghost use Rattle.leveldb_base.specs.History.{AreUpTo};
     ghost use Rattle.leveldb_version.specs.Paths.{log_path};
+    ghost use Rattle.leveldb_version.specs.Search.{AreDisjointLevels};
     ghost use Rattle.leveldb_version.specs.VersionSetValue.{unmade};
-    ghost use Rattle.leveldb_store.specs.OpenStore.{HasOwnManifest, OpenStoreValue};
+    ghost use Rattle.leveldb_store.specs.OpenStore.{AreNumbersGiven, HasOwnManifest, IsCurrent, OpenStoreValue};
 
     ghost Value = { OpenStoreValue C };
 
     ghost view = { λ it. record {
       cmp = it.cmp;
       set = it.versions;
+      current = it.current;
       log = record { number = it.log.number; writer = it.log.writer };
       recent = it.recent.kept;
       waiting = option_map (λ memtable. memtable.kept) it.waiting;
@@ -65,7 +68,8 @@ impl<E: Env, C: Cmp> Model for OpenStore<E, C> {
     // The version set is of the store's path, the log's file has the log's path, and both memtables
     // have the store's order. A manifest in use is in the store's folder. The manifest is in use or
     // broken. No entry of the log's memtable has a number past the last one, and a memtable that
-    // waits has entries.
+    // waits has entries. The version has the live files, the number of each of them was given, and
+    // those of each level from 1 on are apart.
     ghost invariant = { λ it. (it.versions.store ≡ string_bytes it.name)
         × (IsTrue E.models_disk → E.name_of it.log.file ≡ log_path (string_bytes it.name) it.log.number)
         × (it.recent.cmp ≡ it.cmp)
@@ -73,7 +77,10 @@ impl<E: Env, C: Cmp> Model for OpenStore<E, C> {
         × (IsTrue E.models_disk → HasOwnManifest it.versions)
         × (it.versions.manifest ≢ unmade)
         × AreUpTo it.versions.last_sequence it.recent.kept.entries
-        × IfSome it.waiting (λ memtable. memtable.kept.entries ≢ []) };
+        × IfSome it.waiting (λ memtable. memtable.kept.entries ≢ [])
+        × IsCurrent it.cmp it.versions it.current
+        × AreNumbersGiven it.versions it.versions.full.added
+        × AreDisjointLevels (C.cmp it.cmp) it.versions.full.added };
 }
 
 impl<E: Env, C: UserCmp + Copy> OpenStore<E, C> {

@@ -2,7 +2,7 @@
 ghost use Rattle.std.specs.Prelude.{◌≡◌, IfOk};
 ghost use Rattle.leveldb_env.specs.Env.{HasCause};
 ghost use Rattle.leveldb_store.specs.BuildTable.{choices_of};
-ghost use Rattle.leveldb_store.specs.Format.{format_of};
+ghost use Rattle.leveldb_version.specs.Format.{format_of};
 ghost use Rattle.leveldb_store.specs.OpensStore.{FailsToOpen, OpensStore};
 ghost use Rattle.leveldb_store.specs.SoundCall.{BytesAreAppended};
 

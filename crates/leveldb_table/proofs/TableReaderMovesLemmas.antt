@@ -1,6 +1,6 @@
 -- Moves of a walk over a table that seek a key, and moves to the block before.
 use Rattle.std.proofs.Common.{◌≡◌, ◌≢◌, ◌⊎◌, ℕ, Bool, true, if◌then◌else◌, List, [], ◌∷◌, length, map, Option, None, Some, Result, Ok, Err, refl, sym, ◌∙◌, ap, subst, inl, inr, ⊎_elim, ◌+◌, ◌<◌, false, arith}
-use Rattle.std.specs.Prelude.{IfSome, IsErrAnd, is_some}
+use Rattle.std.specs.Prelude.{IfSome, IfOk, IfErr, IsErrAnd, is_some}
 use Rattle.std.specs.Option.{IsSomeAnd}
 use Rattle.std.specs.declared.cmp.Ordering.{Ordering}
 use Rattle.std.proofs.lemmas.Option.{slice_get-get_or}
@@ -13,6 +13,7 @@ use Rattle.leveldb_base.specs.declared.error.StatusCode.TheVariants.{Corruption}
 use Rattle.leveldb_base.specs.Error.{IsOutOfMemory}
 use Rattle.leveldb_env.specs.declared.env.Env.{Ghosts as EnvGhosts}
 use Rattle.leveldb_env.specs.Compressor.{Codings}
+use Rattle.leveldb_table.specs.BlockWalk.{pair_with}
 use Rattle.leveldb_table.specs.Cache.{Cached}
 use Rattle.leveldb_table.specs.Table.{Part, index_pair, named_part}
 use Rattle.leveldb_table.specs.BlockCache.{HoldsOnlyOf, IsBlockOfFile, GainsBlocks}
@@ -27,7 +28,7 @@ use Rattle.leveldb_table.specs.declared.block_cache.CachedBlock.{CachedBlock}
 use Rattle.leveldb_table.specs.declared.table_reader.Table.{Table}
 use Rattle.leveldb_table.specs.declared.table_reader.walk.TableCore.{TableCore}
 use Rattle.leveldb_table.specs.Block.{HasEntries}
-use Rattle.leveldb_table.specs.TableReaderMoves.{LooksUp, LookUpInTable, HasLine, InsideOr, ToBlock, ToFirstPair, ToLastPair, ToNextPair, ToPreviousPair, ToKeyInBlock, ToKeyByLine, ToKeyByLineIfLet, LookUpByLine, LookUpFromLine, line_for, Forward, Backward, ToFirst, ToNextBlock, ToPreviousBlock, ToKey, ToKeyIfLet}
+use Rattle.leveldb_table.specs.TableReaderMoves.{LooksUp, found_with, LookUpInTable, HasLine, InsideOr, ToBlock, ToFirstPair, ToLastPair, ToNextPair, ToPreviousPair, ToKeyInBlock, ToKeyByLine, ToKeyByLineIfLet, LookUpByLine, LookUpFromLine, line_for, Forward, Backward, ToFirst, ToNextBlock, ToPreviousBlock, ToKey, ToKeyIfLet}
 use Rattle.leveldb_table.proofs.BlockCacheLemmas.{GainsBlocks-refl, GainsBlocks-trans, GainsBlocks-weaker, HoldsOnlyOf-after}
 use Rattle.leveldb_table.proofs.TableBlockLemmas.{KeepsDisk-refl, FileHas-after, ForBytesOf-before, reads_then, reads_weaker, reads_own, reads_ok, reads_refused}
 use Rattle.leveldb_table.proofs.TableReaderWalkLemmas.{ok_refused, err_holds, some_none, some_there, same_handle, same_value, line_is_of, part_pairs, IsInto, is_there_along, parts_some, named_at, named_none, seek_in, seek_after, previous_block, last_block, lacks_some, next_in}
@@ -635,3 +636,20 @@ module _ {E C FP F : Type 0} {order : CmpGhosts C} {env : EnvGhosts E F} {coding
   looks_up_err P (Ok found) none reads gathers = absurd none
   looks_up_err P (Err status) some reads gathers =
       record { reads = reads; ok = λ bytes has parts lines ordered right fit holds. tt; finds = λ bytes has holds. tt; gathers = gathers }
+
+-- A look-up with a finder: its value is under the finder's key.
+
+-- it found what is said of the pair
+pub found_says : (P : Option Pair → Type 0) (key : List ℕ) (result : Result (Option (List ℕ)) Status) → IfOk result (λ value. P (pair_with key value)) → IfOk (found_with key result) P
+found_says P key (Ok value) says = says
+found_says P key (Err status) says = tt
+
+-- its error is the result's
+pub found_fails : (P : Status → Type 0) (key : List ℕ) (result : Result (Option (List ℕ)) Status) → IfErr result P → IfErr (found_with key result) P
+found_fails P key (Ok value) fails = tt
+found_fails P key (Err status) fails = fails
+
+-- it fails where the result is an error
+pub found_refused : (P : Status → Type 0) (key : List ℕ) (result : Result (Option (List ℕ)) Status) → IsErrAnd result P → IsErrAnd (found_with key result) P
+found_refused P key (Ok value) refused = absurd refused
+found_refused P key (Err status) refused = refused

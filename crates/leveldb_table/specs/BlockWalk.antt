@@ -70,6 +70,10 @@ IsWithin bytes entries key spot = IfSome spot (IsSpot bytes entries key)
 abbrev pub position_of : List BlockEntry → Option Spot → Option ℕ
 position_of entries spot = option_map (λ spot. entries_before spot.start entries) spot
 
+-- the pair of this key and a value, if there is one
+abbrev pub pair_with : List ℕ → Option (List ℕ) → Option Pair
+pair_with key value = option_map (λ value. (key, value)) value
+
 -- the position is that of the entry that begins at the one offset and ends at the other
 abbrev pub IsEntryBetween : List ℕ → List BlockEntry → List ℕ → Option Spot → ℕ → ℕ → Type 0
 IsEntryBetween bytes entries key spot start next =

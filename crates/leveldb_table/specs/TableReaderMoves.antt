@@ -12,6 +12,7 @@ use Rattle.leveldb_base.specs.declared.error.StatusCode.TheVariants.{Corruption}
 use Rattle.leveldb_env.specs.declared.env.Env.{Ghosts as EnvGhosts}
 use Rattle.leveldb_env.specs.Compressor.{Codings}
 use Rattle.leveldb_table.specs.Block.{IsBlock}
+use Rattle.leveldb_table.specs.BlockWalk.{pair_with}
 use Rattle.leveldb_table.specs.Cache.{Cached}
 use Rattle.leveldb_table.specs.BlockCache.{HoldsOnlyOf}
 use Rattle.leveldb_table.specs.Table.{Part, index_pair}
@@ -136,6 +137,11 @@ module _ {E C FP F : Type 0} {order : CmpGhosts C} where
     pub position : TablePosition
     pub look_up : LookUpInTable codings matches table key bytes (Ok position)
     pub is : found ≡ pair_at position.pairs position.inner
+
+-- what a look-up found that returns a value and leaves its key
+abbrev pub found_with : List ℕ → Result (Option (List ℕ)) Status → Result (Option Pair) Status
+found_with key (Ok value) = Ok (pair_with key value)
+found_with key (Err status) = Err status
 
 module _ {E C FP F : Type 0} {order : CmpGhosts C} where
   -- What a look-up of a key in an open table says, whatever its file is.

@@ -1,6 +1,6 @@
 //! Caches: values under keys of 16 bytes, as many as there is room for, of which the least
 //! recently used goes first.
-ghost use Rattle.std.specs.Prelude.{◌≡◌, ◌↔◌, ◌+◌, ◌^◌, ◌<◌, ◌≤◌, [], length, None, Some, nat_eq, IfOk, IfErr, OnErr, OnOk, IsErrAnd, option_copied};
+ghost use Rattle.std.specs.Prelude.{◌≡◌, ◌↔◌, ◌+◌, ◌^◌, ◌<◌, ◌≤◌, [], length, None, Some, nat_eq, IfOk, IfErr, OnErr, OnOk, IsErrAnd, IsTrue, option_copied};
 ghost use Rattle.std.specs.List.{IsDistinct};
 ghost use Rattle.std.specs.Str.{bytes_eq};
 ghost use Rattle.std.specs.Map.{keys_of};
@@ -80,6 +80,13 @@ impl<T: Drop> Cache<T> {
         };
         self.id = id;
         Ok(id)
+    }
+
+    /// Whether all numbers are used up, so that the next `new_cache_id` fails.
+    pub fn is_used_up(&self) -> bool
+        ensures { IsTrue result ↔ (self.now.given + 1 ≡ 2 ^ 64) }
+    {
+        self.id == CacheID::MAX
     }
 
     /// How many values there are.

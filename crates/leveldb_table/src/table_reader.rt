@@ -31,10 +31,12 @@ use leveldb_env::options::Options;
 use open::{read_filters, read_index};
 use std::alloc::Global;
 
+mod finder;
 mod iter;
 mod open;
 mod walk;
 
+pub use finder::Finder;
 pub use iter::TableIterator;
 pub use walk::TableCore;
 
@@ -192,7 +194,7 @@ impl<E: Env, C: Cmp + Copy + Drop, FP: FilterPolicy + Drop> Table<E, C, FP> {
 
 impl<E: Env, C: Cmp + Copy + Drop, FP: FilterPolicy> Table<E, C, FP> {
     ghost use Rattle.leveldb_table.specs.TableReader.{HandlesFit, IsOffsetBy, lines_of, line_in, meta_of, offset_in, lets, GainsBlocksOf};
-    ghost use Rattle.leveldb_table.specs.TableReaderMoves.{LooksUp};
+    ghost use Rattle.leveldb_table.specs.TableReaderMoves.{LooksUp, found_with};
 
     /// The offset of the block that would hold the key, and past the last that of the metaindex.
     /// `Corruption` where the index's line for the key names no handle.
@@ -228,11 +230,32 @@ impl<E: Env, C: Cmp + Copy + Drop, FP: FilterPolicy> Table<E, C, FP> {
             LooksUp E.Env codings FP.matches self.now key.now env.old cache.old result env.new
             cache.new }
     {
-        let mut core = TableCore::new(alloc, self)?;
-        if core.seek_let(self, env, cache, compressors, key)? {
-            return core.into_pair();
-        }
-        Ok(None)
+        let mut finder = Finder::new(alloc);
+        let Some(value) = self.find(alloc, env, cache, compressors, key, &mut finder)? else {
+            return Ok(None);
+        };
+        Ok(Some((Bytes::from_vec(finder.into_key())?, value)))
+    }
+
+    /// `get`, but it returns the value alone, and the finder has the pair's key. Where the finder
+    /// has room for the keys and the cache has the block, it takes no memory. Where it finds
+    /// nothing, the finder's key is of no use; an error may leave the finder without room.
+    pub fn find(
+        &self,
+        alloc: Global,
+        env: &mut E,
+        cache: &mut BlockCache<C>,
+        compressors: &CompressorList,
+        key: &[u8],
+        finder: &mut Finder,
+    ) -> Result<Option<Bytes>>
+        ensures { let codings = ⟦<CompressorList as Compressors>⟧.codings compressors.now in
+            LooksUp E.Env codings FP.matches self.now key.now env.old cache.old
+            (found_with finder.new result) env.new cache.new }
+    {
+        let mut core = TableCore::with_finder(alloc, self, finder)?;
+        core.seek_let(self, env, cache, compressors, key)?;
+        core.into_value(finder)
     }
 
     // The handle that a line of the index has as its value.

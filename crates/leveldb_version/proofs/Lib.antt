@@ -73,3 +73,10 @@ pub mod OpeningEndLemmas
 pub mod StoreTablesLemmas
 pub mod TableCacheLemmas
 pub mod TableCacheCallLemmas
+pub mod SearchLemmas
+pub mod ReadTableLemmas
+pub mod NewestLemmas
+pub mod SearchTableLemmas
+pub mod NewestTablesLemmas
+pub mod GetLemmas
+pub mod DisjointLemmas

@@ -33,7 +33,7 @@ kept_in p (y ∷ ys) x c passes =
     kept_there p y x ys (p y) refl passes
     (⊎_elim (λ (same : y ≡ x). inl same) (λ (rest : Contains ys x). inr (kept_in p ys x rest passes)) (in_cases y x ys c))
 
-none_passes : {A : Type 0} (p : A → Bool) (xs : List A) → list_any p xs ≡ false → (x : A) → Contains xs x → p x ≡ false
+pub none_passes : {A : Type 0} (p : A → Bool) (xs : List A) → list_any p xs ≡ false → (x : A) → Contains xs x → p x ≡ false
 none_passes p xs none x c =
     is_false (p x) (λ t. both (list_any p xs) (list_any-from_Any p xs (c.0, x, c.1, c.2, t)) none)
 

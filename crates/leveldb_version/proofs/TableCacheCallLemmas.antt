@@ -1,56 +1,70 @@
 -- What the calls of a cache of open tables return and leave.
-use Rattle.std.specs.Prelude.{IfErr, IfOk, IsErrAnd, IsSome, OnErr, OnOk, is_some, option_copied}
-use Rattle.std.proofs.Common.{◌≡◌, ◌≢◌, ◌⊎◌, inl, inr, ⊎_elim, ℕ, ◌+◌, ◌<◌, ◌^◌, Bool, true, false, List, Option, None, Some, Result, Ok, Err, Bor, refl, sym, ◌∙◌, ap, subst, arith}
+use Rattle.std.specs.Prelude.{IfErr, IfOk, IfSome, IsErrAnd, IsSome, IsTrue, OnErr, OnOk, is_some, option_copied}
+use Rattle.std.proofs.Common.{◌≡◌, ◌≢◌, ◌⊎◌, inl, inr, ⊎_elim, ℕ, ◌<◌, ◌^◌, Bool, true, false, List, Option, None, Some, Result, Ok, Err, Bor, refl, sym, ◌∙◌, ap, subst, arith}
 use Rattle.std.proofs.lemmas.Bool.Decides.{eqb_tells}
-use Rattle.std.proofs.lemmas.Result.{IfOk-weaker}
+use Rattle.std.proofs.lemmas.Result.{IfErr-weaker, IfOk-weaker, on_ok_weaker}
 use Rattle.std.specs.Cmp.Lexicographic.{same_text}
 use Rattle.std.specs.Str.{bytes_eq}
 use Rattle.leveldb_base.specs.Error.{IsOutOfMemory}
-use Rattle.leveldb_base.specs.Types.{Pair}
+use Rattle.leveldb_base.specs.Types.{Pair, seek_position}
 use Rattle.leveldb_base.specs.declared.cmp.Cmp.{Ghosts as CmpGhosts}
 use Rattle.leveldb_base.specs.declared.cmp.internal.InternalKeyCmp.{InternalKeyCmp}
 use Rattle.leveldb_base.specs.declared.error.Status.{Status}
-use Rattle.leveldb_env.proofs.EnvLemmas.{bytes_eq-apart}
+use Rattle.leveldb_env.proofs.EnvLemmas.{bytes_eq-apart, bytes_eq-same}
+use Rattle.leveldb_env.specs.Compressor.{Codings}
+use Rattle.leveldb_env.specs.FilterBlock.{passes}
 use Rattle.leveldb_env.specs.declared.env.Env.{Ghosts as EnvGhosts}
-use Rattle.leveldb_table.proofs.BlockCacheLemmas.{GainsBlocks-refl, HoldsOnlyOf-after, HoldsOnlyOf-new, HoldsOnlyOf-other, IsNumbered-after, IsNumbered-raised, looked_for_same, others_keep}
-use Rattle.leveldb_table.proofs.TableBlockLemmas.{KeepsDisk-refl, KeepsDisk-trans, fails_ok, fails_weaker, reads_ok, reads_own, reads_refused, reads_then, reads_weaker}
+use Rattle.leveldb_table.proofs.BlockCacheLemmas.{GainsBlocks-refl, GainsBlocks-weaker, HoldsOnlyOf-after, HoldsOnlyOf-new, HoldsOnlyOf-other, IsNumbered-after, IsNumbered-raised, looked_for_same, others_keep, put_finds}
+use Rattle.leveldb_table.proofs.TableBlockLemmas.{KeepsDisk-refl, KeepsDisk-trans, fails_weaker, reads_ok, reads_own, reads_refused, reads_then, reads_weaker}
 use Rattle.leveldb_table.specs.BlockCache.{GainsBlocks, HoldsOnlyOf, IsBlockOfFile}
 use Rattle.leveldb_table.specs.Cache.{Cached, looked_for, others, put_first, value_of}
-use Rattle.leveldb_table.specs.OpenTable.{file_of, id_of}
+use Rattle.leveldb_table.specs.OpenTable.{IsFilteredBy, file_of, id_of}
 use Rattle.leveldb_table.specs.TableBlock.{FileHas, ForBytesOf, KeepsDisk, ReadsFile}
-use Rattle.leveldb_table.specs.TableReaderMoves.{FindsPair, LooksUp}
+use Rattle.leveldb_table.specs.TableReader.{lets, lines_of}
+use Rattle.leveldb_table.specs.TableReaderMoves.{FindsPair, LookUpFromLine, LookUpInTable, LooksUp}
+use Rattle.leveldb_table.specs.TableReaderWalk.{Outcome}
 use Rattle.leveldb_table.specs.declared.block_cache.CachedBlock.{CachedBlock}
-use Rattle.leveldb_version.proofs.TableCacheLemmas.{FileHas-at, HasBytesAt-before, looked_none, matches_blocks, matches_later, matches_left, matches_looked, matches_put, none_value, on_err, on_ok, one_number, put_there, refused_ok, some_is}
-use Rattle.leveldb_version.specs.TableCache.{EvictsTable, GetsPair, HasBytesAt, IsNotOpened, IsOpenedWith, LacksBlockFor, MatchesFile, MatchesFiles, MayFail, OpensNumbered, OpensTableAt, SomeTable, StoreTable, TableOptions, UsesTable, blocks_of, is_opened, path_at, store_of, table_at, table_key, tables_of, was_open}
+use Rattle.leveldb_version.specs.Format.{Format}
+use Rattle.leveldb_version.specs.Paths.{table_path}
+use Rattle.leveldb_version.proofs.TableCacheLemmas.{FileHas-at, looked_none, matches_blocks, matches_found, matches_later, matches_looked, matches_put, matches_renewed, on_ok, one_number, put_there, refused_ok, renewed_closes, renewed_room, renewed_store, same_value, some_is}
+use Rattle.leveldb_version.specs.TableCache.{EvictsTable, ForBytesAt, GetsPair, HasBytesAt, IsNotOpened, IsOpenedWith, IsSameOrClosed, LacksBlockFor, MatchesFile, MatchesFiles, MayFail, OpensNumbered, OpensTableAt, SomeTable, StoreTable, TableOptions, UsesTable, blocks_of, files_at, is_opened, kept, key_matches, key_order, none_kept, none_opened, of_none, of_open, of_opened, path_at, renewed, store_of, table_at, table_key, tables_of, was_open}
 use Rattle.leveldb_version.specs.declared.table_cache.TableCache.{TableCache}
 
 -- ---- closing a table
 
-module _ {E C FP F : Type 0} {order : CmpGhosts (InternalKeyCmp C)} (env : EnvGhosts E F) (old : TableCache E C FP F order) (number : ℕ) (fits : number < 2 ^ 64) (tables : Cached (StoreTable E C FP F order))
+-- other numbers have other keys
+apart_keys : (other number : ℕ) → other < 2 ^ 64 → number < 2 ^ 64 → other ≢ number → bytes_eq (table_key other) (table_key number) ≡ false
+apart_keys other number other_fits fits apart = bytes_eq-apart (table_key other) (table_key number) (λ same. apart (one_number other number other_fits fits same))
+
+module _ {E C FP F : Type 0} {order : CmpGhosts (InternalKeyCmp C)} (old : TableCache E C FP F order) (number : ℕ) (fits : number < 2 ^ 64) (tables : Cached (StoreTable E C FP F order))
     (is : tables ≡ record (tables_of old) { pairs = others (table_key number) (tables_of old).pairs }) (gone : value_of (table_key number) tables.pairs ≡ None) where
   -- what other keys have stays
   kept_other : (key : List ℕ) → bytes_eq key (table_key number) ≡ false → value_of key tables.pairs ≡ value_of key (tables_of old).pairs
   kept_other key apart = ap (λ (c : Cached (StoreTable E C FP F order)). value_of key c.pairs) is ∙ others_keep key (table_key number) apart (tables_of old).pairs
 
-  left : (n : ℕ) (table : StoreTable E C FP F order) → n < 2 ^ 64 → value_of (table_key n) tables.pairs ≡ Some table → table_at old n ≡ Some table
-  left n table n_fits there =
-      (elim (bytes_eq (table_key n) (table_key number)) as (λ b. bytes_eq (table_key n) (table_key number) ≡ b → table_at old n ≡ Some table) [
-        | true ↦ λ same. absurd (none_value gone (ap (λ k. value_of k tables.pairs) (sym (same_text (table_key n) (table_key number) (sym same))) ∙ there))
-        | false ↦ λ apart. sym (kept_other (table_key n) apart) ∙ there
+  closed : (n : ℕ) → IsSameOrClosed n old (record old { tables = tables })
+  closed n =
+      (elim (bytes_eq (table_key n) (table_key number)) as (λ b. bytes_eq (table_key n) (table_key number) ≡ b → IsSameOrClosed n old (record old { tables = tables })) [
+        | true ↦ λ same. inl (ap (λ k. value_of k tables.pairs) (same_text (table_key n) (table_key number) (sym same)) ∙ gone)
+        | false ↦ λ apart. inr (kept_other (table_key n) apart)
       ]) refl
 
-  pub evicted : (found : Bool) → found ≡ is_some (table_at old number) → EvictsTable env number old found (record old { tables = tables })
+  pub evicted : (found : Bool) → found ≡ is_some (table_at old number) → EvictsTable number old found (record old { tables = tables })
   evicted found found_is = record {
     was_open = found_is;
-    closed = gone;
     tables = is;
-    others_stay = λ other other_fits apart. kept_other (table_key other) (bytes_eq-apart (table_key other) (table_key number) (λ same. apart (one_number other number other_fits fits same)));
-    path = refl;
-    blocks = refl;
-    matches = λ by state was. matches_left env by old tables state left was;
+    closed = gone;
+    others_stay = λ other other_fits apart. kept_other (table_key other) (apart_keys other number other_fits fits apart);
+    closes = record {
+      path = refl;
+      blocks = refl;
+      room = ap (λ (c : Cached (StoreTable E C FP F order)). c.capacity) is;
+      found = refl;
+      each = λ n n_fits. closed n;
+    };
   }
 
--- ---- using a table
+-- ---- what results say
 
 -- what is borrowed is there
 pub borrowed_there : {T : Type 0} (found : Option (Bor T)) {o : Option T} {there : Bool} → option_copied found ≡ o → there ≡ is_some found → there ≡ true → IsSome o
@@ -71,24 +85,127 @@ refused_if_ok : {T : Type 0} (Q : Status → Type 0) (P : T → Type 0) (result 
 refused_if_ok Q P (Ok value) refused = absurd refused
 refused_if_ok Q P (Err status) refused = tt
 
-module _ {E C FP F : Type 0} {order : CmpGhosts (InternalKeyCmp C)} (env : EnvGhosts E F) (by : TableOptions C FP) (order_is : order.cmp by.cmp ≡ by.order) where
+either : {T P Q : Type 0} (result : Result T Status) → OnOk result P → OnErr result Q → Q ⊎ P
+either (Ok value) is unput = inr is
+either (Err status) put is = inl is
+
+-- what holds of each error
+if_err : {T : Type 0} {P : Status → Type 0} (result : Result T Status) → ((status : Status) → P status) → IfErr result P
+if_err (Ok value) all = tt
+if_err (Err status) all = all status
+
+refused_if_err : {T : Type 0} (P : Status → Type 0) {status : Status} (result : Result T Status) → IsErrAnd result (λ other. other ≡ status) → P status → IfErr result P
+refused_if_err P (Ok value) refused is = tt
+refused_if_err P (Err other) refused is = subst P (sym refused) is
+
+-- where there is room for none, a put changes nothing
+pub put_none : {T : Type 0} (key : List ℕ) (value : T) (cache : Cached T) → cache.capacity ≡ 0 → cache ≡ record cache { pairs = put_first cache.capacity key value cache.pairs }
+put_none key value cache none = ap (λ n. record cache { pairs = put_first n key value cache.pairs }) (sym none)
+
+-- what another key has after a put, it had
+put_other : {T : Type 0} (q : List ℕ) (capacity : ℕ) (key : List ℕ) (value : T) (pairs : List (List ℕ × T)) → bytes_eq q key ≡ false
+    → (value_of q (put_first capacity key value pairs) ≡ None) ⊎ (value_of q (put_first capacity key value pairs) ≡ value_of q pairs)
+put_other {T} q capacity key value pairs apart =
+    (elim (value_of q (put_first capacity key value pairs)) as (λ found. value_of q (put_first capacity key value pairs) ≡ found → (found ≡ None) ⊎ (found ≡ value_of q pairs)) [
+      | None ↦ λ none. inl refl
+      | Some held ↦ λ there. ⊎_elim (λ before. inr (sym before)) (λ own. absurd (not_own own.0)) (put_finds q capacity key value held pairs there)
+    ]) refl
+  where
+    not_own : q ≡ key → ⊥
+    not_own same = let own : bytes_eq q key ≡ true = rw same (bytes_eq-same key) in absurd (cc)
+
+-- where there is room, what was put is found
+pub put_found : {T : Type 0} (key k : List ℕ) (value : T) (cache put : Cached T) → k ≡ key → put ≡ record cache { pairs = put_first cache.capacity key value cache.pairs } → 0 < cache.capacity
+    → (found : T) → Some found ≡ value_of k put.pairs → found ≡ value
+put_found key k value cache put same is room found there =
+    same_value (sym (there ∙ ap (λ q. value_of q put.pairs) same ∙ ap (λ c. value_of key c.pairs) is)) (put_there cache.capacity key value cache.pairs room)
+
+-- a look-up that is refused is so where the refusal is passed on
+pub looks_refused : {E C FP F : Type 0} {order : CmpGhosts (InternalKeyCmp C)} {env : EnvGhosts E F} {codings : Codings} {matches : FP → List ℕ → List ℕ → Bool} {table : StoreTable E C FP F order} {key : List ℕ} {from to : E} {blocks after : Cached (CachedBlock (InternalKeyCmp C) order)}
+    {status : Status} (result : Result (Option Pair) Status) → IsErrAnd result (λ other. other ≡ status) → LooksUp env codings matches table key from blocks (Err status) to after → LooksUp env codings matches table key from blocks result to after
+looks_refused (Ok found) refused looks = absurd refused
+looks_refused {env = env} {codings} {matches} {table} {key} {from} {to} {blocks} {after} (Err other) refused looks =
+    subst (λ (s : Status). LooksUp env codings matches table key from blocks (Err s) to after) (sym refused) looks
+
+-- a table was used, and then there was no memory for a copy of what was found
+pub uses_uncopied : {E C FP F : Type 0} {order : CmpGhosts (InternalKeyCmp C)} {T U : Type 0} (env : EnvGhosts E F) {Why : Status → Type 0} {number : ℕ} {from to : E} {old new : TableCache E C FP F order} {value : U} (result : Result T Status) → IsErrAnd result IsOutOfMemory
+    → UsesTable env Why number from old (Ok value) to new → UsesTable env Why number from old result to new
+uses_uncopied env {Why} result out uses = record {
+  there = refused_ok IsOutOfMemory _ result out;
+  reads = reads_own env {Why = Why} {P = IsOutOfMemory} result uses.reads.kept_disk uses.reads.cause.ok out (λ status memory. inl memory);
+  used = refused_ok IsOutOfMemory _ result out;
+  on_error = if_err result (λ status. kept uses.used);
+  others = uses.others;
+  path = uses.path;
+  room = uses.room;
+  blocks = uses.blocks;
+}
+
+-- ---- filters of the options
+
+-- the filters of a table let the same keys pass by any meaning of its policy
+same_lets : {E C FP F : Type 0} {order : CmpGhosts (InternalKeyCmp C)} (format : Format) (policy : FP) (matches : FP → List ℕ → List ℕ → Bool) → matches policy ≡ key_matches format policy → (table : StoreTable E C FP F order) → IsFilteredBy policy table
+    → lets matches table ≡ lets (key_matches format) table
+same_lets format policy matches is table filtered =
+    (elim table.filters as (λ f. IfSome f (λ reader. reader.policy ≡ policy)
+    → (λ (offset : ℕ) (key : List ℕ). elim f [ None ↦ true | Some reader ↦ passes (matches reader.policy) reader.filters offset key ])
+    ≡ (λ (offset : ℕ) (key : List ℕ). elim f [ None ↦ true | Some reader ↦ passes (key_matches format reader.policy) reader.filters offset key ])) [
+      | None ↦ λ none. refl
+      | Some reader ↦ λ own. ap (λ m. λ (offset : ℕ) (key : List ℕ). passes m reader.filters offset key) (ap matches own ∙ is)
+    ]) filtered
+
+-- ---- which table is looked up in
+
+-- a table that is there is the one that was looked up in
+pub in_open : {E C FP F : Type 0} {order : CmpGhosts (InternalKeyCmp C)} {env : EnvGhosts E F} {codings : Codings} {matches : FP → List ℕ → List ℕ → Bool} {key : List ℕ} {from to : E} {blocks after : Cached (CachedBlock (InternalKeyCmp C) order)}
+    {result : Result (Option Pair) Status} (o : Option (StoreTable E C FP F order)) {table : StoreTable E C FP F order} → o ≡ Some table → LooksUp env codings matches table key from blocks result to after
+    → (other : StoreTable E C FP F order) → o ≡ Some other → LooksUp env codings matches other key from blocks result to after
+in_open {env = env} {codings} {matches} {key} {from} {to} {blocks} {after} {result} o there looks other at = subst (λ t. LooksUp env codings matches t key from blocks result to after) (same_value there at) looks
+
+module _ {E C FP F : Type 0} {order : CmpGhosts (InternalKeyCmp C)} (env : EnvGhosts E F) (by : TableOptions C FP) (order_is : order.cmp (record { 0 = by.cmp }) ≡ key_order by.format) where
+  -- ---- blocks
+
   -- blocks that a table gains are its file's
-  own_blocks : {state : E} (table : StoreTable E C FP F order) {bytes : List ℕ} → IsOpenedWith env by table bytes → FileHas env state (file_of table) bytes
-      → (offset : ℕ) (held : CachedBlock (InternalKeyCmp C) order) → ForBytesOf env state (file_of table) (λ bytes. IsBlockOfFile by.codings (order.cmp table.cmp) bytes offset held)
-      → IsBlockOfFile by.codings by.order bytes offset held
+  own_blocks : {state : E} (table : StoreTable E C FP F order) {bytes : List ℕ} → IsOpenedWith by table bytes → FileHas env state (file_of table) bytes
+      → (offset : ℕ) (held : CachedBlock (InternalKeyCmp C) order) → ForBytesOf env state (file_of table) (λ bytes. IsBlockOfFile by.format.codings (order.cmp table.cmp) bytes offset held)
+      → IsBlockOfFile by.format.codings (key_order by.format) bytes offset held
   own_blocks table {bytes} opened has offset held right =
-      subst (λ cmp. IsBlockOfFile by.codings cmp bytes offset held) (ap order.cmp opened.ordered.0 ∙ order_is) (right bytes has)
+      subst (λ cmp. IsBlockOfFile by.format.codings cmp bytes offset held) (ap order.cmp opened.ordered.0 ∙ order_is) (right bytes has)
 
   -- what is held in the options' order is held in the table's
-  held_by : (table : StoreTable E C FP F order) {bytes : List ℕ} (blocks : Cached (CachedBlock (InternalKeyCmp C) order)) → IsOpenedWith env by table bytes
-      → HoldsOnlyOf by.codings by.order (id_of table) bytes blocks → HoldsOnlyOf by.codings (order.cmp table.cmp) (id_of table) bytes blocks
+  held_by : (table : StoreTable E C FP F order) {bytes : List ℕ} (blocks : Cached (CachedBlock (InternalKeyCmp C) order)) → IsOpenedWith by table bytes
+      → HoldsOnlyOf by.format.codings (key_order by.format) (id_of table) bytes blocks → HoldsOnlyOf by.format.codings (order.cmp table.cmp) (id_of table) bytes blocks
   held_by table {bytes} blocks opened holds =
-      subst (λ cmp. HoldsOnlyOf by.codings cmp (id_of table) bytes blocks) (sym (ap order.cmp opened.ordered.0 ∙ order_is)) holds
+      subst (λ cmp. HoldsOnlyOf by.format.codings cmp (id_of table) bytes blocks) (sym (ap order.cmp opened.ordered.0 ∙ order_is)) holds
+
+  -- ---- look-ups
+
+  module _ (matches : FP → List ℕ → List ℕ → Bool) (matches_is : matches by.policy ≡ key_matches by.format by.policy) where
+    look_up_by : (table : StoreTable E C FP F order) (key bytes : List ℕ) (out : Outcome) → IsFilteredBy by.policy table → LookUpInTable by.format.codings matches table key bytes out
+        → LookUpInTable by.format.codings (key_matches by.format) table key bytes out
+    look_up_by table key bytes out filtered looked =
+        subst (λ l. LookUpFromLine by.format.codings (order.cmp table.cmp) bytes (lines_of table) l key (seek_position (order.cmp table.index.cmp) (lines_of table) key) out)
+        (same_lets by.format by.policy matches matches_is table filtered) looked
+
+    -- a table that is opened finds or lacks what some table does
+    some_finds : (table : StoreTable E C FP F order) {key bytes : List ℕ} → IsOpenedWith by table bytes → (found : Option Pair) → FindsPair by.format.codings matches table key bytes found
+        → SomeTable by bytes (λ (t : StoreTable E C FP F order). FindsPair by.format.codings (key_matches by.format) t key bytes found)
+    some_finds table {key} {bytes} opened found finds = (table, opened, record { position = finds.position; look_up = look_up_by table key bytes (Ok finds.position) opened.filtered finds.look_up; is = finds.is })
+
+    some_lacks : (table : StoreTable E C FP F order) (key : List ℕ) {bytes : List ℕ} (out : Outcome) → IsOpenedWith by table bytes → LookUpInTable by.format.codings matches table key bytes out
+        → SomeTable by bytes (λ (t : StoreTable E C FP F order). LookUpInTable by.format.codings (key_matches by.format) t key bytes out)
+    some_lacks table key {bytes} out opened looked = (table, opened, look_up_by table key bytes out opened.filtered looked)
 
   module _ (old : TableCache E C FP F order) (state : E) (number : ℕ) (fits : number < 2 ^ 64) where
     -- ---- a table that is open
 
     module _ (table : StoreTable E C FP F order) (there : table_at old number ≡ Some table) (tables : Cached (StoreTable E C FP F order)) (tables_are : tables ≡ record (tables_of old) { pairs = looked_for (table_key number) (tables_of old).pairs }) where
+      found_as_before : (n : ℕ) → value_of (table_key n) tables.pairs ≡ table_at old n
+      found_as_before n = ap (λ (c : Cached (StoreTable E C FP F order)). value_of (table_key n) c.pairs) tables_are ∙ looked_for_same (table_key n) (table_key number) (tables_of old).pairs
+
+      same_room : tables.capacity ≡ (tables_of old).capacity
+      same_room = ap (λ (c : Cached (StoreTable E C FP F order)). c.capacity) tables_are
+
       -- it is used for nothing yet
       pub stays_open : OpensTableAt env by number state old (Ok tt) state (record old { tables = tables })
       stays_open = record {
@@ -96,305 +213,303 @@ module _ {E C FP F : Type 0} {order : CmpGhosts (InternalKeyCmp C)} (env : EnvGh
           there = inl (some_is there);
           reads = reads_ok env (KeepsDisk-refl env state) refl;
           used = was_open (some_is there) tables_are;
-          unused = tt;
+          on_error = tt;
+          others = λ other other_fits apart. inr (found_as_before other);
           path = refl;
-          room = refl;
-          ids = inl refl;
+          room = same_room;
+          blocks = of_open table there (GainsBlocks-refl (id_of table) (λ _ _. Unit {0}) (blocks_of old));
         };
-        is_open = λ room. some_is (ap (λ (c : Cached (StoreTable E C FP F order)). value_of (table_key number) c.pairs) tables_are ∙ looked_for_same (table_key number) (table_key number) (tables_of old).pairs ∙ there);
+        is_open = λ room. some_is (found_as_before number ∙ there);
+        stays = λ now_open. record { ok = refl; no_call = refl; cache = ap (λ t. record old { tables = t }) tables_are };
+        matches = λ modelled was. matches_looked env by old tables (files_at env state) number tables_are was;
       }
 
       -- a key is looked up in it
-      module _ (key : List ℕ) (result : Result (Option Pair) Status) {to : E} {blocks : Cached (CachedBlock (InternalKeyCmp C) order)} (looks : LooksUp env by.codings by.matches table key state (blocks_of old) result to blocks) where
-        pub uses_open : UsesTable env (MayFail env by state old number) number state old result to (record old { tables = tables; blocks = blocks })
+      module _ (matches : FP → List ℕ → List ℕ → Bool) (matches_is : matches by.policy ≡ key_matches by.format by.policy) (key : List ℕ) (result : Result (Option Pair) Status) (found : List ℕ) {to : E} {blocks : Cached (CachedBlock (InternalKeyCmp C) order)}
+          (looks : LooksUp env by.format.codings matches table key state (blocks_of old) result to blocks) where
+        pub uses_open : UsesTable env (MayFail env by state old number) number state old result to (record old { tables = tables; blocks = blocks; finder = found })
         uses_open = record {
           there = on_ok result (inl (some_is there));
           reads = reads_weaker env result (λ status lack. inr (inl (some_is there), lack.0)) looks.reads;
           used = on_ok result (was_open (some_is there) tables_are);
-          unused = on_err result (inr (was_open (some_is there) tables_are));
+          on_error = if_err result (λ status. kept (was_open (some_is there) tables_are));
+          others = λ other other_fits apart. inr (found_as_before other);
           path = refl;
-          room = looks.gathers.capacity;
-          ids = inl looks.gathers.given;
+          room = same_room;
+          blocks = of_open table there (GainsBlocks-weaker (λ offset held right. tt) looks.gathers);
         }
 
-        module _ (was : MatchesFiles env by state old) where
-          open_now : MatchesFile env by state old number table
+        module _ (modelled : IsTrue env.models_disk) (was : MatchesFiles env by (files_at env state) old) where
+          open_now : MatchesFile env by (files_at env state) old number table
           open_now = was.each number table fits there
 
-          has_open : {bytes : List ℕ} → HasBytesAt env state (path_at old number) bytes → FileHas env state (file_of table) bytes
-          has_open has = FileHas-at env open_now.path (KeepsDisk-refl env state) has
+          has_open : {bytes : List ℕ} → HasBytesAt (files_at env state) (path_at old number) bytes → FileHas env state (file_of table) bytes
+          has_open has = FileHas-at env modelled (open_now.path modelled) (KeepsDisk-refl env state) has
 
-          gained_open : MatchesFiles env by state (record old { blocks = blocks })
+          gained_open : MatchesFiles env by (files_at env state) (record old { blocks = blocks })
           gained_open =
               let gains = looks.gathers in let given = gains.given in let ids = was.ids in
-              matches_blocks env by old blocks state was (omega (arith, given, ids)) (omega (arith, given)) (IsNumbered-after open_now.given gains was.numbered) holds
+              matches_blocks env by old blocks (files_at env state) was (omega (arith, given, ids)) (omega (arith, given)) (IsNumbered-after open_now.given gains was.numbered) holds
             where
-              holds : (n : ℕ) (other : StoreTable E C FP F order) → n < 2 ^ 64 → table_at old n ≡ Some other → (bytes : List ℕ) → HasBytesAt env state (path_at old n) bytes
-                  → HoldsOnlyOf by.codings by.order (id_of other) bytes blocks
+              holds : (n : ℕ) (other : StoreTable E C FP F order) → n < 2 ^ 64 → table_at old n ≡ Some other → (bytes : List ℕ) → HasBytesAt (files_at env state) (path_at old n) bytes
+                  → HoldsOnlyOf by.format.codings (key_order by.format) (id_of other) bytes blocks
               holds n other n_fits at bytes has =
                   let it = was.each n other n_fits at in
                   let ids = was.ids in let given = it.given in let own_given = open_now.given in
                   ⊎_elim
                   (λ same. (let one = was.apart n number other table n_fits fits at there same.1 in
-                  let here = subst (λ m. HasBytesAt env state (path_at old m) bytes) one has in
-                  subst (λ i. HoldsOnlyOf by.codings by.order i bytes blocks) (sym same.1)
+                  let here = subst (λ m. HasBytesAt (files_at env state) (path_at old m) bytes) one has in
+                  subst (λ i. HoldsOnlyOf by.format.codings (key_order by.format) i bytes blocks) (sym same.1)
                   (HoldsOnlyOf-after (own_blocks table (open_now.opened bytes here) (has_open here)) looks.gathers (open_now.blocks bytes here))))
                   (λ apart. HoldsOnlyOf-other (omega (arith, own_given, ids)) (omega (arith, given, ids)) (λ same. apart.1 (sym same)) looks.gathers (it.blocks bytes has))
                   (eqb_tells (id_of other) (id_of table))
 
-          pub gets_open : GetsPair env by number key state old result to (record old { tables = tables; blocks = blocks })
+          pub gets_open : GetsPair env by number key state old result to (record old { tables = tables; blocks = blocks; finder = found })
           gets_open = record {
             finds = λ bytes has.
                 (let opened = open_now.opened bytes has in
-                IfOk-weaker result (FindsPair by.codings by.matches table key bytes) (λ found. SomeTable env by bytes (λ (t : StoreTable E C FP F order). FindsPair by.codings by.matches t key bytes found))
-                (λ found it. (table, opened, it)) (looks.finds bytes (has_open has) (held_by table (blocks_of old) opened (open_now.blocks bytes has))));
+                IfOk-weaker result (FindsPair by.format.codings matches table key bytes) (λ found. SomeTable by bytes (λ (t : StoreTable E C FP F order). FindsPair by.format.codings (key_matches by.format) t key bytes found))
+                (some_finds matches matches_is table opened) (looks.finds bytes (has_open has) (held_by table (blocks_of old) opened (open_now.blocks bytes has))));
             cause = fails_weaker env result (λ status lack. inr (λ bytes has.
-                (let opened = open_now.opened bytes has in (table, opened, (lack.1 bytes (has_open has)).1 (held_by table (blocks_of old) opened (open_now.blocks bytes has)))))) looks.reads.cause;
-            matches = matches_later env by (record old { tables = tables; blocks = blocks }) looks.reads.kept_disk
-                (matches_looked env by (record old { blocks = blocks }) tables state number tables_are gained_open);
+                (let opened = open_now.opened bytes has in some_lacks matches matches_is table key (Err status) opened ((lack.1 bytes (has_open has)).1 (held_by table (blocks_of old) opened (open_now.blocks bytes has)))))) looks.reads.cause;
+            matches = matches_later env by (record old { tables = tables; blocks = blocks; finder = found }) modelled looks.reads.kept_disk
+                (matches_found env by (record old { tables = tables; blocks = blocks }) found (files_at env state)
+                (matches_looked env by (record old { blocks = blocks }) tables (files_at env state) number tables_are gained_open));
           }
 
     -- ---- a table that isn't open
 
-    module _ (none : table_at old number ≡ None) (tables : Cached (StoreTable E C FP F order)) (tables_are : tables ≡ record (tables_of old) { pairs = looked_for (table_key number) (tables_of old).pairs }) where
-      same_tables : tables ≡ tables_of old
-      same_tables = tables_are ∙ ap (λ ps. record (tables_of old) { pairs = ps }) (looked_none (table_key number) (tables_of old).pairs none)
+    module _ (none : table_at old number ≡ None) where
+      -- a look-up leaves the cache as it is
+      same_cache : {tables : Cached (StoreTable E C FP F order)} → tables ≡ record (tables_of old) { pairs = looked_for (table_key number) (tables_of old).pairs } → record old { tables = tables } ≡ old
+      same_cache tables_are = ap (λ t. record old { tables = t }) (tables_are ∙ ap (λ ps. record (tables_of old) { pairs = ps }) (looked_none (table_key number) (tables_of old).pairs none))
 
-      put_old : (table : StoreTable E C FP F order) (put : Cached (StoreTable E C FP F order)) → put ≡ record tables { pairs = put_first tables.capacity (table_key number) table tables.pairs }
-          → put ≡ record (tables_of old) { pairs = put_first (tables_of old).capacity (table_key number) table (tables_of old).pairs }
-      put_old table put is = is ∙ ap (λ (t : Cached (StoreTable E C FP F order)). record t { pairs = put_first t.capacity (table_key number) table t.pairs }) same_tables
+      -- so it is opened in the cache as it was
+      pub opens_before : {tables : Cached (StoreTable E C FP F order)} → tables ≡ record (tables_of old) { pairs = looked_for (table_key number) (tables_of old).pairs }
+          → {result : Result (StoreTable E C FP F order) Status} {to : E} {new : TableCache E C FP F order} → OpensNumbered env by number state (record old { tables = tables }) result to new → OpensNumbered env by number state old result to new
+      opens_before tables_are {result} {to} {new} opens = subst (λ cache. OpensNumbered env by number state cache result to new) (same_cache tables_are) opens
 
-      -- and isn't opened
-      module _ {T : Type 0} (result : Result T Status) {status : Status} {to : E} {blocks : Cached (CachedBlock (InternalKeyCmp C) order)} (refused : IsErrAnd result (λ other. other ≡ status))
-          (opens : OpensNumbered env by (store_of old) number state (blocks_of old) (Err status) to blocks) where
+      -- ---- and isn't opened
+
+      module _ {T : Type 0} (result : Result T Status) {status : Status} {to : E} {new : TableCache E C FP F order} (refused : IsErrAnd result (λ other. other ≡ status))
+          (opens : OpensNumbered env by number state old (Err status) to new) where
+        left_has : (P : TableCache E C FP F order → Type 0) → P old → P (renewed old) → P new
+        left_has P same anew = ⊎_elim (λ is. subst P (sym is) same) (λ is. subst P (sym is) anew) opens.err
+
         pub reads_unopened : (Why : Status → Type 0) → ((other : Status) → IsNotOpened env by state old number other → Why other) → ReadsFile env Why state to result
         reads_unopened Why why = reads_refused env result refused (reads_weaker env (Err status) (λ other unopened. why other (none, unopened)) opens.reads)
 
-        pub uses_unopened : (Why : Status → Type 0) → ((other : Status) → IsNotOpened env by state old number other → Why other) → UsesTable env Why number state old result to (record old { tables = tables; blocks = blocks })
+        pub uses_unopened : (Why : Status → Type 0) → ((other : Status) → IsNotOpened env by state old number other → Why other) → UsesTable env Why number state old result to new
         uses_unopened Why why = record {
           there = refused_ok (λ other. other ≡ status) _ result refused;
           reads = reads_unopened Why why;
           used = refused_ok (λ other. other ≡ status) _ result refused;
-          unused = on_err result (inl same_tables);
-          path = refl;
-          room = ap (λ (c : Cached (CachedBlock (InternalKeyCmp C) order)). c.capacity) opens.err;
-          ids = inl (ap (λ (c : Cached (CachedBlock (InternalKeyCmp C) order)). c.given) opens.err);
+          on_error = if_err result (λ other. none_opened none opens.err);
+          others = λ other other_fits apart. left_has (λ c. IsSameOrClosed other old c) (inr refl) (renewed_closes old other);
+          path = left_has (λ c. store_of c ≡ store_of old) refl (renewed_store old);
+          room = left_has (λ c. (tables_of c).capacity ≡ (tables_of old).capacity) refl (renewed_room old);
+          blocks = of_none none opens.err;
         }
 
-        pub matches_unopened : MatchesFiles env by state old → MatchesFiles env by to (record old { tables = tables; blocks = blocks })
-        matches_unopened was = matches_later env by (record old { tables = tables; blocks = blocks }) opens.reads.kept_disk
-            (subst (λ b. MatchesFiles env by state (record old { tables = tables; blocks = b })) (sym opens.err) (matches_looked env by old tables state number tables_are was))
+        pub matches_unopened : IsTrue env.models_disk → MatchesFiles env by (files_at env state) old → MatchesFiles env by (files_at env to) new
+        matches_unopened modelled was = matches_later env by new modelled opens.reads.kept_disk
+            (left_has (λ c. MatchesFiles env by (files_at env state) c) was (matches_renewed env by old (files_at env state) was))
 
-      -- so a key isn't looked up
-      pub gets_unopened : {key : List ℕ} (result : Result (Option Pair) Status) {status : Status} {to : E} {blocks : Cached (CachedBlock (InternalKeyCmp C) order)} → IsErrAnd result (λ other. other ≡ status)
-          → OpensNumbered env by (store_of old) number state (blocks_of old) (Err status) to blocks → MatchesFiles env by state old → GetsPair env by number key state old result to (record old { tables = tables; blocks = blocks })
-      gets_unopened {key} result {status} refused opens was = record {
+      -- so there is no use of it
+      pub opens_unopened : (result : Result Unit Status) {status : Status} {to : E} {new : TableCache E C FP F order} → IsErrAnd result (λ other. other ≡ status)
+          → OpensNumbered env by number state old (Err status) to new → OpensTableAt env by number state old result to new
+      opens_unopened result {status} refused opens = record {
+        uses = uses_unopened result refused opens _ (λ other why. why);
+        is_open = refused_ok (λ other. other ≡ status) _ result refused;
+        stays = λ now_open. absurd (not_open now_open);
+        matches = matches_unopened result refused opens;
+      }
+        where
+          not_open : IsSome (table_at old number) → ⊥
+          not_open now_open = absurd (cc)
+
+      pub gets_unopened : {key : List ℕ} (result : Result (Option Pair) Status) {status : Status} {to : E} {new : TableCache E C FP F order} → IsErrAnd result (λ other. other ≡ status)
+          → OpensNumbered env by number state old (Err status) to new → IsTrue env.models_disk → MatchesFiles env by (files_at env state) old → GetsPair env by number key state old result to new
+      gets_unopened {key} result {status} refused opens modelled was = record {
         finds = λ bytes has. refused_if_ok (λ other. other ≡ status) _ result refused;
-        cause = (reads_unopened result refused opens (λ other. IsNotOpened env by state old number other ⊎ LacksBlockFor env by key state old number other) (λ other why. inl why)).cause;
-        matches = matches_unopened result refused opens was;
+        cause = (reads_unopened result refused opens (λ other. IsNotOpened env by state old number other ⊎ LacksBlockFor env by key (files_at env state) old number other) (λ other why. inl why)).cause;
+        matches = matches_unopened result refused opens modelled was;
       }
 
-      -- it is opened, and gains blocks
-      module _ (was : MatchesFiles env by state old) (table : StoreTable E C FP F order) {mid to : E} {blocks after : Cached (CachedBlock (InternalKeyCmp C) order)} (opens : OpensNumbered env by (store_of old) number state (blocks_of old) (Ok table) mid blocks) (kept : KeepsDisk env mid to)
-          (Right : ℕ → CachedBlock (InternalKeyCmp C) order → Type 0)
-          (right : (bytes : List ℕ) → IsOpenedWith env by table bytes → FileHas env mid (file_of table) bytes → (offset : ℕ) (held : CachedBlock (InternalKeyCmp C) order) → Right offset held → IsBlockOfFile by.codings by.order bytes offset held)
-          (gains : GainsBlocks (id_of table) Right blocks after) where
-        opened_kept : KeepsDisk env state mid
-        opened_kept = opens.reads.kept_disk
+      -- ---- and is opened
 
-        gains_raised : GainsBlocks (id_of table) Right (record (blocks_of old) { given = id_of table }) after
-        gains_raised = subst (λ b. GainsBlocks (id_of table) Right b after) opens.id.2 gains
+      module _ (table : StoreTable E C FP F order) {mid : E} (now : TableCache E C FP F order) (opens : OpensNumbered env by number state old (Ok table) mid now) where
+        blocks_now : blocks_of now ≡ record (blocks_of (renewed old)) { given = id_of table }
+        blocks_now = ap blocks_of opens.cache
 
-        has_now : {bytes : List ℕ} → HasBytesAt env to (path_at old number) bytes → HasBytesAt env state (path_at old number) bytes
-        has_now has = HasBytesAt-before env opened_kept (HasBytesAt-before env kept has)
+        tables_now : tables_of now ≡ tables_of (renewed old)
+        tables_now = ap tables_of opens.cache
 
-        later : MatchesFiles env by to old
-        later = matches_later env by old (KeepsDisk-trans env opened_kept kept) was
+        put_old : {put : Cached (StoreTable E C FP F order)} → put ≡ record (tables_of now) { pairs = put_first (tables_of now).capacity (table_key number) table (tables_of now).pairs }
+            → put ≡ record (tables_of (renewed old)) { pairs = put_first (tables_of (renewed old)).capacity (table_key number) table (tables_of (renewed old)).pairs }
+        put_old is = is ∙ ap (λ (t : Cached (StoreTable E C FP F order)). record t { pairs = put_first t.capacity (table_key number) table t.pairs }) tables_now
 
-        given_after : after.given ≡ id_of table
-        given_after = gains_raised.given
+        module _ {after : Cached (CachedBlock (InternalKeyCmp C) order)} {Right : ℕ → CachedBlock (InternalKeyCmp C) order → Type 0} (gains : GainsBlocks (id_of table) Right (blocks_of now) after) where
+          gains_raised : GainsBlocks (id_of table) Right (record (blocks_of (renewed old)) { given = id_of table }) after
+          gains_raised = subst (λ b. GainsBlocks (id_of table) Right b after) blocks_now gains
 
-        -- ids of open tables were given before
-        own_id : (n : ℕ) (other : StoreTable E C FP F order) → n < 2 ^ 64 → table_at old n ≡ Some other → id_of other ≢ id_of table
-        own_id n other n_fits at same = let given = (was.each n other n_fits at).given in let own = opens.id.0 in absurd (omega (arith, given, own, same))
+          -- ---- what is left, with the table in the cache or not
 
-        gained_new : MatchesFiles env by to (record old { blocks = after })
-        gained_new =
-            let own = opens.id.0 in let own_fits = opens.id.1 in
-            matches_blocks env by old after to later (omega (arith, given_after, own_fits)) (omega (arith, given_after, own))
-            (IsNumbered-after (omega arith) gains_raised (IsNumbered-raised (blocks_of old) (id_of table) (omega (arith, own)) was.numbered))
-            (λ n other n_fits at bytes has. (let it = later.each n other n_fits at in let given = it.given in
-            HoldsOnlyOf-other own_fits (omega (arith, given, own, own_fits)) (λ same. own_id n other n_fits at (sym same)) gains_raised (it.blocks bytes has)))
+          module _ (found : List ℕ) (put : Cached (StoreTable E C FP F order)) (put_is : (put ≡ tables_of now) ⊎ (put ≡ record (tables_of now) { pairs = put_first (tables_of now).capacity (table_key number) table (tables_of now).pairs })) where
+            room_after : put.capacity ≡ (tables_of old).capacity
+            room_after = ⊎_elim (λ unkept. ap (λ (c : Cached (StoreTable E C FP F order)). c.capacity) (unkept ∙ tables_now)) (λ is. ap (λ (c : Cached (StoreTable E C FP F order)). c.capacity) (put_old is)) put_is ∙ renewed_room old
 
-        -- under its id nothing was held
-        new_holds : {bytes : List ℕ} → HoldsOnlyOf by.codings by.order (id_of table) bytes (blocks_of old)
-        new_holds = let own = opens.id.0 in HoldsOnlyOf-new (blocks_of old) opens.id.1 (omega (arith, own)) was.numbered
+            others_after : (other : ℕ) → other < 2 ^ 64 → other ≢ number → (value_of (table_key other) put.pairs ≡ None) ⊎ (value_of (table_key other) put.pairs ≡ table_at old other)
+            others_after other other_fits apart =
+                ⊎_elim (λ unkept. (let is = ap (λ (c : Cached (StoreTable E C FP F order)). value_of (table_key other) c.pairs) (unkept ∙ tables_now) in from_base is))
+                (λ put_first_is. (let is = ap (λ (c : Cached (StoreTable E C FP F order)). value_of (table_key other) c.pairs) (put_old put_first_is) in
+                ⊎_elim (λ gone. inl (is ∙ gone)) (λ same. from_base (is ∙ same))
+                (put_other (table_key other) (tables_of (renewed old)).capacity (table_key number) table (tables_of (renewed old)).pairs (apart_keys other number other_fits fits apart)))) put_is
+              where
+                from_base : value_of (table_key other) put.pairs ≡ table_at (renewed old) other → (value_of (table_key other) put.pairs ≡ None) ⊎ (value_of (table_key other) put.pairs ≡ table_at old other)
+                from_base is = ⊎_elim (λ gone. inl (is ∙ gone)) (λ same. inr (is ∙ same)) (renewed_closes old other)
 
-        matches_it : MatchesFile env by to (record old { blocks = after }) number table
-        matches_it = record {
-          path = opens.path;
-          opened = λ bytes has. opens.opened bytes (has_now has);
-          blocks = λ bytes has.
-              (let before = has_now has in
-              HoldsOnlyOf-after (right bytes (opens.opened bytes before) (FileHas-at env opens.path opened_kept before)) gains_raised new_holds);
-          given = omega (arith, given_after);
-        }
+            uses_opened : {T : Type 0} {Why : Status → Type 0} {to : E} (result : Result T Status) → ReadsFile env Why state to result
+                → OnOk result (put ≡ record (tables_of now) { pairs = put_first (tables_of now).capacity (table_key number) table (tables_of now).pairs })
+                → IfErr result (λ status. (IsOutOfMemory status × (put ≡ tables_of now)) ⊎ (put ≡ record (tables_of now) { pairs = put_first (tables_of now).capacity (table_key number) table (tables_of now).pairs }))
+                → UsesTable env Why number state old result to (record now { tables = put; blocks = after; finder = found })
+            uses_opened result reads used left = record {
+              there = on_ok result (inr opens.there);
+              reads = reads;
+              used = on_ok_weaker result (λ is. is_opened none table opens.id.0 (put_old is)) used;
+              on_error = IfErr-weaker result _ _ (λ status. ⊎_elim (λ unkept. none_kept none unkept.0 (unkept.1 ∙ tables_now)) (λ is. kept (is_opened none table opens.id.0 (put_old is)))) left;
+              others = others_after;
+              path = ap store_of opens.cache ∙ renewed_store old;
+              room = room_after;
+              blocks = of_opened none (subst (λ id. GainsBlocks id (λ _ _. Unit {0}) (record (blocks_of (renewed old)) { given = id }) after) opens.id.0
+                  (GainsBlocks-weaker (λ offset held right. tt) gains_raised));
+            }
 
-        -- it isn't kept
-        matches_unkept : MatchesFiles env by to (record old { tables = tables; blocks = after })
-        matches_unkept = matches_looked env by (record old { blocks = after }) tables to number tables_are gained_new
+            -- ---- and it matches
 
-        -- it is
-        matches_kept : (put : Cached (StoreTable E C FP F order)) → put ≡ record tables { pairs = put_first tables.capacity (table_key number) table tables.pairs } → MatchesFiles env by to (record old { tables = put; blocks = after })
-        matches_kept put is = matches_put env by (record old { blocks = after }) put to number table fits (put_old table put is) matches_it own_id gained_new
+            module _ (modelled : IsTrue env.models_disk) (was : MatchesFiles env by (files_at env state) old)
+                (right : (bytes : List ℕ) → IsOpenedWith by table bytes → FileHas env mid (file_of table) bytes → (offset : ℕ) (held : CachedBlock (InternalKeyCmp C) order) → Right offset held → IsBlockOfFile by.format.codings (key_order by.format) bytes offset held) where
+              base_was : MatchesFiles env by (files_at env state) (renewed old)
+              base_was = matches_renewed env by old (files_at env state) was
 
-      module _ (table : StoreTable E C FP F order) {mid : E} {blocks : Cached (CachedBlock (InternalKeyCmp C) order)} (opens : OpensNumbered env by (store_of old) number state (blocks_of old) (Ok table) mid blocks) where
-        -- one more id is given
-        more_given : blocks.given ≡ (blocks_of old).given + 1
-        more_given = ap (λ (c : Cached (CachedBlock (InternalKeyCmp C) order)). c.given) opens.id.2 ∙ opens.id.0
+              given_after : after.given ≡ id_of table
+              given_after = gains_raised.given
 
-        same_room : blocks.capacity ≡ (blocks_of old).capacity
-        same_room = ap (λ (c : Cached (CachedBlock (InternalKeyCmp C) order)). c.capacity) opens.id.2
+              -- ids of open tables were given before
+              own_id : (n : ℕ) (other : StoreTable E C FP F order) → n < 2 ^ 64 → table_at (renewed old) n ≡ Some other → id_of other ≢ id_of table
+              own_id n other n_fits at same = let given = (base_was.each n other n_fits at).given in let own = opens.id.0 in absurd (omega (arith, given, own, same))
+
+              gained_new : MatchesFiles env by (files_at env state) (record (renewed old) { blocks = after })
+              gained_new =
+                  let own = opens.id.0 in let own_fits = opens.id.1 in
+                  matches_blocks env by (renewed old) after (files_at env state) base_was (omega (arith, given_after, own_fits)) (omega (arith, given_after, own))
+                  (IsNumbered-after (omega arith) gains_raised (IsNumbered-raised (blocks_of (renewed old)) (id_of table) (omega (arith, own)) base_was.numbered))
+                  (λ n other n_fits at bytes has. (let it = base_was.each n other n_fits at in let given = it.given in
+                  HoldsOnlyOf-other own_fits (omega (arith, given, own, own_fits)) (λ same. own_id n other n_fits at (sym same)) gains_raised (it.blocks bytes has)))
+
+              -- under its id nothing was held
+              new_holds : {bytes : List ℕ} → HoldsOnlyOf by.format.codings (key_order by.format) (id_of table) bytes (blocks_of (renewed old))
+              new_holds = let own = opens.id.0 in HoldsOnlyOf-new (blocks_of (renewed old)) opens.id.1 (omega (arith, own)) base_was.numbered
+
+              here : (P : List ℕ → Type 0) → P (path_at old number) → P (path_at (renewed old) number)
+              here P is = subst (λ store. P (table_path store number)) (sym (renewed_store old)) is
+
+              matches_it : MatchesFile env by (files_at env state) (record (renewed old) { blocks = after }) number table
+              matches_it = record {
+                path = λ modelled. here (λ path. env.name_of (file_of table) ≡ path) (opens.path modelled);
+                opened = here (λ path. ForBytesAt (files_at env state) path (IsOpenedWith by table)) (opens.opened modelled);
+                blocks = here (λ path. ForBytesAt (files_at env state) path (λ bytes. HoldsOnlyOf by.format.codings (key_order by.format) (id_of table) bytes after))
+                    (λ bytes has. HoldsOnlyOf-after (right bytes (opens.opened modelled bytes has) (FileHas-at env modelled (opens.path modelled) opens.reads.kept_disk has)) gains_raised new_holds);
+                given = omega (arith, given_after);
+              }
+
+              pub matches_opened : {to : E} → KeepsDisk env state to → MatchesFiles env by (files_at env to) (record now { tables = put; blocks = after; finder = found })
+              matches_opened kept_disk = matches_later env by (record now { tables = put; blocks = after; finder = found }) modelled kept_disk
+                  (matches_found env by (record now { tables = put; blocks = after }) found (files_at env state)
+                  (subst (λ c. MatchesFiles env by (files_at env state) (record c { tables = put; blocks = after })) (sym opens.cache) (⊎_elim
+                  (λ unkept. subst (λ t. MatchesFiles env by (files_at env state) (record (renewed old) { tables = t; blocks = after })) (sym (unkept ∙ tables_now)) gained_new)
+                  (λ is. matches_put env by (record (renewed old) { blocks = after }) put (files_at env state) number table fits (put_old is) matches_it own_id gained_new) put_is)))
+
+        -- it has no blocks in memory yet
+        none_gained : GainsBlocks (id_of table) (λ offset held. ForBytesOf env mid (file_of table) (λ bytes. IsBlockOfFile by.format.codings (order.cmp table.cmp) bytes offset held)) (blocks_of now) (blocks_of now)
+        none_gained = GainsBlocks-refl (id_of table) (λ offset held. ForBytesOf env mid (file_of table) (λ bytes. IsBlockOfFile by.format.codings (order.cmp table.cmp) bytes offset held)) (blocks_of now)
 
         -- ---- it is opened, and put into the cache
 
-        module _ (put : Cached (StoreTable E C FP F order)) where
-          pub opened_new : (result : Result Unit Status) → OnOk result (put ≡ record tables { pairs = put_first tables.capacity (table_key number) table tables.pairs }) → OnErr result (put ≡ tables) → IfErr result IsOutOfMemory
-              → OpensTableAt env by number state old result mid (record old { tables = put; blocks = blocks })
-          opened_new (Ok done) is unput memory = record {
-            uses = record {
-              there = inr opens.there;
-              reads = reads_ok env opens.reads.kept_disk opens.reads.cause.ok;
-              used = is_opened none table (put_old table put is);
-              unused = tt;
-              path = refl;
-              room = same_room;
-              ids = inr more_given;
-            };
-            is_open = λ room. some_is (ap (λ (c : Cached (StoreTable E C FP F order)). value_of (table_key number) c.pairs) (put_old table put is)
-                ∙ put_there (tables_of old).capacity (table_key number) table (tables_of old).pairs room);
+        pub opened_new : (put : Cached (StoreTable E C FP F order)) (result : Result Unit Status) → OnOk result (put ≡ record (tables_of now) { pairs = put_first (tables_of now).capacity (table_key number) table (tables_of now).pairs })
+            → OnErr result (put ≡ tables_of now) → IfErr result IsOutOfMemory → OpensTableAt env by number state old result mid (record now { tables = put })
+        opened_new put result is unput memory = record {
+          uses = uses_opened none_gained now.finder put put_is result (reads result memory) is (left result unput memory);
+          is_open = on_ok_weaker result (λ there room. some_is (ap (λ (c : Cached (StoreTable E C FP F order)). value_of (table_key number) c.pairs) (put_old there)
+              ∙ put_there (tables_of (renewed old)).capacity (table_key number) table (tables_of (renewed old)).pairs (let same = renewed_room old in omega (arith, same, room)))) is;
+          stays = λ now_open. absurd (not_open now_open);
+          matches = λ modelled was. matches_opened none_gained now.finder put put_is modelled was (λ bytes opened has. own_blocks table opened has) opens.reads.kept_disk;
+        }
+          where
+            put_is : (put ≡ tables_of now) ⊎ (put ≡ record (tables_of now) { pairs = put_first (tables_of now).capacity (table_key number) table (tables_of now).pairs })
+            put_is = either result is unput
+
+            not_open : IsSome (table_at old number) → ⊥
+            not_open now_open = absurd (cc)
+
+            left : (result : Result Unit Status) → OnErr result (put ≡ tables_of now) → IfErr result IsOutOfMemory
+                → IfErr result (λ status. (IsOutOfMemory status × (put ≡ tables_of now)) ⊎ (put ≡ record (tables_of now) { pairs = put_first (tables_of now).capacity (table_key number) table (tables_of now).pairs }))
+            left (Ok done) unput memory = tt
+            left (Err status) unput memory = inl (memory, unput)
+
+            reads : (result : Result Unit Status) → IfErr result IsOutOfMemory → ReadsFile env (IsNotOpened env by state old number) state mid result
+            reads (Ok done) memory = reads_ok env opens.reads.kept_disk opens.reads.cause.ok
+            reads (Err status) memory = reads_own env {P = IsOutOfMemory} (Err status) opens.reads.kept_disk opens.reads.cause.ok memory (λ other out. inl out)
+
+        -- ---- it is opened, but there is no memory to keep it
+
+        module _ (result : Result (Option Pair) Status) {status : Status} (out : IsOutOfMemory status) (refused : IsErrAnd result (λ other. other ≡ status)) (put : Cached (StoreTable E C FP F order)) (unkept : put ≡ tables_of now) where
+          reads_unkept : (Why : Status → Type 0) → ReadsFile env Why state mid result
+          reads_unkept Why = reads_own env {P = λ other. other ≡ status} result opens.reads.kept_disk opens.reads.cause.ok refused (λ other is. inl (subst IsOutOfMemory (sym is) out))
+
+          pub uses_unkept : UsesTable env (MayFail env by state old number) number state old result mid (record now { tables = put })
+          uses_unkept = uses_opened none_gained now.finder put (inl unkept) result (reads_unkept (MayFail env by state old number)) (refused_ok (λ other. other ≡ status) _ result refused)
+              (refused_if_err (λ status. (IsOutOfMemory status × (put ≡ tables_of now)) ⊎ (put ≡ record (tables_of now) { pairs = put_first (tables_of now).capacity (table_key number) table (tables_of now).pairs })) result refused (inl (out, unkept)))
+
+          pub gets_unkept : {key : List ℕ} → IsTrue env.models_disk → MatchesFiles env by (files_at env state) old → GetsPair env by number key state old result mid (record now { tables = put })
+          gets_unkept {key} modelled was = record {
+            finds = λ bytes has. refused_if_ok (λ other. other ≡ status) _ result refused;
+            cause = (reads_unkept (λ other. IsNotOpened env by state old number other ⊎ LacksBlockFor env by key (files_at env state) old number other)).cause;
+            matches = matches_opened none_gained now.finder put (inl unkept) modelled was (λ bytes opened has. own_blocks table opened has) opens.reads.kept_disk;
           }
-          opened_new (Err status) put_is same out = record {
-            uses = record {
-              there = tt;
-              reads = reads_own env {P = IsOutOfMemory} (Err status) opens.reads.kept_disk opens.reads.cause.ok out (λ other memory. inl memory);
-              used = tt;
-              unused = inl (same ∙ same_tables);
-              path = refl;
-              room = same_room;
-              ids = inr more_given;
-            };
-            is_open = tt;
-          }
 
-          pub matches_opened : (result : Result Unit Status) → OnOk result (put ≡ record tables { pairs = put_first tables.capacity (table_key number) table tables.pairs }) → OnErr result (put ≡ tables)
-              → MatchesFiles env by state old → MatchesFiles env by mid (record old { tables = put; blocks = blocks })
-          matches_opened result is same was = go result is same
-            where
-              gains : GainsBlocks (id_of table) (λ offset held. ForBytesOf env mid (file_of table) (λ bytes. IsBlockOfFile by.codings (order.cmp table.cmp) bytes offset held)) blocks blocks
-              gains = GainsBlocks-refl (id_of table) (λ offset held. ForBytesOf env mid (file_of table) (λ bytes. IsBlockOfFile by.codings (order.cmp table.cmp) bytes offset held)) blocks
+        -- ---- it is opened and kept, and a key is looked up in it
 
-              go : (result : Result Unit Status) → OnOk result (put ≡ record tables { pairs = put_first tables.capacity (table_key number) table tables.pairs }) → OnErr result (put ≡ tables)
-                  → MatchesFiles env by mid (record old { tables = put; blocks = blocks })
-              go (Ok done) is unput = matches_kept was table opens (KeepsDisk-refl env mid) _ (λ bytes opened has. own_blocks table opened has) gains put is
-              go (Err status) put_is same = subst (λ t. MatchesFiles env by mid (record old { tables = t; blocks = blocks })) (sym same)
-                  (matches_unkept was table opens (KeepsDisk-refl env mid) _ (λ bytes opened has. own_blocks table opened has) gains)
+        module _ (matches : FP → List ℕ → List ℕ → Bool) (matches_is : matches by.policy ≡ key_matches by.format by.policy) (key : List ℕ) (result : Result (Option Pair) Status) (found : List ℕ) {to : E} {after : Cached (CachedBlock (InternalKeyCmp C) order)}
+            (it : StoreTable E C FP F order) (it_is : it ≡ table) (looks_up : LooksUp env by.format.codings matches it key mid (blocks_of now) result to after)
+            (put : Cached (StoreTable E C FP F order)) (put_is : put ≡ record (tables_of now) { pairs = put_first (tables_of now).capacity (table_key number) table (tables_of now).pairs }) where
+          looks : LooksUp env by.format.codings matches table key mid (blocks_of now) result to after
+          looks = subst (λ t. LooksUp env by.format.codings matches t key mid (blocks_of now) result to after) it_is looks_up
 
-        -- ---- it is opened, and a key is looked up in it
-
-        module _ (key : List ℕ) (found : Result (Option Pair) Status) {to : E} {after : Cached (CachedBlock (InternalKeyCmp C) order)} (looks : LooksUp env by.codings by.matches table key mid blocks found to after) where
           kept_to : KeepsDisk env state to
           kept_to = KeepsDisk-trans env opens.reads.kept_disk looks.reads.kept_disk
 
-          has_mid : {bytes : List ℕ} → HasBytesAt env state (path_at old number) bytes → FileHas env mid (file_of table) bytes
-          has_mid has = FileHas-at env opens.path opens.reads.kept_disk has
+          pub uses_looked : UsesTable env (MayFail env by state old number) number state old result to (record now { tables = put; blocks = after; finder = found })
+          uses_looked = uses_opened looks.gathers found put (inr put_is) result
+              (reads_then env result opens.reads.kept_disk opens.reads.cause.ok (λ other lack. inr (inr opens.there, lack.0)) looks.reads)
+              (on_ok result put_is) (if_err result (λ status. inr put_is))
 
-          room_after : after.capacity ≡ (blocks_of old).capacity
-          room_after = looks.gathers.capacity ∙ same_room
+          module _ (modelled : IsTrue env.models_disk) (was : MatchesFiles env by (files_at env state) old) where
+            has_mid : {bytes : List ℕ} → HasBytesAt (files_at env state) (path_at old number) bytes → FileHas env mid (file_of table) bytes
+            has_mid has = FileHas-at env modelled (opens.path modelled) opens.reads.kept_disk has
 
-          ids_after : after.given ≡ (blocks_of old).given + 1
-          ids_after = looks.gathers.given ∙ more_given
-
-          module _ (was : MatchesFiles env by state old) where
             -- under its id nothing was held
-            none_held : {bytes : List ℕ} → HasBytesAt env state (path_at old number) bytes → HoldsOnlyOf by.codings (order.cmp table.cmp) (id_of table) bytes blocks
+            none_held : {bytes : List ℕ} → HasBytesAt (files_at env state) (path_at old number) bytes → HoldsOnlyOf by.format.codings (order.cmp table.cmp) (id_of table) bytes (blocks_of now)
             none_held {bytes} has =
-                held_by table blocks (opens.opened bytes has) (subst (λ b. HoldsOnlyOf by.codings by.order (id_of table) bytes b) (sym opens.id.2)
-                (let own = opens.id.0 in HoldsOnlyOf-new (blocks_of old) opens.id.1 (omega (arith, own)) was.numbered))
+                held_by table (blocks_of now) (opens.opened modelled bytes has) (subst (λ b. HoldsOnlyOf by.format.codings (key_order by.format) (id_of table) bytes b) (sym blocks_now)
+                (let own = opens.id.0 in HoldsOnlyOf-new (blocks_of (renewed old)) opens.id.1 (omega (arith, own)) (matches_renewed env by old (files_at env state) was).numbered))
 
-            finds_there : {bytes : List ℕ} → HasBytesAt env state (path_at old number) bytes → IfOk found (λ pair. SomeTable env by bytes (λ (t : StoreTable E C FP F order). FindsPair by.codings by.matches t key bytes pair))
-            finds_there {bytes} has =
-                IfOk-weaker found (FindsPair by.codings by.matches table key bytes) (λ pair. SomeTable env by bytes (λ (t : StoreTable E C FP F order). FindsPair by.codings by.matches t key bytes pair))
-                (λ pair it. (table, opens.opened bytes has, it)) (looks.finds bytes (has_mid has) (none_held has))
-
-            matches_after : MatchesFiles env by to (record old { tables = tables; blocks = after })
-            matches_after = matches_unkept was table opens looks.reads.kept_disk _ (λ bytes opened has. own_blocks table opened has) looks.gathers
-
-          -- the look-up fails, and the table isn't kept
-          module _ (result : Result (Option Pair) Status) {status : Status} (is : found ≡ Err status) (refused : IsErrAnd result (λ other. other ≡ status)) where
-            pub uses_failed : UsesTable env (MayFail env by state old number) number state old result to (record old { tables = tables; blocks = after })
-            uses_failed = record {
-              there = refused_ok (λ other. other ≡ status) _ result refused;
-              reads = reads_then env result opens.reads.kept_disk opens.reads.cause.ok (λ other lack. inr (inr opens.there, lack.0)) (refused_reads env result is refused looks.reads);
-              used = refused_ok (λ other. other ≡ status) _ result refused;
-              unused = on_err result (inl same_tables);
-              path = refl;
-              room = room_after;
-              ids = inr ids_after;
+            pub gets_looked : GetsPair env by number key state old result to (record now { tables = put; blocks = after; finder = found })
+            gets_looked = record {
+              finds = λ bytes has.
+                  IfOk-weaker result (FindsPair by.format.codings matches table key bytes) (λ pair. SomeTable by bytes (λ (t : StoreTable E C FP F order). FindsPair by.format.codings (key_matches by.format) t key bytes pair))
+                  (some_finds matches matches_is table (opens.opened modelled bytes has)) (looks.finds bytes (has_mid has) (none_held has));
+              cause = (reads_then env {Why = λ other. IsNotOpened env by state old number other ⊎ LacksBlockFor env by key (files_at env state) old number other} result opens.reads.kept_disk opens.reads.cause.ok
+                  (λ other lack. inr (λ bytes has. some_lacks matches matches_is table key (Err other) (opens.opened modelled bytes has) ((lack.1 bytes (has_mid has)).1 (none_held has)))) looks.reads).cause;
+              matches = matches_opened looks.gathers found put (inr put_is) modelled was (λ bytes opened has. own_blocks table opened has) kept_to;
             }
-
-            pub gets_failed : MatchesFiles env by state old → GetsPair env by number key state old result to (record old { tables = tables; blocks = after })
-            gets_failed was = record {
-              finds = λ bytes has. refused_if_ok (λ other. other ≡ status) _ result refused;
-              cause = (reads_then env {Why = λ other. IsNotOpened env by state old number other ⊎ LacksBlockFor env by key state old number other} result opens.reads.kept_disk opens.reads.cause.ok
-                  (λ other lack. inr (λ bytes has. (table, opens.opened bytes has, (lack.1 bytes (has_mid has)).1 (none_held was has)))) (refused_reads env result is refused looks.reads)).cause;
-              matches = matches_after was;
-            }
-
-          module _ (pair : Option Pair) (found_is : found ≡ Ok pair) where
-            counted : env.failures to ≡ env.failures state
-            counted = subst (λ r. OnOk r (env.failures to ≡ env.failures mid)) found_is looks.reads.cause.ok ∙ opens.reads.cause.ok
-
-            module _ (put : Cached (StoreTable E C FP F order)) where
-              -- there is no memory to keep it
-              module _ (result : Result (Option Pair) Status) {status : Status} (same : put ≡ tables) (out : IsOutOfMemory status) (refused : IsErrAnd result (λ other. other ≡ status)) where
-                reads_unkept : (Why : Status → Type 0) → ReadsFile env Why state to result
-                reads_unkept Why = reads_own env {P = λ other. other ≡ status} result kept_to counted refused (λ other is. inl (subst IsOutOfMemory (sym is) out))
-
-                pub uses_unkept : UsesTable env (MayFail env by state old number) number state old result to (record old { tables = put; blocks = after })
-                uses_unkept = record {
-                  there = refused_ok (λ other. other ≡ status) _ result refused;
-                  reads = reads_unkept (MayFail env by state old number);
-                  used = refused_ok (λ other. other ≡ status) _ result refused;
-                  unused = on_err result (inl (same ∙ same_tables));
-                  path = refl;
-                  room = room_after;
-                  ids = inr ids_after;
-                }
-
-                pub gets_unkept : MatchesFiles env by state old → GetsPair env by number key state old result to (record old { tables = put; blocks = after })
-                gets_unkept was = record {
-                  finds = λ bytes has. refused_if_ok (λ other. other ≡ status) _ result refused;
-                  cause = (reads_unkept (λ other. IsNotOpened env by state old number other ⊎ LacksBlockFor env by key state old number other)).cause;
-                  matches = subst (λ t. MatchesFiles env by to (record old { tables = t; blocks = after })) (sym same) (matches_after was);
-                }
-
-              -- it is kept
-              module _ (is : put ≡ record tables { pairs = put_first tables.capacity (table_key number) table tables.pairs }) where
-                pub uses_kept : UsesTable env (MayFail env by state old number) number state old (Ok pair) to (record old { tables = put; blocks = after })
-                uses_kept = record {
-                  there = inr opens.there;
-                  reads = reads_ok env kept_to counted;
-                  used = is_opened none table (put_old table put is);
-                  unused = tt;
-                  path = refl;
-                  room = room_after;
-                  ids = inr ids_after;
-                }
-
-                pub gets_kept : MatchesFiles env by state old → GetsPair env by number key state old (Ok pair) to (record old { tables = put; blocks = after })
-                gets_kept was = record {
-                  finds = λ bytes has. subst (λ r. IfOk r (λ p. SomeTable env by bytes (λ (t : StoreTable E C FP F order). FindsPair by.codings by.matches t key bytes p))) found_is (finds_there was has);
-                  cause = fails_ok env counted;
-                  matches = matches_kept was table opens looks.reads.kept_disk _ (λ bytes opened has. own_blocks table opened has) looks.gathers put is;
-                }

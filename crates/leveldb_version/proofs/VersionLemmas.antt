@@ -1,18 +1,18 @@
 -- The order of a version's files, and the part of them that is a level.
-use Rattle.std.proofs.Common.{◌≡◌, ◌≢◌, ◌∙◌, ◌∷◌, ◌++◌, ◌+◌, ◌-◌, ◌<◌, ◌≤◌, ◌==◌, ℕ, zero, suc, Bool, true, false, cond, List, [], ap, arith, drop, get_or, leb, length, ltb, map, refl, slice_set, subst, sym, take}
+use Rattle.std.proofs.Common.{◌≡◌, ◌≢◌, ◌∙◌, ◌∷◌, ◌++◌, ◌+◌, ◌-◌, ◌<◌, ◌≤◌, ◌^◌, ◌==◌, ℕ, zero, suc, Bool, true, false, cond, List, [], ap, arith, drop, get_or, leb, length, ltb, map, refl, slice_set, subst, sym, take}
 use Rattle.std.proofs.lemmas.Bool.{eq-eqb, eqb-true, leb-true, leb-false, ltb-true, ltb-false}
 use Rattle.leveldb_base.proofs.OrderLemmas.{is_false}
 use Rattle.std.proofs.lemmas.Cmp.{back_total, nat_cmp_total, on_total, ranked, then_total, tied_itself}
 use Rattle.std.proofs.lemmas.Bool.Decides.{nat_tests}
 use Rattle.std.proofs.lemmas.List.{append-nil, drop_all, get_or-map, length-map, take_all}
 use Rattle.std.proofs.lemmas.Fn.{always_returns_same}
-use Rattle.std.proofs.lemmas.List.Elements.{filter_passes}
+use Rattle.std.proofs.lemmas.List.Elements.{All-map, All-weaker, filter_passes}
 use Rattle.std.proofs.lemmas.List.Kept.{IsSortedBy-filter}
 use Rattle.std.proofs.lemmas.List.Sorted.{IsNonDecreasingBy-from_all_adjacent, ranks_by}
 use Rattle.std.specs.Borrow.{Bor}
 use Rattle.std.specs.Cmp.{IsTotalOrder}
 use Rattle.std.specs.Fn.{Called, Mut}
-use Rattle.std.specs.List.{AllWithin, filter}
+use Rattle.std.specs.List.{All, AllWithin, filter}
 use Rattle.std.specs.List.Sorted.{IsNonDecreasingBy, IsPartitionPoint, IsSorted, IsSortedBy, IsSortedByClosure, IsSortedByKey}
 use Rattle.std.specs.Ordering.{is_lt, nat_cmp, ordering_reverse, ordering_then}
 use Rattle.std.specs.declared.cmp.Ordering.{Ordering}
@@ -20,7 +20,7 @@ use Rattle.std.specs.declared.cmp.Ordering.TheVariants.{Equal, Greater, Less}
 use Rattle.leveldb_base.specs.KeyTypes.{internal_cmp, sequence_part, user_part}
 use Rattle.leveldb_base.specs.declared.types.FileMetaData.{FileMetaData}
 use Rattle.leveldb_version.specs.Summary.{files_of_level}
-use Rattle.leveldb_version.specs.Version.{AreInVersionOrder, at_level, is_named, version_order, with_seek}
+use Rattle.leveldb_version.specs.Version.{AreInVersionOrder, at_level, is_named, version_order, after_seek}
 use Rattle.leveldb_version.specs.VersionEdit.{LevelFile, NewFile, new_file_of}
 
 -- ---- the files of a level
@@ -266,7 +266,7 @@ module _ (cmp : List ℕ → List ℕ → Ordering) where
 
 -- ---- seeks
 
-seek_leaves : (at : LevelFile) (file : ℕ × FileMetaData) → new_file_of (with_seek at file) ≡ new_file_of file
+seek_leaves : (at : LevelFile) (file : ℕ × FileMetaData) → new_file_of (after_seek at file) ≡ new_file_of file
 seek_leaves at file = by (is_named at file)
   where
     by : (b : Bool) → new_file_of (cond b (file.0, record file.1 { allowed_seeks = file.1.allowed_seeks - 1 }) file) ≡ new_file_of file
@@ -275,10 +275,10 @@ seek_leaves at file = by (is_named at file)
 
 -- seeks change nothing of a file that an edit says
 pub seeks_leave : (at : LevelFile) (files : List (ℕ × FileMetaData))
-    → map new_file_of (map (with_seek at) files) ≡ map new_file_of files
+    → map new_file_of (map (after_seek at) files) ≡ map new_file_of files
 seeks_leave at [] = refl
 seeks_leave at (file ∷ files) =
-    ap (λ z. z ∷ map new_file_of (map (with_seek at) files)) (seek_leaves at file)
+    ap (λ z. z ∷ map new_file_of (map (after_seek at) files)) (seek_leaves at file)
     ∙ ap (λ z. new_file_of file ∷ z) (seeks_leave at files)
 
 -- one element more of a list that is mapped in place
@@ -303,17 +303,38 @@ mapped_in_place {A} f xs ys i d y within is y_is =
 -- its slice
 pub seeks_keep_order : (cmp : List ℕ → List ℕ → Ordering) (at : LevelFile)
     (xs ys : List (ℕ × FileMetaData)) (n : ℕ) → AreInVersionOrder cmp (map new_file_of xs)
-    → ys ≡ map (with_seek at) xs → n ≡ length xs
+    → ys ≡ map (after_seek at) xs → n ≡ length xs
     → AreInVersionOrder cmp (map new_file_of (take n (ys ++ drop (length ys) xs)))
 seeks_keep_order cmp at xs ys n sorted is n_is =
     subst (λ (files : List NewFile). AreInVersionOrder cmp files) (sym (ap (map new_file_of) same ∙ ap (map new_file_of) is ∙ seeks_leave at xs)) sorted
   where
     long : length ys ≡ length xs
-    long = ap length is ∙ length-map xs (with_seek at)
+    long = ap length is ∙ length-map xs (after_seek at)
 
     same : take n (ys ++ drop (length ys) xs) ≡ ys
     same = ap (λ l. take n (ys ++ l)) (drop_all (length ys) xs (omega (arith, long)))
         ∙ ap (take n) (append-nil ys) ∙ take_all n ys (omega (arith, long, n_is))
+
+-- and have the sizes that they had
+pub seeks_keep_sizes : (at : LevelFile) (xs ys : List (ℕ × FileMetaData)) (n : ℕ) → All (λ file. file.1.size < 2 ^ 64) xs
+    → ys ≡ map (after_seek at) xs → n ≡ length xs → All (λ file. file.1.size < 2 ^ 64) (take n (ys ++ drop (length ys) xs))
+seeks_keep_sizes at xs ys n fits is n_is =
+    subst (All (λ (file : ℕ × FileMetaData). file.1.size < 2 ^ 64)) (sym same) (subst (All (λ (file : ℕ × FileMetaData). file.1.size < 2 ^ 64)) (sym is)
+    (All-map (λ (file : ℕ × FileMetaData). file.1.size < 2 ^ 64) (after_seek at) xs (All-weaker (λ (file : ℕ × FileMetaData). file.1.size < 2 ^ 64) (λ file. (after_seek at file).1.size < 2 ^ 64) after xs fits)))
+  where
+    long : length ys ≡ length xs
+    long = ap length is ∙ length-map xs (after_seek at)
+
+    same : take n (ys ++ drop (length ys) xs) ≡ ys
+    same = ap (λ l. take n (ys ++ l)) (drop_all (length ys) xs (omega (arith, long)))
+        ∙ ap (take n) (append-nil ys) ∙ take_all n ys (omega (arith, long, n_is))
+
+    after : (file : ℕ × FileMetaData) → file.1.size < 2 ^ 64 → (after_seek at file).1.size < 2 ^ 64
+    after file small = by (is_named at file)
+      where
+        by : (b : Bool) → (cond b (file.0, record file.1 { allowed_seeks = file.1.allowed_seeks - 1 }) file).1.size < 2 ^ 64
+        by true = small
+        by false = small
 
 -- a sort of files by a closure that compares them so leaves them in order
 pub sorted_by_closure : {R : NewFile → NewFile → Ordering} → IsTotalOrder R

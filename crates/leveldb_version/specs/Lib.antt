@@ -32,4 +32,6 @@ pub mod Writing
 pub mod Opening
 pub mod WritingLaws
 pub mod OpeningLaws
+pub mod Format
 pub mod TableCache
+pub mod Search

@@ -46,7 +46,7 @@ module _ (cmp : List ℕ → List ℕ → Ordering) where
   abbrev pub is_above : UserRange → List ℕ → Bool
   is_above range key = option_map_or (λ end. is_lt (cmp end key)) range.end false
 
-  -- the user keys from the file's first to its last have some in the range
+  -- the range from the file's first user key to its last meets the range
   abbrev pub overlaps : UserRange → NewFile → Bool
   overlaps range file =
       not (is_below range (user_part file.largest))

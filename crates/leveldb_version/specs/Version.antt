@@ -1,5 +1,5 @@
 -- A version: the files of a store by levels, and the file that is chosen for a compaction.
-use Rattle.std.specs.Prelude.{◌≡◌, ◌==◌, ◌-◌, ◌&&◌, ℕ, Bool, false, true, if◌then◌else◌, nat_le, List, Option, None, Some, is_none, IsPermutation, IsSorted, filter, map}
+use Rattle.std.specs.Prelude.{◌≡◌, ◌==◌, ◌-◌, ◌/◌, ◌&&◌, ℕ, Bool, false, true, if◌then◌else◌, nat_le, List, [], ◌∷◌, ◌++◌, Option, None, Some, is_none, IsPermutation, IsSorted, filter, map, max}
 use Rattle.std.specs.Borrow.{Bor}
 use Rattle.std.specs.List.{list_any}
 use Rattle.std.specs.Ordering.{nat_cmp, ordering_then}
@@ -38,13 +38,30 @@ version_order cmp a b = ordering_then (nat_cmp a.level b.level)
 abbrev pub AreInVersionOrder : (List ℕ → List ℕ → Ordering) → List NewFile → Type 0
 AreInVersionOrder cmp files = IsSorted (version_order cmp) files
 
--- a version of these files, in order, none of which is chosen
+-- how many fruitless seeks a file of so many bytes may take before it is compacted, at first
+abbrev pub first_seeks : ℕ → ℕ
+first_seeks size = max 100 (size / 16384)
+
+-- the file as a version gets it: with its first seeks
+abbrev pub with_first_seeks : ℕ × FileMetaData → ℕ × FileMetaData
+with_first_seeks file = (file.0, record file.1 { allowed_seeks = first_seeks file.1.size })
+
+-- a version of these files, in order, with their first seeks; none of them is chosen
 pub record IsVersionOf {C : Type 0} (order : List ℕ → List ℕ → Ordering) (cmp : C)
     (files : List (ℕ × FileMetaData)) (version : VersionValue C) : Type 0 where
   pub cmp_is : version.cmp ≡ cmp
-  pub same_files : IsPermutation files version.files
+  pub files_are : IsPermutation (map with_first_seeks files) version.files
   pub in_order : AreInVersionOrder order (new_files_of version)
   pub none_chosen : version.chosen ≡ None
+
+-- a version with one file more, which has its first seeks: the other files are the same, with the
+-- seeks that they have left, and so is the one that is chosen
+pub record HasOneFileMore {C : Type 0} (order : List ℕ → List ℕ → Ordering)
+    (file : ℕ × FileMetaData) (old new : VersionValue C) : Type 0 where
+  pub same_cmp : new.cmp ≡ old.cmp
+  pub files_are : IsPermutation (old.files ++ with_first_seeks file ∷ []) new.files
+  pub in_order : AreInVersionOrder order (new_files_of new)
+  pub same_chosen : new.chosen ≡ old.chosen
 
 -- ---- seeks
 
@@ -53,12 +70,13 @@ abbrev pub is_named : LevelFile → ℕ × FileMetaData → Bool
 is_named at file = is_same_file (level_file (new_file_of file)) at
 
 -- the file has this level and number, and may take one more seek at most
-abbrev pub is_used_up : LevelFile → ℕ × FileMetaData → Bool
-is_used_up at file = is_named at file && nat_le file.1.allowed_seeks 1
+abbrev pub has_last_seek : LevelFile → ℕ × FileMetaData → Bool
+has_last_seek at file = is_named at file && nat_le file.1.allowed_seeks 1
 
--- the file with one seek less, if it has this level and number
-abbrev pub with_seek : LevelFile → ℕ × FileMetaData → ℕ × FileMetaData
-with_seek at file =
+-- the file after a seek that is charged to the one of this level and number: that one may take one
+-- seek less, if it may take any
+abbrev pub after_seek : LevelFile → ℕ × FileMetaData → ℕ × FileMetaData
+after_seek at file =
     if is_named at file
     then (file.0, record file.1 { allowed_seeks = file.1.allowed_seeks - 1 })
     else file
@@ -68,6 +86,6 @@ with_seek at file =
 abbrev pub charged : {C : Type 0} → VersionValue C → Option LevelFile → VersionValue C × Bool
 charged version None = (version, false)
 charged version (Some at) =
-    if is_none version.chosen && list_any (is_used_up at) version.files
+    if is_none version.chosen && list_any (has_last_seek at) version.files
     then (record version { chosen = Some at }, true)
-    else (record version { files = map (with_seek at) version.files }, false)
+    else (record version { files = map (after_seek at) version.files }, false)

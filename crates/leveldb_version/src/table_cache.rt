@@ -1,7 +1,10 @@
-//! The open tables of a store, each opened once and kept while there is room.
-ghost use Rattle.std.specs.Prelude.{◌≡◌, IfErr, IfOk, option_copied};
+//! The open tables of a store, each kept while there is room.
+ghost use Rattle.std.specs.Prelude.{◌≡◌, IfErr, IfOk, IsTrue, OnErr, OnOk, option_copied};
 ghost use Rattle.leveldb_base.specs.Error.{IsOutOfMemory};
-ghost use Rattle.leveldb_version.specs.TableCache.{EvictsTable, GetsPair, IsNewTableCache, MatchesFiles, MayFail, OpensTableFile, OpensNumbered, OpensTableAt, TableOptions, UsesTable, table_at, table_key, table_options};
+ghost use Rattle.leveldb_env.specs.Env.{Files};
+ghost use Rattle.leveldb_table.specs.TableReaderMoves.{found_with};
+ghost use Rattle.leveldb_version.specs.Format.{format_of};
+ghost use Rattle.leveldb_version.specs.TableCache.{EvictsTable, GetsPair, IsNewTableCache, LooksUpInOpen, MatchesFiles, MayFail, OpensNumbered, OpensTableAt, OpensTableFile, TableOptions, UsesTable, files_at, found_key, renewed, table_at, table_key, table_options};
 
 use bytes::Bytes;
 use leveldb_base::cmp::{Cmp, InternalKeyCmp, UserCmp};
@@ -15,7 +18,7 @@ use leveldb_env::filter::{FilterPolicy, InternalFilterPolicy};
 use leveldb_env::options::Options;
 use leveldb_table::block_cache::{BlockCache, cache_key};
 use leveldb_table::cache::{Cache, CacheKey};
-use leveldb_table::table_reader::Table;
+use leveldb_table::table_reader::{Finder, Table};
 use std::alloc::Global;
 
 // How many files a store has open that are no tables.
@@ -23,7 +26,9 @@ const OTHER_FILES: usize = 10;
 
 /// The open tables of a store, of which the least recently used is closed first, and blocks of
 /// tables, of closed ones too, as long as there is room. The calls that use the disk are given the
-/// environment and the options.
+/// environment and the options. Each table that is opened gets an id, under which its blocks are
+/// kept; where ids are used up, the cache begins anew, with no table open and no block in memory.
+/// It keeps the key of the pair that was found last.
 #[derive(Drop)]
 pub struct TableCache<E: Env, C: UserCmp + Copy + Drop, FP: FilterPolicy + Copy + Drop>
 where
@@ -33,16 +38,18 @@ where
     store: String,
     tables: Cache<Table<E, InternalKeyCmp<C>, InternalFilterPolicy<FP>>>,
     blocks: BlockCache<InternalKeyCmp<C>>,
+    finder: Finder,
 }
 
 impl<E: Env, C: UserCmp + Copy + Drop, FP: FilterPolicy + Copy + Drop> TableCache<E, C, FP> {
     /// A cache of a store's tables, of which none is open, with room as the options say: for
     /// `max_open_files` tables, less ten for the store's other files, and for
-    /// `block_cache_capacity_bytes` of blocks.
+    /// `block_cache_capacity_bytes` of blocks. With ten or less there is room for no table: each is
+    /// opened for a look-up and closed after it (checked options have eleven at least).
     pub fn new(alloc: Global, store: &str, options: &Options<C, FP>) -> Result<TableCache<E, C, FP>>
         ensures ok { IfOk result (IsNewTableCache store.now options.now) }
-        ensures matches { IfOk result (λ cache. (by : TableOptions C FP) (state : E)
-            → MatchesFiles E.Env by state cache) }
+        ensures matches { IfOk result (λ cache. (by : TableOptions C FP) (files : Files)
+            → MatchesFiles E.Env by files cache) }
         ensures memory { IfErr result IsOutOfMemory }
     {
         let blocks = options
@@ -54,14 +61,16 @@ impl<E: Env, C: UserCmp + Copy + Drop, FP: FilterPolicy + Copy + Drop> TableCach
             store: String::from_str(alloc, store)?,
             tables: Cache::new(alloc, options.max_open_files.saturating_sub(OTHER_FILES))?,
             blocks: Cache::new(alloc, blocks)?,
+            finder: Finder::new(alloc),
         })
     }
 
     /// The first pair at or after an internal key in the table of this number, or none if the
     /// filters rule the key out or there is no such pair. The table is opened if it isn't open, and
-    /// is the one used last then; one that was opened for a look-up that fails is closed again.
-    /// `Corruption` if its file is missing or is no table, `NotSupported` if a block's compressor
-    /// isn't set or the numbers of the block cache are used up.
+    /// is the one most recently used then, even if the look-up fails. The options are those that
+    /// the open tables were opened with; else nothing is promised of what is found. `Corruption` if
+    /// the table's file is missing or is no table, `NotSupported` if a block's compressor isn't set,
+    /// and out of memory also if there is none to keep a table that was opened.
     pub fn get(
         &mut self,
         env: &mut E,
@@ -69,66 +78,117 @@ impl<E: Env, C: UserCmp + Copy + Drop, FP: FilterPolicy + Copy + Drop> TableCach
         number: FileNum,
         key: &[u8],
     ) -> Result<Option<(Bytes, Bytes)>>
-        ensures uses { let by = table_options C.Cmp FP.FilterPolicy
-            ⟦<CompressorList as Compressors>⟧.codings options.now in
+        ensures uses { let by = table_options (format_of C.Cmp FP.FilterPolicy
+            ⟦<CompressorList as Compressors>⟧.codings options.now) options.now in
             UsesTable E.Env (MayFail E.Env by env.old self.old number) number env.old self.old
             result env.new self.new }
-        ensures gets { let by = table_options C.Cmp FP.FilterPolicy
-            ⟦<CompressorList as Compressors>⟧.codings options.now in
-            MatchesFiles E.Env by env.old self.old
+        ensures gets { let by = table_options (format_of C.Cmp FP.FilterPolicy
+            ⟦<CompressorList as Compressors>⟧.codings options.now) options.now in
+            IsTrue E.models_disk → MatchesFiles E.Env by (files_at E.Env env.old) self.old
             → GetsPair E.Env by number key.now env.old self.old result env.new self.new }
+        ensures in_open { LooksUpInOpen E.Env
+            (⟦<CompressorList as Compressors>⟧.codings options.now.compressor_list)
+            ⟦<InternalFilterPolicy<FP> as FilterPolicy>⟧.matches number key.now env.old self.old
+            result env.new self.new }
     {
-        let name = table_key(number);
-        if let Some(table) = self.tables.get(&name) {
-            let compressors = &options.compressor_list;
-            return table.get(self.alloc, env, &mut self.blocks, compressors, key);
-        }
-        let table = open(
-            self.alloc,
-            env,
-            &self.store,
-            options,
-            &mut self.blocks,
-            number,
-        )?;
-        let compressors = &options.compressor_list;
-        let pair = table.get(self.alloc, env, &mut self.blocks, compressors, key)?;
-        self.tables.insert(&name, table)?;
-        Ok(pair)
+        let Some(value) = self.find(env, options, number, key)? else {
+            return Ok(None);
+        };
+        let key = Bytes::copy_from_slice(self.alloc, self.finder.key())?;
+        Ok(Some((key, value)))
     }
 
-    /// Makes sure that the table of this number is open, unless there is room for none. It is the
-    /// one used last then. `Corruption` if its file is missing or is no table, `NotSupported` if a
-    /// block's compressor isn't set or the numbers of the block cache are used up.
+    /// `get`, but it returns the value alone, and `found_key` then has the pair's key. It takes no
+    /// memory if the table is open, its blocks on the way are in memory, and earlier look-ups left
+    /// room for the keys.
+    pub fn find(
+        &mut self,
+        env: &mut E,
+        options: &Options<C, FP>,
+        number: FileNum,
+        key: &[u8],
+    ) -> Result<Option<Bytes>>
+        ensures uses { let by = table_options (format_of C.Cmp FP.FilterPolicy
+            ⟦<CompressorList as Compressors>⟧.codings options.now) options.now in
+            UsesTable E.Env (MayFail E.Env by env.old self.old number) number env.old self.old
+            (found_with (found_key self.new) result) env.new self.new }
+        ensures gets { let by = table_options (format_of C.Cmp FP.FilterPolicy
+            ⟦<CompressorList as Compressors>⟧.codings options.now) options.now in
+            IsTrue E.models_disk → MatchesFiles E.Env by (files_at E.Env env.old) self.old
+            → GetsPair E.Env by number key.now env.old self.old
+            (found_with (found_key self.new) result) env.new self.new }
+        ensures in_open { LooksUpInOpen E.Env
+            (⟦<CompressorList as Compressors>⟧.codings options.now.compressor_list)
+            ⟦<InternalFilterPolicy<FP> as FilterPolicy>⟧.matches number key.now env.old self.old
+            (found_with (found_key self.new) result) env.new self.new }
+    {
+        let name = table_key(number);
+        let compressors = &options.compressor_list;
+        if let Some(table) = self.tables.get(&name) {
+            return table.find(
+                self.alloc,
+                env,
+                &mut self.blocks,
+                compressors,
+                key,
+                &mut self.finder,
+            );
+        }
+        let table = self.open(env, options, number)?;
+        if self.tables.cap() == 0 {
+            return table.find(
+                self.alloc,
+                env,
+                &mut self.blocks,
+                compressors,
+                key,
+                &mut self.finder,
+            );
+        }
+        self.tables.insert(&name, table)?;
+        let table = self.tables.peek(&name).unwrap();
+        table.find(
+            self.alloc,
+            env,
+            &mut self.blocks,
+            compressors,
+            key,
+            &mut self.finder,
+        )
+    }
+
+    /// The key of the pair that `find` or `get` found last. After one that finds no pair or fails it
+    /// is of no use.
+    pub fn found_key(&self) -> &[u8]
+        ensures { result.now ≡ found_key self.now }
+    {
+        self.finder.key()
+    }
+
+    /// Makes sure that the table of this number is open, unless there is room for none: then it is
+    /// opened and closed again. It is the one most recently used then. `Corruption` if its file is
+    /// missing or is no table, `NotSupported` if a block's compressor isn't set, and out of memory
+    /// also if there is none to keep it.
     pub fn open_table(
         &mut self,
         env: &mut E,
         options: &Options<C, FP>,
         number: FileNum,
     ) -> Result<()>
-        ensures opens { let by = table_options C.Cmp FP.FilterPolicy
-            ⟦<CompressorList as Compressors>⟧.codings options.now in
+        ensures { let by = table_options (format_of C.Cmp FP.FilterPolicy
+            ⟦<CompressorList as Compressors>⟧.codings options.now) options.now in
             OpensTableAt E.Env by number env.old self.old result env.new self.new }
-        ensures matches { let by = table_options C.Cmp FP.FilterPolicy
-            ⟦<CompressorList as Compressors>⟧.codings options.now in
-            MatchesFiles E.Env by env.old self.old → MatchesFiles E.Env by env.new self.new }
     {
         let name = table_key(number);
         if self.tables.get(&name).is_some() {
             return Ok(());
         }
-        let table = open(
-            self.alloc,
-            env,
-            &self.store,
-            options,
-            &mut self.blocks,
-            number,
-        )?;
+        let table = self.open(env, options, number)?;
         self.tables.insert(&name, table)
     }
 
-    /// The table of this number, if it is open. This doesn't count as a use.
+    /// The table of this number, if it is open; none if there is room for none. This doesn't count
+    /// as a use.
     pub fn get_table(
         &self,
         number: FileNum,
@@ -140,28 +200,42 @@ impl<E: Env, C: UserCmp + Copy + Drop, FP: FilterPolicy + Copy + Drop> TableCach
 
     /// Closes the table of this number. Returns whether it was open.
     pub fn evict(&mut self, number: FileNum) -> bool
-        ensures { EvictsTable E.Env number self.old result self.new }
+        ensures { EvictsTable number self.old result self.new }
     {
         self.tables.remove(&table_key(number)).is_some()
     }
-}
 
-// Opens the table of this number in a store.
-fn open<E: Env, C: UserCmp + Copy + Drop, FP: FilterPolicy + Copy + Drop>(
-    alloc: Global,
-    env: &mut E,
-    store: &str,
-    options: &Options<C, FP>,
-    blocks: &mut BlockCache<InternalKeyCmp<C>>,
-    number: FileNum,
-) -> Result<Table<E, InternalKeyCmp<C>, InternalFilterPolicy<FP>>>
-    ensures { let by = table_options C.Cmp FP.FilterPolicy
-        ⟦<CompressorList as Compressors>⟧.codings options.now in
-        OpensNumbered E.Env by store.now number env.old blocks.old result env.new blocks.new }
-{
-    let path = table_file_name(alloc, store, number)?;
-    let (file, size) = open_file(alloc, env, &path)?;
-    Table::new(alloc, options, env, blocks, file, size)
+    // Opens the table of this number, and leaves it to the caller.
+    fn open(
+        &mut self,
+        env: &mut E,
+        options: &Options<C, FP>,
+        number: FileNum,
+    ) -> Result<Table<E, InternalKeyCmp<C>, InternalFilterPolicy<FP>>>
+        ensures { let by = table_options (format_of C.Cmp FP.FilterPolicy
+            ⟦<CompressorList as Compressors>⟧.codings options.now) options.now in
+            OpensNumbered E.Env by number env.old self.old result env.new self.new }
+    {
+        self.renew()?;
+        let path = table_file_name(self.alloc, &self.store, number)?;
+        let (file, size) = open_file(self.alloc, env, &path)?;
+        Table::new(self.alloc, options, env, &mut self.blocks, file, size)
+    }
+
+    // Begins anew if the ids of tables are used up.
+    fn renew(&mut self) -> Result<()>
+        ensures ok { OnOk result (self.new ≡ renewed self.old) }
+        ensures err { OnErr result (self.new ≡ self.old) }
+        ensures memory { IfErr result IsOutOfMemory }
+    {
+        if !self.blocks.is_used_up() {
+            return Ok(());
+        }
+        let tables = Cache::new(self.alloc, self.tables.cap())?;
+        self.blocks = Cache::new(self.alloc, self.blocks.cap())?;
+        self.tables = tables;
+        Ok(())
+    }
 }
 
 // Opens the file at this path, and returns how many bytes it has. `Corruption` if it is missing or

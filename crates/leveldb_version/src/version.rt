@@ -5,7 +5,7 @@ ghost use Rattle.leveldb_base.specs.Error.{IsOutOfMemory};
 ghost use Rattle.leveldb_base.specs.KeyTypes.{user_part};
 ghost use Rattle.leveldb_version.specs.Overlap.{AreDisjointRanges, AreInputs, IsFileFor, is_overlapped, may_go_to, named_range, output_level};
 ghost use Rattle.leveldb_version.specs.Summary.{files_of_level, summary_text, total_size};
-ghost use Rattle.leveldb_version.specs.Version.{AreInVersionOrder, IsVersionOf, at_level, borrowed_files, charged, new_files_of};
+ghost use Rattle.leveldb_version.specs.Version.{AreInVersionOrder, HasOneFileMore, IsVersionOf, at_level, borrowed_files, charged, new_files_of};
 ghost use Rattle.leveldb_version.specs.VersionEdit.{new_file_of};
 
 use crate::version_set::summary_of;
@@ -17,9 +17,11 @@ use std::alloc::Global;
 use std::marker::Model;
 
 mod find;
+mod get;
 mod key_range;
 mod order;
 mod overlap;
+mod search;
 mod seeks;
 
 use find::file_with_key;
@@ -27,7 +29,7 @@ use key_range::KeyRange;
 pub use order::total_size;
 use order::{part_of_level, sort_files};
 use overlap::{files_in, is_overlapped, overlap_size, widen};
-use seeks::{is_used_up, take_seek};
+use seeks::{has_last_seek, take_seek, with_first_seeks};
 
 /// The file that a look-up charges with a seek, if one: its level and number.
 #[derive(Clone, Copy, Debug, PartialEq)]
@@ -54,11 +56,12 @@ impl<C: Cmp> Model for Version<C> {
 
     ghost view = { λ it. record { cmp = it.cmp; files = it.files.items; chosen = it.chosen } };
 
-    ghost use Rattle.std.specs.Prelude.{map};
+    ghost use Rattle.std.specs.Prelude.{◌<◌, ◌^◌, All, map};
     ghost use Rattle.leveldb_version.specs.Version.{AreInVersionOrder};
     ghost use Rattle.leveldb_version.specs.VersionEdit.{new_file_of};
 
-    ghost invariant = { λ it. AreInVersionOrder (C.cmp it.cmp) (map new_file_of it.files.items) };
+    ghost invariant = { λ it. AreInVersionOrder (C.cmp it.cmp) (map new_file_of it.files.items)
+        × All (λ file. file.1.size < 2 ^ 64) it.files.items };
 }
 
 impl<C: UserCmp> Version<C> {
@@ -73,19 +76,42 @@ impl<C: UserCmp> Version<C> {
         }
     }
 
-    /// A version of copies of these files, each with its level.
+    /// A version of copies of these files, each with its level and its first seeks.
     pub fn of_files(alloc: Global, cmp: C, files: &[(usize, FileMetaData)]) -> Result<Version<C>>
     where
         C: Drop,
         ensures ok { IfOk result (IsVersionOf (C.cmp cmp) cmp files.now) }
         ensures memory { IfErr result IsOutOfMemory }
     {
-        let mut sorted = files.to_vec(alloc)?;
+        let mut sorted = Vec::with_capacity(alloc, files.len())?;
+        for file in files {
+            sorted.push(with_first_seeks(file.0, &file.1)?)?;
+        }
         sort_files(&cmp, &mut sorted)?;
         Ok(Version {
             cmp,
             files: sorted,
             chosen: None,
+        })
+    }
+
+    /// A copy of the version with a copy of one file more, which gets its first seeks. The other
+    /// files keep the seeks that they have left, and the file that was chosen for a compaction stays
+    /// chosen.
+    pub fn with_file(&self, alloc: Global, level: usize, file: &FileMetaData) -> Result<Version<C>>
+    where
+        C: Copy + Drop,
+        ensures ok { IfOk result
+            (HasOneFileMore (C.cmp self.now.cmp) (level, file.now) self.now) }
+        ensures memory { IfErr result IsOutOfMemory }
+    {
+        let mut files = self.files.to_vec(alloc)?;
+        files.push(with_first_seeks(level, file)?)?;
+        sort_files(&self.cmp, &mut files)?;
+        Ok(Version {
+            cmp: self.cmp,
+            files,
+            chosen: self.chosen,
         })
     }
 
@@ -227,7 +253,7 @@ impl<C: UserCmp> Version<C> {
         let Some(file) = stats.file else {
             return false;
         };
-        if self.chosen.is_none() && is_used_up(self.files.as_slice(), file) {
+        if self.chosen.is_none() && has_last_seek(self.files.as_slice(), file) {
             self.chosen = Some(file);
             return true;
         }

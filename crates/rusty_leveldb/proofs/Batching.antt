@@ -22,8 +22,8 @@ use Rattle.rusty_leveldb.proofs.Moments.{moments_none}
 use Rattle.rusty_leveldb.specs.Frame.{MayTouch}
 use Rattle.rusty_leveldb.proofs.Others.{spares_still}
 use Rattle.leveldb_env.specs.Options.{Boxed, OptionsOf}
-use Rattle.rusty_leveldb.specs.Boxes.{EngineOf}
-use Rattle.leveldb_store.specs.Format.{Format}
+use Rattle.rusty_leveldb.specs.Boxes.{EngineOf, InternalOrder}
+use Rattle.leveldb_version.specs.Format.{Format}
 
 -- a batch whose front is too long is too long
 pub longer_too : (first : ℕ) (front more : List Item) → 2 ^ 30 < length (batch_bytes first front) → IsLongBatch (front ++ more)
@@ -47,7 +47,8 @@ too_long_among batch items i one below is so_far long =
 abbrev pub IsUnmade : List Item → Status → Type 0
 IsUnmade items status = IsOutOfMemory status ⊎ ((status.code ≡ InvalidArgument) × IsLongBatch items)
 
-module _ {E C FP F : Type 0} {B : Boxed} (env : Ghosts E F) (formats : OptionsOf C FP B → Format) (engine : EngineOf E C FP F B)
+module _ {E C FP F : Type 0} {B : Boxed} {keys : InternalOrder C} (env : Ghosts E F)
+    (formats : OptionsOf C FP B → Format) (engine : EngineOf E C FP F B keys)
     (opened : mode_in engine ≡ open_mode) (items : List Item) (sync : Bool) (status : Status) (why : IsUnmade items status) where
   pub not_written : AnswersStill env formats engine (write items sync) (refused (refusal_of status))
   not_written at store meaning tells old represents = record {

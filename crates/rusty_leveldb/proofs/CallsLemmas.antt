@@ -4,28 +4,29 @@ use Rattle.std.specs.Prelude.{IfErr, IsErrAnd, Result, codes, IfSome, string_byt
 use Rattle.std.specs.declared.alloc.Global.{Global}
 use Rattle.std.proofs.Common.{◌≡◌, ◌⊎◌, ◌∙◌, ⊎_elim, inl, inr, ℕ, true, false, List, [], refl, sym, ap, subst, arith, Option, Some, None, Ok, Err}
 use Rattle.leveldb_base.specs.Error.{IsOutOfMemory, text_of}
-use Rattle.leveldb_base.specs.declared.cmp.Cmp.{Ghosts as CmpGhosts}
 use Rattle.leveldb_base.specs.declared.error.Status.{Status}
-use Rattle.leveldb_base.specs.declared.error.StatusCode.TheVariants.{InvalidArgument}
+use Rattle.leveldb_base.specs.declared.error.StatusCode.TheVariants.{InvalidArgument, NotSupported}
 use Rattle.leveldb_env.specs.Env.{ChangesFiles, ChangesLocks, FilesUnchanged, HasCause, lock_set, same}
 use Rattle.leveldb_env.specs.Options.{Boxed, OptionsOf}
 use Rattle.leveldb_env.specs.declared.env.Env.{Ghosts}
 use Rattle.leveldb_env.specs.declared.filter.FilterPolicy.{Ghosts as FilterGhosts}
 use Rattle.leveldb_mem.specs.Log.Writer.{broken_writer}
 use Rattle.leveldb_store.specs.BuildTable.{TableChoices}
-use Rattle.leveldb_store.specs.Format.{Format}
+use Rattle.leveldb_version.specs.Format.{Format, IsTableFault, LacksCompressor}
+use Rattle.leveldb_version.specs.TableCache.{table_options}
+use Rattle.leveldb_version.specs.declared.table_cache.TableCache.{TableCache}
 use Rattle.leveldb_store.specs.OpenStore.{OpenStoreValue}
 use Rattle.leveldb_store.specs.Read.{LooksUpKey}
-use Rattle.leveldb_store.specs.Room.{HasFailed, TellsOnly}
+use Rattle.leveldb_store.specs.Room.{FailsFor, HasFailed, TellsOnly}
 use Rattle.leveldb_store.specs.SoundCall.{IsSoundCall, any_meaning}
 use Rattle.leveldb_store.specs.Write.{IsLogLost, SyncsLog, with_writer}
 use Rattle.leveldb_store.specs.WriteBatch.{SyncsBatches}
 use Rattle.rusty_leveldb.specs.declared.db_impl.engine.Mode.{Mode}
 use Rattle.rusty_leveldb.specs.declared.db_impl.engine.Mode.TheVariants.{Broken, Closed}
-use Rattle.rusty_leveldb.specs.Boxes.{EngineOf}
+use Rattle.rusty_leveldb.specs.Boxes.{EngineOf, InternalOrder}
 use Rattle.rusty_leveldb.specs.Calls.{BecomesOf, EngineServes, HasReason}
 use Rattle.rusty_leveldb.specs.Causes.{IsClosedRefusal, IsBrokenRefusal, IsLongKey, Setting}
-use Rattle.rusty_leveldb.specs.Engine.{AnswersStill, GetExcused, IsClosedOrBroken, RefusedAsBroken, RefusedAsClosed, RefusedByMode, SyncExcused, mode_in, options_in, formats_of}
+use Rattle.rusty_leveldb.specs.Engine.{AnswersStill, GetExcused, GetFails, IsClosedOrBroken, RefusedAsBroken, RefusedAsClosed, RefusedByMode, SyncExcused, is_store_broken, mode_in, mode_with, options_in, formats_of, tables_by}
 use Rattle.rusty_leveldb.specs.Frame.{MayTouch}
 use Rattle.rusty_leveldb.specs.Machine.{Step}
 use Rattle.rusty_leveldb.specs.Serves.{done_or, found_or, refusal_of, setting_between}
@@ -35,7 +36,7 @@ use Rattle.rusty_leveldb.proofs.ClosingLemmas.{close_locked, close_unsynced, clo
 use Rattle.rusty_leveldb.proofs.EngineLemmas.{open_mode_is, open_or_broken}
 use Rattle.rusty_leveldb.proofs.Moments.{moments_none}
 use Rattle.rusty_leveldb.proofs.Others.{spares_still}
-use Rattle.rusty_leveldb.proofs.ReadingLemmas.{get_cause, get_closed, get_goes, get_long}
+use Rattle.rusty_leveldb.proofs.ReadingLemmas.{get_cause, get_closed, get_goes, get_long, read_store}
 use Rattle.rusty_leveldb.proofs.RestLemmas.{rest_given, rest_read, rest_still, rest_synced}
 use Rattle.rusty_leveldb.proofs.SyncLemmas.{log_is_data}
 
@@ -89,9 +90,9 @@ module _ (setting : Setting) (old : State) where
   broken_step close writes refusal says = (says, refl)
   broken_step request writes refusal says = absurd writes
 
-module _ {E C FP F D P : Type 0} {B : Boxed} {keys : CmpGhosts D} {key_filters : FilterGhosts P}
+module _ {E C FP F P : Type 0} {B : Boxed} {keys : InternalOrder C} {key_filters : FilterGhosts P}
     (env : Ghosts E F) (choices : OptionsOf C FP B → TableChoices keys key_filters)
-    (before : EngineOf E C FP F B) where
+    (before : EngineOf E C FP F B keys) where
   abbrev formats : OptionsOf C FP B → Format
   formats = formats_of choices
 
@@ -177,7 +178,7 @@ module _ {E C FP F D P : Type 0} {B : Boxed} {keys : CmpGhosts D} {key_filters :
     sync_tells : (result : Result (Unit {0}) Status) (m : Mode)
         → SyncsLog env before.store from result value mid
         → TellsOnly (options_in before) (options_in {E = E} {C = C} {FP = FP} {F = F} {B = B}
-        (record before { store = value; mode = m }))
+        {keys = keys} (record before { store = value; mode = m }))
     sync_tells result m syncs = record {
       rest = ap (λ (c : C). record before.options { cmp = c }) (sync_cmp result syncs);
       sink = refl;
@@ -187,7 +188,7 @@ module _ {E C FP F D P : Type 0} {B : Boxed} {keys : CmpGhosts D} {key_filters :
         → SyncsLog env before.store from result value mid
         → BecomesOf before flush result (record before { store = value })
     flush_becomes (Ok nothing) syncs = (
-      ap (λ (v : OpenStoreValue C). mode_in {E = E} {C = C} {FP = FP} {F = F} {B = B}
+      ap (λ (v : OpenStoreValue C). mode_in {E = E} {C = C} {FP = FP} {F = F} {B = B} {keys = keys}
           (record before { store = v })) syncs.ok,
       tt,
     )
@@ -195,7 +196,7 @@ module _ {E C FP F D P : Type 0} {B : Boxed} {keys : CmpGhosts D} {key_filters :
       tt,
       (
         ⊎_elim (λ opens. inr (opens.0 ∙ sym opened)) (λ broke. inl broke.0)
-            (open_or_broken {E = E} {C = C} {FP = FP} {F = F} {B = B}
+            (open_or_broken {E = E} {C = C} {FP = FP} {F = F} {B = B} {keys = keys}
             (record before { store = value }) (open_mode_is before opened)),
         ⊎_elim
             (λ (still : IsOutOfMemory status × (value ≡ before.store) × (mid ≡ from)). inr still.0)
@@ -204,7 +205,7 @@ module _ {E C FP F D P : Type 0} {B : Boxed} {keys : CmpGhosts D} {key_filters :
             (λ sound. absurd (let never : true ≡ false =
             sym (ap (λ (v : OpenStoreValue C). v.log.writer.broken) broke) ∙ sound.1.log in cc))
             (λ is. inr is.0)
-            (open_or_broken {E = E} {C = C} {FP = FP} {F = F} {B = B}
+            (open_or_broken {E = E} {C = C} {FP = FP} {F = F} {B = B} {keys = keys}
             (record before { store = value }) (open_mode_is before opened)))) syncs.err,
       ),
     )
@@ -332,6 +333,26 @@ module _ {E C FP F D P : Type 0} {B : Boxed} {keys : CmpGhosts D} {key_filters :
   -- ---- look-ups
 
   module _ (key : List ℕ) (from : E) where
+    -- a look-up that reads nothing fails for this
+    unread_fails : (result : Result (Option (List ℕ)) Status)
+        → ((Why : Status → Type 0) → IfErr result (GetExcused before key Why))
+        → GetFails env formats before from key result from
+    unread_fails result why = record {
+      cause = fails (λ e. IsTableFault (formats (options_in before)) e.code);
+      lacks = λ meaning live there. fails (λ e. (e.code ≡ NotSupported)
+          × LacksCompressor (formats (options_in before)) meaning);
+    }
+      where
+        fails : (Why : Status → Type 0)
+            → FailsFor (GetExcused before key Why) (env.failures from) (env.failures from) result
+        fails Why = record { later = omega arith; cause = by result (why Why) }
+          where
+            by : (r : Result (Option (List ℕ)) Status) → IfErr r (GetExcused before key Why)
+                → IfErr r (λ e. GetExcused before key Why e
+                ⊎ HasFailed (env.failures from) (env.failures from))
+            by (Ok value) excused = tt
+            by (Err status) excused = inl excused
+
     pub get_closed_serves : (status : Status) → RefusedAsClosed (mode_in before) status
         → EngineServes env choices found_or before from (get None key) (Err status) before from
     get_closed_serves status why = record {
@@ -341,7 +362,7 @@ module _ {E C FP F D P : Type 0} {B : Boxed} {keys : CmpGhosts D} {key_filters :
       step = get_closed env formats before key status why from;
       rest = rest_still env before from (get None key) (Err status) (inr (status, refl));
       time = λ modelled. omega arith;
-      cause = record { later = omega arith; cause = inl (inl why) };
+      cause = unread_fails (Err status) (λ Why. inl why);
     }
 
     module _ (usable : mode_in before ≡ machine.closed → ⊥) where
@@ -355,41 +376,62 @@ module _ {E C FP F D P : Type 0} {B : Boxed} {keys : CmpGhosts D} {key_filters :
         step = get_long env formats before key usable result fails long from;
         rest = rest_still env before from (get None key) result (inl (λ held. refl));
         time = λ modelled. omega arith;
-        cause = record { later = omega arith; cause = by result fails };
+        cause = unread_fails result (λ Why. by Why result fails);
       }
         where
-          by : (r : Result (Option (List ℕ)) Status)
+          by : (Why : Status → Type 0) (r : Result (Option (List ℕ)) Status)
               → IsErrAnd r (λ status. status.code ≡ InvalidArgument)
-              → IfErr r (λ e. GetExcused env formats before from key e
-              ⊎ HasFailed (env.failures from) (env.failures from))
-          by (Ok value) fails = absurd fails
-          by (Err status) code = inl (inr (inl (code, long)))
+              → IfErr r (GetExcused before key Why)
+          by Why (Ok value) fails = absurd fails
+          by Why (Err status) code = inr (inl (code, long))
 
       pub get_serves : (IsLongKey key → ⊥) → (to : E) (result : Result (Option (List ℕ)) Status)
-          → LooksUpKey env (formats (options_in before)).order (formats (options_in before))
-          before.store from key result to
+          (value : OpenStoreValue C) (cache : TableCache E C FP F keys)
+          → LooksUpKey env (tables_by formats before) before.store from before.tables key result
+          value to cache
           → EngineServes env choices found_or before from (get None key) result
-          (record before { options = options_in before }) to
-      get_serves short to result looks = record {
-        options = record { rest = refl; sink = refl };
-        halted = λ halted. absurd (usable halted);
-        becomes = (refl, refl);
-        step = get_goes env formats before key usable short from to result looks;
-        rest = rest_read env before from key result to (options_in before) looks.reads.kept_disk;
-        time = λ modelled. (looks.reads.kept_disk.disk modelled).time.later;
-        cause = get_cause env formats before key usable short from to result looks;
-      }
+          (record before { options = options_in before; store = value; tables = cache }) to
+      get_serves short to result value cache looks =
+          let same = read_store env formats before key usable short from to result value cache looks
+          in
+          record {
+            options = record {
+              rest = ap (λ (v : OpenStoreValue C). record before.options { cmp = v.cmp }) same;
+              sink = refl;
+            };
+            halted = λ halted. absurd (usable halted);
+            becomes = (
+              ap (λ (v : OpenStoreValue C). mode_with before.mode (is_store_broken v)) same,
+              same,
+            );
+            step = get_goes env formats before key usable short from to result value cache looks;
+            rest = rest_read env before from key result to (options_in before) value cache same
+                looks.reads.kept_disk;
+            time = λ modelled. (looks.reads.kept_disk.disk modelled).time.later;
+            cause = get_cause env formats before key usable short from to result value cache looks;
+          }
 
       -- the same where the options were given the store's order
       pub get_serves_in : (cmp : C) → cmp ≡ before.store.cmp → (IsLongKey key → ⊥) → (to : E)
-          → (result : Result (Option (List ℕ)) Status)
-          → LooksUpKey env (formats (options_in before)).order
-          (formats (record before.options { cmp = cmp })) before.store from key result to
+          (result : Result (Option (List ℕ)) Status) (value : OpenStoreValue C)
+          (cache : TableCache E C FP F keys)
+          → (let options : OptionsOf C FP B = record before.options { cmp = cmp } in
+          LooksUpKey env (table_options (formats options) options) before.store from before.tables
+          key result value to cache)
           → EngineServes env choices found_or before from (get None key) result
-          (record before { options = record before.options { cmp = cmp } }) to
-      get_serves_in cmp same short to result looks =
+          (record before {
+            options = record before.options { cmp = cmp };
+            store = value;
+            tables = cache;
+          }) to
+      get_serves_in cmp same short to result value cache looks =
           subst (λ (c : C). EngineServes env choices found_or before from (get None key) result
-          (record before { options = record before.options { cmp = c } }) to) (sym same)
-          (get_serves short to result (subst (λ (c : C).
-          LooksUpKey env (formats (options_in before)).order
-          (formats (record before.options { cmp = c })) before.store from key result to) same looks))
+          (record before {
+            options = record before.options { cmp = c };
+            store = value;
+            tables = cache;
+          }) to) (sym same)
+          (get_serves short to result value cache (subst (λ (c : C).
+          let options : OptionsOf C FP B = record before.options { cmp = c } in
+          LooksUpKey env (table_options (formats options) options) before.store from before.tables
+          key result value to cache) same looks))

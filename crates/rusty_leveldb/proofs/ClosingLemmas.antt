@@ -12,13 +12,13 @@ use Rattle.leveldb_mem.specs.Log.Writer.{broken_writer}
 use Rattle.leveldb_version.specs.Holds.{Holds}
 use Rattle.leveldb_version.specs.Paths.{lock_path}
 use Rattle.leveldb_version.specs.StoreSteps.{AppendedAreBytes}
-use Rattle.leveldb_store.specs.Format.{Format, Meaning}
+use Rattle.leveldb_version.specs.Format.{Format, Meaning}
 use Rattle.leveldb_store.specs.OpenStore.{IsUnbroken, OpenStoreValue}
 use Rattle.leveldb_store.specs.SoundCall.{IsSoundCall, any_meaning}
 use Rattle.leveldb_store.specs.Write.{SyncsLog, open_log_path, with_writer}
 use Rattle.leveldb_store.specs.WriteBatch.{MakesDurable, SyncsBatches}
 use Rattle.rusty_leveldb.specs.declared.db_impl.engine.Mode.TheVariants.{Broken, Closed}
-use Rattle.rusty_leveldb.specs.Boxes.{EngineOf}
+use Rattle.rusty_leveldb.specs.Boxes.{EngineOf, InternalOrder}
 use Rattle.rusty_leveldb.specs.Causes.{Cause, Comes, ReachesDevice, Setting, device_failed, out_of_memory}
 use Rattle.rusty_leveldb.specs.Engine.{Answers, Recalls, mode_in, options_in, scene}
 use Rattle.rusty_leveldb.specs.Frame.{MayTouch, SameBytes}
@@ -68,26 +68,36 @@ counted_error before mid now status same_count cause = record {
       (subst (λ n. (now ≡ n + 1) ⊎ ((n ≡ 2 ^ 64 - 1) × (now ≡ n))) same_count counted)) cause.cause;
 }
 
-module _ {E C FP F : Type 0} {B : Boxed} (env : Ghosts E F) (formats : OptionsOf C FP B → Format) where
+-- an engine that isn't closed responds
+abandons : (mode : machine.Mode) (setting : Setting) (old new : State) (answer : Answer)
+    → (mode ≡ machine.closed → ⊥) → Responds setting old abandon answer new
+    → Step mode setting old abandon answer new
+abandons machine.open_mode setting old new answer differs responds = responds
+abandons machine.broken setting old new answer differs responds = responds
+abandons machine.closed setting old new answer differs responds = absurd (differs refl)
+
+module _ {E C FP F : Type 0} {B : Boxed} {keys : InternalOrder C} (env : Ghosts E F)
+    (formats : OptionsOf C FP B → Format) where
   -- ---- an engine that is open
 
-  module _ (before : EngineOf E C FP F B) (from : E)
+  module _ (before : EngineOf E C FP F B keys) (from : E)
       (opened : mode_in before ≡ machine.open_mode) where
     module _ (value : OpenStoreValue C) (mid : E) where
       -- ---- a flush
 
       module _ (store : List ℕ) (meaning : Meaning) (modelled : IsTrue env.models_disk)
-          (old : State) (was : Represents store meaning (Recalls formats store meaning) (Some before)
-          (env.observed from).disk old) where
+          (old : State) (was : Represents store meaning (Recalls env formats store meaning)
+          (Some before) (env.observed from).disk old) where
         flushed : (syncs : SyncsLog env before.store from (Ok tt) value mid)
             → SyncsBatches env (formats (options_in before)).order before.store from (Ok tt) value mid
             → IsSoundCall {T = Unit {0}} env (formats (options_in before)).order any_meaning before.store from
             (Ok tt) value mid
-            → Goes store meaning (Recalls formats store meaning) (scene env (Some before) from) flush
+            → Goes store meaning (Recalls env formats store meaning) (scene env (Some before) from)
+            flush
             done (scene env (Some (record before { store = value })) mid) old
         flushed syncs batches sound =
             let new : State = record old { durable = length old.history } in
-            let after : EngineOf E C FP F B = record before { store = value } in
+            let after : EngineOf E C FP F B keys = record before { store = value } in
             goes env formats store meaning before from old was opened after mid new
             (ends_durable env formats store meaning before from old was opened value before.mode mid
             mid new modelled syncs
@@ -117,8 +127,8 @@ module _ {E C FP F : Type 0} {B : Boxed} (env : Ghosts E F) (formats : OptionsOf
 
         -- memory was out before the device was called
         starved : (status : Status) → IsOutOfMemory status
-            → Goes store meaning (Recalls formats store meaning) (scene env (Some before) from) flush
-            (refused (refusal_of status)) (scene env (Some before) from) old
+            → Goes store meaning (Recalls env formats store meaning) (scene env (Some before) from)
+            flush (refused (refusal_of status)) (scene env (Some before) from) old
         starved status memory = record {
           new = old;
           represents = was;
@@ -148,14 +158,15 @@ module _ {E C FP F : Type 0} {B : Boxed} (env : Ghosts E F) (formats : OptionsOf
             mid
             → IsSoundCall {T = Unit {0}} env (formats (options_in before)).order any_meaning before.store from
             (Err status) value mid
-            → Goes store meaning (Recalls formats store meaning) (scene env (Some before) from) flush
+            → Goes store meaning (Recalls env formats store meaning) (scene env (Some before) from)
+            flush
             (refused (refusal_of status)) (scene env (Some (record before { store = value })) mid) old
         unflushed status syncs batches sound = ⊎_elim
             (λ (still : IsOutOfMemory status × (value ≡ before.store) × (mid ≡ from)).
-            subst (λ (v : OpenStoreValue C). Goes store meaning (Recalls formats store meaning)
+            subst (λ (v : OpenStoreValue C). Goes store meaning (Recalls env formats store meaning)
             (scene env (Some before) from) flush (refused (refusal_of status))
             (scene env (Some (record before { store = v })) mid) old) (sym still.1)
-            (subst (λ m. Goes store meaning (Recalls formats store meaning)
+            (subst (λ m. Goes store meaning (Recalls env formats store meaning)
             (scene env (Some before) from) flush (refused (refusal_of status))
             (scene env (Some before) m) old) (sym still.2) (starved status still.0)))
             (λ (broke : value ≡ with_writer before.store (broken_writer before.store.log.writer)).
@@ -165,13 +176,14 @@ module _ {E C FP F : Type 0} {B : Boxed} (env : Ghosts E F) (formats : OptionsOf
             syncs.err
           where
             broken_mode : value ≡ with_writer before.store (broken_writer before.store.log.writer)
-                → mode_in {E = E} {C = C} {FP = FP} {F = F} {B = B} (record before { store = value })
+                → mode_in {E = E} {C = C} {FP = FP} {F = F} {B = B}
+                {keys = keys} (record before { store = value })
                 ≡ machine.broken
             broken_mode broke = ⊎_elim
                 (λ sound. absurd (let never : true ≡ false =
                 sym (ap (λ (v : OpenStoreValue C). v.log.writer.broken) broke) ∙ sound.1.log in cc))
                 (λ is. is.0)
-                (open_or_broken {E = E} {C = C} {FP = FP} {F = F} {B = B}
+                (open_or_broken {E = E} {C = C} {FP = FP} {F = F} {B = B} {keys = keys}
                 (record before { store = value }) (open_mode_is before opened))
 
       pub flush_goes : (result : Result (Unit {0}) Status)
@@ -207,8 +219,8 @@ module _ {E C FP F : Type 0} {B : Boxed} (env : Ghosts E F) (formats : OptionsOf
           (Ok tt) value mid)
           (to : E) (lock : List ℕ) (lock_is : lock ≡ string_bytes before.lock) where
         module _ (store : List ℕ) (meaning : Meaning) (modelled : IsTrue env.models_disk)
-            (old : State) (was : Represents store meaning (Recalls formats store meaning) (Some before)
-            (env.observed from).disk old)
+            (old : State) (was : Represents store meaning (Recalls env formats store meaning)
+            (Some before) (env.observed from).disk old)
             (still : (env.observed to).disk.files ≡ (env.observed mid).disk.files) where
           all_durable : MakesDurable old.format.order meaning (Stays old) (env.observed from)
               old.history old.durable value (env.observed mid)
@@ -324,16 +336,8 @@ module _ {E C FP F : Type 0} {B : Boxed} (env : Ghosts E F) (formats : OptionsOf
 
   -- ---- a store that is abandoned
 
-  -- an engine that isn't closed responds
-  abandons : (mode : machine.Mode) (setting : Setting) (old new : State) (answer : Answer)
-      → (mode ≡ machine.closed → ⊥) → Responds setting old abandon answer new
-      → Step mode setting old abandon answer new
-  abandons machine.open_mode setting old new answer differs responds = responds
-  abandons machine.broken setting old new answer differs responds = responds
-  abandons machine.closed setting old new answer differs responds = absurd (differs refl)
-
   -- it was closed before
-  pub abandoned_closed : (before : EngineOf E C FP F B) (at : E)
+  pub abandoned_closed : (before : EngineOf E C FP F B keys) (at : E)
       → mode_in before ≡ machine.closed
       → Answers env formats (Some before) at abandon done None at
   abandoned_closed before at is_closed store meaning modelled old was =
@@ -349,11 +353,11 @@ module _ {E C FP F : Type 0} {B : Boxed} (env : Ghosts E F) (formats : OptionsOf
         bytes = λ never. absurd never;
       }
 
-  module _ (before : EngineOf E C FP F B) (at now : E)
+  module _ (before : EngineOf E C FP F B keys) (at now : E)
       (differs : mode_in before ≡ machine.closed → ⊥) (lock : List ℕ)
       (lock_is : lock ≡ string_bytes before.lock) where
     module _ (store : List ℕ) (meaning : Meaning) (modelled : IsTrue env.models_disk) (old : State)
-        (was : Represents store meaning (Recalls formats store meaning) (Some before)
+        (was : Represents store meaning (Recalls env formats store meaning) (Some before)
         (env.observed at).disk old) (result : Result (Unit {0}) Status)
         (does : ChangesFiles {T = Unit {0}} env.models_disk same FilesUnchanged (env.observed at)
         (env.observed now) result) (later : env.failures at ≤ env.failures now) where
@@ -364,8 +368,8 @@ module _ {E C FP F : Type 0} {B : Boxed} (env : Ghosts E F) (formats : OptionsOf
           → (env.observed now).disk.locked path ≡ (env.observed at).disk.locked path)
           → Responds (setting_between meaning (env.failures at) (env.failures now)) old abandon answer
           (record (closed_state old) { locked = locked })
-          → Goes store meaning (Recalls formats store meaning) (scene env (Some before) at) abandon
-          answer (scene env None now) old
+          → Goes store meaning (Recalls env formats store meaning) (scene env (Some before) at)
+          abandon answer (scene env None now) old
       let_go locked answer locked_is others responds =
           let new : State = record (closed_state old) { locked = locked } in
           let setting = setting_between meaning (env.failures at) (env.failures now) in

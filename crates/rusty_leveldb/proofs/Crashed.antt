@@ -13,7 +13,7 @@ use Rattle.rusty_leveldb.specs.Serves.{Reads, StandsFor, IsSpared}
 use Rattle.rusty_leveldb.proofs.Bounds.{carries_more, carries_just}
 use Rattle.rusty_leveldb.proofs.Histories.{history_part, greatest_part}
 use Rattle.rusty_leveldb.proofs.ReadsLemmas.{crash_bytes}
-use Rattle.leveldb_store.specs.Format.{Meaning}
+use Rattle.leveldb_version.specs.Format.{Meaning}
 
 no_bytes : (tail : List ℕ) → length tail ≤ 0 → tail ≡ []
 no_bytes [] le = refl

@@ -1,30 +1,35 @@
 -- An opening that is done.
-use Rattle.std.specs.Prelude.{string_bytes}
-use Rattle.std.proofs.Common.{◌≡◌, ◌≢◌, ◌≤◌, ◌∙◌, ⊎_elim, inl, inr, ℕ, Bool, true, false, List, sym, ap, subst, arith, Some, None, Ok, IsTrue}
+use Rattle.std.specs.Prelude.{IsSome, string_bytes}
+use Rattle.std.proofs.Common.{◌≡◌, ◌≢◌, ◌≤◌, ◌∙◌, ⊎_elim, inl, inr, ℕ, Bool, true, false, List, Ordering, sym, ap, subst, arith, Some, None, Ok, IsTrue}
 use Rattle.leveldb_base.specs.declared.types.FileType.{FileType}
 use Rattle.leveldb_base.specs.declared.types.FileType.TheVariants.{Descriptor, Log, Table, Temp}
-use Rattle.leveldb_base.specs.declared.cmp.Cmp.{Ghosts as CmpGhosts}
 use Rattle.leveldb_env.specs.Env.{Files, Run, in_folder}
 use Rattle.leveldb_env.specs.Options.{Boxed, OptionsOf}
 use Rattle.leveldb_env.specs.declared.env.Env.{Ghosts}
 use Rattle.leveldb_env.specs.declared.filter.FilterPolicy.{Ghosts as FilterGhosts}
 use Rattle.leveldb_env.proofs.EnvLemmas.{Run-mono, SameBut-created}
+use Rattle.leveldb_table.specs.Cache.{Cached, value_of}
 use Rattle.leveldb_version.specs.Contents.{made}
 use Rattle.leveldb_version.specs.Paths.{lock_path}
 use Rattle.leveldb_version.specs.StoreSteps.{AppendedAreBytes}
+use Rattle.leveldb_version.specs.TableCache.{IsNewTableCache, MatchesFiles, StoreTable, TableOptions, table_key}
 use Rattle.leveldb_version.specs.VersionSetValue.{VersionSetValue}
 use Rattle.leveldb_version.specs.Writing.{IsObsolete}
+use Rattle.leveldb_version.specs.declared.table_cache.TableCache.{TableCache}
+use Rattle.leveldb_store.proofs.OpenTablesLemmas.{open_after_removal}
 use Rattle.leveldb_store.specs.BuildTable.{TableChoices}
-use Rattle.leveldb_store.specs.Format.{Agrees, Format, Meaning}
+use Rattle.leveldb_version.specs.Format.{Agrees, Format, Meaning}
+use Rattle.leveldb_store.specs.OpenStore.{OpenStoreValue}
+use Rattle.leveldb_store.specs.OpenTables.{AreOpenTablesOf, ClosesObsolete}
 use Rattle.leveldb_store.specs.OpensStore.{IsForbidden, LacksUsableEdits, OpensStore, SameBesideOwn}
 use Rattle.leveldb_store.specs.Room.{TellsOnly, TidiesUp}
 use Rattle.leveldb_store.specs.SoundCall.{BytesAreAppended, TimeGoesOn}
 use Rattle.leveldb_store.specs.Switch.{IsObsoletePath, RemovesNoOther}
 use Rattle.leveldb_store.specs.Written.{IsData, KeepsWritten}
 use Rattle.rusty_leveldb.specs.declared.db_impl.engine.Mode.TheVariants.{Open}
-use Rattle.rusty_leveldb.specs.Boxes.{EngineOf}
+use Rattle.rusty_leveldb.specs.Boxes.{EngineOf, InternalOrder}
 use Rattle.rusty_leveldb.specs.Calls.{EngineOpens}
-use Rattle.rusty_leveldb.specs.Engine.{formats_of, IsOpening, IsStoreName, Recalls, no_engine, options_in, scene}
+use Rattle.rusty_leveldb.specs.Engine.{formats_of, HasOwnTables, IsOpening, IsStoreName, Recalls, no_engine, options_in, scene}
 use Rattle.rusty_leveldb.specs.Frame.{IsOwn, Spares}
 use Rattle.rusty_leveldb.specs.Serves.{Goes, IsSpared, Represents}
 use Rattle.rusty_leveldb.specs.State.{Opening, State, done, open_store}
@@ -71,10 +76,32 @@ removed_bytes set before after removes bytes name file there = ⊎_elim
     absurd (let never : None ≡ Some file = sym gone.1 ∙ there in cc))
     (removes name)
 
-module _ {E C FP F D P : Type 0} {B : Boxed} {keys : CmpGhosts D} {key_filters : FilterGhosts P}
+-- The open tables are those of a store that was opened once obsolete files are deleted, where none
+-- was open before.
+pub opened_tables : {E C FP F : Type 0} {B : Boxed} {keys : InternalOrder C} (env : Ghosts E F)
+    (by : TableOptions C FP) (cmp : List ℕ → List ℕ → Ordering) (value : OpenStoreValue C)
+    (options : OptionsOf C FP B) (none tables : TableCache E C FP F keys) (opened to : E)
+    (store : List ℕ) → value.set.store ≡ store → IsNewTableCache store options none
+    → ((by : TableOptions C FP) (files : Files) → MatchesFiles env by files none)
+    → TidiesUp env cmp value opened to → ClosesObsolete env value.set opened none to tables
+    → IsTrue env.models_disk
+    → AreOpenTablesOf env by value.set (env.observed to).disk.files tables
+opened_tables {E} {C} {FP} {F} {keys = keys} env by cmp value options none tables opened to store
+    path is_new matches tidies closes modelled =
+    open_after_removal env by value.set (env.observed opened).disk.files
+    (env.observed to).disk.files (tidies.others modelled) none tables closes.closes (record {
+      path = is_new.path ∙ sym path;
+      given = λ number fits is_open.
+          let never : false ≡ true = subst
+          (λ (tables : Cached (StoreTable E C FP F keys)).
+          IsSome (value_of (table_key number) tables.pairs)) is_new.tables is_open in absurd (cc never);
+      matches = matches by (env.observed opened).disk.files;
+    })
+
+module _ {E C FP F P : Type 0} {B : Boxed} {keys : InternalOrder C} {key_filters : FilterGhosts P}
     (env : Ghosts E F) (choices : OptionsOf C FP B → TableChoices keys key_filters)
     (store : List ℕ) (options : OptionsOf C FP B) (asked : Opening) (from taken opened to : E)
-    (engine : EngineOf E C FP F B)
+    (engine : EngineOf E C FP F B keys)
     (took : IsTrue env.models_disk → IsTaken store (env.observed from) (env.observed taken))
     (limit : ℕ)
     (opens : OpensStore env store asked.format asked.create_if_missing asked.error_if_exists taken limit
@@ -88,6 +115,8 @@ module _ {E C FP F D P : Type 0} {B : Boxed} {keys : CmpGhosts D} {key_filters :
     (ignores : (a b : OptionsOf C FP B) → TellsOnly a b → formats_of choices b ≡ formats_of choices a)
     (asked_is : formats_of choices options ≡ asked.format)
     (counted : env.failures taken ≡ env.failures from)
+    (tables : IsTrue env.models_disk
+    → HasOwnTables env (formats_of choices) engine (env.observed to).disk.files)
     (well : IsStoreName store × IsTrue asked.fits × IsTrue asked.compresses) where
   abbrev formats : OptionsOf C FP B → Format
   formats = formats_of choices
@@ -131,8 +160,8 @@ module _ {E C FP F D P : Type 0} {B : Boxed} {keys : CmpGhosts D} {key_filters :
   module _ (modelled : IsTrue env.models_disk) (opening : Opening)
       (is : IsOpening store asked opening) (meaning : Meaning)
       (agrees : Agrees opening.format meaning) (old : State)
-      (was : Represents store meaning (Recalls {E = E} {C = C} {FP = FP} {F = F} {B = B} formats store
-      meaning) None (env.observed from).disk old) where
+      (was : Represents store meaning (Recalls {keys = keys} env formats store meaning) None
+      (env.observed from).disk old) where
     same_format : opening.format ≡ asked.format
     same_format = ap (λ (o : Opening). o.format) is.same
 
@@ -167,8 +196,9 @@ module _ {E C FP F D P : Type 0} {B : Boxed} {keys : CmpGhosts D} {key_filters :
         IsForbidden store o.create_if_missing o.error_if_exists here) is.same forbidden))
 
     goes : IsNamed opening.format.order_name old.store
-        → Goes store meaning (Recalls formats store meaning)
-        (scene env (no_engine {E = E} {C = C} {FP = FP} {F = F} {B = B} engine.options) from)
+        → Goes store meaning (Recalls env formats store meaning)
+        (scene env (no_engine {E = E} {C = C} {FP = FP} {F = F} {B = B}
+        {keys = keys} engine.options) from)
         (open_store opening) done (scene env (Some engine) to) old
     goes fits =
         let same_but = but env store asked from taken took modelled in
@@ -180,12 +210,13 @@ module _ {E C FP F D P : Type 0} {B : Boxed} {keys : CmpGhosts D} {key_filters :
         same_but bytes_taken engine (env.observed opened) to opens.path opens.unbroken
         (opens_so.keeps modelled meaning agrees found sound)
         (opens_so.opens modelled meaning agrees found sound) tidied (took modelled).was_free allowed
-        mode lock (format ∙ sym same_format) (is.fits.1 (well.0, well.1))
+        mode lock (format ∙ sym same_format) (tables modelled) (is.fits.1 (well.0, well.1))
         (subst IsTrue (sym (ap (λ (o : Opening). o.compresses) is.same)) well.2) later early_run
         bytes_end (lock_held modelled) (spares modelled)
 
-    pub done_goes : Goes store meaning (Recalls formats store meaning)
-        (scene env (no_engine {E = E} {C = C} {FP = FP} {F = F} {B = B} engine.options) from)
+    pub done_goes : Goes store meaning (Recalls env formats store meaning)
+        (scene env (no_engine {E = E} {C = C} {FP = FP} {F = F} {B = B}
+        {keys = keys} engine.options) from)
         (open_store opening) done (scene env (Some engine) to) old
     done_goes = ⊎_elim goes
         (λ (differs : (name : List ℕ) × (old.store ≡ made (Some name))

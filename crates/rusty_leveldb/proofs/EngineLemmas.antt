@@ -15,14 +15,14 @@ use Rattle.leveldb_version.specs.Paths.{lock_path}
 use Rattle.leveldb_version.specs.Store.{IsStore}
 use Rattle.leveldb_version.specs.StoreSteps.{AppendedAreBytes}
 use Rattle.leveldb_version.specs.VersionSetValue.{ManifestState, broken, in_use, unmade}
-use Rattle.leveldb_store.specs.Format.{Agrees, Format, Meaning}
+use Rattle.leveldb_version.specs.Format.{Agrees, Format, IsTableOf, Meaning}
 use Rattle.leveldb_store.specs.OpenStore.{IsUnbroken, OpenStoreValue}
 use Rattle.leveldb_store.specs.WriteBatch.{HoldsBatches, IsOf, SparesBatches}
-use Rattle.leveldb_store.specs.Written.{IsTableOf, IsWritten, Shows}
+use Rattle.leveldb_store.specs.Written.{IsWritten, Shows}
 use Rattle.rusty_leveldb.specs.declared.db_impl.engine.Mode.{Mode}
 use Rattle.rusty_leveldb.specs.declared.db_impl.engine.Mode.TheVariants.{Open, Broken, Closed}
-use Rattle.rusty_leveldb.specs.Boxes.{EngineOf}
-use Rattle.rusty_leveldb.specs.Engine.{Recalls, is_manifest_broken, is_store_broken, mode_in, mode_with, options_in, scene}
+use Rattle.rusty_leveldb.specs.Boxes.{EngineOf, InternalOrder}
+use Rattle.rusty_leveldb.specs.Engine.{HasOwnTables, Recalls, is_manifest_broken, is_store_broken, mode_in, mode_with, options_in, scene}
 use Rattle.rusty_leveldb.specs.Frame.{IsSyncing, MayTouch, SameBytes, Spares}
 use Rattle.rusty_leveldb.specs.Machine.{Step, risk_of}
 use Rattle.rusty_leveldb.specs.Serves.{Goes, IsSpared, Reads, Represents, StandsFor, setting_between}
@@ -72,7 +72,8 @@ when_closed Open true is = absurd (let never : machine.broken ≡ machine.closed
 when_closed Broken b is = absurd (let never : machine.broken ≡ machine.closed = is in cc)
 when_closed Closed b is = refl
 
-module _ {E C FP F : Type 0} {B : Boxed} (engine : EngineOf E C FP F B) where
+module _ {E C FP F : Type 0} {B : Boxed} {keys : InternalOrder C}
+    (engine : EngineOf E C FP F B keys) where
   -- an engine that is open wasn't closed, and its store isn't broken
   pub open_mode_is : mode_in engine ≡ machine.open_mode → engine.mode ≡ Open
   open_mode_is opened = (when_open engine.mode (is_store_broken engine.store) opened).0
@@ -171,9 +172,11 @@ module _ (store : List ℕ) (meaning : Meaning) (old : State) (agrees : Agrees o
 
 -- ---- a call on an engine that isn't closed
 
-module _ {E C FP F : Type 0} {B : Boxed} (env : Ghosts E F) (formats : OptionsOf C FP B → Format)
-    (store : List ℕ) (meaning : Meaning) (before : EngineOf E C FP F B) (from : E) (old : State)
-    (was : Represents store meaning (Recalls formats store meaning) (Some before)
+module _ {E C FP F : Type 0} {B : Boxed} {keys : InternalOrder C} (env : Ghosts E F)
+    (formats : OptionsOf C FP B → Format)
+    (store : List ℕ) (meaning : Meaning) (before : EngineOf E C FP F B keys) (from : E)
+    (old : State)
+    (was : Represents store meaning (Recalls env formats store meaning) (Some before)
     (env.observed from).disk old) (opened : mode_in before ≡ machine.open_mode) where
   abbrev pub order : List ℕ → List ℕ → Ordering
   order = old.format.order
@@ -251,7 +254,7 @@ module _ {E C FP F : Type 0} {B : Boxed} (env : Ghosts E F) (formats : OptionsOf
 
   -- What the engine and the environment are in the end, for this state of the machine. It has the
   -- store and the format of the state before.
-  pub record Ends (after : EngineOf E C FP F B) (to : E) (new : State) : Type 0 where
+  pub record Ends (after : EngineOf E C FP F B keys) (to : E) (new : State) : Type 0 where
     pub lock : string_bytes after.lock ≡ string_bytes before.lock
     pub options : formats (options_in after) ≡ formats (options_in before)
     pub path : after.store.set.store ≡ before.store.set.store
@@ -260,6 +263,7 @@ module _ {E C FP F : Type 0} {B : Boxed} (env : Ghosts E F) (formats : OptionsOf
     pub mode : mode_in after ≡ new.mode
     pub last : after.store.set.last_sequence ≡ new.last
     pub shows : Shows order meaning after.store (env.observed to).disk.files new.history
+    pub tables : HasOwnTables env formats after (env.observed to).disk.files
     pub writes : new.mode ≡ open_mode
         → IsWritten order meaning after.store (env.observed to).disk.files
     pub holds : HoldsBatches order meaning (Stays old) after.store (env.observed to).disk.files
@@ -267,8 +271,9 @@ module _ {E C FP F : Type 0} {B : Boxed} (env : Ghosts E F) (formats : OptionsOf
     pub bytes : AppendedAreBytes (env.observed to).disk.files
     pub locked : (env.observed to).disk.locked (lock_path store) ≡ new.locked
 
-  module _ (after : EngineOf E C FP F B) (to : E) (new : State) (ends : Ends after to new) where
-    recalled : Recalls formats store meaning after (env.observed to).disk new
+  module _ (after : EngineOf E C FP F B keys) (to : E) (new : State)
+      (ends : Ends after to new) where
+    recalled : Recalls env formats store meaning after (env.observed to).disk new
     recalled = record {
       mode = ends.mode;
       lock = ends.lock ∙ was.memory_is.lock;
@@ -279,6 +284,7 @@ module _ {E C FP F : Type 0} {B : Boxed} (env : Ghosts E F) (formats : OptionsOf
       last = λ in_use. ends.last;
       shows = λ in_use. subst (λ (f : Format). Shows f.order meaning after.store
           (env.observed to).disk.files new.history) (sym ends.format_is) ends.shows;
+      tables = λ in_use. ends.tables;
       writes = λ is. subst (λ (f : Format). IsWritten f.order meaning after.store
           (env.observed to).disk.files) (sym ends.format_is) (ends.writes is);
     }
@@ -304,8 +310,8 @@ module _ {E C FP F : Type 0} {B : Boxed} (env : Ghosts E F) (formats : OptionsOf
         → Spares store (MayTouch store old.mode request) (env.observed from).disk
         (env.observed to).disk
         → (IsSyncing request → SameBytes (env.observed from).disk.files (env.observed to).disk.files)
-        → Goes store meaning (Recalls formats store meaning) (scene env (Some before) from) request
-        answer (scene env (Some after) to) old
+        → Goes store meaning (Recalls env formats store meaning) (scene env (Some before) from)
+        request answer (scene env (Some after) to) old
     goes request answer later step moments spares bytes = record {
       new = new;
       represents = record {

@@ -4,7 +4,6 @@ use Rattle.std.specs.Prelude.{Result, if◌then◌else◌, is_ok}
 use Rattle.std.proofs.Common.{◌≡◌, ◌≢◌, ◌<◌, ◌≤◌, ◌+◌, ◌-◌, ◌^◌, ◌⊎◌, ◌∙◌, ⊎_elim, inl, inr, ℕ, Bool, true, false, List, refl, sym, ap, subst, arith, Some, None, Ok, Err, IsTrue}
 use Rattle.leveldb_base.specs.Error.{IsOutOfMemory, text_of}
 use Rattle.leveldb_base.specs.Names.{file_name}
-use Rattle.leveldb_base.specs.declared.cmp.Cmp.{Ghosts as CmpGhosts}
 use Rattle.leveldb_base.specs.declared.error.Status.{Status}
 use Rattle.leveldb_base.specs.declared.error.StatusCode.TheVariants.{NotSupported}
 use Rattle.leveldb_base.specs.declared.types.FileType.TheVariants.{DBLock}
@@ -19,12 +18,13 @@ use Rattle.leveldb_version.specs.Holds.{Holds}
 use Rattle.leveldb_version.specs.Paths.{lock_path}
 use Rattle.leveldb_version.specs.StoreSteps.{AppendedAreBytes}
 use Rattle.leveldb_store.specs.BuildTable.{TableChoices}
-use Rattle.leveldb_store.specs.Format.{Agrees, Format, HasCompressorError, Meaning}
+use Rattle.leveldb_version.specs.Format.{Agrees, Format, HasCompressorError, Meaning}
 use Rattle.leveldb_store.specs.FoundLogs.{HasLogNotKept}
 use Rattle.leveldb_store.specs.OpenStore.{OpenStoreValue}
 use Rattle.leveldb_store.specs.OpensStore.{FailsToOpen, HasOtherComparator, LacksUsableEdits, OpensStore, WhyNotOpenable}
 use Rattle.leveldb_store.specs.Room.{HasFailed}
 use Rattle.leveldb_store.specs.SoundCall.{BytesAreAppended}
+use Rattle.rusty_leveldb.specs.Boxes.{InternalOrder}
 use Rattle.rusty_leveldb.specs.Calls.{EngineOpens}
 use Rattle.rusty_leveldb.specs.Causes.{Cause, Comes, Setting, bad_operand, compressor_failed, device_failed, out_of_memory, store_exists, too_large}
 use Rattle.rusty_leveldb.specs.Engine.{formats_of, IsOpening, IsStoreName, Recalls, scene}
@@ -48,7 +48,7 @@ made_bytes store files now (inl is) bytes = subst AppendedAreBytes (sym is) byte
 made_bytes store files now (inr is) bytes =
     subst AppendedAreBytes (sym is) ((bytes_stay files bytes).make (lock_path store))
 
-module _ {E C FP F D P : Type 0} {B : Boxed} {keys : CmpGhosts D} {key_filters : FilterGhosts P}
+module _ {E C FP F P : Type 0} {B : Boxed} {keys : InternalOrder C} {key_filters : FilterGhosts P}
     (env : Ghosts E F) (choices : OptionsOf C FP B → TableChoices keys key_filters)
     (options : OptionsOf C FP B) (store : List ℕ) (asked : Opening) (from taken opened to : E)
     (e : Status)
@@ -181,8 +181,8 @@ module _ {E C FP F D P : Type 0} {B : Boxed} {keys : CmpGhosts D} {key_filters :
 
     module _ (opening : Opening) (is : IsOpening store asked opening) (meaning : Meaning)
         (agrees : Agrees opening.format meaning) (old : State)
-        (was : Represents store meaning (Recalls {E = E} {C = C} {FP = FP} {F = F} {B = B} formats
-        store meaning) None (env.observed from).disk old) where
+        (was : Represents store meaning (Recalls {keys = keys} env formats store meaning) None
+        (env.observed from).disk old) where
       same_format : opening.format ≡ asked.format
       same_format = ap (λ (o : Opening). o.format) is.same
 
@@ -306,8 +306,8 @@ module _ {E C FP F D P : Type 0} {B : Boxed} {keys : CmpGhosts D} {key_filters :
           (device_failed, (tt, inr (sym counted ∙ full.0)), inl (λ never. never))
 
       abbrev Refused : Type 0
-      Refused = Goes store meaning (Recalls {E = E} {C = C} {FP = FP} {F = F} {B = B} formats store
-          meaning) (scene env None from) (open_store opening) (refused (refusal_of e))
+      Refused = Goes store meaning (Recalls {keys = keys} env formats store meaning)
+          (scene env None from) (open_store opening) (refused (refusal_of e))
           (scene env None to) old
 
       -- all files have stayed

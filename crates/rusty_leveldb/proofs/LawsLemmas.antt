@@ -6,7 +6,7 @@ use Rattle.std.proofs.lemmas.List.Elements.{All-nil, All-head, All-tail, Contain
 use Rattle.leveldb_base.specs.History.{Item, Entry, History, entries_of, greatest, with_batch, HasValueAt, IsValueAt}
 use Rattle.leveldb_base.proofs.HistoryLemmas.{in_none, in_front, in_rest, in_cases}
 use Rattle.leveldb_base.proofs.EntriesLemmas.{map_in}
-use Rattle.leveldb_store.specs.Format.{Format, Meaning}
+use Rattle.leveldb_version.specs.Format.{Format, Meaning}
 use Rattle.rusty_leveldb.specs.State.{Mode, open_mode, broken, closed, State, IsState, Request, write, get, flush, close, Answer, done, found}
 use Rattle.rusty_leveldb.specs.Causes.{Setting}
 use Rattle.rusty_leveldb.specs.Machine.{Gets, Step}

@@ -35,7 +35,7 @@ use Rattle.leveldb_version.proofs.SafeLemmas.{front_honest}
 use Rattle.rusty_leveldb.proofs.ReadsLemmas.{nothing_stands}
 use Rattle.leveldb_env.specs.Options.{Boxed}
 use Rattle.rusty_leveldb.specs.Boxes.{LifeOf}
-use Rattle.leveldb_store.specs.Format.{Meaning, Agrees, format_of}
+use Rattle.leveldb_version.specs.Format.{Meaning, Agrees, format_of}
 
 -- ---- moments from a life's start
 

@@ -14,8 +14,8 @@ use Rattle.rusty_leveldb.specs.Shell.{request_of, answer_of}
 use Rattle.rusty_leveldb.specs.Lives.{requests_of, answers_of, moments_of, IsAlwaysLife}
 use Rattle.rusty_leveldb.proofs.Playing.{LeadsAt, LeadsToNone, OnlyNow, OpensAs, no_other, first_at, next_one, at_none}
 use Rattle.leveldb_env.specs.Options.{Boxed, OptionsOf}
-use Rattle.rusty_leveldb.specs.Boxes.{EngineOf}
-use Rattle.leveldb_store.specs.Format.{Format, Meaning, Agrees}
+use Rattle.rusty_leveldb.specs.Boxes.{EngineOf, InternalOrder}
+use Rattle.leveldb_version.specs.Format.{Format, Meaning, Agrees}
 
 -- the moments of replies, from a life's start
 abbrev pub Given : ℕ → List (ℕ × Reply) → List ℕ → Type 0
@@ -25,18 +25,18 @@ pub given_more : (start : ℕ) (replies : List (ℕ × Reply)) (moments : List �
 given_more start replies moments moment told reply given is = map-append (λ (r : ℕ × Reply). r.0) replies ((told, reply) ∷ [])
     ∙ ap (λ ms. ms ++ told ∷ []) given ∙ ap (λ t. map (λ m. m - start) moments ++ t ∷ []) is ∙ sym (map-append (λ m. m - start) moments (moment ∷ []))
 
-module _ {E F : Type 0} {B : Boxed} (C FP : Type 0) (env : Ghosts E F) (formats : OptionsOf C FP B → Format) (store : List ℕ) where
+module _ {E F : Type 0} {B : Boxed} (C FP : Type 0) {keys : InternalOrder C} (env : Ghosts E F) (formats : OptionsOf C FP B → Format) (store : List ℕ) where
   -- so far the store was opened and these commands were given these replies
-  abbrev pub LivesSoFar : E → Opening → List Command → List (ℕ × Reply) → List ℕ → EngineOf E C FP F B → E → Type 0
+  abbrev pub LivesSoFar : E → Opening → List Command → List (ℕ × Reply) → List ℕ → EngineOf E C FP F B keys → E → Type 0
   LivesSoFar from wanted commands replies given engine to = (opening : Opening) → IsOpening store wanted opening
-      → (meaning : Meaning) → Agrees opening.format meaning → (old : State) → Represents store meaning (Recalls {E = E} {C = C} {FP = FP} {F = F} {B = B} formats store meaning) None (env.observed from).disk old
+      → (meaning : Meaning) → Agrees opening.format meaning → (old : State) → Represents store meaning (Recalls {keys = keys} env formats store meaning) None (env.observed from).disk old
       → (first : ℕ) × LeadsAt C FP env formats store meaning from (open_store opening ∷ map request_of commands) (done ∷ map (λ (reply : ℕ × Reply). answer_of reply.1) replies) (first ∷ given) (Some engine) to old
 
-module _ {E F : Type 0} {B : Boxed} (C FP : Type 0) (env : Ghosts E F) (formats : OptionsOf C FP B → Format) (only_now : OnlyNow env) (modelled : IsTrue env.models_disk) (store : List ℕ) where
-  pub lives_first : (from to : E) (wanted : Opening) (engine : EngineOf E C FP F B) → OpensAs C FP env formats store from wanted done (Some engine) to → LivesSoFar C FP env formats store from wanted [] [] [] engine to
+module _ {E F : Type 0} {B : Boxed} (C FP : Type 0) {keys : InternalOrder C} (env : Ghosts E F) (formats : OptionsOf C FP B → Format) (only_now : OnlyNow env) (modelled : IsTrue env.models_disk) (store : List ℕ) where
+  pub lives_first : (from to : E) (wanted : Opening) (engine : EngineOf E C FP F B keys) → OpensAs C FP env formats store from wanted done (Some engine) to → LivesSoFar C FP env formats store from wanted [] [] [] engine to
   lives_first from to wanted engine opens opening is meaning agrees old represents = ((env.observed to).moment, first_at env formats only_now store meaning modelled from to (Some engine) (open_store opening) done old represents (opens opening is meaning agrees))
 
-  pub lives_more : (from mid to : E) (wanted : Opening) (commands : List Command) (replies : List (ℕ × Reply)) (given : List ℕ) (engine after : EngineOf E C FP F B) (command : Command) (told : ℕ) (reply : Reply)
+  pub lives_more : (from mid to : E) (wanted : Opening) (commands : List Command) (replies : List (ℕ × Reply)) (given : List ℕ) (engine after : EngineOf E C FP F B keys) (command : Command) (told : ℕ) (reply : Reply)
       → LivesSoFar C FP env formats store from wanted commands replies given engine mid → Answers env formats (Some engine) mid (request_of command) (answer_of reply) (Some after) to
       → LivesSoFar C FP env formats store from wanted (commands ++ command ∷ []) (replies ++ (told, reply) ∷ []) (given ++ (env.observed to).moment ∷ []) after to
   lives_more from mid to wanted commands replies given engine after command told reply lives answers_so opening is meaning agrees old represents =
@@ -51,7 +51,7 @@ module _ {E F : Type 0} {B : Boxed} (C FP : Type 0) (env : Ghosts E F) (formats 
       )
 
   -- the life ends
-  pub lives_end : (from mid to : E) (wanted : Opening) (commands : List Command) (given : List ℕ) (engine : EngineOf E C FP F B) (ending : Answer) (report : Report) → report.opened ≡ Ok tt
+  pub lives_end : (from mid to : E) (wanted : Opening) (commands : List Command) (given : List ℕ) (engine : EngineOf E C FP F B keys) (ending : Answer) (report : Report) → report.opened ≡ Ok tt
       → Given (env.observed from).moment report.replies.items given → LivesSoFar C FP env formats store from wanted commands report.replies.items given engine mid → Answers env formats (Some engine) mid abandon ending None to
       → IsAlwaysLife env store from wanted commands report to
   lives_end from mid to wanted commands given engine ending report opened told lives answers_so opening is meaning agrees old represents =
@@ -79,7 +79,7 @@ module _ {E F : Type 0} {B : Boxed} (C FP : Type 0) (env : Ghosts E F) (formats 
 
   -- the store wasn't opened
   pub not_lived : (options : OptionsOf C FP B) (from to : E) (wanted : Opening) (commands : List Command) (report : Report) (status : Status) → report.opened ≡ Err status → report.replies.items ≡ []
-      → OpensAs C FP env formats store from wanted (refused (refusal_of status)) (no_engine options) to → IsAlwaysLife env store from wanted commands report to
+      → OpensAs C FP {keys = keys} env formats store from wanted (refused (refusal_of status)) (no_engine options) to → IsAlwaysLife env store from wanted commands report to
   not_lived options from to wanted commands report status opened none opens opening is meaning agrees old represents =
       let start = (env.observed from).moment in
       let last = (env.observed to).moment in

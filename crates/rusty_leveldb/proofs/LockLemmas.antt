@@ -25,11 +25,10 @@ use Rattle.leveldb_version.specs.StoreSteps.{AppendedAreBytes, IsUnnamed, KeepsH
 use Rattle.leveldb_version.specs.VersionEdit.{Edit}
 use Rattle.leveldb_version.specs.VersionSet.{FileSet, live_after}
 use Rattle.leveldb_store.proofs.TableKeepsLemmas.{is_table_path, types_apart}
-use Rattle.leveldb_store.specs.Format.{Meaning}
+use Rattle.leveldb_version.specs.Format.{IsTableOf, Meaning}
 use Rattle.leveldb_store.proofs.FoundLogsLemmas.{logs_same}
 use Rattle.leveldb_store.specs.FoundLogs.{LogBeginsWith}
 use Rattle.leveldb_store.specs.OpensStore.{HasHugeManifest, HasSharedUserKey, IsNumberFound, LacksCurrent, LacksNumbers}
-use Rattle.leveldb_store.specs.Written.{IsTableOf}
 
 -- the name in `CURRENT` is a manifest's
 named_in : (file : Option File) (name : List ℕ) (n : ℕ)

@@ -14,7 +14,7 @@ use Rattle.rusty_leveldb.specs.State.{State, Request, open_store}
 use Rattle.rusty_leveldb.specs.Machine.{StaysOr, Risk, risk_between, risk_of}
 use Rattle.rusty_leveldb.specs.Serves.{Reads, StandsFor, IsSpared, AtEachMoment}
 use Rattle.rusty_leveldb.proofs.Bounds.{carries_more, carries_allow, safe_allow}
-use Rattle.leveldb_store.specs.Format.{Meaning}
+use Rattle.leveldb_version.specs.Format.{Meaning}
 
 -- ---- a greater risk
 

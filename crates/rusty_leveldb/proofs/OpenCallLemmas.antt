@@ -3,7 +3,6 @@
 use Rattle.std.specs.Prelude.{Result}
 use Rattle.std.proofs.Common.{◌≡◌, ◌≤◌, ◌+◌, ◌⊎◌, ◌∙◌, ⊎_elim, inl, inr, ℕ, Bool, true, List, refl, sym, ap, subst, arith, None, Err, IsTrue}
 use Rattle.leveldb_base.specs.Error.{IsOutOfMemory}
-use Rattle.leveldb_base.specs.declared.cmp.Cmp.{Ghosts as CmpGhosts}
 use Rattle.leveldb_base.specs.declared.error.Status.{Status}
 use Rattle.leveldb_base.specs.declared.error.StatusCode.TheVariants.{LockError}
 use Rattle.leveldb_env.specs.Env.{BeforeOrAfter, ChangesFiles, Files, FilesUnchanged, HasCause, IsLocked, Observed, Run, SameBut, SameLocks, created, same}
@@ -15,8 +14,9 @@ use Rattle.leveldb_version.proofs.BytesLemmas.{bytes_stay}
 use Rattle.leveldb_version.specs.Paths.{lock_path}
 use Rattle.leveldb_version.specs.StoreSteps.{AppendedAreBytes}
 use Rattle.leveldb_store.specs.BuildTable.{TableChoices}
-use Rattle.leveldb_store.specs.Format.{Agrees, Format, Meaning}
+use Rattle.leveldb_version.specs.Format.{Agrees, Format, Meaning}
 use Rattle.leveldb_store.specs.Room.{HasFailed}
+use Rattle.rusty_leveldb.specs.Boxes.{InternalOrder}
 use Rattle.rusty_leveldb.specs.Calls.{EngineOpens}
 use Rattle.rusty_leveldb.specs.Causes.{Cause, Comes, device_failed}
 use Rattle.rusty_leveldb.specs.Engine.{formats_of, IsOpening, IsStoreName, Recalls}
@@ -79,7 +79,7 @@ lock_excused store lock from folder e is locks (inr held) = inr (
       ∙ subst (λ l. folder.disk.locked l ≡ true) is (held.1 modelled),
 )
 
-module _ {E C FP F D P : Type 0} {B : Boxed} {keys : CmpGhosts D} {key_filters : FilterGhosts P}
+module _ {E C FP F P : Type 0} {B : Boxed} {keys : InternalOrder C} {key_filters : FilterGhosts P}
     (env : Ghosts E F) (choices : OptionsOf C FP B → TableChoices keys key_filters)
     (store : List ℕ) (options : OptionsOf C FP B) (asked : Opening) (from to : E) (e : Status)
     (asked_is : formats_of choices options ≡ asked.format) where
@@ -105,8 +105,8 @@ module _ {E C FP F D P : Type 0} {B : Boxed} {keys : CmpGhosts D} {key_filters :
   -- a cause, where the device has no part in it or has
   cause_of : (opening : Opening) → IsOpening store asked opening → (meaning : Meaning)
       → Agrees opening.format meaning → IsTrue env.models_disk → (old : State)
-      → Represents store meaning (Recalls {E = E} {C = C} {FP = FP} {F = F} {B = B} formats store
-      meaning) None (env.observed from).disk old → (mid : ℕ)
+      → Represents store meaning (Recalls {keys = keys} env formats store meaning) None
+      (env.observed from).disk old → (mid : ℕ)
       → OpenExcused env store (choices options) asked from e ⊎ HasFailed (env.failures from) mid
       → (cause : Cause) × Comes (setting_between meaning (env.failures from) mid) old
       (open_store opening) (refusal_of e) cause

@@ -16,15 +16,15 @@ use Rattle.leveldb_version.specs.Holds.{Carries, Holds, MatchesHistory}
 use Rattle.leveldb_version.specs.Paths.{current_path, lock_path}
 use Rattle.leveldb_version.specs.Store.{IsStore}
 use Rattle.leveldb_version.specs.StoreSteps.{AppendedAreBytes, KeepsHistory}
-use Rattle.leveldb_store.specs.Format.{Agrees, Format, Meaning}
+use Rattle.leveldb_version.specs.Format.{Agrees, Format, IsTableOf, Meaning}
 use Rattle.leveldb_store.specs.OpenStore.{IsUnbroken, OpenStoreValue}
 use Rattle.leveldb_store.specs.OpensStore.{IsForbidden, IsOpenedAs, IsSound, KeepsFound, LacksUsableEdits}
 use Rattle.leveldb_store.specs.WriteBatch.{IsOf}
-use Rattle.leveldb_store.specs.Written.{IsTableOf, KeepsStore, KeepsWritten, Shows}
+use Rattle.leveldb_store.specs.Written.{KeepsStore, KeepsWritten, Shows}
 use Rattle.rusty_leveldb.specs.declared.db_impl.engine.Mode.TheVariants.{Open}
-use Rattle.rusty_leveldb.specs.Boxes.{EngineOf}
+use Rattle.rusty_leveldb.specs.Boxes.{EngineOf, InternalOrder}
 use Rattle.rusty_leveldb.specs.Causes.{Disagrees, Misfits, Setting}
-use Rattle.rusty_leveldb.specs.Engine.{Recalls, no_engine, options_in, scene}
+use Rattle.rusty_leveldb.specs.Engine.{HasOwnTables, Recalls, no_engine, options_in, scene}
 use Rattle.rusty_leveldb.specs.Frame.{IsOwn, Spares}
 use Rattle.rusty_leveldb.specs.Machine.{MayOpen, Opens, StaysOr, Step}
 use Rattle.rusty_leveldb.specs.Serves.{Goes, IsSpared, Reads, Represents, StandsFor, setting_between}
@@ -416,14 +416,16 @@ module _ (store : List ℕ) (meaning : Meaning) (opening : Opening)
             misfits (inr disagrees) = agrees_so disagrees
 
 -- the engine of a store that was opened
-module _ {E C FP F : Type 0} {B : Boxed} (env : Ghosts E F) (formats : OptionsOf C FP B → Format)
+module _ {E C FP F : Type 0} {B : Boxed} {keys : InternalOrder C} (env : Ghosts E F)
+    (formats : OptionsOf C FP B → Format)
     (store : List ℕ) (meaning : Meaning) (opening : Opening) (agrees : Agrees opening.format meaning)
     (from : E) (old : State)
-    (was : Represents store meaning (Recalls {E = E} {C = C} {FP = FP} {F = F} {B = B} formats store
-    meaning) None (env.observed from).disk old)
+    (was : Represents store meaning (Recalls {keys = keys} env formats store meaning) None
+    (env.observed from).disk old)
     (fits : IsNamed opening.format.order_name old.store) (taken : Observed)
     (but : SameBut (lock_path store) (env.observed from).disk.files taken.disk.files)
-    (bytes : AppendedAreBytes taken.disk.files) (engine : EngineOf E C FP F B) (opened : Observed)
+    (bytes : AppendedAreBytes taken.disk.files) (engine : EngineOf E C FP F B keys)
+    (opened : Observed)
     (to : E) (path : engine.store.set.store ≡ store) (unbroken : IsUnbroken engine.store)
     (keeps : KeepsFound opening.format.order meaning store opening.format.order_name
     (contents store meaning opening agrees (env.observed from) old was.disk_is fits taken but bytes)
@@ -442,8 +444,9 @@ module _ {E C FP F : Type 0} {B : Boxed} (env : Ghosts E F) (formats : OptionsOf
 
   recalled : engine.mode ≡ Open → string_bytes engine.lock ≡ lock_path store
       → formats (options_in engine) ≡ opening.format
-      → Recalls formats store meaning engine (env.observed to).disk new
-  recalled mode lock same = record {
+      → HasOwnTables env formats engine (env.observed to).disk.files
+      → Recalls env formats store meaning engine (env.observed to).disk new
+  recalled mode lock same tables = record {
     mode = unbroken_opens engine mode unbroken;
     lock = lock;
     path = path;
@@ -452,22 +455,25 @@ module _ {E C FP F : Type 0} {B : Boxed} (env : Ghosts E F) (formats : OptionsOf
     last = λ in_use. is_opened.last;
     shows = λ in_use. end_shows store meaning opening agrees (env.observed from) old was.disk_is fits
         taken but bytes engine.store opened (env.observed to) path unbroken keeps is_opened tidied;
+    tables = λ in_use. tables;
     writes = λ is. (end_of store meaning opening agrees (env.observed from) old was.disk_is fits taken
         but bytes engine.store opened (env.observed to) path unbroken keeps is_opened tidied).written;
   }
 
   pub opened_goes : engine.mode ≡ Open → string_bytes engine.lock ≡ lock_path store
       → formats (options_in engine) ≡ opening.format
+      → HasOwnTables env formats engine (env.observed to).disk.files
       → IsTrue opening.fits → IsTrue opening.compresses
       → env.failures from ≤ env.failures to
       → Run (IsSpared store meaning old (risk_opening opening old)) (env.observed from) taken
       → AppendedAreBytes (env.observed to).disk.files
       → (env.observed to).disk.locked (lock_path store) ≡ true
       → Spares store (IsOwn store) (env.observed from).disk (env.observed to).disk
-      → Goes store meaning (Recalls formats store meaning)
-      (scene env (no_engine {E = E} {C = C} {FP = FP} {F = F} {B = B} engine.options) from)
+      → Goes store meaning (Recalls env formats store meaning)
+      (scene env (no_engine {E = E} {C = C} {FP = FP} {F = F} {B = B}
+      {keys = keys} engine.options) from)
       (open_store opening) done (scene env (Some engine) to) old
-  opened_goes mode lock same well set later early bytes_now locked spares =
+  opened_goes mode lock same tables well set later early bytes_now locked spares =
       let setting = setting_between meaning (env.failures from) (env.failures to) in
       let step : Step old.mode setting old (open_store opening) done new =
       subst (λ m. Step m setting old (open_store opening) done new) (sym was.memory_is)
@@ -481,7 +487,7 @@ module _ {E C FP F : Type 0} {B : Boxed} (env : Ghosts E F) (formats : OptionsOf
               taken but bytes engine.store opened (env.observed to) path unbroken keeps is_opened tidied
               (step_fits setting old new (open_store opening) done was.disk_is.is_state step) bytes_now
               locked;
-          memory_is = recalled mode lock same;
+          memory_is = recalled mode lock same tables;
         };
         later = later;
         step = step;

@@ -1,5 +1,5 @@
 -- Runs of commands, one request after another.
-use Rattle.std.proofs.Common.{◌≡◌, ◌<◌, ◌≤◌, ◌+◌, inl, inr, ⊎_elim, ℕ, suc, Bool, true, false, ◌⊎◌, List, [], ◌∷◌, ◌++◌, length, take, append-nil, append_assoc, refl, sym, ◌∙◌, ap, subst, arith, Option, Some, None, Result, Ok, Err, IsTrue}
+use Rattle.std.proofs.Common.{◌≡◌, ◌<◌, ◌≤◌, ◌+◌, ◌-◌, ◌^◌, inl, inr, ⊎_elim, ℕ, suc, Bool, true, false, ◌⊎◌, List, [], ◌∷◌, ◌++◌, length, take, append-nil, append_assoc, refl, sym, ◌∙◌, ap, subst, arith, Option, Some, None, Result, Ok, Err, IsTrue}
 use Rattle.std.specs.Prelude.{map, OnErr, All}
 use Rattle.std.proofs.lemmas.Bool.{cases_lt}
 use Rattle.std.proofs.Math.ListN.{get_or}
@@ -8,7 +8,7 @@ use Rattle.std.proofs.lemmas.List.Elements.{All-nil, All-cons, All-append}
 use Rattle.leveldb_base.specs.declared.error.Status.{Status}
 use Rattle.leveldb_env.proofs.EnvLemmas.{begun}
 use Rattle.leveldb_env.specs.declared.env.Env.{Ghosts}
-use Rattle.leveldb_env.specs.Env.{Files, Disk, FilesCrashTo, Observed}
+use Rattle.leveldb_env.specs.Env.{Files, Disk, FilesCrashTo, HasCause, Observed}
 use Rattle.rusty_leveldb.specs.declared.shell.commands.Command.{Command}
 use Rattle.rusty_leveldb.specs.declared.shell.commands.Reply.{Reply}
 use Rattle.rusty_leveldb.specs.State.{State, Opening, Request, open_store, abandon, Answer, done, refused}
@@ -17,14 +17,16 @@ use Rattle.rusty_leveldb.specs.Machine.{Step, Crashes, risk_between}
 use Rattle.rusty_leveldb.specs.Runs.{Event, Run, CrashesIn, CrashBefore, last_moment, StopsAt, setting_of}
 use Rattle.rusty_leveldb.specs.Serves.{StandsFor, Represents, Goes, Runs, recalls_nothing, IsHonestlyLeft, IsBetweenCalls, IsConversation, done_or, refusal_of}
 use Rattle.rusty_leveldb.specs.Engine.{scene, Recalls, Answers, AnswersAs, IsOpening, no_engine}
+use Rattle.leveldb_store.specs.Room.{FailsFor}
+use Rattle.rusty_leveldb.proofs.WritingLemmas.{failed_later}
 use Rattle.rusty_leveldb.proofs.Crashes.{crash_between, crash_inside}
 use Rattle.rusty_leveldb.proofs.Others.{spares_still, spares_own, others_then}
 use Rattle.rusty_leveldb.specs.Frame.{IsOwn}
 use Rattle.leveldb_base.specs.Error.{IsOutOfMemory}
 use Rattle.rusty_leveldb.specs.Shell.{Plays, HasRun, request_of, answer_of}
 use Rattle.leveldb_env.specs.Options.{Boxed, OptionsOf}
-use Rattle.rusty_leveldb.specs.Boxes.{EngineOf}
-use Rattle.leveldb_store.specs.Format.{Format, Meaning, Agrees}
+use Rattle.rusty_leveldb.specs.Boxes.{EngineOf, InternalOrder}
+use Rattle.leveldb_version.specs.Format.{Format, Meaning, Agrees}
 
 -- what holds anyway holds of a refusal
 pub OnErr-always : {T E P : Type 0} (result : Result T E) → P → OnErr result P
@@ -38,15 +40,15 @@ event_of moment request answer failures =
 
 -- ---- words for runs
 
-module _ {E F : Type 0} (C FP : Type 0) {B : Boxed} (env : Ghosts E F) (formats : OptionsOf C FP B → Format) (store : List ℕ) (meaning : Meaning) where
+module _ {E F : Type 0} (C FP : Type 0) {B : Boxed} {keys : InternalOrder C} (env : Ghosts E F) (formats : OptionsOf C FP B → Format) (store : List ℕ) (meaning : Meaning) where
   -- these requests had these answers, each at its moment, from what the disk has on, and what engine and
   -- disk represent then
-  abbrev pub LeadsAt : E → List Request → List Answer → List ℕ → Option (EngineOf E C FP F B) → E → State → Type 0
-  LeadsAt from requests answers moments engine to old = Runs store meaning (Recalls formats store meaning) env.models_moments
+  abbrev pub LeadsAt : E → List Request → List Answer → List ℕ → Option (EngineOf E C FP F B keys) → E → State → Type 0
+  LeadsAt from requests answers moments engine to old = Runs store meaning (Recalls env formats store meaning) env.models_moments
       (scene env None from) requests answers moments (scene env engine to) old
 
   -- the same, at some moments
-  abbrev pub Leads : E → List Request → List Answer → Option (EngineOf E C FP F B) → E → State → Type 0
+  abbrev pub Leads : E → List Request → List Answer → Option (EngineOf E C FP F B keys) → E → State → Type 0
   Leads from requests answers engine to old = (moments : List ℕ) × LeadsAt from requests answers moments engine to old
 
 -- the same where no engine is left
@@ -178,10 +180,10 @@ by_inside : {P : Type 0} (inside : Bool) → (inside ≡ true → P) → (inside
 by_inside true inner outer = inner refl
 by_inside false inner outer = outer refl
 
-module _ {E F C FP : Type 0} {B : Boxed} (env : Ghosts E F) (formats : OptionsOf C FP B → Format) (only_now : OnlyNow env) (store : List ℕ) (meaning : Meaning) (modelled : IsTrue env.models_disk) where
+module _ {E F C FP : Type 0} {B : Boxed} {keys : InternalOrder C} (env : Ghosts E F) (formats : OptionsOf C FP B → Format) (only_now : OnlyNow env) (store : List ℕ) (meaning : Meaning) (modelled : IsTrue env.models_disk) where
   -- nothing was asked yet
-  no_requests : (from : E) (engine : Option (EngineOf E C FP F B)) (old : State) → Represents store meaning (Recalls {E = E} {C = C} {FP = FP} {F = F} {B = B} formats store meaning) engine (env.observed from).disk old
-      → Runs store meaning (Recalls formats store meaning) env.models_moments (scene env engine from) [] [] [] (scene env engine from) old
+  no_requests : (from : E) (engine : Option (EngineOf E C FP F B keys)) (old : State) → Represents store meaning (Recalls {keys = keys} env formats store meaning) engine (env.observed from).disk old
+      → Runs store meaning (Recalls env formats store meaning) env.models_moments (scene env engine from) [] [] [] (scene env engine from) old
   no_requests from engine old is = record {
     events = [];
     asked = record { requests_are = refl; answers_are = refl; moments_are = refl };
@@ -211,9 +213,9 @@ module _ {E F C FP : Type 0} {B : Boxed} (env : Ghosts E F) (formats : OptionsOf
   }
 
   -- one request more
-  module _ (before : Option (EngineOf E C FP F B)) (from mid to : E) (requests : List Request) (answers : List Answer) (moments : List ℕ) (engine after : Option (EngineOf E C FP F B)) (request : Request) (answer : Answer) (old : State)
-      (led : Runs store meaning (Recalls formats store meaning) env.models_moments (scene env before from) requests answers moments (scene env engine mid) old) (answers_so : AnswersAs env formats store meaning engine mid request answer after to) where
-    goes : Goes store meaning (Recalls formats store meaning) (scene env engine mid) request answer (scene env after to) led.new
+  module _ (before : Option (EngineOf E C FP F B keys)) (from mid to : E) (requests : List Request) (answers : List Answer) (moments : List ℕ) (engine after : Option (EngineOf E C FP F B keys)) (request : Request) (answer : Answer) (old : State)
+      (led : Runs store meaning (Recalls env formats store meaning) env.models_moments (scene env before from) requests answers moments (scene env engine mid) old) (answers_so : AnswersAs env formats store meaning engine mid request answer after to) where
+    goes : Goes store meaning (Recalls env formats store meaning) (scene env engine mid) request answer (scene env after to) led.new
     goes = answers_so modelled led.new led.represents
 
     abbrev now : Event
@@ -326,7 +328,7 @@ module _ {E F C FP : Type 0} {B : Boxed} (env : Ghosts E F) (formats : OptionsOf
     from_first : (env.observed from).moment ≤ (env.observed to).moment
     from_first = let low = last_low (env.observed from).moment (env.observed from).moment led.events (omega arith) led.since in omega (arith, low, last_is, time)
 
-    pub next_one : Runs store meaning (Recalls formats store meaning) env.models_moments (scene env before from) (requests ++ request ∷ []) (answers ++ answer ∷ []) (moments ++ (env.observed to).moment ∷ []) (scene env after to) old
+    pub next_one : Runs store meaning (Recalls env formats store meaning) env.models_moments (scene env before from) (requests ++ request ∷ []) (answers ++ answer ∷ []) (moments ++ (env.observed to).moment ∷ []) (scene env after to) old
     next_one = record {
       events = led.events ++ now ∷ [];
       asked = conversation_more requests answers moments led.events request answer (env.failures to) (env.observed to).moment led.asked;
@@ -344,23 +346,23 @@ module _ {E F C FP : Type 0} {B : Boxed} (env : Ghosts E F) (formats : OptionsOf
       stops = stops_now;
     }
 
-  pub one_more : (from mid to : E) (requests : List Request) (answers : List Answer) (engine after : Option (EngineOf E C FP F B)) (request : Request) (answer : Answer) (old : State)
+  pub one_more : (from mid to : E) (requests : List Request) (answers : List Answer) (engine after : Option (EngineOf E C FP F B keys)) (request : Request) (answer : Answer) (old : State)
       → Leads C FP env formats store meaning from requests answers engine mid old → Answers env formats engine mid request answer after to
       → Leads C FP env formats store meaning from (requests ++ request ∷ []) (answers ++ answer ∷ []) after to old
   one_more from mid to requests answers engine after request answer old led answers_so = (led.0 ++ (env.observed to).moment ∷ [], next_one None from mid to requests answers led.0 engine after request answer old led.1 (answers_so store meaning))
 
-  pub first_at : (from to : E) (after : Option (EngineOf E C FP F B)) (request : Request) (answer : Answer) (old : State)
-      → Represents store meaning (Recalls {E = E} {C = C} {FP = FP} {F = F} {B = B} formats store meaning) None (env.observed from).disk old → AnswersAs env formats store meaning None from request answer after to
+  pub first_at : (from to : E) (after : Option (EngineOf E C FP F B keys)) (request : Request) (answer : Answer) (old : State)
+      → Represents store meaning (Recalls {keys = keys} env formats store meaning) None (env.observed from).disk old → AnswersAs env formats store meaning None from request answer after to
       → LeadsAt C FP env formats store meaning from (request ∷ []) (answer ∷ []) ((env.observed to).moment ∷ []) after to old
   first_at from to after request answer old is answers_so = next_one None from from to [] [] [] None after request answer old (no_requests from None old is) answers_so
 
-  pub first_one : (from to : E) (after : Option (EngineOf E C FP F B)) (request : Request) (answer : Answer) (old : State)
-      → Represents store meaning (Recalls {E = E} {C = C} {FP = FP} {F = F} {B = B} formats store meaning) None (env.observed from).disk old → AnswersAs env formats store meaning None from request answer after to
+  pub first_one : (from to : E) (after : Option (EngineOf E C FP F B keys)) (request : Request) (answer : Answer) (old : State)
+      → Represents store meaning (Recalls {keys = keys} env formats store meaning) None (env.observed from).disk old → AnswersAs env formats store meaning None from request answer after to
       → Leads C FP env formats store meaning from (request ∷ []) (answer ∷ []) after to old
   first_one from to after request answer old is answers_so = ((env.observed to).moment ∷ [], first_at from to after request answer old is answers_so)
 
 -- the same of a command and its reply
-pub answered : {E F C FP : Type 0} {B : Boxed} (env : Ghosts E F) {formats : OptionsOf C FP B → Format} {before after : Option (EngineOf E C FP F B)} (from to : E)
+pub answered : {E F C FP : Type 0} {B : Boxed} {keys : InternalOrder C} (env : Ghosts E F) {formats : OptionsOf C FP B → Format} {before after : Option (EngineOf E C FP F B keys)} (from to : E)
     (command : Command) (request : Request) (reply : Reply) (answer : Answer) → request_of command ≡ request → answer_of reply ≡ answer
     → Answers env formats before from request answer after to → Answers env formats before from (request_of command) (answer_of reply) after to
 answered env {formats = formats} {before = before} {after = after} from to command request reply answer asks gives so =
@@ -373,21 +375,21 @@ pub no_other : {M N : Type 0} {store : List ℕ} {meaning : Meaning} {this : M �
     → Represents store meaning this None disk state → Represents store meaning that None disk state
 no_other disk state represents = record { disk_is = represents.disk_is; memory_is = represents.memory_is }
 
-module _ {E F : Type 0} {B : Boxed} (C FP : Type 0) (env : Ghosts E F) (formats : OptionsOf C FP B → Format) (store : List ℕ) where
+module _ {E F : Type 0} {B : Boxed} (C FP : Type 0) {keys : InternalOrder C} (env : Ghosts E F) (formats : OptionsOf C FP B → Format) (store : List ℕ) where
   -- so far the store was opened and these commands were given these replies, from every state that the disk stood for
-  abbrev pub PlaysSoFar : E → Opening → List Command → List Reply → EngineOf E C FP F B → E → Type 0
+  abbrev pub PlaysSoFar : E → Opening → List Command → List Reply → EngineOf E C FP F B keys → E → Type 0
   PlaysSoFar from wanted commands given engine to = IsTrue env.models_disk → (opening : Opening) → IsOpening store wanted opening
-      → (meaning : Meaning) → Agrees opening.format meaning → (old : State) → Represents store meaning (Recalls {E = E} {C = C} {FP = FP} {F = F} {B = B} formats store meaning) None (env.observed from).disk old
+      → (meaning : Meaning) → Agrees opening.format meaning → (old : State) → Represents store meaning (Recalls {keys = keys} env formats store meaning) None (env.observed from).disk old
       → Leads C FP env formats store meaning from (open_store opening ∷ map request_of commands) (done ∷ map answer_of given) (Some engine) to old
 
   -- what an opening of the store answers
-  abbrev pub OpensAs : E → Opening → Answer → Option (EngineOf E C FP F B) → E → Type 0
+  abbrev pub OpensAs : E → Opening → Answer → Option (EngineOf E C FP F B keys) → E → Type 0
   OpensAs from wanted answer engine to = (opening : Opening) → IsOpening store wanted opening → (meaning : Meaning) → Agrees opening.format meaning → AnswersAs env formats store meaning None from (open_store opening) answer engine to
 
-module _ {E F : Type 0} {B : Boxed} (C FP : Type 0) (env : Ghosts E F) (formats : OptionsOf C FP B → Format) (only_now : OnlyNow env) (store : List ℕ) where
+module _ {E F : Type 0} {B : Boxed} (C FP : Type 0) {keys : InternalOrder C} (env : Ghosts E F) (formats : OptionsOf C FP B → Format) (only_now : OnlyNow env) (store : List ℕ) where
   -- the same of a run at whose end no engine stands
   pub at_none : (meaning : Meaning) (from : E) (requests : List Request) (answers : List Answer) (moments : List ℕ) (to : E) (old : State)
-      → LeadsAt C FP {B = B} env formats store meaning from requests answers moments None to old → LeadsToNone env store meaning from requests answers moments to old
+      → LeadsAt C FP {B = B} {keys = keys} env formats store meaning from requests answers moments None to old → LeadsToNone env store meaning from requests answers moments to old
   at_none meaning from requests answers moments to old led = record {
     events = led.events;
     asked = led.asked;
@@ -402,13 +404,13 @@ module _ {E F : Type 0} {B : Boxed} (C FP : Type 0) (env : Ghosts E F) (formats 
   }
 
   leads_to_none : (meaning : Meaning) (from : E) (requests : List Request) (answers : List Answer) (to : E) (old : State)
-      → Leads C FP {B = B} env formats store meaning from requests answers None to old → (moments : List ℕ) × LeadsToNone env store meaning from requests answers moments to old
+      → Leads C FP {B = B} {keys = keys} env formats store meaning from requests answers None to old → (moments : List ℕ) × LeadsToNone env store meaning from requests answers moments to old
   leads_to_none meaning from requests answers to old led = (led.0, at_none meaning from requests answers led.0 to old led.1)
 
-  pub play_first : (from to : E) (wanted : Opening) (engine : EngineOf E C FP F B) → OpensAs C FP env formats store from wanted done (Some engine) to → PlaysSoFar C FP env formats store from wanted [] [] engine to
+  pub play_first : (from to : E) (wanted : Opening) (engine : EngineOf E C FP F B keys) → OpensAs C FP env formats store from wanted done (Some engine) to → PlaysSoFar C FP env formats store from wanted [] [] engine to
   play_first from to wanted engine opens modelled opening is meaning agrees old represents = first_one env formats only_now store meaning modelled from to (Some engine) (open_store opening) done old represents (opens opening is meaning agrees)
 
-  pub play_more : (from mid to : E) (wanted : Opening) (commands : List Command) (given : List Reply) (engine after : EngineOf E C FP F B) (command : Command) (reply : Reply)
+  pub play_more : (from mid to : E) (wanted : Opening) (commands : List Command) (given : List Reply) (engine after : EngineOf E C FP F B keys) (command : Command) (reply : Reply)
       → PlaysSoFar C FP env formats store from wanted commands given engine mid → Answers env formats (Some engine) mid (request_of command) (answer_of reply) (Some after) to
       → PlaysSoFar C FP env formats store from wanted (commands ++ command ∷ []) (given ++ reply ∷ []) after to
   play_more from mid to wanted commands given engine after command reply plays answers_so modelled opening is meaning agrees old represents =
@@ -417,7 +419,7 @@ module _ {E F : Type 0} {B : Boxed} (C FP : Type 0) (env : Ghosts E F) (formats 
       subst (λ as'. Leads C FP env formats store meaning from (open_store opening ∷ map request_of (commands ++ command ∷ [])) (done ∷ as') (Some after) to old) (sym (map-append answer_of given (reply ∷ [])))
       (subst (λ rs. Leads C FP env formats store meaning from (open_store opening ∷ rs) (done ∷ (map answer_of given ++ answer_of reply ∷ [])) (Some after) to old) (sym (map-append request_of commands (command ∷ []))) led)
 
-  pub play_end : (from mid to : E) (wanted : Opening) (commands : List Command) (given : List Reply) (engine : EngineOf E C FP F B) (result : Result (Unit {0}) Status)
+  pub play_end : (from mid to : E) (wanted : Opening) (commands : List Command) (given : List Reply) (engine : EngineOf E C FP F B keys) (result : Result (Unit {0}) Status)
       → PlaysSoFar C FP env formats store from wanted commands given engine mid → Answers env formats (Some engine) mid abandon (done_or result) None to
       → PlaysAlways env store from wanted commands given result to
   play_end from mid to wanted commands given engine result plays answers_so modelled opening is meaning agrees old represents = inl
@@ -426,13 +428,27 @@ module _ {E F : Type 0} {B : Boxed} (C FP : Type 0) (env : Ghosts E F) (formats 
       (plays modelled opening is meaning agrees old (no_other (env.observed from).disk old represents)) answers_so))
 
   pub not_opened : (options : OptionsOf C FP B) (from to : E) (wanted : Opening) (commands : List Command) (given : List Reply) (status : Status) → given ≡ []
-      → OpensAs C FP env formats store from wanted (refused (refusal_of status)) (no_engine options) to → PlaysAlways env store from wanted commands given (Err status) to
+      → OpensAs C FP {keys = keys} env formats store from wanted (refused (refusal_of status)) (no_engine options) to → PlaysAlways env store from wanted commands given (Err status) to
   not_opened options from to wanted commands given status none opens modelled opening is meaning agrees old represents =
       inr (
         none,
         inl (leads_to_none meaning from (open_store opening ∷ []) (refused (refusal_of status) ∷ []) to old
             (first_one env formats only_now store meaning modelled from to (no_engine options) (open_store opening) (refused (refusal_of status)) old (no_other (env.observed from).disk old represents) (opens opening is meaning agrees))),
       )
+
+-- a run whose store is abandoned at last fails for the same reason
+pub abandon_fails : {Excused : Status → Type 0} (before mid after : ℕ)
+    (result : Result (Unit {0}) Status) → before ≤ mid → HasCause (λ _. ⊥) mid after result
+    → FailsFor Excused before after result
+abandon_fails before mid after (Ok nothing) first cause =
+    record { later = omega (arith, first, cause.later); cause = tt }
+abandon_fails before mid after (Err status) first cause = record {
+  later = omega (arith, first, cause.later);
+  cause = ⊎_elim (λ never. absurd never)
+      (λ counted. inr (failed_later before mid after first cause.later (⊎_elim
+      (λ (more : after ≡ mid + 1). inl (omega (arith, more)))
+      (λ (full : (mid ≡ 2 ^ 64 - 1) × (after ≡ mid)). inr full.0) counted))) cause.cause;
+}
 
 -- a run that had no memory to begin
 pub not_begun : {E F : Type 0} (env : Ghosts E F) (store : List ℕ) (asked : Opening) (commands : List Command) (from : E) (given : List Reply) (status : Status) → given ≡ [] → IsOutOfMemory status

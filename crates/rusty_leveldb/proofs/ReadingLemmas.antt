@@ -1,25 +1,32 @@
 -- The step of the machine in which a key is looked up.
 use Rattle.std.specs.Prelude.{IfErr, IfOk, IsErrAnd, Result}
-use Rattle.std.proofs.Common.{◌≡◌, ◌≤◌, ◌+◌, ◌-◌, ◌^◌, ◌⊎◌, ◌∙◌, inl, inr, ℕ, Bool, List, length, refl, sym, ap, subst, arith, Option, Some, None, Ok, Err, IsTrue}
+use Rattle.std.proofs.Common.{◌≡◌, ◌≤◌, ◌+◌, ◌-◌, ◌^◌, ◌⊎◌, ◌∙◌, ⊎_elim, inl, inr, ℕ, Bool, List, length, refl, sym, ap, subst, arith, Option, Some, None, Ok, Err, IsTrue}
+use Rattle.std.specs.declared.cmp.Ordering.{Ordering}
 use Rattle.leveldb_base.specs.Error.{IsOutOfMemory, text_of}
-use Rattle.leveldb_base.specs.History.{IsValueAt, entries_of, greatest}
+use Rattle.leveldb_base.specs.History.{History, IsValueAt, entries_of, greatest}
 use Rattle.leveldb_base.specs.declared.error.Status.{Status}
-use Rattle.leveldb_base.specs.declared.error.StatusCode.TheVariants.{InvalidArgument}
+use Rattle.leveldb_base.specs.declared.error.StatusCode.TheVariants.{InvalidArgument, NotSupported}
 use Rattle.leveldb_env.specs.Env.{Disk, Files}
 use Rattle.leveldb_env.specs.Options.{Boxed, OptionsOf}
 use Rattle.leveldb_env.specs.declared.env.Env.{Ghosts}
 use Rattle.leveldb_env.proofs.EnvLemmas.{Run-mono}
 use Rattle.leveldb_mem.specs.WriteBatch.{max_length}
+use Rattle.leveldb_table.specs.TableBlock.{FailsFor as FailsForWhy}
 use Rattle.leveldb_version.specs.Holds.{Holds}
 use Rattle.leveldb_version.specs.Paths.{lock_path}
 use Rattle.leveldb_version.specs.StoreSteps.{AppendedAreBytes}
-use Rattle.leveldb_store.specs.Format.{Agrees, Format, Meaning}
-use Rattle.leveldb_store.specs.Read.{IsUnreadable, LacksCompressor, LooksUpKey}
+use Rattle.leveldb_version.specs.Format.{Agrees, Format, IsTableFault, LacksCompressor, Meaning}
+use Rattle.leveldb_version.specs.TableCache.{TableOptions, table_options}
+use Rattle.leveldb_version.specs.Version.{VersionValue, charged}
+use Rattle.leveldb_version.specs.declared.table_cache.TableCache.{TableCache}
+use Rattle.leveldb_store.specs.OpenStore.{OpenStoreValue}
+use Rattle.leveldb_store.specs.OpenTables.{AreOpenTablesOf}
+use Rattle.leveldb_store.specs.Read.{GetsFromMemory, GetsFromTables, HasOpenTables, LooksUpKey, charge_of}
 use Rattle.leveldb_store.specs.Room.{FailsFor, HasFailed}
 use Rattle.leveldb_store.specs.Written.{IsWritten, Shows}
-use Rattle.rusty_leveldb.specs.Boxes.{EngineOf}
+use Rattle.rusty_leveldb.specs.Boxes.{EngineOf, InternalOrder}
 use Rattle.rusty_leveldb.specs.Causes.{Cause, Comes, IsLongKey, Misfits, Setting, bad_operand, device_failed, lacks_compressor, out_of_memory}
-use Rattle.rusty_leveldb.specs.Engine.{Answers, AnswersStill, GetExcused, Recalls, RefusedAsClosed, mode_in, options_in, scene}
+use Rattle.rusty_leveldb.specs.Engine.{Answers, AnswersStill, GetExcused, GetFails, Recalls, RefusedAsClosed, is_store_broken, mode_in, mode_with, options_in, scene, tables_by}
 use Rattle.rusty_leveldb.specs.Frame.{MayTouch}
 use Rattle.rusty_leveldb.specs.Machine.{Responds, Step, risk_between}
 use Rattle.rusty_leveldb.specs.Serves.{Goes, IsSpared, Reads, Represents, found_or, refusal_of, setting_between}
@@ -40,13 +47,29 @@ responds_in machine.open_mode setting old key answer usable responds = responds
 responds_in machine.broken setting old key answer usable responds = responds
 responds_in machine.closed setting old key answer usable responds = absurd (usable refl)
 
-module _ {E C FP F : Type 0} {B : Boxed} (env : Ghosts E F) (formats : OptionsOf C FP B → Format)
-    (before : EngineOf E C FP F B) (key : List ℕ) where
+-- a store of which the seeks of its files have changed shows what it showed, and is written on
+module _ {C : Type 0} (cmp : List ℕ → List ℕ → Ordering) (meaning : Meaning)
+    (value : OpenStoreValue C) (current : VersionValue C) (files : Files) where
+  shows_read : (history : History) → Shows cmp meaning value files history
+      → Shows cmp meaning (record value { current = current }) files history
+  shows_read history shown = record {
+    tables = shown.tables;
+    has = record { files_are = shown.has.files_are; each = shown.has.each };
+    shows = shown.shows;
+  }
+
+  written_read : IsWritten cmp meaning value files
+      → IsWritten cmp meaning (record value { current = current }) files
+  written_read written =
+      record { edits = written.edits; by = written.by; writer = written.writer }
+
+module _ {E C FP F : Type 0} {B : Boxed} {keys : InternalOrder C} (env : Ghosts E F)
+    (formats : OptionsOf C FP B → Format) (before : EngineOf E C FP F B keys) (key : List ℕ) where
   -- ---- where nothing is read
 
   -- nothing has changed, and the machine responds so
   still : (answer : Answer) → ((store : List ℕ) (meaning : Meaning) (disk : Disk) (old : State)
-      → Recalls formats store meaning before disk old → (setting : Setting)
+      → Recalls env formats store meaning before disk old → (setting : Setting)
       → Step old.mode setting old (get None key) answer old)
       → AnswersStill env formats before (get None key) answer
   still answer steps at store meaning modelled old was = record {
@@ -87,10 +110,40 @@ module _ {E C FP F : Type 0} {B : Boxed} (env : Ghosts E F) (formats : OptionsOf
     -- ---- a look-up
 
     module _ (short : IsLongKey key → ⊥) (from to : E) (result : Result (Option (List ℕ)) Status)
-        (looks : LooksUpKey env (formats (options_in before)).order (formats (options_in before))
-        before.store from key result to) where
-      module _ (store : List ℕ) (meaning : Meaning) (modelled : IsTrue env.models_disk) (old : State)
-          (was : Represents store meaning (Recalls formats store meaning) (Some before)
+        (value : OpenStoreValue C) (cache : TableCache E C FP F keys)
+        (looks : LooksUpKey env (tables_by formats before) before.store from before.tables key result
+        value to cache) where
+      -- the engine in the end
+      abbrev after : EngineOf E C FP F B keys
+      after = record before { options = options_in before; store = value; tables = cache }
+
+      -- of the store nothing changes but the seeks of its files
+      pub read_store : value ≡ record before.store { current = value.current }
+      read_store = ⊎_elim
+          (λ (memory : GetsFromMemory env (tables_by formats before) before.store from before.tables
+          key result value to cache). seeks_only value before.store.current
+          memory.nothing_changes.0)
+          (λ (tables : GetsFromTables env (tables_by formats before) before.store from before.tables
+          key result value to cache). seeks_only value
+          (charged before.store.current (charge_of tables.searched)).0 tables.charges) looks.way
+        where
+          seeks_only : (new : OpenStoreValue C) (current : VersionValue C)
+              → new ≡ record before.store { current = current }
+              → new ≡ record before.store { current = new.current }
+          seeks_only new current is = is ∙ ap (λ (c : VersionValue C).
+              record before.store { current = c }) (sym (ap (λ (v : OpenStoreValue C). v.current) is))
+
+      -- what tables are opened with stays
+      same_by : tables_by formats after ≡ tables_by formats before
+      same_by = ap (λ (v : OpenStoreValue C). let options : OptionsOf C FP B =
+          record before.options { cmp = v.cmp } in table_options (formats options) options) read_store
+
+      same_mode : mode_in after ≡ mode_in before
+      same_mode = ap (λ (v : OpenStoreValue C). mode_with before.mode (is_store_broken v)) read_store
+
+      module _ (store : List ℕ) (meaning : Meaning) (modelled : IsTrue env.models_disk)
+          (old : State)
+          (was : Represents store meaning (Recalls env formats store meaning) (Some before)
           (env.observed from).disk old) where
         not_closed : old.mode ≡ machine.closed → ⊥
         not_closed is = usable (was.memory_is.mode ∙ is)
@@ -107,6 +160,9 @@ module _ {E C FP F : Type 0} {B : Boxed} (env : Ghosts E F) (formats : OptionsOf
         shows = subst (λ (f : Format). Shows f.order meaning before.store
             (env.observed from).disk.files old.history) (sym same_format)
             (was.memory_is.shows not_closed)
+
+        has_open : HasOpenTables env (tables_by formats before) before.store from before.tables
+        has_open = record { modelled = modelled; are = was.memory_is.tables not_closed }
 
         same_files : (env.observed to).disk.files ≡ (env.observed from).disk.files
         same_files = (looks.reads.kept_disk.disk modelled).has
@@ -143,27 +199,38 @@ module _ {E C FP F : Type 0} {B : Boxed} (env : Ghosts E F) (formats : OptionsOf
           ),
         )
 
+        lacks : FailsForWhy env (λ status. (status.code ≡ NotSupported)
+            × LacksCompressor (formats (options_in before)) meaning) from to result
+        lacks = looks.lacks meaning shows.tables (record {
+          agrees = agrees;
+          has_open = has_open;
+          has_live = shows.has;
+          levels = shows.shows.levels;
+        })
+
         cause_of : (status : Status)
             → (IsOutOfMemory status ⊎ ((env.failures to ≡ env.failures from)
-            × IsUnreadable env (formats (options_in before)).order (formats (options_in before))
-            before.store from status))
+            × ((status.code ≡ NotSupported)
+            × LacksCompressor (formats (options_in before)) meaning)))
             ⊎ ((env.failures to ≡ env.failures from + 1)
             ⊎ ((env.failures from ≡ 2 ^ 64 - 1) × (env.failures to ≡ env.failures from)))
             → (cause : Cause) × Comes setting old (get None key) (refusal_of status) cause
         cause_of status (inl (inl memory)) = (out_of_memory, (tt, memory.0, ap text_of memory.1))
-        cause_of status (inl (inr table)) =
-            let lacks = table.1.lacks modelled meaning agrees shows.tables shows.has in (
-              lacks_compressor,
-              (tt, lacks.0, subst (λ (f : Format). LacksCompressor f meaning) same_format lacks.1),
-            )
-        cause_of status (inr (inl more)) = (device_failed, (tt, inl (omega arith)))
+        cause_of status (inl (inr table)) = (
+          lacks_compressor,
+          (
+            tt,
+            table.1.0,
+            subst (λ (f : Format). LacksCompressor f meaning) same_format table.1.1,
+          ),
+        )
+        cause_of status (inr (inl more)) = (device_failed, (tt, inl (omega (arith, more))))
         cause_of status (inr (inr full)) = (device_failed, (tt, inr full.0))
 
         -- the machine stays in its state
         went : (answer : Answer) → Responds setting old (get None key) answer old
-            → Goes store meaning (Recalls formats store meaning) (scene env (Some before) from)
-            (get None key) answer (scene env (Some (record before { options = options_in before })) to)
-            old
+            → Goes store meaning (Recalls env formats store meaning) (scene env (Some before) from)
+            (get None key) answer (scene env (Some after) to) old
         went answer responds = record {
           new = old;
           represents = record {
@@ -178,24 +245,35 @@ module _ {E C FP F : Type 0} {B : Boxed} (env : Ghosts E F) (formats : OptionsOf
               agrees = was.disk_is.agrees;
             };
             memory_is = record {
-              mode = was.memory_is.mode;
+              mode = same_mode ∙ was.memory_is.mode;
               lock = was.memory_is.lock;
-              path = was.memory_is.path;
-              format = was.memory_is.format;
+              path = ap (λ (v : OpenStoreValue C). v.set.store) read_store ∙ was.memory_is.path;
+              format = λ in_use. ap (λ (by : TableOptions C FP). by.format) same_by
+                  ∙ was.memory_is.format in_use;
               named = was.memory_is.named;
-              last = was.memory_is.last;
-              shows = λ in_use. subst (λ (files : Files).
-                  Shows old.format.order meaning before.store files old.history) (sym same_files)
-                  (was.memory_is.shows in_use);
-              writes = λ is. subst (λ (files : Files).
-                  IsWritten old.format.order meaning before.store files) (sym same_files)
-                  (was.memory_is.writes is);
+              last = λ in_use. ap (λ (v : OpenStoreValue C). v.set.last_sequence) read_store
+                  ∙ was.memory_is.last in_use;
+              shows = λ in_use. subst (λ (v : OpenStoreValue C).
+                  Shows old.format.order meaning v (env.observed to).disk.files old.history)
+                  (sym read_store) (subst (λ (files : Files). Shows old.format.order meaning
+                  (record before.store { current = value.current }) files old.history)
+                  (sym same_files) (shows_read old.format.order meaning before.store value.current
+                  (env.observed from).disk.files old.history (was.memory_is.shows in_use)));
+              tables = λ in_use. subst (λ (by : TableOptions C FP).
+                  AreOpenTablesOf env by value.set (env.observed to).disk.files cache)
+                  (sym same_by) (looks.still_open has_open);
+              writes = λ is. subst (λ (v : OpenStoreValue C).
+                  IsWritten old.format.order meaning v (env.observed to).disk.files)
+                  (sym read_store) (subst (λ (files : Files). IsWritten old.format.order meaning
+                  (record before.store { current = value.current }) files)
+                  (sym same_files) (written_read old.format.order meaning before.store
+                  value.current (env.observed from).disk.files (was.memory_is.writes is)));
             };
           };
           later = looks.reads.cause.later;
           step = responds_in old.mode setting old key answer not_closed responds;
-          moments = Run-mono (λ files is. subst (IsSpared store meaning old (risk_between old)) (sym is)
-              was.disk_is.holds.crash) (looks.reads.kept_disk.disk modelled);
+          moments = Run-mono (λ files is. subst (IsSpared store meaning old (risk_between old))
+              (sym is) was.disk_is.holds.crash) (looks.reads.kept_disk.disk modelled);
           spares = spares_same store (env.observed from).disk (env.observed to).disk
               (MayTouch store old.mode (get None key)) same_files
               (λ path apart. ap (λ (l : List ℕ → Bool). l path) same_locks);
@@ -203,43 +281,51 @@ module _ {E C FP F : Type 0} {B : Boxed} (env : Ghosts E F) (formats : OptionsOf
         }
 
       pub get_goes : Answers env formats (Some before) from (get None key) (found_or result)
-          (Some (record before { options = options_in before })) to
+          (Some after) to
       get_goes store meaning modelled old was = by result refl
         where
           by : (r : Result (Option (List ℕ)) Status) → result ≡ r
-              → Goes store meaning (Recalls formats store meaning) (scene env (Some before) from)
-              (get None key) (found_or r)
-              (scene env (Some (record before { options = options_in before })) to) old
+              → Goes store meaning (Recalls env formats store meaning)
+              (scene env (Some before) from) (get None key) (found_or r)
+              (scene env (Some after) to) old
           by (Ok value) e = went store meaning modelled old was (machine.found value)
               (found store meaning modelled old was value
               (subst (λ r. IfOk r (IsValueAt (entries_of old.history)
-              before.store.set.last_sequence key)) e (looks.finds modelled meaning
+              before.store.set.last_sequence key)) e (looks.finds
+              (has_open store meaning modelled old was) meaning
               (agrees store meaning modelled old was) old.history
               (reached store meaning modelled old was) (shows store meaning modelled old was))))
           by (Err status) e =
               let why = cause_of store meaning modelled old was status
               (subst (λ r. IfErr r (λ e. (IsOutOfMemory e ⊎ ((env.failures to ≡ env.failures from)
-              × IsUnreadable env (formats (options_in before)).order (formats (options_in before))
-              before.store from e)) ⊎ ((env.failures to ≡ env.failures from + 1)
+              × ((e.code ≡ NotSupported)
+              × LacksCompressor (formats (options_in before)) meaning)))
+              ⊎ ((env.failures to ≡ env.failures from + 1)
               ⊎ ((env.failures from ≡ 2 ^ 64 - 1) × (env.failures to ≡ env.failures from))))) e
-              looks.reads.cause.cause) in
+              (lacks store meaning modelled old was).cause) in
               went store meaning modelled old was (refused (refusal_of status))
               (record { cause = why.0; comes = why.1; leaves = refl })
 
-      -- why it failed
-      pub get_cause : FailsFor (GetExcused env formats before from key) (env.failures from)
-          (env.failures to) result
-      get_cause = record { later = looks.reads.cause.later; cause = by result looks.reads.cause.cause }
+      -- why it failed, for a cause of its own
+      fails_by : (Why : Status → Type 0) → FailsForWhy env Why from to result
+          → FailsFor (GetExcused before key Why) (env.failures from) (env.failures to) result
+      fails_by Why fails = record { later = fails.later; cause = by result fails.cause }
         where
           by : (r : Result (Option (List ℕ)) Status)
-              → IfErr r (λ e. (IsOutOfMemory e ⊎ ((env.failures to ≡ env.failures from)
-              × IsUnreadable env (formats (options_in before)).order (formats (options_in before))
-              before.store from e)) ⊎ ((env.failures to ≡ env.failures from + 1)
+              → IfErr r (λ e. (IsOutOfMemory e ⊎ ((env.failures to ≡ env.failures from) × Why e))
+              ⊎ ((env.failures to ≡ env.failures from + 1)
               ⊎ ((env.failures from ≡ 2 ^ 64 - 1) × (env.failures to ≡ env.failures from))))
-              → IfErr r (λ e. GetExcused env formats before from key e
+              → IfErr r (λ e. GetExcused before key Why e
               ⊎ HasFailed (env.failures from) (env.failures to))
           by (Ok value) why = tt
           by (Err status) (inl (inl memory)) = inl (inr (inr (inl memory)))
           by (Err status) (inl (inr table)) = inl (inr (inr (inr table.1)))
-          by (Err status) (inr (inl more)) = inr (inl (omega arith))
+          by (Err status) (inr (inl more)) = inr (inl (omega (arith, more)))
           by (Err status) (inr (inr full)) = inr (inr full.0)
+
+      pub get_cause : GetFails env formats before from key result to
+      get_cause = record {
+        cause = fails_by (λ e. IsTableFault (formats (options_in before)) e.code) looks.reads.cause;
+        lacks = λ meaning live there. fails_by (λ e. (e.code ≡ NotSupported)
+            × LacksCompressor (formats (options_in before)) meaning) (looks.lacks meaning live there);
+      }

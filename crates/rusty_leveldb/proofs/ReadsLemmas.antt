@@ -23,8 +23,7 @@ use Rattle.leveldb_version.specs.Contents.{Contents, Store, made, missing, no_co
 use Rattle.leveldb_version.specs.Holds.{Carries, Holds, IsSafe}
 use Rattle.leveldb_version.specs.Store.{IsManaged, IsStore, OneTableReading, SameContents}
 use Rattle.leveldb_version.specs.StoreSteps.{AppendedAreBytes, KeepsHistory}
-use Rattle.leveldb_store.specs.Format.{Meaning}
-use Rattle.leveldb_store.specs.Written.{IsTableOf}
+use Rattle.leveldb_version.specs.Format.{IsTableOf, Meaning}
 use Rattle.rusty_leveldb.specs.Laws.{NothingStands, OneReading}
 use Rattle.rusty_leveldb.specs.Machine.{IsStoreOf, Risk, StaysOr}
 use Rattle.rusty_leveldb.specs.Serves.{IsSpared, Reads, order_of}

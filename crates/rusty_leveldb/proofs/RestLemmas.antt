@@ -6,7 +6,6 @@ use Rattle.std.proofs.lemmas.List.{length-replicate}
 use Rattle.leveldb_base.specs.Error.{IsOutOfMemory}
 use Rattle.leveldb_base.specs.History.{Item}
 use Rattle.leveldb_base.specs.Names.{six_digits}
-use Rattle.leveldb_base.specs.declared.cmp.Cmp.{Ghosts as CmpGhosts}
 use Rattle.leveldb_base.specs.declared.error.Status.{Status}
 use Rattle.leveldb_base.specs.declared.types.FileType.{FileType}
 use Rattle.leveldb_base.specs.declared.types.FileType.TheVariants.{Log}
@@ -19,12 +18,13 @@ use Rattle.leveldb_mem.specs.Log.Writer.{broken_writer}
 use Rattle.leveldb_table.specs.TableBlock.{KeepsDisk}
 use Rattle.leveldb_version.specs.Paths.{lock_path, log_path}
 use Rattle.leveldb_store.specs.BuildTable.{TableChoices}
+use Rattle.leveldb_version.specs.declared.table_cache.TableCache.{TableCache}
 use Rattle.leveldb_store.specs.OpenStore.{OpenStoreValue}
 use Rattle.leveldb_store.specs.Write.{SyncsLog, open_log_path, with_writer}
 use Rattle.leveldb_store.specs.WriteBatch.{WritesBatch}
 use Rattle.leveldb_store.specs.Written.{IsData}
 use Rattle.rusty_leveldb.specs.declared.db_impl.engine.Mode.{Mode}
-use Rattle.rusty_leveldb.specs.Boxes.{EngineOf}
+use Rattle.rusty_leveldb.specs.Boxes.{EngineOf, InternalOrder}
 use Rattle.rusty_leveldb.specs.Calls.{IsLockLeft, LeavesRest, SparesBut, held_after}
 use Rattle.rusty_leveldb.specs.Engine.{holds_lock, mode_in, options_in}
 use Rattle.rusty_leveldb.specs.Frame.{MayTouchOrLog, Spares, Touches}
@@ -75,8 +75,8 @@ others_given (Ok nothing) name was mid now same set path differs =
 others_given (Err status) name was mid now same set path differs =
     ap (λ (l : List ℕ → Bool). l path) set ∙ same path
 
-module _ {E C FP F : Type 0} {B : Boxed} (env : Ghosts E F) (before : EngineOf E C FP F B)
-    (from : E) where
+module _ {E C FP F : Type 0} {B : Boxed} {keys : InternalOrder C} (env : Ghosts E F)
+    (before : EngineOf E C FP F B keys) (from : E) where
   abbrev store : List ℕ
   store = before.store.set.store
 
@@ -100,10 +100,12 @@ module _ {E C FP F : Type 0} {B : Boxed} (env : Ghosts E F) (before : EngineOf E
 
   -- the disk has stayed, and the engine's options may have changed
   pub rest_read : {T : Type 0} (key : List ℕ) (result : Result T Status) (to : E)
-      (options : OptionsOf C FP B) → KeepsDisk env from to
-      → LeavesRest env before from (get None key) result (record before { options = options }) to
-  rest_read key result to options keeps = record {
-    place = (refl, refl);
+      (options : OptionsOf C FP B) (value : OpenStoreValue C) (cache : TableCache E C FP F keys)
+      → value ≡ record before.store { current = value.current } → KeepsDisk env from to
+      → LeavesRest env before from (get None key) result
+      (record before { options = options; store = value; tables = cache }) to
+  rest_read key result to options value cache same keeps = record {
+    place = (refl, ap (λ (v : OpenStoreValue C). v.set.store) same);
     others = λ modelled own. spares_same store (env.observed from).disk (env.observed to).disk _
         (keeps.disk modelled).has
         (λ path differs. ap (λ (l : List ℕ → Bool). l path) (keeps.locks modelled));
@@ -254,16 +256,16 @@ module _ {E C FP F : Type 0} {B : Boxed} (env : Ghosts E F) (before : EngineOf E
 
     -- ---- writes
 
-    module _ {D P : Type 0} {keys : CmpGhosts D} {key_filters : FilterGhosts P}
+    module _ {P : Type 0} {key_filters : FilterGhosts P}
         (choices : OptionsOf C FP B → TableChoices keys key_filters) (items : List Item)
         (sync : Bool) where
       -- no room was made
-      pub rest_roomless : (after : EngineOf E C FP F B) (to : E) (status : Status)
+      pub rest_roomless : (after : EngineOf E C FP F B keys) (to : E) (status : Status)
           → EngineMakesRoom env choices before from (Err status) after to
           → LeavesRest env {T = Unit {0}} before from (write items sync) (Err status) after to
       rest_roomless after to status made = record {
         place = (
-          ap (λ (e : EngineOf E C FP F B). string_bytes e.lock) made.rest,
+          ap (λ (e : EngineOf E C FP F B keys). string_bytes e.lock) made.rest,
           made.makes.rest.store,
         );
         others = λ modelled own. open_spares (write items sync) (open_log_path after.store)
@@ -278,7 +280,7 @@ module _ {E C FP F : Type 0} {B : Boxed} (env : Ghosts E F) (before : EngineOf E
       }
 
       -- it was, and then the batch was written or not
-      module _ (roomy : EngineOf E C FP F B) (mid : E)
+      module _ (roomy : EngineOf E C FP F B keys) (mid : E)
           (made : EngineMakesRoom env choices before from (Ok tt) roomy mid)
           (value : OpenStoreValue C) (to : E) (result : Result (Unit {0}) Status)
           (writes : WritesBatch env (choices (options_in roomy)).format.order roomy.store mid items sync
@@ -295,7 +297,7 @@ module _ {E C FP F : Type 0} {B : Boxed} (env : Ghosts E F) (before : EngineOf E
             (record roomy { store = value }) to
         rest_written = record {
           place = (
-            ap (λ (e : EngineOf E C FP F B). string_bytes e.lock) made.rest,
+            ap (λ (e : EngineOf E C FP F B keys). string_bytes e.lock) made.rest,
             ap (λ (v : OpenStoreValue C). v.set.store) writes.rest ∙ made.makes.rest.store,
           );
           others = λ modelled own. open_spares (write items sync) (open_log_path value)

@@ -5,7 +5,7 @@ use Rattle.std.proofs.lemmas.List.{take-append-drop, map-append}
 use Rattle.std.proofs.lemmas.List.Concat.{flat_map-append}
 use Rattle.std.proofs.lemmas.List.Elements.{All-head, All-tail}
 use Rattle.leveldb_base.specs.History.{Item, Entry, History, IsPrefixAtLeast, placed, with_batch}
-use Rattle.leveldb_store.specs.Format.{Meaning}
+use Rattle.leveldb_version.specs.Format.{Meaning}
 use Rattle.rusty_leveldb.specs.State.{open_mode, State, IsState, Request, Answer}
 use Rattle.rusty_leveldb.specs.Causes.{Setting}
 use Rattle.rusty_leveldb.specs.Machine.{MayGrow, added_batch, Writes, Breaks, Step, Risk, risk_between, risk_of, Crashes}

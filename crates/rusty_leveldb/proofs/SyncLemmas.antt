@@ -17,17 +17,22 @@ use Rattle.leveldb_mem.specs.Log.Writer.{broken_writer}
 use Rattle.leveldb_version.specs.Paths.{IsFilePath, lock_path, log_path}
 use Rattle.leveldb_version.specs.StoreSteps.{AppendedAreBytes}
 use Rattle.leveldb_version.specs.VersionSetValue.{VersionSetValue}
+use Rattle.leveldb_version.proofs.TableCacheLemmas.{ClosesTables-refl}
+use Rattle.leveldb_version.specs.TableCache.{table_options}
+use Rattle.leveldb_store.proofs.GivenTablesLemmas.{given_same, same_beside}
+use Rattle.leveldb_store.proofs.OpenTablesLemmas.{stay_open}
 use Rattle.leveldb_store.proofs.TableKeepsLemmas.{is_log_path, types_apart}
-use Rattle.leveldb_store.specs.Format.{Format, Meaning}
+use Rattle.leveldb_version.specs.Format.{Format, Meaning}
 use Rattle.leveldb_store.specs.OpenStore.{OpenStoreValue}
+use Rattle.leveldb_store.specs.OpenTables.{AreOpenTablesOf}
 use Rattle.leveldb_store.specs.SoundCall.{IsSoundCall, any_meaning}
 use Rattle.leveldb_store.specs.Write.{IsLogLost, SyncsLog, open_log_path, with_writer}
 use Rattle.leveldb_store.specs.WriteBatch.{HoldsBatches, IsOf, LeavesHistory, MakesDurable, SyncsBatches}
 use Rattle.leveldb_store.specs.Written.{IsData, IsWritten, Shows}
 use Rattle.rusty_leveldb.specs.declared.db_impl.engine.Mode.{Mode}
-use Rattle.rusty_leveldb.specs.Boxes.{EngineOf}
+use Rattle.rusty_leveldb.specs.Boxes.{EngineOf, InternalOrder}
 use Rattle.rusty_leveldb.specs.Causes.{Cause, Comes, ReachesDevice, Setting, TakesMemory, device_failed, out_of_memory}
-use Rattle.rusty_leveldb.specs.Engine.{Recalls, mode_in, options_in, scene}
+use Rattle.rusty_leveldb.specs.Engine.{HasOwnTables, Recalls, mode_in, options_in, scene, tables_by}
 use Rattle.rusty_leveldb.specs.Frame.{IsLogType, MayTouch, SameBytes, Spares, Touches}
 use Rattle.rusty_leveldb.specs.Machine.{Breaks, LeavesRefused, MayBreak, Refuses, Responds, Risk, Step, risk_of}
 use Rattle.rusty_leveldb.specs.Serves.{Goes, IsSpared, Represents, refusal_of, setting_between}
@@ -82,15 +87,20 @@ lock_is_no_data store kind is_data path = by kind is_data path
     by Temp d p = apart Temp (λ e. let never : Temp ≡ DBLock = e in cc) p
     by k d p = absurd d
 
+log_is_no_table : Log ≢ Table
+log_is_no_table is = let never : Log ≡ Table = is in cc
+
 pub log_is_data : (kind : FileType) → IsLogType kind → IsData kind
 log_is_data Log t = t
 log_is_data kind t = absurd t
 
 -- ---- a call on an engine that is open
 
-module _ {E C FP F : Type 0} {B : Boxed} (env : Ghosts E F) (formats : OptionsOf C FP B → Format)
-    (store : List ℕ) (meaning : Meaning) (before : EngineOf E C FP F B) (from : E) (old : State)
-    (was : Represents store meaning (Recalls formats store meaning) (Some before)
+module _ {E C FP F : Type 0} {B : Boxed} {keys : InternalOrder C} (env : Ghosts E F)
+    (formats : OptionsOf C FP B → Format)
+    (store : List ℕ) (meaning : Meaning) (before : EngineOf E C FP F B keys) (from : E)
+    (old : State)
+    (was : Represents store meaning (Recalls env formats store meaning) (Some before)
     (env.observed from).disk old) (opened : mode_in before ≡ machine.open_mode) where
   -- what is at risk where no batch is
   abbrev pub risk_now : Risk
@@ -149,6 +159,27 @@ module _ {E C FP F : Type 0} {B : Boxed} (env : Ghosts E F) (formats : OptionsOf
       (λ path foreign. but path (bytes_eq-apart (open_log_path before.store) path
       (λ e. foreign (Log, touches, subst (IsFilePath Log store) e log_touched)))) locks
 
+  -- where only the log changes, the open tables are those of the store still
+  pub tables_logged : (value : OpenStoreValue C) (m : Mode) (to : Files)
+      → value.set ≡ before.store.set → value.cmp ≡ before.store.cmp
+      → SameBut (open_log_path before.store) (env.observed from).disk.files to
+      → HasOwnTables env formats (record before { store = value; mode = m }) to
+  tables_logged value m to set cmp but =
+      let here = (env.observed from).disk.files in
+      let held = was.memory_is.tables
+      (not_closed env formats store meaning before from old was opened) in
+      let is_log = log_is_own old.format.order meaning before.store here
+      (was.memory_is.writes (state_open env formats store meaning before from old was opened)) in
+      let keeps = given_same before.store.set here to (same_beside before.store.set
+      (open_log_path before.store) Log is_log log_is_no_table here to but) in
+      subst (λ (s : VersionSetValue). AreOpenTablesOf env
+      (tables_by formats (record before { store = value; mode = m })) s to before.tables) (sym set)
+      (subst (λ (c : C). let options : OptionsOf C FP B = record before.options { cmp = c } in
+      AreOpenTablesOf env (table_options (formats options) options) before.store.set to
+      before.tables) (sym cmp) (stay_open env (tables_by formats before) before.store.set
+      before.store.set refl (omega arith) here to keeps before.tables before.tables
+      (ClosesTables-refl before.tables) held))
+
   -- ---- a sync that is done
 
   module _ (value : OpenStoreValue C) (mid : E) (modelled : IsTrue env.models_disk)
@@ -197,7 +228,8 @@ module _ {E C FP F : Type 0} {B : Boxed} (env : Ghosts E F) (formats : OptionsOf
       → AppendedAreBytes (env.observed mid).disk.files
       → new.store ≡ old.store → new.format ≡ old.format → new.history ≡ old.history
       → new.last ≡ old.last → new.durable ≡ length old.history → new.pending ≡ None
-      → mode_in {E = E} {C = C} {FP = FP} {F = F} {B = B} (record before { store = value; mode = m })
+      → mode_in {E = E} {C = C} {FP = FP} {F = F} {B = B}
+      {keys = keys} (record before { store = value; mode = m })
       ≡ new.mode
       → (env.observed to).disk.locked (lock_path store) ≡ new.locked
       → Ends env formats store meaning before from old was opened
@@ -222,6 +254,13 @@ module _ {E C FP F : Type 0} {B : Boxed} (env : Ghosts E F) (formats : OptionsOf
             ∙ sym last_is;
         shows = subst (λ h. Shows old.format.order meaning value (env.observed to).disk.files h)
             (sym history_is) shown;
+        tables = tables_logged value m (env.observed to).disk.files
+            (ap (λ (v : OpenStoreValue C). v.set) syncs.ok)
+            (ap (λ (v : OpenStoreValue C). v.cmp) syncs.ok)
+            (subst (λ files. SameBut (open_log_path before.store)
+            (env.observed from).disk.files files) (sym same) (SameBut-synced
+            (open_log_path before.store) (env.observed from).disk.files
+            (env.observed mid).disk.files (inr ((syncs.does modelled).ok modelled))));
         writes = λ is. there.written;
         holds = subst (λ h. HoldsBatches old.format.order meaning (Stays old) value
             (env.observed to).disk.files h new.durable new.pending) (sym history_is)
@@ -301,7 +340,8 @@ module _ {E C FP F : Type 0} {B : Boxed} (env : Ghosts E F) (formats : OptionsOf
     broke_now = record old { pending = None; mode = machine.broken }
 
     pub ends_broken : (m : Mode)
-        → mode_in {E = E} {C = C} {FP = FP} {F = F} {B = B} (record before { store = value; mode = m })
+        → mode_in {E = E} {C = C} {FP = FP} {F = F} {B = B}
+        {keys = keys} (record before { store = value; mode = m })
         ≡ machine.broken
         → Ends env formats store meaning before from old was opened
         (record before { store = value; mode = m }) mid broke_now
@@ -316,6 +356,9 @@ module _ {E C FP F : Type 0} {B : Boxed} (env : Ghosts E F) (formats : OptionsOf
       last = ap (λ (v : VersionSetValue). v.last_sequence) (sync_set value mid status syncs).0
           ∙ was.memory_is.last (not_closed env formats store meaning before from old was opened);
       shows = left.shows;
+      tables = tables_logged value m (env.observed mid).disk.files
+          (sync_set value mid status syncs).0 (sync_set value mid status syncs).1
+          (λ path differs. ap (λ (f : Files). f path) (syncs.undone modelled));
       writes = λ is. absurd (let never : machine.broken ≡ open_mode = is in cc);
       holds = left.holds;
       bytes = sound.bytes modelled was.disk_is.bytes;
@@ -337,7 +380,8 @@ module _ {E C FP F : Type 0} {B : Boxed} (env : Ghosts E F) (formats : OptionsOf
     pub goes_broken : (request : Request) (m : Mode) → TakesMemory request → ReachesDevice request
         → ((kind : FileType) → Touches open_mode request kind → IsData kind)
         → Touches open_mode request Log
-        → mode_in {E = E} {C = C} {FP = FP} {F = F} {B = B} (record before { store = value; mode = m })
+        → mode_in {E = E} {C = C} {FP = FP} {F = F} {B = B}
+        {keys = keys} (record before { store = value; mode = m })
         ≡ machine.broken
         → ((cause : Cause) → MayBreak cause → Breaks old None broke_now
         → LeavesRefused (setting_between meaning (env.failures from) (env.failures mid)) old request
@@ -347,7 +391,8 @@ module _ {E C FP F : Type 0} {B : Boxed} (env : Ghosts E F) (formats : OptionsOf
         → Step open_mode (setting_between meaning (env.failures from) (env.failures mid)) old request
         answer broke_now)
         → risk_of request old broke_now ≡ risk_now
-        → Goes store meaning (Recalls formats store meaning) (scene env (Some before) from) request
+        → Goes store meaning (Recalls env formats store meaning) (scene env (Some before) from)
+        request
         (refused (refusal_of status)) (scene env (Some (record before { store = value; mode = m })) mid)
         old
     goes_broken request m takes reaches of_data touches mode_is leaves steps risk_is =

@@ -26,9 +26,8 @@ use Rattle.leveldb_version.specs.VersionSet.{live_after}
 use Rattle.leveldb_store.proofs.NotTabledLemmas.{not_tabled_causes}
 use Rattle.leveldb_store.specs.BuildTable.{TableChoices}
 use Rattle.leveldb_store.specs.FoundLogs.{FailsToKeep, HasLogNotKept}
-use Rattle.leveldb_store.specs.Format.{Agrees, Format, HasCompressorError, Meaning}
+use Rattle.leveldb_version.specs.Format.{Agrees, Format, HasCompressorError, IsTableOf, Meaning}
 use Rattle.leveldb_store.specs.OpensStore.{HasOtherComparator, IsOrderFor}
-use Rattle.leveldb_store.specs.Written.{IsTableOf}
 use Rattle.rusty_leveldb.specs.Causes.{Cause, Comes, Disagrees, Exists, Setting, bad_operand, compressor_failed, lock_is_held, out_of_memory, store_exists, too_large}
 use Rattle.rusty_leveldb.specs.Engine.{IsOpening}
 use Rattle.rusty_leveldb.specs.Serves.{Reads, StandsFor, order_of, refusal_of}

@@ -10,8 +10,9 @@ use Rattle.leveldb_version.specs.Contents.{Contents, Store, made, missing}
 use Rattle.leveldb_version.specs.Holds.{Carries, Holds}
 use Rattle.leveldb_version.specs.Paths.{current_path, lock_path}
 use Rattle.leveldb_version.specs.StoreSteps.{AppendedAreBytes}
-use Rattle.leveldb_store.specs.Format.{Format, Meaning}
+use Rattle.leveldb_version.specs.Format.{Format, Meaning}
 use Rattle.leveldb_store.specs.Room.{HasFailed}
+use Rattle.rusty_leveldb.specs.Boxes.{InternalOrder}
 use Rattle.rusty_leveldb.specs.Causes.{Cause, Comes, device_failed}
 use Rattle.rusty_leveldb.specs.Engine.{Recalls, scene}
 use Rattle.rusty_leveldb.specs.Frame.{IsOwn, Spares}
@@ -166,10 +167,11 @@ comes_later meaning before mid after old request refusal device_failed more come
 )
 comes_later meaning before mid after old request refusal cause more comes = comes
 
-module _ {E C FP F : Type 0} {B : Boxed} (env : Ghosts E F) (formats : OptionsOf C FP B → Format)
+module _ {E C FP F : Type 0} {B : Boxed} {keys : InternalOrder C} (env : Ghosts E F)
+    (formats : OptionsOf C FP B → Format)
     (store : List ℕ) (meaning : Meaning) (opening : Opening) (from : E) (old : State)
-    (was : Represents store meaning (Recalls {E = E} {C = C} {FP = FP} {F = F} {B = B} formats store
-    meaning) None (env.observed from).disk old) (to : E) (e : Status) where
+    (was : Represents store meaning (Recalls {keys = keys} env formats store meaning) None
+    (env.observed from).disk old) (to : E) (e : Status) where
   -- the store is closed, and this one is there
   abbrev left : Store → State
   left there = record old {
@@ -192,7 +194,7 @@ module _ {E C FP F : Type 0} {B : Boxed} (env : Ghosts E F) (formats : OptionsOf
       → Comes (setting_between meaning (env.failures from) mid) old (open_store opening)
       (refusal_of e) cause
       → (IsEarly cause → there ≡ old.store)
-      → Goes store meaning (Recalls {E = E} {C = C} {FP = FP} {F = F} {B = B} formats store meaning)
+      → Goes store meaning (Recalls {keys = keys} env formats store meaning)
       (scene env None from) (open_store opening) (refused (refusal_of e)) (scene env None to) old
   unopened_goes there stays holds bytes run spares mid later ends lock cause comes early =
       let setting = setting_between meaning (env.failures from) (env.failures to) in

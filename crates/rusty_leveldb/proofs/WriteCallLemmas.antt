@@ -4,7 +4,6 @@ use Rattle.std.specs.Prelude.{OnOk, Result}
 use Rattle.std.proofs.Common.{◌≡◌, ◌<◌, ◌≤◌, ◌+◌, ◌⊎◌, ◌∙◌, ⊎_elim, inl, inr, ℕ, zero, suc, Bool, true, false, List, [], ◌∷◌, ◌++◌, length, refl, sym, ap, subst, arith, Some, Ok, Err}
 use Rattle.leveldb_base.specs.Error.{IsOutOfMemory}
 use Rattle.leveldb_base.specs.History.{Entry, Item, placed}
-use Rattle.leveldb_base.specs.declared.cmp.Cmp.{Ghosts as CmpGhosts}
 use Rattle.leveldb_base.specs.declared.error.Status.{Status}
 use Rattle.leveldb_base.specs.declared.error.StatusCode.TheVariants.{InvalidArgument}
 use Rattle.leveldb_env.specs.Options.{Boxed, OptionsOf}
@@ -13,12 +12,12 @@ use Rattle.leveldb_env.specs.declared.filter.FilterPolicy.{Ghosts as FilterGhost
 use Rattle.leveldb_mem.specs.MemTable.{FailsToPrepare, IsUnion, Kept, bytes_in, memory_of_entries}
 use Rattle.leveldb_mem.specs.WriteBatch.{Batch, IsTooLong, batch_bytes, batch_of, max_length, with_item}
 use Rattle.leveldb_store.specs.BuildTable.{TableChoices}
-use Rattle.leveldb_store.specs.Format.{Format}
+use Rattle.leveldb_version.specs.Format.{Format}
 use Rattle.leveldb_store.specs.OpenStore.{OpenStoreValue}
 use Rattle.leveldb_store.specs.Room.{FailsFor, FailsToMakeRoom, HasFailed, IsFull, TellsOnly}
 use Rattle.leveldb_store.specs.SoundCall.{IsSoundCall, any_meaning}
 use Rattle.leveldb_store.specs.WriteBatch.{FailsToWrite, WritesBatch}
-use Rattle.rusty_leveldb.specs.Boxes.{EngineOf}
+use Rattle.rusty_leveldb.specs.Boxes.{EngineOf, InternalOrder}
 use Rattle.rusty_leveldb.specs.Calls.{BecomesOf, EngineServes, KeepsModeOrBreaks}
 use Rattle.rusty_leveldb.specs.Causes.{AreUsedUp}
 use Rattle.rusty_leveldb.specs.Engine.{empty_memtable, Answers, WriteExcused, mode_in, options_in, formats_of}
@@ -78,9 +77,9 @@ unmade empty item status is why long = ⊎_elim
     ))
     (λ (memory : IsOutOfMemory status). inl memory) why
 
-module _ {E C FP F D P : Type 0} {B : Boxed} {keys : CmpGhosts D} {key_filters : FilterGhosts P}
+module _ {E C FP F P : Type 0} {B : Boxed} {keys : InternalOrder C} {key_filters : FilterGhosts P}
     (env : Ghosts E F) (choices : OptionsOf C FP B → TableChoices keys key_filters)
-    (before : EngineOf E C FP F B) (from : E) (opened : mode_in before ≡ machine.open_mode)
+    (before : EngineOf E C FP F B keys) (from : E) (opened : mode_in before ≡ machine.open_mode)
     (items : List Item) (sync : Bool) where
   abbrev formats : OptionsOf C FP B → Format
   formats = formats_of choices
@@ -104,13 +103,13 @@ module _ {E C FP F D P : Type 0} {B : Boxed} {keys : CmpGhosts D} {key_filters :
   }
 
   -- the mode in the end
-  becomes : (after : EngineOf E C FP F B) → after.mode ≡ Open → KeepsModeOrBreaks before after
+  becomes : (after : EngineOf E C FP F B keys) → after.mode ≡ Open → KeepsModeOrBreaks before after
   becomes after is = ⊎_elim (λ opens. inr (opens.0 ∙ sym opened)) (λ broke. inl broke.0)
       (open_or_broken after is)
 
   module _ (ignores : (a b : OptionsOf C FP B) → TellsOnly a b → formats b ≡ formats a) where
     -- no room is made
-    pub room_fails_serves : (after : EngineOf E C FP F B) (to : E) (status : Status)
+    pub room_fails_serves : (after : EngineOf E C FP F B keys) (to : E) (status : Status)
         → EngineMakesRoom env choices before from (Err status) after to
         → EngineServes env choices {T = Unit {0}} done_or before from (write items sync) (Err status)
         after to
@@ -119,7 +118,7 @@ module _ {E C FP F D P : Type 0} {B : Boxed} {keys : CmpGhosts D} {key_filters :
       halted = λ halted. absurd (not_halted (mode_in before) opened halted);
       becomes = (
         tt,
-        becomes after (ap (λ (e : EngineOf E C FP F B). e.mode) made.rest
+        becomes after (ap (λ (e : EngineOf E C FP F B keys). e.mode) made.rest
             ∙ open_mode_is before opened),
       );
       step = λ store meaning modelled old was. room_fails env choices store meaning before from old was
@@ -149,11 +148,12 @@ module _ {E C FP F D P : Type 0} {B : Boxed} {keys : CmpGhosts D} {key_filters :
         excused (inl (inr (inr (inr (inr lost))))) = inl (inr (inr (inr (inr (inr (inr lost))))))
         excused (inr failed) = inr failed
 
-    module _ (roomy : EngineOf E C FP F B) (mid : E)
+    module _ (roomy : EngineOf E C FP F B keys) (mid : E)
         (made : EngineMakesRoom env choices before from (Ok tt) roomy mid)
         (value : OpenStoreValue C) (to : E) where
       room_open : roomy.mode ≡ Open
-      room_open = ap (λ (e : EngineOf E C FP F B). e.mode) made.rest ∙ open_mode_is before opened
+      room_open = ap (λ (e : EngineOf E C FP F B keys). e.mode) made.rest
+          ∙ open_mode_is before opened
 
       -- a batch is written into a memtable with room
       batch_becomes : (result : Result (Unit {0}) Status)

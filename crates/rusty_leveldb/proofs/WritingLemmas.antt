@@ -6,7 +6,6 @@ use Rattle.std.specs.declared.cmp.Ordering.{Ordering}
 use Rattle.leveldb_base.specs.Error.{IsOutOfMemory, text_of}
 use Rattle.leveldb_base.specs.History.{Entry, Item, count_of, placed, with_batch}
 use Rattle.leveldb_base.specs.KeyTypes.{greatest_sequence}
-use Rattle.leveldb_base.specs.declared.cmp.Cmp.{Ghosts as CmpGhosts}
 use Rattle.leveldb_base.specs.declared.error.Status.{Status}
 use Rattle.leveldb_base.specs.declared.types.FileType.TheVariants.{Log}
 use Rattle.leveldb_env.specs.Env.{Files, Run}
@@ -23,17 +22,20 @@ use Rattle.leveldb_base.specs.Entries.{internal_pair}
 use Rattle.leveldb_mem.specs.MemTable.{Kept}
 use Rattle.leveldb_store.proofs.NotTabledLemmas.{not_tabled_causes}
 use Rattle.leveldb_store.specs.BuildTable.{TableChoices}
-use Rattle.leveldb_store.specs.Format.{Agrees, Format, HasCompressorError, Meaning}
+use Rattle.leveldb_version.specs.Format.{Agrees, Format, HasCompressorError, IsTableOf, Meaning}
+use Rattle.leveldb_version.specs.TableCache.{TableOptions, table_options}
+use Rattle.leveldb_store.proofs.OpenTablesLemmas.{open_after_batch, open_after_call}
 use Rattle.leveldb_store.specs.OpenStore.{IsUnbroken, OpenStoreValue}
+use Rattle.leveldb_store.specs.OpenTables.{AreOpenTablesOf, ClosesObsolete}
 use Rattle.leveldb_store.specs.Room.{AreEntriesNotTabled, FailsToMakeRoom, HasFailed, MakesRoom, TellsOnly}
 use Rattle.leveldb_store.specs.SoundCall.{IsSoundCall, any_meaning}
 use Rattle.leveldb_store.specs.Write.{open_log_path}
 use Rattle.leveldb_store.specs.WriteBatch.{AddsBatch, FailsToWrite, HoldsBatches, IsOf, LeavesHistory, WritesBatch, next_batch}
-use Rattle.leveldb_store.specs.Written.{IsDataPath, IsTableOf, IsWritten, KeepsStore, KeepsWritten, Shows, SparesRest}
+use Rattle.leveldb_store.specs.Written.{IsDataPath, IsWritten, KeepsStore, KeepsWritten, Shows, SparesRest}
 use Rattle.rusty_leveldb.specs.declared.db_impl.engine.Mode.TheVariants.{Open}
-use Rattle.rusty_leveldb.specs.Boxes.{EngineOf}
+use Rattle.rusty_leveldb.specs.Boxes.{EngineOf, InternalOrder}
 use Rattle.rusty_leveldb.specs.Causes.{Cause, Comes, Fits, Setting, compressor_failed, device_failed, out_of_memory, too_large, used_up}
-use Rattle.rusty_leveldb.specs.Engine.{Recalls, mode_in, options_in, scene, formats_of}
+use Rattle.rusty_leveldb.specs.Engine.{HasOwnTables, Recalls, mode_in, options_in, scene, formats_of, tables_by}
 use Rattle.rusty_leveldb.specs.Frame.{MayTouch, Spares}
 use Rattle.rusty_leveldb.specs.Machine.{Breaks, Refuses, Risk, Step, Writes, added_batch, risk_between}
 use Rattle.rusty_leveldb.specs.Serves.{Goes, IsSpared, Represents, refusal_of, setting_between}
@@ -63,44 +65,80 @@ failed_later from mid to first second (inr full) = ⊎_elim
     (λ (less : from < mid). inl (omega (arith, less, second)))
     (same_or_below from mid first)
 
-module _ {E C FP F D P : Type 0} {B : Boxed} {keys : CmpGhosts D} {key_filters : FilterGhosts P}
+module _ {E C FP F P : Type 0} {B : Boxed} {keys : InternalOrder C} {key_filters : FilterGhosts P}
     (env : Ghosts E F) (choices : OptionsOf C FP B → TableChoices keys key_filters) where
   -- an engine makes room in its memtable, by its options
-  pub record EngineMakesRoom (before : EngineOf E C FP F B) (from : E)
-      (result : Result (Unit {0}) Status) (after : EngineOf E C FP F B) (to : E) : Type 0 where
+  pub record EngineMakesRoom (before : EngineOf E C FP F B keys) (from : E)
+      (result : Result (Unit {0}) Status) (after : EngineOf E C FP F B keys) (to : E) : Type 0 where
     pub makes : MakesRoom env (choices (options_in before)).format.order before.store from
         (choices (options_in before)) before.options.write_buffer_size result after.store to
     pub sound : IsSoundCall env (choices (options_in before)).format.order
         (Agrees (choices (options_in before)).format) before.store from result after.store to
+    pub closes : ClosesObsolete env before.store.set from before.tables to after.tables
     -- nothing else of the engine changes but the sink of the options' log
     pub rest : after ≡ record before {
       store = after.store;
       options = record (options_in before) { log = after.options.log };
+      tables = after.tables;
     }
     pub sink : is_some after.options.log ≡ is_some before.options.log
 
 -- what making room leaves of the options
-pub room_tells : {E C FP F D P : Type 0} {B : Boxed} {keys : CmpGhosts D}
+pub room_tells : {E C FP F P : Type 0} {B : Boxed} {keys : InternalOrder C}
     {key_filters : FilterGhosts P} (env : Ghosts E F)
-    (choices : OptionsOf C FP B → TableChoices keys key_filters) (before : EngineOf E C FP F B) (from : E)
-    (result : Result (Unit {0}) Status) (after : EngineOf E C FP F B) (to : E)
+    (choices : OptionsOf C FP B → TableChoices keys key_filters) (before : EngineOf E C FP F B keys)
+    (from : E) (result : Result (Unit {0}) Status) (after : EngineOf E C FP F B keys) (to : E)
     → EngineMakesRoom env choices before from result after to
     → TellsOnly (options_in before) (options_in after)
-room_tells {E} {C} {FP} {F} {B} env choices before from result after to made = record {
-  rest = ap (λ (e : EngineOf E C FP F B). options_in e) made.rest
-      ∙ ap (λ (c : C). record (options_in before) { cmp = c; log = after.options.log })
-      made.makes.rest.cmp;
-  sink = made.sink;
-}
+room_tells {E} {C} {FP} {F} {B = B} {keys = keys} env choices before from result after to
+    made = record {
+      rest = ap (λ (e : EngineOf E C FP F B keys). options_in e) made.rest
+          ∙ ap (λ (c : C). record (options_in before) { cmp = c; log = after.options.log })
+          made.makes.rest.cmp;
+      sink = made.sink;
+    }
+
+-- what tables are opened with stays
+pub room_by : {E C FP F P : Type 0} {B : Boxed} {keys : InternalOrder C}
+    {key_filters : FilterGhosts P} (env : Ghosts E F)
+    (choices : OptionsOf C FP B → TableChoices keys key_filters) (before : EngineOf E C FP F B keys)
+    (from : E) (result : Result (Unit {0}) Status) (after : EngineOf E C FP F B keys) (to : E)
+    → ((a b : OptionsOf C FP B) → TellsOnly a b → formats_of choices b ≡ formats_of choices a)
+    → EngineMakesRoom env choices before from result after to
+    → tables_by (formats_of choices) after ≡ tables_by (formats_of choices) before
+room_by env choices before from result after to ignores made =
+    let tells = room_tells env choices before from result after to made in
+    λ i. record {
+      format = ignores (options_in before) (options_in after) tells i;
+      cmp = (tells.rest i).cmp;
+      policy = (tells.rest i).filter_policy;
+    }
+
+-- and so the open tables are those of the store, some of which may be closed
+pub room_tables : {E C FP F P : Type 0} {B : Boxed} {keys : InternalOrder C}
+    {key_filters : FilterGhosts P} (env : Ghosts E F)
+    (choices : OptionsOf C FP B → TableChoices keys key_filters) (before : EngineOf E C FP F B keys)
+    (from : E) (result : Result (Unit {0}) Status) (after : EngineOf E C FP F B keys) (to : E)
+    → ((a b : OptionsOf C FP B) → TellsOnly a b → formats_of choices b ≡ formats_of choices a)
+    → EngineMakesRoom env choices before from result after to → IsTrue env.models_disk
+    → HasOwnTables env (formats_of choices) before (env.observed from).disk.files
+    → HasOwnTables env (formats_of choices) after (env.observed to).disk.files
+room_tables {E} {C} {FP} {F} {B = B} env choices before from result after to ignores made modelled
+    own = subst (λ (by : TableOptions C FP). AreOpenTablesOf env by after.store.set
+    (env.observed to).disk.files after.tables)
+    (sym (room_by env choices before from result after to ignores made))
+    (open_after_call env (tables_by (formats_of choices) before) before.store after.store from to
+    made.makes.rest before.tables after.tables made.closes.closes modelled own)
 
 -- and the batch that is written then
-pub batch_tells : {E C FP F D P : Type 0} {B : Boxed} {keys : CmpGhosts D}
+pub batch_tells : {E C FP F P : Type 0} {B : Boxed} {keys : InternalOrder C}
     {key_filters : FilterGhosts P} (env : Ghosts E F)
-    (choices : OptionsOf C FP B → TableChoices keys key_filters) (before : EngineOf E C FP F B) (from : E)
-    (roomy : EngineOf E C FP F B) (mid : E) → EngineMakesRoom env choices before from (Ok tt) roomy mid
+    (choices : OptionsOf C FP B → TableChoices keys key_filters) (before : EngineOf E C FP F B keys)
+    (from : E) (roomy : EngineOf E C FP F B keys)
+    (mid : E) → EngineMakesRoom env choices before from (Ok tt) roomy mid
     → (value : OpenStoreValue C) → value.cmp ≡ roomy.store.cmp
     → TellsOnly (options_in before) (options_in {E = E} {C = C} {FP = FP} {F = F} {B = B}
-    (record roomy { store = value }))
+    {keys = keys} (record roomy { store = value }))
 batch_tells {C = C} env choices before from roomy mid made value same =
     let tells = room_tells env choices before from (Ok tt) roomy mid made in
     record {
@@ -108,10 +146,11 @@ batch_tells {C = C} env choices before from roomy mid made value same =
       sink = tells.sink;
     }
 
-module _ {E C FP F D P : Type 0} {B : Boxed} {keys : CmpGhosts D} {key_filters : FilterGhosts P}
+module _ {E C FP F P : Type 0} {B : Boxed} {keys : InternalOrder C} {key_filters : FilterGhosts P}
     (env : Ghosts E F) (choices : OptionsOf C FP B → TableChoices keys key_filters)
-    (store : List ℕ) (meaning : Meaning) (before : EngineOf E C FP F B) (from : E) (old : State)
-    (was : Represents store meaning (Recalls (formats_of choices) store meaning) (Some before)
+    (store : List ℕ) (meaning : Meaning) (before : EngineOf E C FP F B keys) (from : E)
+    (old : State)
+    (was : Represents store meaning (Recalls env (formats_of choices) store meaning) (Some before)
     (env.observed from).disk old) (opened : mode_in before ≡ machine.open_mode)
     (modelled : IsTrue env.models_disk) where
   abbrev formats : OptionsOf C FP B → Format
@@ -125,6 +164,9 @@ module _ {E C FP F D P : Type 0} {B : Boxed} {keys : CmpGhosts D} {key_filters :
 
   held : IsOf order meaning (Stays old) before.store files old.history old.durable
   held = is_of env formats store meaning before from old was opened
+
+  held_tables : HasOwnTables env formats before files
+  held_tables = was.memory_is.tables (not_closed env formats store meaning before from old was opened)
 
   last_is : before.store.set.last_sequence ≡ old.last
   last_is = was.memory_is.last (not_closed env formats store meaning before from old was opened)
@@ -300,7 +342,7 @@ module _ {E C FP F D P : Type 0} {B : Boxed} {keys : CmpGhosts D} {key_filters :
   -- ---- room in the memtable
 
   module _ (ignores : (a b : OptionsOf C FP B) → TellsOnly a b → formats b ≡ formats a)
-      (roomy : EngineOf E C FP F B) (mid : E) (result : Result (Unit {0}) Status)
+      (roomy : EngineOf E C FP F B keys) (mid : E) (result : Result (Unit {0}) Status)
       (made : EngineMakesRoom env choices before from result roomy mid) where
     room_keeps : KeepsStore order meaning (Stays old) before.store (env.observed from) roomy.store
         (env.observed mid)
@@ -313,7 +355,7 @@ module _ {E C FP F D P : Type 0} {B : Boxed} {keys : CmpGhosts D} {key_filters :
         (may_stay None old.store) held.written
 
     room_mode : roomy.mode ≡ Open
-    room_mode = ap (λ (e : EngineOf E C FP F B). e.mode) made.rest ∙ open_mode_is before opened
+    room_mode = ap (λ (e : EngineOf E C FP F B keys). e.mode) made.rest ∙ open_mode_is before opened
 
     room_options : formats (options_in roomy) ≡ formats (options_in before)
     room_options = ignores (options_in before) (options_in roomy)
@@ -332,7 +374,8 @@ module _ {E C FP F D P : Type 0} {B : Boxed} {keys : CmpGhosts D} {key_filters :
 
   -- no room was made
   module _ (ignores : (a b : OptionsOf C FP B) → TellsOnly a b → formats b ≡ formats a)
-      (after : EngineOf E C FP F B) (to : E) (items : List Item) (sync : Bool) (status : Status)
+      (after : EngineOf E C FP F B keys) (to : E) (items : List Item) (sync : Bool)
+      (status : Status)
       (made : EngineMakesRoom env choices before from (Err status) after to) where
     keeps : KeepsStore order meaning (Stays old) before.store (env.observed from) after.store
         (env.observed to)
@@ -351,12 +394,12 @@ module _ {E C FP F D P : Type 0} {B : Boxed} {keys : CmpGhosts D} {key_filters :
         → new.durable ≡ old.durable → new.pending ≡ None → new.locked ≡ old.locked
         → (new.mode ≡ open_mode → IsUnbroken after.store)
         → Refuses (setting items sync status to) old (write items sync) (refusal_of status) new
-        → Goes store meaning (Recalls formats store meaning) (scene env (Some before) from)
+        → Goes store meaning (Recalls env formats store meaning) (scene env (Some before) from)
         (write items sync) (refused (refusal_of status)) (scene env (Some after) to) old
     went new mode_is store_is format_is history_is last_is durable_is pending_is locked_is unbroken
         refuses =
         goes env formats store meaning before from old was opened after to new (record {
-          lock = ap (λ (e : EngineOf E C FP F B). string_bytes e.lock) made.rest;
+          lock = ap (λ (e : EngineOf E C FP F B keys). string_bytes e.lock) made.rest;
           options = room_options ignores after to (Err status) made;
           path = made.makes.rest.store;
           store_is = store_is;
@@ -365,6 +408,8 @@ module _ {E C FP F D P : Type 0} {B : Boxed} {keys : CmpGhosts D} {key_filters :
           last = kept_last after.store to keeps made.makes.rest ∙ sym last_is;
           shows = subst (λ h. Shows order meaning after.store (env.observed to).disk.files h)
               (sym history_is) (room_shows ignores after to (Err status) made);
+          tables = room_tables env choices before from (Err status) after to ignores made modelled
+              held_tables;
           writes = λ is. keeps.written (unbroken is);
           holds = subst (λ h. HoldsBatches order meaning (Stays old) after.store
               (env.observed to).disk.files h new.durable new.pending) (sym history_is)
@@ -392,7 +437,8 @@ module _ {E C FP F D P : Type 0} {B : Boxed} {keys : CmpGhosts D} {key_filters :
           opening = None;
         })
 
-    pub room_fails : Goes store meaning (Recalls formats store meaning) (scene env (Some before) from)
+    pub room_fails : Goes store meaning (Recalls env formats store meaning)
+        (scene env (Some before) from)
         (write items sync) (refused (refusal_of status)) (scene env (Some after) to) old
     room_fails = ⊎_elim
         (λ (sound : (mode_in after ≡ machine.open_mode) × IsUnbroken after.store).
@@ -409,7 +455,7 @@ module _ {E C FP F D P : Type 0} {B : Boxed} {keys : CmpGhosts D} {key_filters :
   -- ---- the batch, where there is room
 
   module _ (ignores : (a b : OptionsOf C FP B) → TellsOnly a b → formats b ≡ formats a)
-      (roomy : EngineOf E C FP F B) (mid : E)
+      (roomy : EngineOf E C FP F B keys) (mid : E)
       (made : EngineMakesRoom env choices before from (Ok tt) roomy mid)
       (items : List Item) (sync : Bool) (value : OpenStoreValue C) (to : E) where
     -- the files as room was made
@@ -417,7 +463,7 @@ module _ {E C FP F D P : Type 0} {B : Boxed} {keys : CmpGhosts D} {key_filters :
     here = (env.observed mid).disk.files
 
     -- the engine in the end
-    abbrev after : EngineOf E C FP F B
+    abbrev after : EngineOf E C FP F B keys
     after = record roomy { store = value }
 
     -- the batch as the store has it
@@ -461,6 +507,17 @@ module _ {E C FP F D P : Type 0} {B : Boxed} {keys : CmpGhosts D} {key_filters :
       end_options = ignores (options_in before) (options_in after)
           (batch_tells env choices before from roomy mid made value
           (ap (λ (v : OpenStoreValue C). v.cmp) writes.rest))
+
+      end_tables : HasOwnTables env formats after (env.observed to).disk.files
+      end_tables =
+          let by : C → TableOptions C FP = λ c.
+          let options = record roomy.options { cmp = c } in table_options (formats options) options
+          in
+          subst (λ (c : C). AreOpenTablesOf env (by c) value.set (env.observed to).disk.files
+          roomy.tables) (sym (ap (λ (v : OpenStoreValue C). v.cmp) writes.rest))
+          (open_after_batch env (by roomy.store.cmp) (formats (options_in before)).order roomy.store
+          value mid to items sync result writes modelled roomy.tables
+          (room_tables env choices before from (Ok tt) roomy mid ignores made modelled held_tables))
 
       end_bytes : AppendedAreBytes (env.observed to).disk.files
       end_bytes = sound.bytes modelled (room_bytes ignores roomy mid (Ok tt) made)
@@ -564,12 +621,12 @@ module _ {E C FP F D P : Type 0} {B : Boxed} {keys : CmpGhosts D} {key_filters :
           (end_path (Ok tt) writes sound) (old.history ++ its_batch ∷ []) (old.last + length items) None
           (env.observed mid) (env.observed to) end_last adds.moments)
 
-      pub write_done : Goes store meaning (Recalls formats store meaning)
+      pub write_done : Goes store meaning (Recalls env formats store meaning)
           (scene env (Some before) from) (write items sync) done (scene env (Some after) to) old
       write_done =
           let nothing = none env formats store meaning before from old was opened in
           goes env formats store meaning before from old was opened after to new (record {
-            lock = ap (λ (e : EngineOf E C FP F B). string_bytes e.lock) made.rest;
+            lock = ap (λ (e : EngineOf E C FP F B keys). string_bytes e.lock) made.rest;
             options = end_options (Ok tt) writes sound;
             path = end_path (Ok tt) writes sound;
             store_is = refl;
@@ -581,6 +638,7 @@ module _ {E C FP F D P : Type 0} {B : Boxed} {keys : CmpGhosts D} {key_filters :
                 (written_shows order meaning (Stays old) value (env.observed to).disk.files
                 (old.history ++ its_batch ∷ []) adds.durable_now
                 adds.is_of.written adds.is_of.holds);
+            tables = end_tables (Ok tt) writes sound;
             writes = λ is. adds.is_of.written;
             holds = subst (λ h. HoldsBatches order meaning (Stays old) value
                 (env.observed to).disk.files h adds.durable_now old.pending) longer
@@ -661,18 +719,19 @@ module _ {E C FP F D P : Type 0} {B : Boxed} {keys : CmpGhosts D} {key_filters :
       batch_cause (inr (inr full)) =
           (device_failed, by_device items sync status to (failed (inr full.0)))
 
-      unwritten : (new : State) → mode_in {E = E} {C = C} {FP = FP} {F = F} {B = B} after ≡ new.mode
+      unwritten : (new : State)
+          → mode_in {E = E} {C = C} {FP = FP} {F = F} {B = B} {keys = keys} after ≡ new.mode
           → new.store ≡ old.store → new.format ≡ old.format → new.history ≡ old.history
           → new.last ≡ old.last → new.durable ≡ old.durable → new.pending ≡ leaves.0
           → new.locked ≡ old.locked
           → (new.mode ≡ open_mode → IsUnbroken value)
           → Refuses (setting items sync status to) old (write items sync) (refusal_of status) new
-          → Goes store meaning (Recalls formats store meaning) (scene env (Some before) from)
+          → Goes store meaning (Recalls env formats store meaning) (scene env (Some before) from)
           (write items sync) (refused (refusal_of status)) (scene env (Some after) to) old
       unwritten new mode_is store_is format_is history_is last_is durable_is pending_is locked_is
           unbroken refuses =
           goes env formats store meaning before from old was opened after to new (record {
-            lock = ap (λ (e : EngineOf E C FP F B). string_bytes e.lock) made.rest;
+            lock = ap (λ (e : EngineOf E C FP F B keys). string_bytes e.lock) made.rest;
             options = end_options (Err status) writes sound;
             path = end_path (Err status) writes sound;
             store_is = store_is;
@@ -681,6 +740,7 @@ module _ {E C FP F D P : Type 0} {B : Boxed} {keys : CmpGhosts D} {key_filters :
             last = writes.err.1 ∙ room_last ∙ sym last_is;
             shows = subst (λ h. Shows order meaning value (env.observed to).disk.files h)
                 (sym history_is) leaves.2.shows;
+            tables = end_tables (Err status) writes sound;
             writes = λ is. (leaves.2.written (unbroken is)).1;
             holds = subst (λ h. HoldsBatches order meaning (Stays old) value
                 (env.observed to).disk.files h new.durable new.pending) (sym history_is)
@@ -728,21 +788,23 @@ module _ {E C FP F D P : Type 0} {B : Boxed} {keys : CmpGhosts D} {key_filters :
           }) files) (sym is) (spared_longer (added_batch old items)
               (old.last + count_of (Some (added_batch old items))) (omega arith))
 
-      pub write_fails : Goes store meaning (Recalls formats store meaning)
+      pub write_fails : Goes store meaning (Recalls env formats store meaning)
           (scene env (Some before) from) (write items sync) (refused (refusal_of status))
           (scene env (Some after) to) old
       write_fails = ⊎_elim
-          (λ (whole : (mode_in {E = E} {C = C} {FP = FP} {F = F} {B = B} after ≡ machine.open_mode)
+          (λ (whole : (mode_in {E = E} {C = C} {FP = FP} {F = F} {B = B}
+          {keys = keys} after ≡ machine.open_mode)
           × IsUnbroken value).
           unwritten old (whole.0 ∙ sym mode) refl refl refl refl refl
           (none env formats store meaning before from old was opened
           ∙ sym (leaves.2.written whole.1).0) refl (λ is. whole.1)
           (refuses_still items sync status to (batch_cause writes.cause.cause)))
-          (λ (is : (mode_in {E = E} {C = C} {FP = FP} {F = F} {B = B} after ≡ machine.broken)
+          (λ (is : (mode_in {E = E} {C = C} {FP = FP} {F = F} {B = B}
+          {keys = keys} after ≡ machine.broken)
           × (IsUnbroken value → ⊥)).
           unwritten (broke leaves.0) is.0 refl refl refl refl refl refl refl
           (λ opens. absurd (let never : machine.broken ≡ open_mode = opens in cc))
           (refuses_broken items sync status to leaves.0 which (⊎_elim
           (λ (whole : IsUnbroken value). absurd (is.1 whole)) (λ why. why) breaks_by_batch)))
-          (open_or_broken {E = E} {C = C} {FP = FP} {F = F} {B = B} after
+          (open_or_broken {E = E} {C = C} {FP = FP} {F = F} {B = B} {keys = keys} after
           (room_mode ignores roomy mid (Ok tt) made))

@@ -1,7 +1,6 @@
 -- What each call on an engine does: one record a call, the same of an engine and of a store that
 -- holds its environment.
 use Rattle.std.specs.Prelude.{◌≡◌, ◌⊎◌, ℕ, Bool, false, List, Some, None, Result, Ok, Err, OnOk, OnErr, IfOk, IfErr, IsErrAnd, IsTrue, string_bytes}
-use Rattle.leveldb_base.specs.declared.cmp.Cmp.{Ghosts as CmpGhosts}
 use Rattle.leveldb_base.specs.declared.error.Status.{Status}
 use Rattle.leveldb_base.specs.Error.{IsOutOfMemory}
 use Rattle.leveldb_env.specs.declared.env.Env.{Ghosts}
@@ -10,28 +9,27 @@ use Rattle.leveldb_env.specs.Env.{HasCause}
 use Rattle.leveldb_env.specs.Options.{Boxed, OptionsOf}
 use Rattle.leveldb_store.specs.BuildTable.{TableChoices}
 use Rattle.leveldb_store.specs.FoundLogs.{HasLogNotKept}
-use Rattle.leveldb_store.specs.Format.{Format, Meaning, Agrees}
+use Rattle.leveldb_version.specs.Format.{Format, Meaning, Agrees}
 use Rattle.leveldb_store.specs.Room.{FailsFor, TellsOnly}
 use Rattle.leveldb_store.specs.SoundCall.{TimeGoesOn}
 use Rattle.leveldb_store.specs.Write.{open_log_path}
 use Rattle.rusty_leveldb.specs.State.{Opening, Request, Answer, open_mode, open_store, write, get, walk, get_snapshot, release_snapshot, flush, close, abandon}
 use Rattle.rusty_leveldb.specs.Serves.{done_or, given_engine}
-use Rattle.rusty_leveldb.specs.Engine.{IsClosed, IsBroken, IsClosedOrBroken, RefusedByMode, AnswersAs, Answers, WriteExcused, SyncExcused, CloseExcused, GetExcused, IsStoreName, IsOpening, HasOwnLock, WritesIntoRoom, formats_of, holds_lock, mode_in, options_in}
+use Rattle.rusty_leveldb.specs.Engine.{IsClosed, IsBroken, IsClosedOrBroken, RefusedByMode, AnswersAs, Answers, WriteExcused, SyncExcused, CloseExcused, GetFails, IsStoreName, IsOpening, HasOwnLock, WritesIntoRoom, formats_of, holds_lock, mode_in, options_in}
 use Rattle.rusty_leveldb.specs.Frame.{IsOwn, MayTouchOrLog, Spares}
 use Rattle.rusty_leveldb.specs.Unopened.{IsLockGivenBack, IsLockHeld, MakesLockAlone, NeverOpens, OpenExcused}
-use Rattle.rusty_leveldb.specs.Boxes.{EngineOf}
+use Rattle.rusty_leveldb.specs.Boxes.{EngineOf, InternalOrder}
 
 -- ---- why a call fails
 
-module _ {E C FP F D P : Type 0} {B : Boxed} {keys : CmpGhosts D} {key_filters : FilterGhosts P}
+module _ {E C FP F P : Type 0} {B : Boxed} {keys : InternalOrder C} {key_filters : FilterGhosts P}
     (env : Ghosts E F) (choices : OptionsOf C FP B → TableChoices keys key_filters) where
   -- why a call fails, by its request; each failed call of the device is the reason for which a
   -- flush or a close fails
-  abbrev pub HasReason : {T : Type 0} → EngineOf E C FP F B → E → Request → Result T Status → E
+  abbrev pub HasReason : {T : Type 0} → EngineOf E C FP F B keys → E → Request → Result T Status → E
       → Type 0
   HasReason before from (get at key) result to =
-      FailsFor (GetExcused env (formats_of choices) before from key) (env.failures from)
-      (env.failures to) result
+      GetFails env (formats_of choices) before from key result to
   HasReason before from (write items sync) result to =
       FailsFor (WriteExcused env choices before from items) (env.failures from) (env.failures to)
       result
@@ -57,15 +55,16 @@ abbrev pub IsLockLeft : {T : Type 0} → Request → Result T Status → Bool �
 IsLockLeft request result before after =
     OnOk result (after ≡ held_after request before) × OnErr result (after ≡ before)
 
-module _ {E C FP F : Type 0} {B : Boxed} (env : Ghosts E F) where
+module _ {E C FP F : Type 0} {B : Boxed} {keys : InternalOrder C} (env : Ghosts E F) where
   -- where the disk is modelled, no file changes but these, and no lock but the engine's
-  abbrev pub SparesBut : EngineOf E C FP F B → (List ℕ → Type 0) → E → E → Type 0
+  abbrev pub SparesBut : EngineOf E C FP F B keys → (List ℕ → Type 0) → E → E → Type 0
   SparesBut engine May from to = IsTrue env.models_disk → HasOwnLock engine
       → Spares engine.store.set.store May (env.observed from).disk (env.observed to).disk
 
   -- What a call leaves alone, also of files that are damaged.
-  pub record LeavesRest {T : Type 0} (before : EngineOf E C FP F B) (from : E) (request : Request)
-      (result : Result T Status) (after : EngineOf E C FP F B) (to : E) : Type 0 where
+  pub record LeavesRest {T : Type 0} (before : EngineOf E C FP F B keys) (from : E)
+      (request : Request) (result : Result T Status) (after : EngineOf E C FP F B keys) (to : E)
+      : Type 0 where
     -- the lock's name and the store's path
     pub place : (string_bytes after.lock ≡ string_bytes before.lock)
         × (after.store.set.store ≡ before.store.set.store)
@@ -78,28 +77,30 @@ module _ {E C FP F : Type 0} {B : Boxed} (env : Ghosts E F) where
 
 -- ---- calls on an engine
 
-module _ {E C FP F : Type 0} {B : Boxed} where
+module _ {E C FP F : Type 0} {B : Boxed} {keys : InternalOrder C} where
   -- the mode refuses the request: of a closed store any, of a broken one those that write
-  abbrev pub IsHalted : EngineOf E C FP F B → Request → Type 0
+  abbrev pub IsHalted : EngineOf E C FP F B keys → Request → Type 0
   IsHalted engine (get at key) = IsClosed (mode_in engine)
   IsHalted engine (walk at moves) = IsClosed (mode_in engine)
   IsHalted engine get_snapshot = IsClosed (mode_in engine)
   IsHalted engine (release_snapshot one) = IsClosed (mode_in engine)
   IsHalted engine request = IsClosedOrBroken (mode_in engine)
 
-  -- what a read leaves of an engine: its mode and its store
-  abbrev pub IsReadOnly : EngineOf E C FP F B → EngineOf E C FP F B → Type 0
-  IsReadOnly before after = (mode_in after ≡ mode_in before) × (after.store ≡ before.store)
+  -- what a read leaves of an engine: its mode and its store, but for the seeks that its live files
+  -- may take, and which of them was chosen since it has none left
+  abbrev pub IsReadOnly : EngineOf E C FP F B keys → EngineOf E C FP F B keys → Type 0
+  IsReadOnly before after = (mode_in after ≡ mode_in before)
+      × (after.store ≡ record before.store { current = after.store.current })
 
   -- its mode is as before, or the call broke it
-  abbrev pub KeepsModeOrBreaks : EngineOf E C FP F B → EngineOf E C FP F B → Type 0
+  abbrev pub KeepsModeOrBreaks : EngineOf E C FP F B keys → EngineOf E C FP F B keys → Type 0
   KeepsModeOrBreaks before after = IsBroken (mode_in after) ⊎ (mode_in after ≡ mode_in before)
 
   -- What becomes of an engine. A read leaves its mode and its store. A write or a flush that is Ok
   -- leaves its mode; a write that fails may break it, and a flush that fails does, but out of
   -- memory. `close` closes it, or leaves it broken, or closed if it was.
-  abbrev pub BecomesOf : {T : Type 0} → EngineOf E C FP F B → Request → Result T Status
-      → EngineOf E C FP F B → Type 0
+  abbrev pub BecomesOf : {T : Type 0} → EngineOf E C FP F B keys → Request → Result T Status
+      → EngineOf E C FP F B keys → Type 0
   BecomesOf before (get at key) result after = IsReadOnly before after
   BecomesOf before (walk at moves) result after = IsReadOnly before after
   BecomesOf before get_snapshot result after = IsReadOnly before after
@@ -115,12 +116,12 @@ module _ {E C FP F : Type 0} {B : Boxed} where
       ⊎ (IsClosed (mode_in before) × IsClosed (mode_in after)))
   BecomesOf before request result after = KeepsModeOrBreaks before after
 
-module _ {E C FP F D P : Type 0} {B : Boxed} {keys : CmpGhosts D} {key_filters : FilterGhosts P}
+module _ {E C FP F P : Type 0} {B : Boxed} {keys : InternalOrder C} {key_filters : FilterGhosts P}
     (env : Ghosts E F) (choices : OptionsOf C FP B → TableChoices keys key_filters) where
   -- a call on an engine, with its answer
   pub record EngineServes {T : Type 0} (answer_of : Result T Status → Answer)
-      (before : EngineOf E C FP F B) (from : E) (request : Request) (result : Result T Status)
-      (after : EngineOf E C FP F B) (to : E) : Type 0 where
+      (before : EngineOf E C FP F B keys) (from : E) (request : Request) (result : Result T Status)
+      (after : EngineOf E C FP F B keys) (to : E) : Type 0 where
     -- the options stay, but for the sink of their log
     pub options : TellsOnly (options_in before) (options_in after)
     -- where the mode refuses the request, nothing changes
@@ -138,10 +139,10 @@ module _ {E C FP F D P : Type 0} {B : Boxed} {keys : CmpGhosts D} {key_filters :
     -- why it fails
     pub cause : HasReason env choices before from request result to
 
-module _ {E C FP F : Type 0} {B : Boxed} (env : Ghosts E F)
+module _ {E C FP F : Type 0} {B : Boxed} {keys : InternalOrder C} (env : Ghosts E F)
     (formats : OptionsOf C FP B → Format) where
   -- a call that gives an engine up
-  pub record EngineAbandons (engine : EngineOf E C FP F B) (from : E)
+  pub record EngineAbandons (engine : EngineOf E C FP F B keys) (from : E)
       (result : Result (Unit {0}) Status)
       (to : E) : Type 0 where
     -- one that is closed has given back its lock
@@ -159,7 +160,7 @@ module _ {E C FP F : Type 0} {B : Boxed} (env : Ghosts E F)
     pub cause : HasCause (λ _. ⊥) (env.failures from) (env.failures to) result
 
   -- an engine that an opening with these options gave
-  pub record IsOpened (name : List ℕ) (given : OptionsOf C FP B) (engine : EngineOf E C FP F B)
+  pub record IsOpened (name : List ℕ) (given : OptionsOf C FP B) (engine : EngineOf E C FP F B keys)
       : Type 0 where
     pub mode : mode_in engine ≡ open_mode
     -- it has the options, but for the sink of their log
@@ -168,11 +169,11 @@ module _ {E C FP F : Type 0} {B : Boxed} (env : Ghosts E F)
     pub place : engine.store.set.store ≡ name
     pub lock : HasOwnLock engine
 
-module _ {E C FP F D P : Type 0} {B : Boxed} {keys : CmpGhosts D} {key_filters : FilterGhosts P}
+module _ {E C FP F P : Type 0} {B : Boxed} {keys : InternalOrder C} {key_filters : FilterGhosts P}
     (env : Ghosts E F) (choices : OptionsOf C FP B → TableChoices keys key_filters) where
   -- a call that opens the store under a name, as it is asked to by these options
   pub record EngineOpens (name : List ℕ) (options : OptionsOf C FP B) (asked : Opening) (from : E)
-      (result : Result (EngineOf E C FP F B) Status) (to : E) : Type 0 where
+      (result : Result (EngineOf E C FP F B keys) Status) (to : E) : Type 0 where
     pub opened : IfOk result (IsOpened env (formats_of choices) name options)
     -- the lock was free, and is held
     pub held : OnOk result (IsTrue env.models_disk

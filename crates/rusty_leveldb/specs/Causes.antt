@@ -6,8 +6,7 @@ use Rattle.leveldb_base.specs.History.{Item}
 use Rattle.leveldb_base.specs.KeyTypes.{greatest_sequence}
 use Rattle.leveldb_mem.specs.WriteBatch.{batch_bytes, max_length}
 use Rattle.leveldb_version.specs.Contents.{Store, missing, made}
-use Rattle.leveldb_store.specs.Format.{Format, Meaning, HasCompressorError}
-use Rattle.leveldb_store.specs.Read.{LacksCompressor}
+use Rattle.leveldb_version.specs.Format.{Format, HasCompressorError, LacksCompressor, Meaning}
 use Rattle.leveldb_store.specs.Room.{HasFailed}
 use Rattle.rusty_leveldb.specs.State.{State, Opening, Snapshot, Refusal, Request, open_store, write, get, walk, get_snapshot, release_snapshot, compact_range, abandon, Move, seek, reset}
 

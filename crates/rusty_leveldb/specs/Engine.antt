@@ -1,5 +1,5 @@
 -- What an engine has in memory, what that has to do with the disk, and what its calls return.
-use Rattle.std.specs.Prelude.{◌≡◌, ◌≢◌, ◌⊎◌, ◌↔◌, ℕ, Bool, true, false, List, [], ◌∷◌, ◌++◌, length, Option, Some, None, IsTrue, string_bytes, ◌&&◌, ◌||◌, nat_le, ◌^◌, is_some}
+use Rattle.std.specs.Prelude.{◌≡◌, ◌≢◌, ◌⊎◌, ◌↔◌, ℕ, Bool, true, false, List, [], ◌∷◌, ◌++◌, length, Option, Some, None, IsTrue, string_bytes, ◌&&◌, ◌||◌, nat_le, ◌^◌, Result, is_some}
 use Rattle.leveldb_base.specs.declared.cmp.Cmp.{Ghosts as CmpGhosts}
 use Rattle.leveldb_base.specs.declared.error.Status.{Status}
 use Rattle.leveldb_base.specs.declared.error.StatusCode.TheVariants.{InvalidArgument, NotSupported}
@@ -9,7 +9,7 @@ use Rattle.leveldb_env.specs.declared.env.Env.{Ghosts}
 use Rattle.leveldb_env.specs.declared.filter.FilterPolicy.{Ghosts as FilterGhosts}
 use Rattle.leveldb_env.specs.declared.compressor.CompressorList.{CompressorList}
 use Rattle.leveldb_env.specs.Compressor.{Codings}
-use Rattle.leveldb_env.specs.Env.{Disk}
+use Rattle.leveldb_env.specs.Env.{Disk, Files}
 use Rattle.leveldb_env.specs.Options.{Boxed, OptionsOf}
 use Rattle.leveldb_mem.specs.Log.Writer.{IsWriterBroken}
 use Rattle.leveldb_mem.specs.MemTable.{FailsToPrepare, IsUnion, Kept, bytes_in}
@@ -17,10 +17,13 @@ use Rattle.leveldb_version.specs.Paths.{lock_path}
 use Rattle.leveldb_version.specs.Contents.{made}
 use Rattle.leveldb_version.specs.VersionSetValue.{ManifestState, broken}
 use Rattle.leveldb_store.specs.BuildTable.{TableChoices}
-use Rattle.leveldb_store.specs.Format.{Format, Meaning, format_of}
+use Rattle.leveldb_version.specs.Format.{Format, IsTableFault, LacksCompressor, Meaning, format_of}
+use Rattle.leveldb_version.specs.Levels.{LiveTable}
+use Rattle.leveldb_version.specs.TableCache.{TableOptions, table_options}
 use Rattle.leveldb_store.specs.OpenStore.{OpenStoreValue}
-use Rattle.leveldb_store.specs.Read.{IsUnreadable}
-use Rattle.leveldb_store.specs.Room.{AreEntriesNotTabled, IsFileLost, IsFull}
+use Rattle.leveldb_store.specs.OpenTables.{AreOpenTablesOf}
+use Rattle.leveldb_store.specs.Read.{HasTablesToRead}
+use Rattle.leveldb_store.specs.Room.{AreEntriesNotTabled, FailsFor, IsFileLost, IsFull}
 use Rattle.leveldb_store.specs.Switch.{AreFileNumbersTooFew}
 use Rattle.leveldb_store.specs.Write.{IsLogLost}
 use Rattle.leveldb_store.specs.WriteBatch.{next_batch}
@@ -31,7 +34,7 @@ use Rattle.rusty_leveldb.specs.State as machine
 use Rattle.rusty_leveldb.specs.State.{State, Opening, Request, Answer}
 use Rattle.rusty_leveldb.specs.Causes.{AreUsedUp, IsLongBatch, IsLongKey}
 use Rattle.rusty_leveldb.specs.Serves.{Serves, Scene}
-use Rattle.rusty_leveldb.specs.Boxes.{EngineOf}
+use Rattle.rusty_leveldb.specs.Boxes.{EngineOf, InternalOrder}
 
 -- ---- the mode
 
@@ -52,7 +55,8 @@ mode_with Broken b = machine.broken
 mode_with Closed b = machine.closed
 
 -- the mode of an engine
-abbrev pub mode_in : {E C FP F : Type 0} {B : Boxed} → EngineOf E C FP F B → machine.Mode
+abbrev pub mode_in : {E C FP F : Type 0} {B : Boxed} {keys : InternalOrder C}
+    → EngineOf E C FP F B keys → machine.Mode
 mode_in engine = mode_with engine.mode (is_store_broken engine.store)
 
 -- every call but `abandon` fails
@@ -70,29 +74,43 @@ IsClosedOrBroken mode = IsClosed mode ⊎ IsBroken mode
 -- ---- the options
 
 -- the options of an engine: those of its last opening, in the order of its store
-abbrev pub options_in : {E C FP F : Type 0} {B : Boxed} → EngineOf E C FP F B → OptionsOf C FP B
+abbrev pub options_in : {E C FP F : Type 0} {B : Boxed} {keys : InternalOrder C}
+    → EngineOf E C FP F B keys → OptionsOf C FP B
 options_in engine = record engine.options { cmp = engine.store.cmp }
+
+-- what its tables are opened with, where `formats` says of options which format they have
+abbrev pub tables_by : {E C FP F : Type 0} {B : Boxed} {keys : InternalOrder C}
+    → (OptionsOf C FP B → Format) → EngineOf E C FP F B keys → TableOptions C FP
+tables_by formats engine = table_options (formats (options_in engine)) (options_in engine)
 
 -- ---- the lock
 
 -- the lock of an engine is that of its store
-abbrev pub HasOwnLock : {E C FP F : Type 0} {B : Boxed} → EngineOf E C FP F B → Type 0
+abbrev pub HasOwnLock : {E C FP F : Type 0} {B : Boxed} {keys : InternalOrder C}
+    → EngineOf E C FP F B keys → Type 0
 HasOwnLock engine = string_bytes engine.lock ≡ lock_path engine.store.set.store
 
 -- whether an engine's lock is held
-abbrev pub holds_lock : {E C FP F : Type 0} {B : Boxed} → Ghosts E F → EngineOf E C FP F B → E
-    → Bool
+abbrev pub holds_lock : {E C FP F : Type 0} {B : Boxed} {keys : InternalOrder C} → Ghosts E F
+    → EngineOf E C FP F B keys → E → Bool
 holds_lock env engine at = (env.observed at).disk.locked (string_bytes engine.lock)
 
 -- ---- memory and disk
 
-module _ {E C FP F : Type 0} {B : Boxed} (formats : OptionsOf C FP B → Format) (store : List ℕ)
-    (meaning : Meaning) where
+-- the open tables of an engine are those of its store in these files
+abbrev pub HasOwnTables : {E C FP F : Type 0} {B : Boxed} {keys : InternalOrder C} → Ghosts E F
+    → (OptionsOf C FP B → Format) → EngineOf E C FP F B keys → Files → Type 0
+HasOwnTables env formats engine files =
+    AreOpenTablesOf env (tables_by formats engine) engine.store.set files engine.tables
+
+module _ {E C FP F : Type 0} {B : Boxed} {keys : InternalOrder C} (env : Ghosts E F)
+    (formats : OptionsOf C FP B → Format) (store : List ℕ) (meaning : Meaning) where
   -- What the engine's memory has to do with the disk and the state, where names and ids in the
-  -- files have this meaning. Where it isn't closed, its options are those of the last opening, and
-  -- memory and tables show the history; where it is open, the files are written with what is in
-  -- memory.
-  pub record Recalls (engine : EngineOf E C FP F B) (disk : Disk) (state : State) : Type 0 where
+  -- files have this meaning. Where it isn't closed, its options are those of the last opening,
+  -- memory and tables show the history, and the open tables are those of the files; where it is
+  -- open, the files are written with what is in memory.
+  pub record Recalls (engine : EngineOf E C FP F B keys) (disk : Disk) (state : State)
+      : Type 0 where
     pub mode : mode_in engine ≡ state.mode
     pub lock : string_bytes engine.lock ≡ lock_path store
     pub path : engine.store.set.store ≡ store
@@ -102,6 +120,7 @@ module _ {E C FP F : Type 0} {B : Boxed} (formats : OptionsOf C FP B → Format)
     pub last : (state.mode ≡ machine.closed → ⊥) → engine.store.set.last_sequence ≡ state.last
     pub shows : (state.mode ≡ machine.closed → ⊥)
         → Shows state.format.order meaning engine.store disk.files state.history
+    pub tables : (state.mode ≡ machine.closed → ⊥) → HasOwnTables env formats engine disk.files
     pub writes : state.mode ≡ machine.open_mode
         → IsWritten state.format.order meaning engine.store disk.files
 
@@ -114,8 +133,8 @@ abbrev pub formats_of : {C FP D P : Type 0} {B : Boxed} {keys : CmpGhosts D}
 formats_of choices options = (choices options).format
 
 -- no engine of these options
-abbrev pub no_engine : {E C FP F : Type 0} {B : Boxed} → OptionsOf C FP B
-    → Option (EngineOf E C FP F B)
+abbrev pub no_engine : {E C FP F : Type 0} {B : Boxed} {keys : InternalOrder C} → OptionsOf C FP B
+    → Option (EngineOf E C FP F B keys)
 no_engine options = None
 
 -- before or after a call
@@ -127,24 +146,24 @@ scene env memory at = record {
 }
 
 -- `formats` says of options which format they have
-module _ {E C FP F : Type 0} {B : Boxed} (env : Ghosts E F)
+module _ {E C FP F : Type 0} {B : Boxed} {keys : InternalOrder C} (env : Ghosts E F)
     (formats : OptionsOf C FP B → Format) where
   -- where the disk is observed, the call is a step of the machine, for the store under this name
   -- with names and ids of this meaning
-  abbrev pub AnswersAs : List ℕ → Meaning → Option (EngineOf E C FP F B) → E → Request → Answer
-      → Option (EngineOf E C FP F B) → E → Type 0
+  abbrev pub AnswersAs : List ℕ → Meaning → Option (EngineOf E C FP F B keys) → E → Request → Answer
+      → Option (EngineOf E C FP F B keys) → E → Type 0
   AnswersAs store meaning before from request answer after to = IsTrue env.models_disk
-      → Serves store meaning (Recalls formats store meaning) (scene env before from) request answer
-      (scene env after to)
+      → Serves store meaning (Recalls env formats store meaning) (scene env before from) request
+      answer (scene env after to)
 
   -- the same, whatever store engine and disk represent
-  abbrev pub Answers : Option (EngineOf E C FP F B) → E → Request → Answer
-      → Option (EngineOf E C FP F B) → E → Type 0
+  abbrev pub Answers : Option (EngineOf E C FP F B keys) → E → Request → Answer
+      → Option (EngineOf E C FP F B keys) → E → Type 0
   Answers before from request answer after to = (store : List ℕ) (meaning : Meaning)
       → AnswersAs store meaning before from request answer after to
 
   -- the same of a call that leaves engine and environment as they are
-  abbrev pub AnswersStill : EngineOf E C FP F B → Request → Answer → Type 0
+  abbrev pub AnswersStill : EngineOf E C FP F B keys → Request → Answer → Type 0
   AnswersStill engine request answer =
       (at : E) → Answers (Some engine) at request answer (Some engine) at
 
@@ -162,14 +181,21 @@ RefusedAsBroken mode e = IsBroken mode × IsWriterBroken e
 abbrev pub RefusedByMode : machine.Mode → Status → Type 0
 RefusedByMode mode e = RefusedAsClosed mode e ⊎ RefusedAsBroken mode e
 
+-- Why a look-up may fail: the store is closed, the key is too long, memory ran out, or a table can't
+-- be read, for this cause.
+abbrev pub GetExcused : {E C FP F : Type 0} {B : Boxed} {keys : InternalOrder C}
+    → EngineOf E C FP F B keys → List ℕ → (Status → Type 0) → Status → Type 0
+GetExcused engine key Unreadable e = RefusedAsClosed (mode_in engine) e
+    ⊎ ((e.code ≡ InvalidArgument) × IsLongKey key) ⊎ IsOutOfMemory e ⊎ Unreadable e
+
 -- a memtable without entries
 abbrev pub empty_memtable : Kept
 empty_memtable = record { entries = []; places = 0; bytes = 0 }
 
 -- `choices` says of options with which choices a table is built
-module _ {E C FP F D P : Type 0} {B : Boxed} {keys : CmpGhosts D} {key_filters : FilterGhosts P}
+module _ {E C FP F P : Type 0} {B : Boxed} {keys : InternalOrder C} {key_filters : FilterGhosts P}
     (env : Ghosts E F) (choices : OptionsOf C FP B → TableChoices keys key_filters)
-    (engine : EngineOf E C FP F B) (at : E) where
+    (engine : EngineOf E C FP F B keys) (at : E) where
   -- the choices of its options
   abbrev choices_in : TableChoices keys key_filters
   choices_in = choices (options_in engine)
@@ -192,8 +218,8 @@ module _ {E C FP F D P : Type 0} {B : Boxed} {keys : CmpGhosts D} {key_filters :
       ⊎ FailsToPrepare empty_memtable (length items) (bytes_in items) e))
       ⊎ IsFileLost env choices_in.format.order engine.store at choices_in.format e
 
-module _ {E C FP F : Type 0} {B : Boxed} (env : Ghosts E F)
-    (formats : OptionsOf C FP B → Format) (engine : EngineOf E C FP F B) (at : E) where
+module _ {E C FP F : Type 0} {B : Boxed} {keys : InternalOrder C} (env : Ghosts E F)
+    (formats : OptionsOf C FP B → Format) (engine : EngineOf E C FP F B keys) (at : E) where
   -- the format of its options
   abbrev format_in : Format
   format_in = formats (options_in engine)
@@ -208,19 +234,25 @@ module _ {E C FP F : Type 0} {B : Boxed} (env : Ghosts E F)
   abbrev pub CloseExcused : E → Status → Type 0
   CloseExcused now e = SyncExcused now e × (env.failures now ≡ env.failures at)
 
-  -- why a look-up may fail: the store is closed, the key is too long, memory ran out, or a table
-  -- can't be read
-  abbrev pub GetExcused : List ℕ → Status → Type 0
-  GetExcused key e = RefusedAsClosed (mode_in engine) e
-      ⊎ ((e.code ≡ InvalidArgument) × IsLongKey key) ⊎ IsOutOfMemory e
-      ⊎ IsUnreadable env format_in.order format_in engine.store at e
+  -- why a look-up fails
+  pub record GetFails {T : Type 0} (key : List ℕ) (result : Result T Status) (to : E) : Type 0
+    where
+      -- a table that can't be read is damaged or missing, or lacks its compressor, or that fails
+      pub cause : FailsFor (GetExcused engine key (λ e. IsTableFault format_in e.code))
+          (env.failures at) (env.failures to) result
+      -- where the live tables are there, and the open ones are the store's, only since the format
+      -- lacks a compressor
+      pub lacks : (meaning : Meaning) (live : List LiveTable)
+          → HasTablesToRead env (tables_by formats engine) engine.store at engine.tables meaning live
+          → FailsFor (GetExcused engine key (λ e. (e.code ≡ NotSupported)
+          × LacksCompressor format_in meaning)) (env.failures at) (env.failures to) result
 
 -- ---- room in memory
 
 -- The batch of these items was written into a memtable that had room: before it the memtable was
 -- empty, or took less memory than the options say.
-abbrev pub WritesIntoRoom : {E C FP F : Type 0} {B : Boxed} → EngineOf E C FP F B → List Item
-    → EngineOf E C FP F B → Type 0
+abbrev pub WritesIntoRoom : {E C FP F : Type 0} {B : Boxed} {keys : InternalOrder C}
+    → EngineOf E C FP F B keys → List Item → EngineOf E C FP F B keys → Type 0
 WritesIntoRoom before items after =
     (kept : Kept) × (IsFull before.options.write_buffer_size kept → ⊥)
     × IsUnion kept.entries (next_batch before.store items) after.store.recent.entries

@@ -5,7 +5,7 @@ use Rattle.leveldb_env.specs.declared.env.Env.{Ghosts}
 use Rattle.leveldb_env.specs.Env.{Files, Disk, FilesCrashTo, DiskCrashesTo, Since}
 use Rattle.leveldb_version.specs.Paths.{lock_path}
 use Rattle.leveldb_version.specs.Contents.{Contents}
-use Rattle.leveldb_store.specs.Format.{Format, Meaning}
+use Rattle.leveldb_version.specs.Format.{Format, Meaning}
 use Rattle.leveldb_version.specs.Store.{HasNoStore, SameContents}
 use Rattle.leveldb_version.specs.StoreSteps.{AppendedAreBytes}
 use Rattle.leveldb_version.specs.Holds.{IsHonest, CarriesPrefix}

@@ -18,7 +18,7 @@ use Rattle.leveldb_env.specs.Record.{record_observed, moment_of, fails_in, fails
 use Rattle.rusty_leveldb.specs.declared.shell.commands.Command.{Command}
 use Rattle.rusty_leveldb.specs.declared.shell.commands.Reply.{Reply}
 use Rattle.rusty_leveldb.specs.declared.shell.crash_runs.Report.{Report}
-use Rattle.leveldb_store.specs.Format.{Format, Meaning, Agrees, format_of}
+use Rattle.leveldb_version.specs.Format.{Format, Meaning, Agrees, format_of}
 use Rattle.rusty_leveldb.specs.State.{State, Opening, Request, open_store, abandon, Answer, done, refused}
 use Rattle.leveldb_version.specs.Holds.{IsHonest}
 use Rattle.rusty_leveldb.specs.Runs as machine

@@ -3,7 +3,7 @@
 -- `meaning` says what the names and ids in the store's files mean, at each opening alike.
 use Rattle.std.specs.Prelude.{◌≡◌, ◌≤◌, ◌<◌, ◌⊎◌, ℕ, Bool, List, [], ◌∷◌, ◌++◌, None, All, false, IsTrue}
 use Rattle.leveldb_version.specs.Contents.{missing}
-use Rattle.leveldb_store.specs.Format.{Format, Meaning}
+use Rattle.leveldb_version.specs.Format.{Format, Meaning}
 use Rattle.rusty_leveldb.specs.State.{State, Request, Answer, closed}
 use Rattle.rusty_leveldb.specs.Causes.{Setting}
 use Rattle.rusty_leveldb.specs.Machine.{Step, risk_between, risk_of, Crashes}

@@ -12,12 +12,11 @@ use Rattle.leveldb_env.specs.Env.{Files, Disk, FilesCrashTo, Observed}
 use Rattle.leveldb_env.specs.Env as calls
 use Rattle.leveldb_version.specs.Paths.{lock_path}
 use Rattle.leveldb_version.specs.Contents.{Contents, Store, made}
-use Rattle.leveldb_store.specs.Format.{Meaning, Agrees}
+use Rattle.leveldb_version.specs.Format.{Agrees, IsTableOf, Meaning}
 use Rattle.rusty_leveldb.specs.Frame.{IsOwn, MayTouch, Spares, IsSyncing, SameBytes}
 use Rattle.leveldb_version.specs.Holds.{IsHonest, IsSafe, Holds}
 use Rattle.leveldb_version.specs.Store.{IsStore}
 use Rattle.leveldb_version.specs.StoreSteps.{AppendedAreBytes}
-use Rattle.leveldb_store.specs.Written.{IsTableOf}
 use Rattle.rusty_leveldb.specs.State.{State, IsState, closed, Request, Refusal, Answer, done, found, refused}
 use Rattle.rusty_leveldb.specs.Causes.{Setting}
 use Rattle.rusty_leveldb.specs.Machine.{Step, StaysOr, Risk, risk_of}

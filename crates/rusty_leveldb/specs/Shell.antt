@@ -11,7 +11,7 @@ use Rattle.rusty_leveldb.specs.declared.shell.commands.Item.{Item}
 use Rattle.rusty_leveldb.specs.declared.shell.commands.Item.TheVariants as item
 use Rattle.rusty_leveldb.specs.declared.shell.commands.Reply.{Reply}
 use Rattle.rusty_leveldb.specs.declared.shell.commands.Reply.TheVariants as reply
-use Rattle.leveldb_store.specs.Format.{Meaning, Agrees}
+use Rattle.leveldb_version.specs.Format.{Meaning, Agrees}
 use Rattle.rusty_leveldb.specs.State.{State, Opening, Request, open_store, write, get, flush, close, abandon, Answer, done, found, refused}
 use Rattle.rusty_leveldb.specs.Serves.{Represents, Runs, recalls_nothing, refusal_of, done_or}
 use Rattle.rusty_leveldb.specs.Engine.{scene, IsOpening, IsStoreName}

@@ -4,7 +4,7 @@ use Rattle.leveldb_base.specs.declared.error.StatusCode.{StatusCode}
 use Rattle.leveldb_base.specs.History.{Item, Entry, History, IsHistory, entries_of, greatest, with_batch, count_of}
 use Rattle.leveldb_base.specs.Types.{Pair}
 use Rattle.leveldb_version.specs.Contents.{Store}
-use Rattle.leveldb_store.specs.Format.{Format}
+use Rattle.leveldb_version.specs.Format.{Format}
 
 -- ---- the state
 

@@ -10,7 +10,7 @@ use Rattle.leveldb_env.specs.Env.{BeforeOrAfter, Disk, Observed, Run, created}
 use Rattle.leveldb_version.specs.Paths.{lock_path}
 use Rattle.leveldb_store.specs.BuildTable.{TableChoices}
 use Rattle.leveldb_store.specs.FoundLogs.{HasLogNotKept}
-use Rattle.leveldb_store.specs.Format.{Format, HasCompressorError}
+use Rattle.leveldb_version.specs.Format.{Format, HasCompressorError}
 use Rattle.leveldb_store.specs.OpensStore.{HasHugeManifest, HasOtherComparator, HasSharedUserKey, IsDamaged, IsForbidden, IsForbiddenAs, LacksCurrent, LacksNumbers, LacksUsableEdits}
 use Rattle.rusty_leveldb.specs.State.{Opening}
 use Rattle.rusty_leveldb.specs.Engine.{IsStoreName}

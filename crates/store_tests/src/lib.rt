@@ -20,6 +20,8 @@ mod lives;
 #[cfg(test)]
 mod memory;
 #[cfg(test)]
+mod open_tables;
+#[cfg(test)]
 mod openings;
 #[cfg(test)]
 mod program;

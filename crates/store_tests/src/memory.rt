@@ -1,14 +1,14 @@
 //! A store with a small memtable, whose calls are made again where they find no memory. `tools/refuse` refuses each allocation in turn.
-use crate::stores::{DefaultEngine, DefaultOptions, STORE, reusing, text_of};
+use crate::steps::Change;
+use crate::stores::{DefaultEngine, DefaultOptions, STORE, batch_of, reusing, text_of};
 use leveldb_base::error::{Result, Status, StatusCode};
 use leveldb_env::env::Env;
 use leveldb_env::mem_env::MemEnv;
-use leveldb_mem::write_batch::WriteBatch;
 use std::alloc::{AllocError, Global};
 use std::process::Abort;
 
-/// Whether the batch is synced, and its keys, each with its value, or none where it is deleted.
-type Batch = (bool, &'static [(&'static str, Option<&'static str>)]);
+/// Whether the batch is synced, and its changes.
+type Batch = (bool, &'static [Change]);
 
 /// Three entries fill the memtable.
 const FIRST: [Batch; 8] = [
@@ -24,16 +24,16 @@ const FIRST: [Batch; 8] = [
 
 const SECOND: [Batch; 3] = [
     (false, &[("c", Some("7"))]),
-    (false, &[("d", None), ("e", Some("8"))]),
+    (false, &[("a", None), ("e", Some("8"))]),
     (true, &[("b", None)]),
 ];
 
-/// What is found in the end.
+/// What is found in the end. The key d is in the range of two newer tables, through which its look-up goes first.
 const FOUND: [(&str, &str); 5] = [
-    ("a", "6"),
+    ("a", "none"),
     ("b", "none"),
     ("c", "7"),
-    ("d", "none"),
+    ("d", "4"),
     ("e", "8"),
 ];
 
@@ -72,14 +72,7 @@ impl Trial {
     }
 
     fn write_once(&mut self, engine: &mut DefaultEngine<MemEnv>, batch: &Batch) -> Result<()> {
-        let mut changes = WriteBatch::new(self.alloc)?;
-        for (key, value) in batch.1 {
-            match value {
-                None => changes.delete(key.as_bytes())?,
-                Some(value) => changes.put(key.as_bytes(), value.as_bytes())?,
-            }
-        }
-        engine.write(&mut self.env, changes, batch.0)
+        engine.write(&mut self.env, batch_of(self.alloc, batch.1)?, batch.0)
     }
 
     fn write(&mut self, engine: &mut DefaultEngine<MemEnv>, batch: &Batch) -> Result<()> {

@@ -1,14 +1,14 @@
 //! A store with a memtable of one byte: each write but the first makes a table of the batch before.
+use crate::steps::Change;
 use crate::stores::{
-    DefaultEngine, DefaultOptions, STORE, buffered, failed_with, has_files, has_levels, holds,
-    put_all, reopen, text_of,
+    DefaultEngine, DefaultOptions, STORE, batch_of, buffered, damage_file, failed_with, has_files,
+    has_levels, holds, put_all, reopen,
 };
 use leveldb_base::error::{Result, StatusCode};
 use leveldb_env::env::Env;
 use leveldb_env::infolog::{InfoSink, Logger};
 use leveldb_env::mem_env::{MemEnv, Pick, RecordEnv};
 use leveldb_env::options::Options;
-use leveldb_mem::write_batch::WriteBatch;
 use std::alloc::Global;
 use std::cell::Cell;
 use std::process::Abort;
@@ -16,73 +16,65 @@ use std::rc::Rc;
 
 type RecordEngine = DefaultEngine<RecordEnv>;
 
-/// The key's value, or `none`.
-fn value_of(
-    alloc: Global,
-    env: &mut RecordEnv,
-    engine: &mut RecordEngine,
-    key: &str,
-) -> Result<String> {
-    match &engine.get(env, key.as_bytes())? {
-        None => Ok(String::from_str(alloc, "none")?),
-        Some(value) => text_of(alloc, value.as_slice()),
+/// The one byte of the key's value, `-` for none, `?` for another value.
+fn byte_of(env: &mut RecordEnv, engine: &mut RecordEngine, key: &[u8]) -> Result<u8> {
+    Ok(match engine.get(env, key)? {
+        None => b'-',
+        Some(value) => match value.as_slice() {
+            [byte] => *byte,
+            _ => b'?',
+        },
+    })
+}
+
+/// Whether these are the bytes of the keys, each of one byte too, that are looked up in this order.
+fn finds(env: &mut RecordEnv, engine: &mut RecordEngine, keys: &str, wanted: &str) -> Result<bool> {
+    for (key, byte) in keys.as_bytes().iter().zip(wanted.as_bytes()) {
+        if byte_of(env, engine, &[*key])? != *byte {
+            return Ok(false);
+        }
     }
+    Ok(keys.len() == wanted.len())
 }
 
-/// The values of the keys a, b and c.
-fn values_of(alloc: Global, env: &mut RecordEnv, engine: &mut RecordEngine) -> Result<String> {
-    let a = value_of(alloc, env, engine, "a")?;
-    let b = value_of(alloc, env, engine, "b")?;
-    let c = value_of(alloc, env, engine, "c")?;
-    Ok(format!(in alloc; "{a} {b} {c}")?)
+/// Whether these are the bytes of the keys, and the device isn't called for them.
+fn finds_in_memory(
+    env: &mut RecordEnv,
+    engine: &mut RecordEngine,
+    keys: &str,
+    wanted: &str,
+) -> Result<bool> {
+    let before = env.moment();
+    Ok(finds(env, engine, keys, wanted)? && env.moment() == before)
 }
 
-/// The values of the three keys in a store that is opened for that.
-fn found_in(alloc: Global, env: &mut RecordEnv) -> Result<String> {
+/// Whether these are the bytes of the keys a, b and c in a store that is opened for that.
+fn finds_again(alloc: Global, env: &mut RecordEnv, wanted: &str) -> Result<bool> {
     let mut engine = DefaultEngine::open(alloc, STORE, env, Options::default())?;
-    let found = values_of(alloc, env, &mut engine)?;
+    let is_right = finds(env, &mut engine, "abc", wanted)?;
     engine.abandon(env)?;
-    Ok(found)
-}
-
-/// Whether these are the values of the three keys.
-fn finds(
-    alloc: Global,
-    env: &mut RecordEnv,
-    engine: &mut RecordEngine,
-    wanted: &str,
-) -> Result<bool> {
-    Ok(values_of(alloc, env, engine)?.as_str() == wanted)
-}
-
-/// Whether this is the key's value.
-fn finds_one(
-    alloc: Global,
-    env: &mut RecordEnv,
-    engine: &mut RecordEngine,
-    key: &str,
-    wanted: &str,
-) -> Result<bool> {
-    Ok(value_of(alloc, env, engine, key)?.as_str() == wanted)
+    Ok(is_right)
 }
 
 /// What is done to an open store and its files, or asked of them.
 #[derive(Clone, Copy)]
-enum Act {
+pub enum Act {
     Put(&'static str, &'static str),
     /// A put of this key fails since the device failed, or since the store is broken.
     PutFails(&'static str),
     Delete(&'static str),
-    /// Writes an empty batch.
-    WriteNothing,
+    /// Writes a batch of these changes.
+    Write(&'static [Change]),
     /// Deletes the file at this path.
     Lose(&'static str),
+    /// The byte of this file at this offset is one higher.
+    Damage(&'static str, usize),
     /// The nth call of the device from now on fails.
     Fail(u64),
-    /// The values of the keys a, b and c are these.
-    Finds(&'static str),
-    /// The value of this key is this one, or `none`.
-    FindsOne(&'static str, &'static str),
+    /// These keys of one byte, looked up in this order, have these bytes, `-` for none.
+    Finds(&'static str, &'static str),
+    /// They have these bytes, and the device isn't called for them.
+    FindsInMemory(&'static str, &'static str),
     /// A look-up of this key finds damage.
     FindsDamage(&'static str),
     /// The names of the store's folder and the sizes of its files are these.
@@ -97,8 +89,9 @@ fn change(alloc: Global, env: &mut RecordEnv, engine: &mut RecordEngine, act: &A
     match act {
         Act::Put(key, value) => engine.put(env, key.as_bytes(), value.as_bytes()),
         Act::Delete(key) => engine.delete(env, key.as_bytes()),
-        Act::WriteNothing => engine.write(env, WriteBatch::new(alloc)?, false),
+        Act::Write(changes) => engine.write(env, batch_of(alloc, changes)?, false),
         Act::Lose(path) => env.delete(path),
+        Act::Damage(name, at) => damage_file(alloc, env, name, *at),
         _ => Ok(()),
     }
 }
@@ -124,8 +117,8 @@ fn is_right(
             env.fail(*nth, false);
             Ok(true)
         }
-        Act::Finds(wanted) => finds(alloc, env, engine, wanted),
-        Act::FindsOne(key, wanted) => finds_one(alloc, env, engine, key, wanted),
+        Act::Finds(keys, wanted) => finds(env, engine, keys, wanted),
+        Act::FindsInMemory(keys, wanted) => finds_in_memory(env, engine, keys, wanted),
         Act::FindsDamage(key) => finds_damage(env, engine, key),
         Act::HasFiles(wanted) => has_files(alloc, env, wanted),
         Act::HasLevels(wanted) => has_levels(alloc, env, wanted),
@@ -138,7 +131,7 @@ fn is_right(
 }
 
 /// Does and asks all this, one after another.
-fn play_on(
+pub fn play_on(
     rt: &impl Abort,
     alloc: Global,
     env: &mut RecordEnv,
@@ -160,10 +153,10 @@ fn played(rt: &impl Abort, alloc: Global, acts: &[Act]) -> Result<RecordEnv> {
     Ok(env)
 }
 
-/// Does and asks all this, and then finds these values of the three keys when the store is opened again.
+/// Does and asks all this, and then finds these bytes of the keys a, b and c when the store is opened again.
 fn play(rt: &impl Abort, alloc: Global, acts: &[Act], found: &str) -> Result<()> {
     let mut env = played(rt, alloc, acts)?;
-    assert!(rt; found_in(alloc, &mut env)?.as_str() == found);
+    assert!(rt; finds_again(alloc, &mut env, found)?);
     Ok(())
 }
 
@@ -178,7 +171,7 @@ const ONE_TABLE: &[Act] = &[
 /// The batch before is a table then, of level 2 where no other file is; its log is deleted, and the manifest has one more edit.
 #[test]
 fn a_table_of_the_batch_before(rt: HostRuntime) -> Result<()> {
-    play(&rt, rt.alloc(), ONE_TABLE, "1 2 none")
+    play(&rt, rt.alloc(), ONE_TABLE, "12-")
 }
 
 const NEWEST_FIRST: &[Act] = &[
@@ -187,10 +180,10 @@ const NEWEST_FIRST: &[Act] = &[
     Act::Put("a", "3"),
     Act::Put("a", "4"),
     Act::Put("c", "5"),
-    Act::Finds("4 2 5"),
+    Act::Finds("abc", "425"),
     Act::Delete("b"),
     Act::Put("c", "6"),
-    Act::Finds("4 none 6"),
+    Act::Finds("abc", "4-6"),
     Act::HasLevels(
         "level 0: 1 files, 177 bytes ([(11, 177)]); level 1: 2 files, 353 bytes ([(9, 177), (15, 176)]); \
         level 2: 3 files, 531 bytes ([(5, 177), (7, 177), (13, 177)]); ",
@@ -200,7 +193,7 @@ const NEWEST_FIRST: &[Act] = &[
 /// Of tables in several levels the newest one that has the key decides, and a deletion is an entry like any other.
 #[test]
 fn the_newest_table_first(rt: HostRuntime) -> Result<()> {
-    play(&rt, rt.alloc(), NEWEST_FIRST, "4 none 6")
+    play(&rt, rt.alloc(), NEWEST_FIRST, "4-6")
 }
 
 const ONE_KEY: &[Act] = &[
@@ -210,7 +203,7 @@ const ONE_KEY: &[Act] = &[
     Act::HasLevels(
         "level 1: 1 files, 177 bytes ([(7, 177)]); level 2: 1 files, 177 bytes ([(5, 177)]); ",
     ),
-    Act::FindsOne("a", "3"),
+    Act::Finds("a", "3"),
 ];
 
 const ONE_KEY_ON: &[Act] = &[
@@ -223,19 +216,19 @@ const ONE_KEY_ON: &[Act] = &[
         "level 0: 2 files, 354 bytes ([(9, 177), (11, 177)]); level 1: 1 files, 177 bytes ([(7, 177)]); \
         level 2: 1 files, 177 bytes ([(5, 177)]); ",
     ),
-    Act::FindsOne("a", "5"),
+    Act::Finds("a", "5"),
 ];
 
 /// Each table of one key is in a level above the ones before it, and in level 0 once that has one.
 #[test]
 fn tables_above_what_they_overlap(rt: HostRuntime) -> Result<()> {
-    play(&rt, rt.alloc(), ONE_KEY, "3 none none")?;
-    play(&rt, rt.alloc(), ONE_KEY_ON, "5 none none")
+    play(&rt, rt.alloc(), ONE_KEY, "3--")?;
+    play(&rt, rt.alloc(), ONE_KEY_ON, "5--")
 }
 
 const EMPTY_BATCHES: &[Act] = &[
-    Act::WriteNothing,
-    Act::WriteNothing,
+    Act::Write(&[]),
+    Act::Write(&[]),
     Act::HasFiles("000003.log:38 CURRENT:16 LOCK:0 MANIFEST-000001:41 "),
     Act::Put("a", "1"),
     Act::HasFiles("000003.log:62 CURRENT:16 LOCK:0 MANIFEST-000001:41 "),
@@ -245,7 +238,7 @@ const EMPTY_BATCHES: &[Act] = &[
 /// An empty batch comes to the log, and doesn't make the memtable full.
 #[test]
 fn empty_batches(rt: HostRuntime) -> Result<()> {
-    play(&rt, rt.alloc(), EMPTY_BATCHES, "1 none none")
+    play(&rt, rt.alloc(), EMPTY_BATCHES, "1--")
 }
 
 const LOST_TABLE: &[Act] = &[
@@ -254,8 +247,7 @@ const LOST_TABLE: &[Act] = &[
     Act::Put("b", "3"),
     Act::Lose("db/000007.ldb"),
     Act::FindsDamage("a"),
-    Act::FindsOne("b", "3"),
-    Act::FindsOne("c", "none"),
+    Act::Finds("bc", "3-"),
 ];
 
 /// A table that can't be read is an error, and never passed over; keys outside its range are found all the same.
@@ -269,20 +261,20 @@ const WAITING: &[Act] = &[
     Act::Put("a", "1"),
     Act::Fail(3),
     Act::PutFails("b"),
-    Act::Finds("1 none none"),
+    Act::Finds("abc", "1--"),
     Act::Put("b", "2"),
     Act::HasFiles("000003.log:24 000004.log:24 CURRENT:16 LOCK:0 MANIFEST-000001:41 "),
     Act::Put("c", "3"),
     Act::HasFiles(
         "000006.ldb:177 000007.log:24 000008.ldb:177 CURRENT:16 LOCK:0 MANIFEST-000001:121 ",
     ),
-    Act::Finds("1 2 3"),
+    Act::Finds("abc", "123"),
 ];
 
 /// Where no table is made, the entries wait, and are found. They come to a table before the next switch.
 #[test]
 fn entries_that_wait(rt: HostRuntime) -> Result<()> {
-    play(&rt, rt.alloc(), WAITING, "1 2 3")
+    play(&rt, rt.alloc(), WAITING, "123")
 }
 
 /// A write whose nth call fails breaks the store, which is read on and finds the same when it is opened again.
@@ -292,9 +284,9 @@ fn break_at(rt: &impl Abort, alloc: Global, nth: u64) -> Result<()> {
         Act::Fail(nth),
         Act::PutFails("b"),
         Act::PutFails("c"),
-        Act::Finds("1 none none"),
+        Act::Finds("abc", "1--"),
     ];
-    play(rt, alloc, &acts, "1 none none")
+    play(rt, alloc, &acts, "1--")
 }
 
 /// The sync of the log at a switch, and the append and the sync of the edit.

@@ -1,4 +1,5 @@
 //! What several tests do with a store's files: their names and sizes, what they hold, and logs and manifests that are made by hand.
+use crate::steps::Change;
 use leveldb_base::cmp::DefaultCmp;
 use leveldb_base::error::{Result, StatusCode};
 use leveldb_base::types::SequenceNumber;
@@ -54,6 +55,18 @@ pub fn put_all<E: Env>(
         engine.put(env, key.as_bytes(), value.as_bytes())?;
     }
     engine.abandon(env)
+}
+
+/// A batch of these changes.
+pub fn batch_of(alloc: Global, changes: &[Change]) -> Result<WriteBatch> {
+    let mut batch = WriteBatch::new(alloc)?;
+    for (key, value) in changes {
+        match value {
+            None => batch.delete(key.as_bytes())?,
+            Some(value) => batch.put(key.as_bytes(), value.as_bytes())?,
+        }
+    }
+    Ok(batch)
 }
 
 /// A disk with a store of these pairs in one log.
@@ -134,7 +147,7 @@ pub fn file_bytes<E: Env>(alloc: Global, env: &mut E, name: &str) -> Result<Vec<
 }
 
 /// Makes a file of the store of these bytes.
-pub fn put_file(alloc: Global, env: &mut MemEnv, name: &str, bytes: &[u8]) -> Result<()> {
+pub fn put_file<E: Env>(alloc: Global, env: &mut E, name: &str, bytes: &[u8]) -> Result<()> {
     let path = format!(in alloc; "{STORE}/{name}")?;
     let mut file = env.open_writable_file(&path)?;
     env.append(&mut file, bytes)?;
@@ -146,6 +159,15 @@ pub fn cut_file(alloc: Global, env: &mut MemEnv, name: &str, size: usize) -> Res
     let mut bytes = file_bytes(alloc, env, name)?;
     bytes.truncate(size);
     put_file(alloc, env, name, bytes.as_slice())
+}
+
+/// Raises the byte of a file of the store at this offset by one.
+pub fn damage_file<E: Env>(alloc: Global, env: &mut E, name: &str, at: usize) -> Result<()> {
+    let mut bytes = file_bytes(alloc, env, name)?;
+    if let Some(byte) = bytes.get_mut(at) {
+        *byte = byte.wrapping_add(1);
+    }
+    put_file(alloc, env, name, &bytes)
 }
 
 /// A number, and a key whose value is `v`.

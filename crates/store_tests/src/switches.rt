@@ -1,13 +1,17 @@
 //! A store with a memtable of 300 bytes on a recording device: logs are switched and tables are made. Crashes and failures come at each
 //! moment and call of its script.
-use crate::crash_disks::{Script, Setting, Tails, assert_tally};
+use crate::crash_disks::{Script, Setting, Tails, assert_tally, record};
 use crate::steps::Step;
+use crate::stores::has_levels;
 use crate::sweep::{crash_everywhere, crash_twice_everywhere, fail_everywhere};
 use leveldb_base::error::Result;
+use std::alloc::Global;
 
 /// Two lives of one store, the first closed, the second abandoned. Each begins with a look-up, whose reply shows when its opening returned.
 /// Three entries fill the memtable, and the next write makes a table of them; most of these weren't durable before. If the last table
-/// isn't made, since a call fails, a synced batch comes to the new log while those before it wait.
+/// isn't made, since a call fails, a synced batch comes to the new log while those before it wait. The first table is in level 2, the
+/// second one in level 1 and the others in level 0. Look-ups of c, b and d find what one of these levels has and go through tables of the
+/// levels above it, and those of a find deletions.
 const FIRST: &[Step] = &[
     Step::Get("a"),
     Step::Put("a", "1"),
@@ -15,13 +19,14 @@ const FIRST: &[Step] = &[
     Step::Put("c", "3"),
     Step::Put("d", "4"),
     Step::Delete("a"),
-    Step::Write(false, &[("b", Some("5")), ("c", None)]),
+    Step::Write(false, &[("b", Some("5")), ("d", None)]),
     Step::Get("a"),
     Step::Put("e", ""),
+    Step::Get("a"),
     Step::Flush,
     Step::Write(false, &[]),
     Step::Put("a", "6"),
-    Step::Get("b"),
+    Step::Get("c"),
     Step::Close,
 ];
 
@@ -29,9 +34,12 @@ const SECOND: &[Step] = &[
     Step::Get("e"),
     Step::Put("c", "7"),
     Step::Write(true, &[("a", None), ("", Some("8"))]),
+    Step::Get("b"),
     Step::Put("d", "9"),
     Step::Get("d"),
     Step::Put("e", "0"),
+    Step::Get("c"),
+    Step::Get("a"),
     Step::Write(true, &[("", None)]),
     Step::Put("b", "1"),
 ];
@@ -53,6 +61,24 @@ const ANEW: Script = Script {
     },
     lives: &[FIRST, SECOND],
 };
+
+/// Whether the tables are in these levels after a script.
+fn leaves(alloc: Global, script: Script, levels: &str) -> Result<bool> {
+    let mut recorded = record(alloc, script)?;
+    has_levels(alloc, &mut recorded.env, levels)
+}
+
+/// An opening that uses no log on makes one more table of level 0.
+#[test]
+fn tables_in_three_levels(rt: HostRuntime) -> Result<()> {
+    let wanted = "level 0: 2 files, 403 bytes ([(10, 202), (12, 201)]); \
+        level 1: 1 files, 213 bytes ([(7, 213)]); level 2: 1 files, 203 bytes ([(5, 203)]); ";
+    assert!(rt; leaves(rt.alloc(), REUSING, wanted)?);
+    let wanted = "level 0: 3 files, 591 bytes ([(11, 189), (14, 201), (16, 201)]); \
+        level 1: 1 files, 213 bytes ([(8, 213)]); level 2: 1 files, 203 bytes ([(6, 203)]); ";
+    assert!(rt; leaves(rt.alloc(), ANEW, wanted)?);
+    Ok(())
+}
 
 /// Where a switch has synced the log, a crash loses less than it may.
 #[test]

@@ -19,7 +19,7 @@ use leveldb_table::block_cache::BlockCache;
 use leveldb_table::cache::Cache;
 use leveldb_table::table_block::{read_filter_block, read_table_block};
 use leveldb_table::table_builder::Footer;
-use leveldb_table::table_reader::{Table, TableIterator};
+use leveldb_table::table_reader::{Finder, Table, TableIterator};
 use std::alloc::Global;
 use std::process::Abort;
 
@@ -208,7 +208,18 @@ fn is_found(
     }
 }
 
-/// Looks up keys.
+/// Whether a look-up with a finder found the same pair, whose key is in the finder.
+fn is_same_find(found: &Option<(Bytes, Bytes)>, value: &Option<Bytes>, finder: &Finder) -> bool {
+    match (found, value) {
+        (Some((key, found)), Some(value)) => {
+            finder.key() == key.as_slice() && value.as_slice() == found.as_slice()
+        }
+        (None, None) => true,
+        _ => false,
+    }
+}
+
+/// Looks up keys, each by itself and with one finder for all.
 fn check_gets<E: Env, FP: FilterPolicy>(
     rt: &(impl Abort + AllocGlobal),
     table: &Table<E, DefaultCmp, FP>,
@@ -218,12 +229,15 @@ fn check_gets<E: Env, FP: FilterPolicy>(
     pairs: &[Given<'_>],
     filtered: bool,
 ) -> Result<()> {
+    let mut finder = Finder::new(rt.alloc());
     for key in &PROBES {
         let found = table.get(rt.alloc(), env, cache, compressors, key)?;
         assert!(rt;
             is_found(&found, first_from(pairs, key), key, filtered),
             "for {key:?}"
         );
+        let value = table.find(rt.alloc(), env, cache, compressors, key, &mut finder)?;
+        assert!(rt; is_same_find(&found, &value, &finder), "for {key:?}");
     }
     Ok(())
 }

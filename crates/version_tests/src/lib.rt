@@ -4,6 +4,8 @@
 #[cfg(test)]
 mod checks;
 #[cfg(test)]
+mod gets;
+#[cfg(test)]
 mod logs;
 #[cfg(test)]
 mod recovers;

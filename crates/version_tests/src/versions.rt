@@ -46,9 +46,9 @@ fn entry_key(alloc: Global, key: &str) -> Result<Bytes> {
     Ok(Bytes::copy_from_slice(alloc, key.internal_key())?)
 }
 
-fn file_of(alloc: Global, row: &Row, allowed_seeks: usize) -> Result<FileMetaData> {
+fn file_of(alloc: Global, row: &Row) -> Result<FileMetaData> {
     Ok(FileMetaData {
-        allowed_seeks,
+        allowed_seeks: 0,
         num: row.1,
         size: row.2,
         smallest: entry_key(alloc, row.3)?,
@@ -56,16 +56,16 @@ fn file_of(alloc: Global, row: &Row, allowed_seeks: usize) -> Result<FileMetaDat
     })
 }
 
-fn files_of(alloc: Global, rows: &[Row], seeks: usize) -> Result<Vec<(usize, FileMetaData)>> {
+fn files_of(alloc: Global, rows: &[Row]) -> Result<Vec<(usize, FileMetaData)>> {
     let mut files = Vec::new(alloc);
     for row in rows {
-        files.push((row.0, file_of(alloc, row, seeks)?))?;
+        files.push((row.0, file_of(alloc, row)?))?;
     }
     Ok(files)
 }
 
-fn version_of(alloc: Global, rows: &[Row], seeks: usize) -> Result<Version<DefaultCmp>> {
-    let files = files_of(alloc, rows, seeks)?;
+fn version_of(alloc: Global, rows: &[Row]) -> Result<Version<DefaultCmp>> {
+    let files = files_of(alloc, rows)?;
     Version::of_files(alloc, DefaultCmp, files.as_slice())
 }
 
@@ -84,7 +84,7 @@ fn numbers_in(alloc: Global, version: &Version<DefaultCmp>, level: usize) -> Res
 
 #[test]
 fn files_are_in_order(rt: HostRuntime) -> Result<()> {
-    let version = version_of(rt.alloc(), &STORE, 0)?;
+    let version = version_of(rt.alloc(), &STORE)?;
     assert!(rt; numbers_in(rt.alloc(), &version, 0)?.as_slice() == [1, 2].as_slice());
     assert!(rt; numbers_in(rt.alloc(), &version, 1)?.as_slice() == [3, 4, 5].as_slice());
     assert!(rt; numbers_in(rt.alloc(), &version, 3)?.as_slice() == [8, 9].as_slice());
@@ -94,7 +94,7 @@ fn files_are_in_order(rt: HostRuntime) -> Result<()> {
 
 #[test]
 fn summary(rt: HostRuntime) -> Result<()> {
-    let version = version_of(rt.alloc(), &STORE, 0)?;
+    let version = version_of(rt.alloc(), &STORE)?;
     let text = version.level_summary(rt.alloc())?;
     assert!(rt;
         text.as_str()
@@ -105,7 +105,7 @@ fn summary(rt: HostRuntime) -> Result<()> {
 
 #[test]
 fn sizes(rt: HostRuntime) -> Result<()> {
-    let version = version_of(rt.alloc(), &STORE, 0)?;
+    let version = version_of(rt.alloc(), &STORE)?;
     let bytes = [
         version.num_level_bytes(0),
         version.num_level_bytes(1),
@@ -121,7 +121,7 @@ fn sizes(rt: HostRuntime) -> Result<()> {
 #[test]
 fn greatest_size(rt: HostRuntime) -> Result<()> {
     let rows: [Row; 2] = [(0, 1, usize::MAX, "a", "b"), (0, 2, 1, "a", "b")];
-    let files = files_of(rt.alloc(), &rows, 0)?;
+    let files = files_of(rt.alloc(), &rows)?;
     assert!(rt; total_size(files.as_slice()) == usize::MAX);
     assert!(rt; total_size(&[]) == 0);
     Ok(())
@@ -159,7 +159,7 @@ fn assert_overlap(rt: &impl Abort, version: &Version<DefaultCmp>, row: &(usize, 
 
 #[test]
 fn overlaps(rt: HostRuntime) -> Result<()> {
-    let version = version_of(rt.alloc(), &STORE, 0)?;
+    let version = version_of(rt.alloc(), &STORE)?;
     for row in &OVERLAPS {
         assert_overlap(&rt, &version, row);
     }
@@ -177,7 +177,7 @@ const LEVELS: [(&str, &str, usize); 5] = [
 
 #[test]
 fn levels_of_new_tables(rt: HostRuntime) -> Result<()> {
-    let version = version_of(rt.alloc(), &STORE, 0)?;
+    let version = version_of(rt.alloc(), &STORE)?;
     for (first, last, level) in &LEVELS {
         let found = version.pick_memtable_output_level(first.as_bytes(), last.as_bytes());
         assert!(rt; found == *level);
@@ -188,7 +188,7 @@ fn levels_of_new_tables(rt: HostRuntime) -> Result<()> {
 /// A new table may overlap 20 MiB two levels down, and not a byte more.
 #[test]
 fn many_bytes_two_levels_down(rt: HostRuntime) -> Result<()> {
-    let version = version_of(rt.alloc(), &CHAIN, 0)?;
+    let version = version_of(rt.alloc(), &CHAIN)?;
     assert!(rt; version.pick_memtable_output_level(b"n", b"n") == 1);
     assert!(rt; version.pick_memtable_output_level(b"p", b"q") == 1);
     assert!(rt; version.pick_memtable_output_level(b"u", b"v") == 2);
@@ -219,11 +219,11 @@ fn inputs_of(
 /// Ranges of level 0 are widened until no file sticks out.
 #[test]
 fn inputs_of_level_zero(rt: HostRuntime) -> Result<()> {
-    let store = version_of(rt.alloc(), &STORE, 0)?;
+    let store = version_of(rt.alloc(), &STORE)?;
     let both = inputs_of(rt.alloc(), &store, 0, "000", "ab")?;
     assert!(rt; both.as_slice() == [1, 2].as_slice());
     assert!(rt; inputs_of(rt.alloc(), &store, 0, "c", "d")?.is_empty());
-    let chain = version_of(rt.alloc(), &CHAIN, 0)?;
+    let chain = version_of(rt.alloc(), &CHAIN)?;
     let four = inputs_of(rt.alloc(), &chain, 0, "b", "b")?;
     assert!(rt; four.as_slice() == [11, 12, 13, 14].as_slice());
     let one = inputs_of(rt.alloc(), &chain, 0, "l", "")?;
@@ -234,7 +234,7 @@ fn inputs_of_level_zero(rt: HostRuntime) -> Result<()> {
 /// Ranges of the other levels aren't.
 #[test]
 fn inputs_of_other_levels(rt: HostRuntime) -> Result<()> {
-    let store = version_of(rt.alloc(), &STORE, 0)?;
+    let store = version_of(rt.alloc(), &STORE)?;
     let first = inputs_of(rt.alloc(), &store, 1, "aaa", "bba")?;
     assert!(rt; first.as_slice() == [3].as_slice());
     let two = inputs_of(rt.alloc(), &store, 1, "cba", "daa")?;
@@ -321,7 +321,7 @@ fn assert_same_from(
 
 /// All calls on a range or a key find what trying finds.
 fn assert_same(rt: &(impl Abort + AllocGlobal), rows: &[Row]) -> Result<()> {
-    let files = files_of(rt.alloc(), rows, 0)?;
+    let files = files_of(rt.alloc(), rows)?;
     let version = Version::of_files(rt.alloc(), DefaultCmp, files.as_slice())?;
     for begin in &KEYS {
         assert_same_from(rt, &version, files.as_slice(), begin)?;
@@ -359,27 +359,57 @@ fn seeks_in(alloc: Global, version: &Version<DefaultCmp>, level: usize) -> Resul
     Ok(seeks)
 }
 
-/// The second charge of a file that may take two seeks chooses it, and no other is chosen then.
+/// Files of level 1, whose sizes are small, just below and at a hundred times 16 KiB, and past it.
+const SIZES: [Row; 4] = [
+    (1, 1, 0, "a", "b"),
+    (1, 2, 1_638_399, "c", "d"),
+    (1, 3, 1_638_400, "e", "f"),
+    (1, 4, 1_654_784, "g", "h"),
+];
+
+#[test]
+fn first_seeks(rt: HostRuntime) -> Result<()> {
+    let version = version_of(rt.alloc(), &SIZES)?;
+    let seeks = seeks_in(rt.alloc(), &version, 1)?;
+    assert!(rt; seeks.as_slice() == [100, 100, 100, 101].as_slice());
+    Ok(())
+}
+
+/// A file that is charged so often isn't chosen by that.
+fn assert_unchosen(
+    rt: &impl Abort,
+    version: &mut Version<DefaultCmp>,
+    file: GetStats,
+    times: usize,
+) {
+    for _ in 0..times {
+        assert!(rt; !version.update_stats(file));
+    }
+}
+
+/// The hundredth charge of a small file chooses it, and no other is chosen then. The seeks that are
+/// left and the choice stay with one file more.
 #[test]
 fn charged_files(rt: HostRuntime) -> Result<()> {
-    let mut version = version_of(rt.alloc(), &STORE, 2)?;
-    assert!(rt; !version.update_stats(GetStats { file: None }));
-    assert!(rt; !version.update_stats(charge(1, 4)) && version.file_to_compact().is_none());
-    assert!(rt; !version.update_stats(charge(1, 5)));
-    assert!(rt; version.update_stats(charge(1, 4)));
-    assert!(rt; version.file_to_compact() == Some((1, 4)));
-    assert!(rt; !version.update_stats(charge(1, 5)) && !version.update_stats(charge(1, 5)));
-    assert!(rt; version.file_to_compact() == Some((1, 4)));
-    let seeks = seeks_in(rt.alloc(), &version, 1)?;
-    assert!(rt; seeks.as_slice() == [2, 1, 0].as_slice());
+    let mut version = version_of(rt.alloc(), &STORE)?;
+    assert_unchosen(&rt, &mut version, GetStats { file: None }, 1);
+    assert_unchosen(&rt, &mut version, charge(1, 4), 99);
+    assert_unchosen(&rt, &mut version, charge(1, 5), 98);
+    assert!(rt; version.file_to_compact().is_none() && version.update_stats(charge(1, 4)));
+    assert_unchosen(&rt, &mut version, charge(1, 5), 3);
+    let added = file_of(rt.alloc(), &(1, 20, 1_654_784, "pa", "pb"))?;
+    let next = version.with_file(rt.alloc(), 1, &added)?;
+    assert!(rt; next.file_to_compact() == Some((1, 4)));
+    let seeks = seeks_in(rt.alloc(), &next, 1)?;
+    assert!(rt; seeks.as_slice() == [100, 1, 0, 101].as_slice());
     Ok(())
 }
 
 /// A charge of a file that isn't there changes nothing.
 #[test]
 fn charge_of_no_file(rt: HostRuntime) -> Result<()> {
-    let mut version = version_of(rt.alloc(), &STORE, 0)?;
-    assert!(rt; !version.update_stats(charge(2, 4)) && version.file_to_compact().is_none());
-    assert!(rt; version.update_stats(charge(1, 4)));
+    let mut version = version_of(rt.alloc(), &STORE)?;
+    assert_unchosen(&rt, &mut version, charge(2, 4), 101);
+    assert!(rt; version.file_to_compact().is_none());
     Ok(())
 }

@@ -1,9 +1,11 @@
 //! Deletions of the store's files that nothing needs any more.
 ghost use Rattle.std.specs.Prelude.{◌≡◌, ◌↔◌, IsTrue, map, string_bytes};
+ghost use Rattle.leveldb_base.specs.declared.types.FileType.TheVariants.{Table};
 ghost use Rattle.leveldb_env.specs.Env.{ListsChildren};
 ghost use Rattle.leveldb_version.specs.VersionSetValue.{numbers_in_order};
 ghost use Rattle.leveldb_version.specs.Writing.{IsObsolete};
-ghost use Rattle.leveldb_store.specs.Format.{Meaning};
+ghost use Rattle.leveldb_version.specs.Format.{Meaning};
+ghost use Rattle.leveldb_store.specs.OpenTables.{ClosesObsolete};
 ghost use Rattle.leveldb_store.specs.Switch.{RemovesName, RemovesNames, RemovesObsolete};
 ghost use Rattle.leveldb_store.specs.Written.{KeepsWritten};
 
@@ -13,46 +15,69 @@ use leveldb_base::error::Result;
 use leveldb_base::names::parse_file_name;
 use leveldb_base::types::{FileNum, FileType};
 use leveldb_env::env::Env;
+use leveldb_env::filter::FilterPolicy;
+use leveldb_version::table_cache::TableCache;
 use std::collections::BTreeSet;
 
-impl<E: Env, C: UserCmp + Copy> OpenStore<E, C> {
+impl<E: Env, C: UserCmp + Copy + Drop> OpenStore<E, C> {
     /// Deletes the files of the store's folder that are obsolete: logs below the log number,
-    /// manifests below the one in use, tables that aren't live, and temporary files. It goes on
-    /// after a deletion that fails, and returns the first error. Where a call on the manifest
-    /// failed it deletes nothing, since the manifest may know of more than the set does.
-    pub fn remove_obsolete(&self, env: &mut E) -> Result<()>
+    /// manifests below the one in use, tables that aren't live, and temporary files. A table is
+    /// closed before its file is deleted. It goes on after a deletion that fails, and returns the
+    /// first error. Where a call on the manifest failed it deletes nothing, since the manifest may
+    /// know of more than the set does.
+    pub fn remove_obsolete<FP: FilterPolicy + Copy + Drop>(
+        &self,
+        env: &mut E,
+        tables: &mut TableCache<E, C, FP>,
+    ) -> Result<()>
         ensures removes { RemovesObsolete E.Env self.now.set env.old result env.new }
         ensures keeps { IsTrue E.models_disk → (meaning : Meaning)
             → KeepsWritten (C.cmp self.now.cmp) meaning self.now (E.observed env.old) self.now
             (E.observed env.new) }
+        ensures closes { ClosesObsolete E.Env self.now.set env.old tables.old env.new tables.new }
     {
         if self.versions.is_broken() {
             return Ok(());
         }
         let live = self.versions.live_files()?;
         let names = env.children(self.alloc, &self.name)?;
-        self.remove_all(env, &live, &names)
+        self.remove_all(env, tables, &live, &names)
     }
 
     // Deletes those of the folder's files that are obsolete.
-    fn remove_all(&self, env: &mut E, live: &BTreeSet<FileNum>, names: &[String]) -> Result<()>
+    fn remove_all<FP: FilterPolicy + Copy + Drop>(
+        &self,
+        env: &mut E,
+        tables: &mut TableCache<E, C, FP>,
+        live: &BTreeSet<FileNum>,
+        names: &[String],
+    ) -> Result<()>
         requires live { live.now.keys ≡ numbers_in_order self.now.set.full.added }
         requires listed { IsTrue E.models_disk → ListsChildren (E.observed env.old).disk.files
             self.now.set.store (map string_bytes names.now) }
-        ensures { RemovesNames E.Env self.now.set env.old (map string_bytes names.now) result
-            env.new }
+        ensures removes { RemovesNames E.Env self.now.set env.old (map string_bytes names.now)
+            result env.new }
+        ensures closes { ClosesObsolete E.Env self.now.set env.old tables.old env.new tables.new }
     {
         let mut first = Ok(());
         for name in names {
-            first = first.and(self.remove_one(env, live, name));
+            first = first.and(self.remove_one(env, tables, live, name));
         }
         first
     }
 
-    // Deletes the file of this name in the store's folder, if it is obsolete.
-    fn remove_one(&self, env: &mut E, live: &BTreeSet<FileNum>, name: &str) -> Result<()>
+    // Deletes the file of this name in the store's folder, if it is obsolete. A table is closed
+    // before that.
+    fn remove_one<FP: FilterPolicy + Copy + Drop>(
+        &self,
+        env: &mut E,
+        tables: &mut TableCache<E, C, FP>,
+        live: &BTreeSet<FileNum>,
+        name: &str,
+    ) -> Result<()>
         requires { live.now.keys ≡ numbers_in_order self.now.set.full.added }
-        ensures { RemovesName E.Env self.now.set env.old name.now result env.new }
+        ensures removes { RemovesName E.Env self.now.set env.old name.now result env.new }
+        ensures closes { ClosesObsolete E.Env self.now.set env.old tables.old env.new tables.new }
     {
         let Ok((number, kind)) = parse_file_name(self.alloc, name) else {
             return Ok(());
@@ -61,6 +86,9 @@ impl<E: Env, C: UserCmp + Copy> OpenStore<E, C> {
             return Ok(());
         }
         let path = format!(in self.alloc; "{}/{name}", self.name)?;
+        if is_table(kind) {
+            tables.evict(number);
+        }
         env.delete(&path)
     }
 
@@ -79,5 +107,15 @@ impl<E: Env, C: UserCmp + Copy> OpenStore<E, C> {
             FileType::Temp => true,
             FileType::DBLock | FileType::Current | FileType::InfoLog => false,
         }
+    }
+}
+
+// Whether the type is a table's.
+fn is_table(kind: FileType) -> bool
+    ensures { IsTrue result ↔ (kind ≡ Table) }
+{
+    match kind {
+        FileType::Table => true,
+        _ => false,
     }
 }

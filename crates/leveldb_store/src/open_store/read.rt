@@ -1,17 +1,14 @@
-//! Looking a key up: in the memtables, and then in the live tables, the newer ones first.
-ghost use Rattle.std.specs.Prelude.{◌≡◌, ◌++◌, min, IfErr, IfOk, option_copied, option_map};
+//! Looking a key up: in the memtables, and then in the tables of the version.
+ghost use Rattle.std.specs.Prelude.{◌≡◌, IfErr, IfOk, option_copied, option_map};
 ghost use Rattle.leveldb_base.specs.Entries.{FindsNewest};
 ghost use Rattle.leveldb_base.specs.Error.{IsOutOfMemory};
-ghost use Rattle.leveldb_base.specs.KeyTypes.{greatest_sequence};
-ghost use Rattle.leveldb_base.specs.Layers.{IsOlder};
-ghost use Rattle.leveldb_store.specs.Format.{format_of};
-ghost use Rattle.leveldb_store.specs.Read.{LooksUpKey};
-ghost use Rattle.leveldb_store.specs.Search.{SearchesTables};
-ghost use Rattle.leveldb_store.specs.Written.{waiting_entries};
+ghost use Rattle.leveldb_version.specs.Format.{format_of};
+ghost use Rattle.leveldb_version.specs.Search.{AreDisjointLevels, LooksUpNewest};
+ghost use Rattle.leveldb_version.specs.TableCache.{table_options};
+ghost use Rattle.leveldb_store.specs.OpenStore.{AreNumbersGiven, IsCurrent};
+ghost use Rattle.leveldb_store.specs.Read.{FindsInMemory, LooksUpKey, sought_key};
 
 use super::OpenStore;
-use super::read_table::newest_in_table;
-use super::search::{next_file, search_rank};
 use bytes::Bytes;
 use leveldb_base::cmp::UserCmp;
 use leveldb_base::error::Result;
@@ -22,33 +19,37 @@ use leveldb_env::env::Env;
 use leveldb_env::filter::FilterPolicy;
 use leveldb_env::options::Options;
 use leveldb_mem::memtable::MemTable;
+use leveldb_version::table_cache::TableCache;
+use leveldb_version::version::GetStats;
 use std::alloc::Global;
 
 impl<E: Env, C: UserCmp + Copy + Drop> OpenStore<E, C> {
-    /// The key's value, or none if it has none. A table that can't be read is an error.
+    /// The key's value, or none if it has none. A table that can't be read is an error. Where the
+    /// look-up goes through two tables or more, the first has one seek less before it is compacted.
     pub fn get<FP: FilterPolicy + Copy + Drop>(
-        &self,
+        &mut self,
         env: &mut E,
         options: &Options<C, FP>,
+        tables: &mut TableCache<E, C, FP>,
         key: &[u8],
     ) -> Result<Option<Bytes>>
-        requires { C.cmp options.now.cmp ≡ C.cmp self.now.cmp }
-        ensures { LooksUpKey E.Env (C.cmp self.now.cmp) (format_of C.Cmp FP.FilterPolicy
-            ⟦<CompressorList as Compressors>⟧.codings options.now) self.now env.old key.now result
-            env.new }
+        requires { C.cmp options.now.cmp ≡ C.cmp self.old.cmp }
+        ensures { let by = table_options (format_of C.Cmp FP.FilterPolicy
+            ⟦<CompressorList as Compressors>⟧.codings options.now) options.now in
+            LooksUpKey E.Env by self.old env.old tables.old key.now result self.new env.new
+            tables.new }
     {
         if let Some(value) = self.newest_in_memory(key) {
             return copied(self.alloc, value);
         }
-        let found = self.newest_in_tables(env, options, key)?;
+        let (found, stats) = self.newest_in_tables(env, options, tables, key)?;
+        self.current.update_stats(stats);
         Ok(found.unwrap_or(None))
     }
 
     // What the memtables have of the key: a value, a deletion, or nothing.
     fn newest_in_memory(&self, key: &[u8]) -> Option<Option<&[u8]>>
-        ensures { IsOlder (waiting_entries self.now.waiting) self.now.recent.entries
-            → FindsNewest (self.now.recent.entries ++ waiting_entries self.now.waiting)
-            self.now.set.last_sequence key.now (option_map option_copied result) }
+        ensures { FindsInMemory self.now key.now (option_map option_copied result) }
     {
         let last = self.versions.last_seq();
         if let Some(value) = newest_up_to(&self.recent, key, last) {
@@ -60,30 +61,27 @@ impl<E: Env, C: UserCmp + Copy + Drop> OpenStore<E, C> {
         }
     }
 
-    // What the live tables have of the key: that of the first one that has an entry of it.
+    // What the version's tables have of the key, and the file that the search charges with a seek.
+    // The version has the live files, whose numbers were given, and the levels are apart.
     fn newest_in_tables<FP: FilterPolicy + Copy + Drop>(
         &self,
         env: &mut E,
         options: &Options<C, FP>,
+        tables: &mut TableCache<E, C, FP>,
         key: &[u8],
-    ) -> Result<Option<Option<Bytes>>>
+    ) -> Result<(Option<Option<Bytes>>, GetStats)>
         requires { C.cmp options.now.cmp ≡ C.cmp self.now.cmp }
-        ensures { SearchesTables E.Env (C.cmp self.now.cmp) (format_of C.Cmp FP.FilterPolicy
-            ⟦<CompressorList as Compressors>⟧.codings options.now) self.now env.old key.now result
-            env.new }
+        ensures searches { let by = table_options (format_of C.Cmp FP.FilterPolicy
+            ⟦<CompressorList as Compressors>⟧.codings options.now) options.now in
+            LooksUpNewest E.Env by (sought_key self.now key.now) env.old tables.old self.now.current
+            result env.new tables.new }
+        ensures current { IsCurrent self.now.cmp self.now.set self.now.current }
+        ensures given { AreNumbersGiven self.now.set self.now.set.full.added }
+        ensures apart { AreDisjointLevels (C.cmp self.now.cmp) self.now.set.full.added }
     {
         let last = self.versions.last_seq().min(MAX_SEQUENCE_NUMBER);
         let sought = LookupKey::new(self.alloc, key, last)?;
-        let files = self.versions.files();
-        let mut searched = None;
-        'searching: while let Some(file) = next_file(&self.cmp, files, searched, key) {
-            let found = newest_in_table(self.alloc, env, &self.name, options, file, &sought)?;
-            if found.is_some() {
-                return Ok(found);
-            }
-            searched = Some(search_rank(file));
-        }
-        Ok(None)
+        self.current.get(self.alloc, env, options, tables, &sought)
     }
 }
 

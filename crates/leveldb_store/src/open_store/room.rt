@@ -1,9 +1,11 @@
 //! Room in the memtable: entries of one that is full become a table, and obsolete files are
 //! deleted.
-ghost use Rattle.std.specs.Prelude.{◌≡◌, ◌≢◌, ◌↔◌, ◌≤◌, ◌+◌, None, IsTrue, OnErr, OnOk};
+ghost use Rattle.std.specs.Prelude.{◌≡◌, ◌≢◌, ◌↔◌, ◌≤◌, ◌+◌, None, Contains, IsTrue, OnErr, OnOk};
 ghost use Rattle.leveldb_store.specs.BuildTable.{choices_of};
-ghost use Rattle.leveldb_store.specs.Format.{Agrees, format_of};
+ghost use Rattle.leveldb_version.specs.Format.{Agrees, format_of};
+ghost use Rattle.leveldb_version.specs.VersionEdit.{NewFile};
 ghost use Rattle.leveldb_store.specs.OpenStore.{IsUnbroken};
+ghost use Rattle.leveldb_store.specs.OpenTables.{ClosesObsolete};
 ghost use Rattle.leveldb_store.specs.Room.{IsFull, MakesRoom, TidiesUp};
 ghost use Rattle.leveldb_store.specs.RoomSteps.{FailsToTableIfWaiting, IsStepToRoom};
 ghost use Rattle.leveldb_store.specs.SoundCall.{BytesAreAppended, IsSoundCall, TimeGoesOn};
@@ -16,6 +18,7 @@ use leveldb_env::env::Env;
 use leveldb_env::filter::{FilterPolicy, InternalFilterPolicy};
 use leveldb_env::infolog::InfoSink;
 use leveldb_env::options::Options;
+use leveldb_version::table_cache::TableCache;
 
 impl<E: Env, C: UserCmp + Copy> OpenStore<E, C> {
     /// Whether the memtable has entries, and they take this much memory or more.
@@ -24,29 +27,35 @@ impl<E: Env, C: UserCmp + Copy> OpenStore<E, C> {
     {
         self.recent.len() > 0 && limit <= self.recent.approx_mem_usage()
     }
+}
 
-    /// Deletes obsolete files. A failure is no error, but a line for `log`: nothing reads the files
-    /// that are left, and the next call deletes them.
-    pub fn tidy_up<S: InfoSink>(&self, env: &mut E, log: &mut S)
+impl<E: Env, C: UserCmp + Copy + Drop> OpenStore<E, C> {
+    /// Deletes obsolete files, and closes their tables. A failure is no error, but a line for
+    /// `log`: nothing reads the files that are left, and the next call deletes them.
+    pub fn tidy_up<FP: FilterPolicy + Copy + Drop, S: InfoSink>(
+        &self,
+        env: &mut E,
+        tables: &mut TableCache<E, C, FP>,
+        log: &mut S,
+    )
         requires usable { IsUnbroken self.now }
         ensures tidies { TidiesUp E.Env (C.cmp self.now.cmp) self.now env.old env.new }
+        ensures closes { ClosesObsolete E.Env self.now.set env.old tables.old env.new tables.new }
         ensures time { TimeGoesOn E.Env env.old env.new }
         ensures bytes { BytesAreAppended E.Env env.old env.new }
     {
-        if let Err(e) = self.remove_obsolete(env) {
+        if let Err(e) = self.remove_obsolete(env, tables) {
             if let Ok(line) = format!(in self.alloc; "obsolete files may be left: {e}\n") {
                 let _ = log.write(line.as_bytes());
             }
         }
     }
-}
 
-impl<E: Env, C: UserCmp + Copy + Drop> OpenStore<E, C> {
     /// Makes room in the memtable, if its entries take `write_buffer_size` bytes or more. They wait
     /// while batches go to a new log, and become a table. Where they wait already, since a call
     /// before made no table of them, they become one before anything else, so that one memtable
-    /// waits at most. Obsolete files are deleted after each table; what fails of that is a line for
-    /// `log`.
+    /// waits at most. Obsolete files are deleted after each table, and their tables closed; what
+    /// fails of that is a line for `log`.
     ///
     /// After an Err no entry is lost: the memtable is full still, or its entries wait. The next
     /// call goes on from there, unless the store broke.
@@ -54,6 +63,7 @@ impl<E: Env, C: UserCmp + Copy + Drop> OpenStore<E, C> {
         &mut self,
         env: &mut E,
         options: &Options<C, FP>,
+        tables: &mut TableCache<E, C, FP>,
         log: &mut S,
     ) -> Result<()>
         requires usable { IsUnbroken self.old }
@@ -65,13 +75,14 @@ impl<E: Env, C: UserCmp + Copy + Drop> OpenStore<E, C> {
         ensures sound { IsSoundCall E.Env (C.cmp self.old.cmp) (Agrees (format_of C.Cmp
             FP.FilterPolicy ⟦<CompressorList as Compressors>⟧.codings options.now)) self.old
             env.old result self.new env.new }
+        ensures closes { ClosesObsolete E.Env self.old.set env.old tables.old env.new tables.new }
     {
         if !self.is_full(options.write_buffer_size) {
             return Ok(());
         }
-        self.table_if_waiting(env, options, log)?;
+        self.table_if_waiting(env, options, tables, log)?;
         self.switch_log(env)?;
-        self.table_if_waiting(env, options, log)
+        self.table_if_waiting(env, options, tables, log)
     }
 
     // Makes a table of the entries that wait, if some do, and deletes the files that are obsolete
@@ -80,6 +91,7 @@ impl<E: Env, C: UserCmp + Copy + Drop> OpenStore<E, C> {
         &mut self,
         env: &mut E,
         options: &Options<C, FP>,
+        tables: &mut TableCache<E, C, FP>,
         log: &mut S,
     ) -> Result<()>
         requires usable { IsUnbroken self.old }
@@ -94,10 +106,13 @@ impl<E: Env, C: UserCmp + Copy + Drop> OpenStore<E, C> {
         ensures none_waits { OnOk result (self.new.waiting ≡ None) }
         ensures waits { OnErr result (self.new.waiting ≢ None) }
         ensures recent { self.new.recent ≡ self.old.recent }
+        ensures live { (file : NewFile) → Contains self.old.set.full.added file
+            → Contains self.new.set.full.added file }
+        ensures closes { ClosesObsolete E.Env self.old.set env.old tables.old env.new tables.new }
     {
         if self.has_waiting() {
             self.table_waiting(env, options)?;
-            self.tidy_up(env, log);
+            self.tidy_up(env, tables, log);
         }
         Ok(())
     }

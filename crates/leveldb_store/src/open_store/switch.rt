@@ -1,7 +1,7 @@
 //! A switch of the log: the entries of the memtable wait, and batches go to a log of the next
 //! number.
 ghost use Rattle.std.specs.Prelude.{◌≡◌, ◌≢◌, ◌↔◌, [], None, IsTrue, false};
-ghost use Rattle.leveldb_store.specs.Format.{Meaning};
+ghost use Rattle.leveldb_version.specs.Format.{Meaning};
 ghost use Rattle.leveldb_store.specs.SoundCall.{IsSoundCall, any_meaning};
 ghost use Rattle.leveldb_store.specs.Switch.{SwitchesLog};
 ghost use Rattle.leveldb_store.specs.Written.{KeepsWritten};

@@ -1,17 +1,21 @@
 //! The table of the entries that wait, and its edit.
-ghost use Rattle.std.specs.Prelude.{◌≡◌, ◌≢◌, ◌<◌, ◌≤◌, None, IfErr, IfOk, IsTrue, map};
+ghost use Rattle.std.specs.Prelude.{◌≡◌, ◌≢◌, ◌<◌, ◌≤◌, All, None, IsTrue, OnErr, OnOk, map};
 ghost use Rattle.leveldb_base.specs.Entries.{internal_pair};
-ghost use Rattle.leveldb_base.specs.Error.{IsOutOfMemory};
+ghost use Rattle.leveldb_base.specs.History.{AreRising};
+ghost use Rattle.leveldb_base.specs.KeyTypes.{internal_cmp};
 ghost use Rattle.leveldb_env.specs.Env.{SameLocks};
 ghost use Rattle.leveldb_version.specs.Batches.{Each};
+ghost use Rattle.leveldb_version.specs.FullEdit.{files_with};
 ghost use Rattle.leveldb_version.specs.LogEdit.{AppendsEdit};
 ghost use Rattle.leveldb_version.specs.Overlap.{file_range, output_level};
+ghost use Rattle.leveldb_version.specs.Search.{AreDisjointLevels};
 ghost use Rattle.leveldb_version.specs.Store.{IsInternalPair};
+ghost use Rattle.leveldb_version.specs.Version.{HasOneFileMore};
 ghost use Rattle.leveldb_version.specs.VersionEdit.{edit_of, new_file_of};
 ghost use Rattle.leveldb_version.specs.VersionSetValue.{OpenManifest, broken, in_use};
 ghost use Rattle.leveldb_version.specs.Writing.{table_edit};
 ghost use Rattle.leveldb_store.specs.BuildTable.{MakesTable, choices_of};
-ghost use Rattle.leveldb_store.specs.Format.{Agrees, Meaning, format_of};
+ghost use Rattle.leveldb_version.specs.Format.{Agrees, Meaning, format_of};
 ghost use Rattle.leveldb_store.specs.SoundCall.{IsSoundCall};
 ghost use Rattle.leveldb_store.specs.Switch.{TablesWaiting};
 ghost use Rattle.leveldb_store.specs.Written.{KeepsWritten, waiting_entries};
@@ -26,7 +30,6 @@ use leveldb_env::compressor::{CompressorList, Compressors};
 use leveldb_env::env::Env;
 use leveldb_env::filter::{FilterPolicy, InternalFilterPolicy};
 use leveldb_env::options::Options;
-use leveldb_version::version::Version;
 use leveldb_version::version_edit::VersionEdit;
 
 impl<E: Env, C: UserCmp + Copy + Drop> OpenStore<E, C> {
@@ -58,7 +61,7 @@ impl<E: Env, C: UserCmp + Copy + Drop> OpenStore<E, C> {
         }
         let number = self.versions.new_file_number()?;
         let file = self.build_waiting(env, options, number)?;
-        let level = self.level_for(&file)?;
+        let level = self.level_for(&file);
         self.log_table(env, level, file)?;
         self.waiting = None;
         Ok(())
@@ -81,6 +84,8 @@ impl<E: Env, C: UserCmp + Copy + Drop> OpenStore<E, C> {
         ensures entries { Each IsInternalPair
             (map internal_pair (waiting_entries self.now.waiting))
             (waiting_entries self.now.waiting) }
+        ensures rising { AreRising (internal_cmp (C.cmp options.now.cmp))
+            (map internal_pair (waiting_entries self.now.waiting)) }
     {
         let Some(waiting) = &self.waiting else {
             unreachable!()
@@ -89,33 +94,43 @@ impl<E: Env, C: UserCmp + Copy + Drop> OpenStore<E, C> {
     }
 
     // The level for a new table whose entries are newer than those of all others.
-    fn level_for(&self, file: &FileMetaData) -> Result<usize>
-        ensures level { IfOk result (λ level. level ≡ output_level (C.cmp self.now.cmp)
-            (file_range (new_file_of (level, file.now))) self.now.set.full.added) }
-        ensures deepest { IfOk result (λ level. level ≤ 2) }
-        ensures memory { IfErr result IsOutOfMemory }
+    fn level_for(&self, file: &FileMetaData) -> usize
+        ensures level { result ≡ output_level (C.cmp self.now.cmp)
+            (file_range (new_file_of (result, file.now))) self.now.set.full.added }
+        ensures deepest { result ≤ 2 }
     {
-        let version = Version::of_files(self.alloc, self.cmp, self.versions.files())?;
         let (smallest, _) = split_sequence(&file.smallest);
         let (largest, _) = split_sequence(&file.largest);
-        Ok(version.pick_memtable_output_level(smallest, largest))
+        self.current.pick_memtable_output_level(smallest, largest)
     }
 
     // Logs the edit of a table in a level, which takes the place of the logs below the one to which
-    // batches are appended.
+    // batches are appended. Its number was given after those of all live files, and the levels are
+    // apart with it. After an Err the version is as it was.
     fn log_table(&mut self, env: &mut E, level: usize, file: FileMetaData) -> Result<()>
         requires level { level < 7 }
         requires usable { self.old.set.manifest ≢ broken }
+        requires given { file.num < self.old.set.next_file }
+        requires newest { All (λ live. live.number < file.num) self.old.set.full.added }
+        requires apart { AreDisjointLevels (C.cmp self.old.cmp)
+            (files_with self.old.set.full.added (new_file_of (level, file))) }
         ensures logs { (manifest : OpenManifest) → self.old.set.manifest ≡ in_use manifest
             → AppendsEdit E.models_disk manifest self.old.set
             (table_edit self.old.log.number (new_file_of (level, file))) (E.observed env.old)
             (E.failures env.old) result self.new.set (E.observed env.new) (E.failures env.new) }
-        ensures rest { self.new ≡ record self.old { set = self.new.set } }
+        ensures rest { self.new
+            ≡ record self.old { set = self.new.set; current = self.new.current } }
+        ensures current { OnOk result (HasOneFileMore (C.cmp self.old.cmp) (level, file)
+            self.old.current self.new.current) }
+        ensures err { OnErr result (self.new ≡ record self.old { set = self.new.set }) }
         ensures locks { SameLocks E.models_disk (E.observed env.old) (E.observed env.new) }
     {
+        let next = self.current.with_file(self.alloc, level, &file)?;
         let mut edit = VersionEdit::new(self.alloc);
         edit.set_log_num(self.log.number);
         edit.add_file(level, file)?;
-        self.versions.log_and_apply(env, edit)
+        self.versions.log_and_apply(env, edit)?;
+        self.current = next;
+        Ok(())
     }
 }

@@ -17,6 +17,7 @@ use leveldb_env::compressor::{CompressorList, Compressors};
 use leveldb_env::env::Env;
 use leveldb_env::filter::{FilterPolicy, InternalFilterPolicy};
 use leveldb_env::options::Options;
+use leveldb_version::version::Version;
 use leveldb_version::version_set::VersionSet;
 use std::alloc::Global;
 
@@ -29,7 +30,7 @@ pub(super) fn begin_writing<E: Env, C: UserCmp + Copy + Drop, FP: FilterPolicy +
     options: &Options<C, FP>,
     set: RecoveredSet<E>,
 ) -> Result<OpenStore<E, C>>
-    requires { MayBeWritten E.models_disk name.now set.is_anew set.versions
+    requires { MayBeWritten E.models_disk (C.cmp options.now.cmp) name.now set.is_anew set.versions
         (E.observed env.old).disk.files }
     ensures begins { BeginsWriting E.Env (choices_of C.Cmp FP.FilterPolicy
         ⟦<InternalKeyCmp<C> as Cmp>⟧ ⟦<InternalFilterPolicy<FP> as FilterPolicy>⟧
@@ -45,11 +46,13 @@ pub(super) fn begin_writing<E: Env, C: UserCmp + Copy + Drop, FP: FilterPolicy +
     let (log, recent) = open_log(alloc, env, name, options.cmp, &mut versions, replay.used)?;
     let wanted = is_anew | replay.leaves_log;
     log_if(alloc, env, &mut versions, wanted, log.number, replay.tables)?;
+    let current = Version::of_files(alloc, options.cmp, versions.files())?;
     Ok(OpenStore {
         alloc,
         name: path,
         cmp: options.cmp,
         versions,
+        current,
         log,
         recent,
         waiting: None,

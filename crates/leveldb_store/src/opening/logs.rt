@@ -1,5 +1,5 @@
 //! The version set that a store's manifest leaves, and which logs are replayed.
-ghost use Rattle.std.specs.Prelude.{◌≡◌, ◌≢◌, ◌<◌, ◌+◌, ◌⊎◌, ◌↔◌, ℕ, [], ◌∷◌, IfErr, IfNone, IfOk, IfSome, IsTrue, OnOk, map, string_bytes};
+ghost use Rattle.std.specs.Prelude.{◌≡◌, ◌≢◌, ◌<◌, ◌+◌, ◌⊎◌, ◌↔◌, ℕ, [], ◌∷◌, All, IfErr, IfNone, IfOk, IfSome, IsTrue, OnOk, map, string_bytes};
 ghost use Rattle.leveldb_base.specs.Error.{IsOutOfMemory};
 ghost use Rattle.leveldb_base.specs.Names.{IsFileName, file_name};
 ghost use Rattle.leveldb_base.specs.declared.error.StatusCode.TheVariants.{Corruption};
@@ -7,7 +7,8 @@ ghost use Rattle.leveldb_base.specs.declared.types.FileType.TheVariants.{Log};
 ghost use Rattle.leveldb_env.specs.Env.{FilesUnchanged, Run, SameLocks};
 ghost use Rattle.leveldb_version.specs.VersionEdit.{new_file_of};
 ghost use Rattle.leveldb_version.specs.VersionSetValue.{AreFileNumbersUsedUp};
-ghost use Rattle.leveldb_store.specs.Format.{format_of};
+ghost use Rattle.leveldb_version.specs.Format.{format_of};
+ghost use Rattle.leveldb_store.specs.OpenStore.{AreNumbersGiven};
 ghost use Rattle.leveldb_store.specs.Opening.{GivesNumbers};
 ghost use Rattle.leveldb_store.specs.OpeningSteps.{AddsLog, AreReplayedLogs, HasMisnamedLog, HasNumber, IsReplayed, LacksTable, MarksNames, RecoversSet};
 ghost use Rattle.leveldb_store.specs.ReplayLog.{HasCauseOr};
@@ -51,6 +52,7 @@ pub(super) fn recover_set<E: Env, C: UserCmp, FP: FilterPolicy>(
     mark_names(alloc, &mut versions, names.as_slice())?;
     let is_anew = versions.recover(env, options)?;
     check_tables(alloc, env, store, versions.files())?;
+    check_numbers(alloc, &versions)?;
     let logs = find_logs(
         alloc,
         store,
@@ -115,6 +117,30 @@ fn check_tables<E: Env>(
         found(alloc, &path, env.size_of(&path))?;
     }
     Ok(())
+}
+
+// Checks that the number of each live table was given.
+fn check_numbers<E: Env>(alloc: Global, versions: &VersionSet<E>) -> Result<()>
+    ensures ok { OnOk result (AreNumbersGiven versions.now versions.now.full.added) }
+    ensures cause { IfErr result (λ status. (status.code ≡ Corruption)
+        × (AreNumbersGiven versions.now versions.now.full.added → ⊥)) }
+{
+    let next = versions.next_file_num();
+    if are_below(next, versions.files()) {
+        return Ok(());
+    }
+    err(
+        alloc,
+        StatusCode::Corruption,
+        "the number of a live table isn't given",
+    )
+}
+
+// Whether the number of each file is below this one.
+fn are_below(next: FileNum, files: &[(usize, FileMetaData)]) -> bool
+    ensures { IsTrue result ↔ All (λ file. file.1.num < next) files.now }
+{
+    files.iter().all(|file| file.1.num < next)
 }
 
 // The numbers of the logs among these names that are replayed, each of which is under its own name.

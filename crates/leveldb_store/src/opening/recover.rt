@@ -1,5 +1,5 @@
 //! A store that is found or made, and recovered.
-ghost use Rattle.leveldb_store.specs.Format.{format_of};
+ghost use Rattle.leveldb_version.specs.Format.{format_of};
 ghost use Rattle.leveldb_store.specs.OpeningSteps.{RecoversStore};
 
 use super::find::find_store;

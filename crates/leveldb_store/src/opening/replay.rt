@@ -3,7 +3,7 @@
 ghost use Rattle.std.specs.Prelude.{◌≡◌, ◌≢◌, [], None, IfOk, IfSome, OnOk, map};
 ghost use Rattle.leveldb_version.specs.VersionEdit.{new_file_of};
 ghost use Rattle.leveldb_store.specs.BuildTable.{choices_of};
-ghost use Rattle.leveldb_store.specs.Format.{format_of};
+ghost use Rattle.leveldb_version.specs.Format.{format_of};
 ghost use Rattle.leveldb_store.specs.OpeningSteps.{ReplaysLogs, ReplaysNext, TablesAll};
 ghost use Rattle.leveldb_store.specs.ReplayLog.{FailsToTableRest, HasCauseOr, MakesTablesOnly};
 

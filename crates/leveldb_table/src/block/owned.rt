@@ -3,7 +3,7 @@ ghost use Rattle.std.specs.Prelude.{◌≡◌, None, Some, IfOk, IfErr, OnOk, On
 ghost use Rattle.leveldb_base.specs.Types.{next_position, previous_position, seek_position, pair_at, last_position};
 ghost use Rattle.leveldb_base.specs.Error.{IsOutOfMemory};
 ghost use Rattle.leveldb_table.specs.Block.{pairs_of};
-ghost use Rattle.leveldb_table.specs.BlockWalk.{IsWithin, position_of};
+ghost use Rattle.leveldb_table.specs.BlockWalk.{IsWithin, position_of, pair_with};
 ghost use Rattle.leveldb_table.specs.BlockLaws.{IsWithin-prop, IsWithin-position};
 
 use crate::block::{Block, BlockCore};
@@ -29,9 +29,17 @@ impl<C: Cmp> BlockWalk<C> {
         ensures block { result.block ≡ block }
         ensures position { result.core.spot ≡ None }
     {
+        BlockWalk::with_room(block, Vec::new(alloc))
+    }
+
+    /// A walk over the block's pairs, at no position, with this room for a key.
+    pub(crate) fn with_room(block: Block<C>, room: Vec<u8>) -> BlockWalk<C>
+        ensures block { result.block ≡ block }
+        ensures position { result.core.spot ≡ None }
+    {
         BlockWalk {
             block,
-            core: BlockCore::new(alloc),
+            core: BlockCore::with_room(room),
         }
     }
 
@@ -40,6 +48,25 @@ impl<C: Cmp> BlockWalk<C> {
         ensures { result.now ≡ self.now.block }
     {
         &self.block
+    }
+
+    /// The value of the pair at which it is, whose bytes are shared with the block.
+    pub(crate) fn shared_value(&self) -> Result<Option<Bytes>>
+        ensures ok { IfOk result (λ value. pair_with self.now.core.key.items value
+            ≡ pair_at (pairs_of None self.now.block.entries.0)
+            (position_of self.now.block.entries.0 self.now.core.spot)) }
+        ensures cause { IfErr result IsOutOfMemory }
+    {
+        self.core.shared_value(&self.block)
+    }
+
+    /// The room for a key. Where it is at a pair, that pair's key is there.
+    pub(crate) fn into_key(self) -> Vec<u8>
+    where
+        C: Drop,
+        ensures { result ≡ self.core.key }
+    {
+        self.core.into_key()
     }
 
     /// The pair at which it is: the key's bytes become the result's, and the value's are shared

@@ -3,7 +3,7 @@ ghost use Rattle.std.specs.Prelude.{◌≡◌, ℕ, ◌<◌, ◌≤◌, length, 
 ghost use Rattle.leveldb_base.specs.Types.{next_position, previous_position, seek_position, position_within, pair_at, pair_of, last_position};
 ghost use Rattle.leveldb_base.specs.Error.{IsOutOfMemory};
 ghost use Rattle.leveldb_table.specs.Block.{pairs_of};
-ghost use Rattle.leveldb_table.specs.BlockWalk.{start_of, IsRestartPoint, CanLoad, IsWithin, position_of, IsEntryBetween, IsEntryEndingAt};
+ghost use Rattle.leveldb_table.specs.BlockWalk.{start_of, IsRestartPoint, CanLoad, IsWithin, position_of, pair_with, IsEntryBetween, IsEntryEndingAt};
 
 use crate::block::Block;
 use crate::block::entry::take_entry;
@@ -57,10 +57,24 @@ impl BlockCore {
     pub fn new(alloc: Global) -> BlockCore
         ensures { result.spot ≡ None }
     {
+        BlockCore::with_room(Vec::new(alloc))
+    }
+
+    /// At no position, with this room for a key.
+    pub(crate) fn with_room(room: Vec<u8>) -> BlockCore
+        ensures { result.spot ≡ None }
+    {
         BlockCore {
-            key: Vec::new(alloc),
+            key: room,
             spot: None,
         }
+    }
+
+    /// The room for a key. Where it is at a pair, that pair's key is there.
+    pub(crate) fn into_key(self) -> Vec<u8>
+        ensures { result ≡ self.key }
+    {
+        self.key
     }
 
     // Moves to the entry that begins at `start`, and returns where it ends.
@@ -219,6 +233,21 @@ impl BlockCore {
         ))
     }
 
+    /// The value of the pair at which it is, whose bytes are shared with the block.
+    pub(crate) fn shared_value<C: Cmp>(&self, block: &Block<C>) -> Result<Option<Bytes>>
+        requires { IsWithin block.now.contents block.now.entries.0 self.now.key.items
+            self.now.spot }
+        ensures ok { IfOk result (λ value. pair_with self.now.key.items value
+            ≡ pair_at (pairs_of None block.now.entries.0)
+            (position_of block.now.entries.0 self.now.spot)) }
+        ensures cause { IfErr result IsOutOfMemory }
+    {
+        let Some(spot) = self.spot else {
+            return Ok(None);
+        };
+        Ok(Some(block.contents.slice(spot.value..spot.next)?))
+    }
+
     /// The pair at which it is: the key's bytes become the result's, and the value's are shared
     /// with the block.
     pub fn into_pair<C: Cmp>(self, block: &Block<C>) -> Result<Option<(Bytes, Bytes)>>
@@ -227,10 +256,9 @@ impl BlockCore {
             (position_of block.now.entries.0 self.spot)) }
         ensures cause { IfErr result IsOutOfMemory }
     {
-        let Some(spot) = self.spot else {
+        let Some(value) = self.shared_value(block)? else {
             return Ok(None);
         };
-        let value = block.contents.slice(spot.value..spot.next)?;
         Ok(Some((Bytes::from_vec(self.key)?, value)))
     }
 }

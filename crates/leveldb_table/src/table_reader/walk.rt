@@ -7,6 +7,7 @@ ghost use Rattle.leveldb_base.specs.Types.{next_position, previous_position, see
 ghost use Rattle.leveldb_base.specs.Error.{IsOutOfMemory};
 ghost use Rattle.leveldb_base.specs.declared.error.StatusCode.TheVariants.{Corruption};
 ghost use Rattle.leveldb_table.specs.Table.{Part, HasBlockAt};
+ghost use Rattle.leveldb_table.specs.BlockWalk.{pair_with};
 ghost use Rattle.leveldb_table.specs.BlockCache.{HoldsOnlyOf, IsBlockOfFile, GainsBlocks};
 ghost use Rattle.leveldb_table.specs.TableReaderBlocks.{IsAfterLine, IsBeforeBlock, IsKeyPosition, IsLetPosition};
 ghost use Rattle.leveldb_table.specs.TableBlock.{LacksBlock, LacksLine, ReadsFile, ForBytesOf, IsLackError, IsNamedBy};
@@ -14,7 +15,7 @@ ghost use Rattle.leveldb_table.specs.TableBlock.{LacksBlock, LacksLine, ReadsFil
 use crate::block::BlockWalk;
 use crate::block_cache::BlockCache;
 use crate::damage::corruption;
-use crate::table_reader::{NO_HANDLE, Table};
+use crate::table_reader::{Finder, NO_HANDLE, Table};
 use bytes::Bytes;
 use leveldb_base::blockhandle::BlockHandle;
 use leveldb_base::cmp::Cmp;
@@ -24,6 +25,7 @@ use leveldb_env::compressor::{CompressorList, Compressors};
 use leveldb_env::env::Env;
 use leveldb_env::filter::FilterPolicy;
 use std::alloc::Global;
+use std::mem;
 
 /// A position in a table, or none. Each move is given the table, always the same one, the `Env`
 /// that has its file, the cache of blocks and the compressors.
@@ -34,6 +36,18 @@ pub struct TableCore<C: Cmp> {
     // at the line of the block where it is
     index: BlockWalk<C>,
     inner: Option<BlockWalk<C>>,
+
+    // the room for a key of the next block
+    room: Vec<u8>,
+}
+
+// Leaves the block, and keeps its room for a key.
+fn leave<C: Cmp + Drop>(inner: &mut Option<BlockWalk<C>>, room: &mut Vec<u8>)
+    ensures { inner.new ≡ None }
+{
+    if let Some(walk) = inner.take() {
+        *room = walk.into_key();
+    }
 }
 
 impl<C: Cmp + Copy + Drop> TableCore<C> {
@@ -50,10 +64,25 @@ impl<C: Cmp + Copy + Drop> TableCore<C> {
         ensures ok { IfOk result (StartsOver table.now) }
         ensures memory { IfErr result IsOutOfMemory }
     {
+        TableCore::with_finder(alloc, table, &mut Finder::new(alloc))
+    }
+
+    /// At no position, with the finder's room for keys. Where it fails, the finder is as it was.
+    pub(crate) fn with_finder<E: Env, FP: FilterPolicy>(
+        alloc: Global,
+        table: &Table<E, C, FP>,
+        finder: &mut Finder,
+    ) -> Result<TableCore<C>>
+        ensures ok { IfOk result (StartsOver table.now) }
+        ensures memory { IfErr result IsOutOfMemory }
+    {
+        let index = table.index.clone()?;
+        let (line_room, room) = finder.take_room(alloc);
         Ok(TableCore {
             alloc,
-            index: BlockWalk::new(alloc, table.index.clone()?),
+            index: BlockWalk::with_room(index, line_room),
             inner: None,
+            room,
         })
     }
 
@@ -116,7 +145,7 @@ impl<C: Cmp + Copy + Drop> TableCore<C> {
             SeeksKey E.Env codings table.now key.now env.old cache.old self.old result env.new
             cache.new self.new }
     {
-        self.inner = None;
+        leave(&mut self.inner, &mut self.room);
         self.index.seek(key)?;
         let Some((_, value)) = self.index.current() else {
             return Ok(());
@@ -173,7 +202,7 @@ impl<C: Cmp + Copy + Drop> TableCore<C> {
         ensures position { self.new.inner ≡ None }
         ensures index { self.new.index ≡ self.old.index }
     {
-        self.inner = None;
+        leave(&mut self.inner, &mut self.room);
     }
 
     /// Whether it is at a pair.
@@ -203,7 +232,7 @@ impl<C: Cmp + Copy + Drop> TableCore<C> {
             self.new }
         ensures there { IfOk result (λ there. there ≡ is_some (inner_position self.new.inner)) }
     {
-        self.inner = None;
+        leave(&mut self.inner, &mut self.room);
         self.index.seek(key)?;
         let Some((_, value)) = self.index.current() else {
             return Ok(false);
@@ -216,17 +245,25 @@ impl<C: Cmp + Copy + Drop> TableCore<C> {
         Ok(self.valid())
     }
 
-    /// The pair at which it is: the key's bytes become the result's, and the value's are shared
-    /// with the block.
-    pub(crate) fn into_pair(self) -> Result<Option<(Bytes, Bytes)>>
-        ensures ok { IfOk result (λ pair. pair ≡ current_of self) }
+    /// The value of the pair at which it is, whose bytes are shared with the block. The finder
+    /// gets the pair's key, and the room for keys.
+    pub(crate) fn into_value(self, finder: &mut Finder) -> Result<Option<Bytes>>
+        ensures ok { IfOk result (λ value. pair_with finder.new value ≡ current_of self) }
         ensures cause { IfErr result IsOutOfMemory }
     {
-        let TableCore { inner, .. } = self;
-        match inner {
-            Some(inner) => inner.into_pair(),
-            None => Ok(None),
-        }
+        let TableCore {
+            index,
+            inner,
+            room,
+            ..
+        } = self;
+        let Some(inner) = inner else {
+            finder.keep(index.into_key(), room);
+            return Ok(None);
+        };
+        let value = inner.shared_value();
+        finder.keep(index.into_key(), inner.into_key());
+        value
     }
 
     // Reads the block at the handle that the index's line names, and moves to its first pair at or
@@ -272,7 +309,7 @@ impl<C: Cmp + Copy + Drop> TableCore<C> {
             env.new cache.new self.new }
         ensures there { IfOk result (λ there. there ≡ is_some (inner_position self.new.inner)) }
     {
-        self.inner = None;
+        leave(&mut self.inner, &mut self.room);
         if !self.index.advance()? {
             return Ok(false);
         }
@@ -297,7 +334,7 @@ impl<C: Cmp + Copy + Drop> TableCore<C> {
             result env.new cache.new self.new }
         ensures there { IfOk result (λ there. there ≡ is_some (inner_position self.new.inner)) }
     {
-        self.inner = None;
+        leave(&mut self.inner, &mut self.room);
         if !self.index.prev()? {
             return Ok(false);
         }
@@ -321,7 +358,7 @@ impl<C: Cmp + Copy + Drop> TableCore<C> {
             last_position (pairs_in parts)) ToLast env.old cache.old self.old result env.new
             cache.new self.new }
     {
-        self.inner = None;
+        leave(&mut self.inner, &mut self.room);
         self.index.seek_to_last()?;
         if !self.index.valid() {
             return Ok(false);
@@ -388,7 +425,8 @@ impl<C: Cmp + Copy + Drop> TableCore<C> {
             compressors.now) table.now env.old cache.old cache.new }
     {
         let block = table.read_block(self.alloc, env, cache, compressors, handle)?;
-        self.inner = Some(BlockWalk::new(self.alloc, block));
+        let room = mem::replace(&mut self.room, Vec::new(self.alloc));
+        self.inner = Some(BlockWalk::with_room(block, room));
         Ok(())
     }
 

@@ -1,5 +1,6 @@
 //! Laws of tables by levels: in which order they are searched, which of them may be left out of a
 //! look-up, and which table may be added.
+ghost use Rattle.leveldb_version.specs.Search.{StayDisjoint};
 ghost use Rattle.leveldb_version.specs.StoreLaws.{AddingKeepsOrder, LevelsAreLayered, OutputLevelsCanTake, RangesLeaveOut};
 
 /// Tables in the order of their levels and, in level 0, with the greater numbers first are layers
@@ -24,4 +25,11 @@ pub fn added_tables_keep_the_order()
 /// `pick_memtable_output_level` returns for its first and last user keys.
 pub fn picked_levels_can_take_tables()
     ensures { OutputLevelsCanTake }
+{}
+
+/// The files of each level from 1 on are apart where a store may begin with them, and stay so when
+/// some are left out, when they are put in another order, and when a file is added to the level that
+/// `pick_memtable_output_level` returns for its first and last user keys.
+pub fn levels_stay_disjoint()
+    ensures { StayDisjoint }
 {}

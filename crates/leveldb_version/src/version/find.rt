@@ -1,5 +1,5 @@
 //! The file of a level that has a key, found by halving.
-ghost use Rattle.std.specs.Prelude.{◌≡◌, ◌≤◌, length, map};
+ghost use Rattle.std.specs.Prelude.{◌≡◌, ◌≤◌, Contains, IfSome, length, map};
 ghost use Rattle.std.specs.List.Sorted.{IsSortedByKey};
 ghost use Rattle.std.specs.Option.{option_copied, option_map};
 ghost use Rattle.std.specs.Ordering.{is_lt};
@@ -11,13 +11,16 @@ use leveldb_base::cmp::{Cmp, UserCmp};
 use leveldb_base::key_types::{UserKey, split_sequence};
 use leveldb_base::types::{FileMetaData, MAX_SEQUENCE_NUMBER, SequenceNumber};
 
-/// The file that has a user key in its range, among files in order that are apart.
+/// The file that has a user key in its range, among files in order that are apart. It is one of the
+/// files whatever they are.
 pub(super) fn file_with_key<'a, C: UserCmp>(
     ucmp: &C,
     files: &'a [(usize, FileMetaData)],
     key: UserKey<'_>,
 ) -> Option<&'a (usize, FileMetaData)>
-    ensures { let them = map new_file_of files.now in
+    ensures one { IfSome (option_map new_file_of (option_copied result))
+        (Contains (map new_file_of files.now)) }
+    ensures found { let them = map new_file_of files.now in
         IsSortedByKey (λ file. file.smallest) (internal_cmp (C.cmp ucmp.now)) them
         → AreDisjointRanges (C.cmp ucmp.now) them
         → IsFileFor (C.cmp ucmp.now) them key.now

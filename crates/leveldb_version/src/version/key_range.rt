@@ -37,7 +37,7 @@ impl<'a> KeyRange<'a> {
         }
     }
 
-    /// Whether the file has user keys in the range, by the first and the last of them.
+    /// Whether the range from the file's first user key to its last meets this one.
     pub(super) fn overlaps<C: Cmp>(&self, ucmp: &C, file: &(usize, FileMetaData)) -> bool
         ensures { result ≡ overlaps (C.cmp ucmp.now) self.now (new_file_of file.now) }
     {

@@ -1,13 +1,15 @@
 //! The seeks that a version's files may take.
-ghost use Rattle.std.specs.Prelude.{◌≡◌, map};
+ghost use Rattle.std.specs.Prelude.{◌≡◌, ◌<◌, ◌^◌, IfErr, IfOk, map};
 ghost use Rattle.std.specs.List.{list_any};
-ghost use Rattle.leveldb_version.specs.Version.{is_named, is_used_up, with_seek};
+ghost use Rattle.leveldb_base.specs.Error.{IsOutOfMemory};
+ghost use Rattle.leveldb_version.specs.Version.{after_seek, has_last_seek, is_named, with_first_seeks};
 
+use leveldb_base::error::Result;
 use leveldb_base::types::{FileMetaData, FileNum};
 
 /// Whether there is a file of this level and number that may take one more seek at most.
-pub(super) fn is_used_up(files: &[(usize, FileMetaData)], at: (usize, FileNum)) -> bool
-    ensures { result ≡ list_any (is_used_up at) files.now }
+pub(super) fn has_last_seek(files: &[(usize, FileMetaData)], at: (usize, FileNum)) -> bool
+    ensures { result ≡ list_any (has_last_seek at) files.now }
 {
     for file in files {
         if is_named(file, at) && file.1.allowed_seeks <= 1 {
@@ -17,9 +19,28 @@ pub(super) fn is_used_up(files: &[(usize, FileMetaData)], at: (usize, FileNum)) 
     false
 }
 
+// A seek costs about as much time as the compaction of this many bytes.
+const BYTES_A_SEEK: usize = 16 << 10;
+
+// A small file may take this many seeks.
+const LEAST_SEEKS: usize = 100;
+
+/// A copy of a file as a version gets it: it may take a hundred fruitless seeks before it is
+/// compacted, or one for each 16 KiB if that is more.
+pub(super) fn with_first_seeks(level: usize, file: &FileMetaData) -> Result<(usize, FileMetaData)>
+    ensures ok { IfOk result (λ copy. copy ≡ with_first_seeks (level, file.now)) }
+    ensures size { file.now.size < 2 ^ 64 }
+    ensures memory { IfErr result IsOutOfMemory }
+{
+    let seeks = (file.size / BYTES_A_SEEK).max(LEAST_SEEKS);
+    let mut copy = file.clone()?;
+    copy.allowed_seeks = seeks;
+    Ok((level, copy))
+}
+
 /// Takes one off the seeks of the file of this level and number, if it has any.
 pub(super) fn take_seek(files: &mut [(usize, FileMetaData)], at: (usize, FileNum))
-    ensures { files.new ≡ map (with_seek at) files.old }
+    ensures { files.new ≡ map (after_seek at) files.old }
 {
     for file in files.iter_mut() {
         take_seek_if_named(file, at);
@@ -28,7 +49,7 @@ pub(super) fn take_seek(files: &mut [(usize, FileMetaData)], at: (usize, FileNum
 
 // Takes one off the seeks of the file, if it has any and has this level and number.
 fn take_seek_if_named(file: &mut (usize, FileMetaData), at: (usize, FileNum))
-    ensures { file.new ≡ with_seek at file.old }
+    ensures { file.new ≡ after_seek at file.old }
 {
     if is_named(file, at) {
         file.1.allowed_seeks = file.1.allowed_seeks.saturating_sub(1);

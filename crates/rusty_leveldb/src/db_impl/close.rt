@@ -4,7 +4,7 @@ ghost use Rattle.leveldb_env.specs.Env.{lock_set, same, ChangesFiles, FilesUncha
 ghost use Rattle.rusty_leveldb.specs.State.{close};
 ghost use Rattle.rusty_leveldb.specs.Serves.{done_or};
 ghost use Rattle.leveldb_store.specs.BuildTable.{choices_of};
-ghost use Rattle.leveldb_store.specs.Format.{format_of};
+ghost use Rattle.leveldb_version.specs.Format.{format_of};
 ghost use Rattle.rusty_leveldb.specs.Calls.{EngineServes, EngineAbandons};
 
 use super::engine::{Engine, Mode};

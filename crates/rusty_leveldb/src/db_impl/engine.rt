@@ -4,7 +4,7 @@ ghost use Rattle.leveldb_base.specs.History.{Item};
 ghost use Rattle.rusty_leveldb.specs.State.{open_mode, write, refused};
 ghost use Rattle.rusty_leveldb.specs.Serves.{refusal_of};
 ghost use Rattle.rusty_leveldb.specs.Engine.{IsClosed, RefusedAsClosed, RefusedByMode, AnswersStill, mode_in};
-ghost use Rattle.leveldb_store.specs.Format.{format_of};
+ghost use Rattle.leveldb_version.specs.Format.{format_of};
 
 use leveldb_base::cmp::{Cmp, UserCmp};
 use leveldb_base::error::{Result, StatusCode, err};
@@ -13,6 +13,7 @@ use leveldb_env::env::Env;
 use leveldb_env::filter::FilterPolicy;
 use leveldb_env::options::Options;
 use leveldb_store::open_store::OpenStore;
+use leveldb_version::table_cache::TableCache;
 use std::alloc::Global;
 
 /// Whether a store was closed.
@@ -27,15 +28,17 @@ pub enum Mode {
 }
 
 /// A store that was opened, without its environment. Its lock stays held until `close` or `abandon`
-/// gives it back.
+/// gives it back. `T` holds its open tables; there are calls only for the default.
 #[derive(Drop)]
-pub struct Engine<E: Env, C: Cmp, FP> {
+pub struct Engine<E: Env, C: Cmp, FP, T = TableCache<E, C, FP>> {
     pub(crate) alloc: Global,
     // What it was opened with.
     pub(crate) options: Options<C, FP>,
     // The name of the lock.
     pub(crate) lock: String,
     pub(crate) store: OpenStore<E, C>,
+    // A parameter, since no contract may name a type that has tables beside the options' boxes.
+    pub(crate) tables: T,
     pub(crate) mode: Mode,
 }
 

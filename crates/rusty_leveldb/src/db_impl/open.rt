@@ -3,6 +3,7 @@ ghost use Rattle.std.specs.Prelude.{◌≡◌, is_some};
 ghost use Rattle.rusty_leveldb.specs.Engine.{opening_of};
 ghost use Rattle.leveldb_store.specs.BuildTable.{choices_of};
 ghost use Rattle.leveldb_store.specs.OpenStore.{IsUnbroken};
+ghost use Rattle.leveldb_store.specs.OpenTables.{ClosesObsolete};
 ghost use Rattle.leveldb_store.specs.Room.{TidiesUp};
 ghost use Rattle.leveldb_store.specs.SoundCall.{TimeGoesOn};
 ghost use Rattle.rusty_leveldb.specs.Calls.{EngineOpens};
@@ -19,6 +20,7 @@ use leveldb_env::filter::{FilterPolicy, InternalFilterPolicy};
 use leveldb_env::infolog::Logger;
 use leveldb_env::options::Options;
 use leveldb_store::open_store::OpenStore;
+use leveldb_version::table_cache::TableCache;
 use std::alloc::Global;
 
 impl<E: Env, C: UserCmp + Copy, FP: FilterPolicy + Copy> Engine<E, C, FP> {
@@ -44,17 +46,19 @@ impl<E: Env, C: UserCmp + Copy, FP: FilterPolicy + Copy> Engine<E, C, FP> {
         check_name(alloc, name)?;
         options.check(alloc)?;
         let lock = lock_name(alloc, name)?;
+        let mut tables = TableCache::new(alloc, name, &options)?;
         env.mkdir(name)?;
         env.lock(&lock)?;
         let mut options = options;
         match OpenStore::open(alloc, env, name, &options) {
             Ok(store) => {
-                tidy_up(&store, env, &mut options.log);
+                tidy_up(&store, env, &mut tables, &mut options.log);
                 Ok(Engine {
                     alloc,
                     options,
                     lock,
                     store,
+                    tables,
                     mode: Mode::Open,
                 })
             }
@@ -66,23 +70,26 @@ impl<E: Env, C: UserCmp + Copy, FP: FilterPolicy + Copy> Engine<E, C, FP> {
     }
 }
 
-// Deletes the obsolete files of a store. What fails of that is a line for `log`, if it is one.
-fn tidy_up<E: Env, C: UserCmp + Copy>(
+// Deletes the obsolete files of a store, and closes their tables. What fails of that is a line for
+// `log`, if it is one.
+fn tidy_up<E: Env, C: UserCmp + Copy, FP: FilterPolicy + Copy>(
     store: &OpenStore<E, C>,
     env: &mut E,
+    tables: &mut TableCache<E, C, FP>,
     log: &mut Option<Logger>,
 )
     requires { IsUnbroken store.now }
     ensures tidies { TidiesUp E.Env (C.cmp store.now.cmp) store.now env.old env.new }
+    ensures closes { ClosesObsolete E.Env store.now.set env.old tables.old env.new tables.new }
     ensures time { TimeGoesOn E.Env env.old env.new }
     ensures sink { is_some log.new ≡ is_some log.old }
 {
     match log.take() {
         Some(logger) => {
             let mut sink = InfoLog(logger);
-            store.tidy_up(env, &mut sink);
+            store.tidy_up(env, tables, &mut sink);
             *log = Some(sink.0);
         }
-        None => store.tidy_up(env, &mut NoLog),
+        None => store.tidy_up(env, tables, &mut NoLog),
     }
 }

@@ -34,6 +34,6 @@ impl<E: Env, C: UserCmp + Copy, FP: FilterPolicy + Copy> Engine<E, C, FP> {
             );
         }
         self.options.cmp = self.store.cmp();
-        self.store.get(env, &self.options, key)
+        self.store.get(env, &self.options, &mut self.tables, key)
     }
 }

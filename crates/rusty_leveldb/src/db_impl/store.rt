@@ -5,7 +5,7 @@ ghost use Rattle.rusty_leveldb.specs.State.{write, get, flush, close};
 ghost use Rattle.rusty_leveldb.specs.Serves.{done_or, found_or};
 ghost use Rattle.rusty_leveldb.specs.Engine.{opening_of};
 ghost use Rattle.leveldb_store.specs.BuildTable.{choices_of};
-ghost use Rattle.leveldb_store.specs.Format.{format_of};
+ghost use Rattle.leveldb_version.specs.Format.{format_of};
 ghost use Rattle.rusty_leveldb.specs.Calls.{EngineServes, EngineAbandons, EngineOpens, result_map};
 
 use super::engine::Engine;

@@ -4,8 +4,9 @@ ghost use Rattle.leveldb_mem.specs.WriteBatch.{item_of};
 ghost use Rattle.rusty_leveldb.specs.State.{write, flush};
 ghost use Rattle.rusty_leveldb.specs.Serves.{done_or};
 ghost use Rattle.leveldb_store.specs.BuildTable.{choices_of};
-ghost use Rattle.leveldb_store.specs.Format.{Agrees, format_of};
+ghost use Rattle.leveldb_version.specs.Format.{Agrees, format_of};
 ghost use Rattle.leveldb_store.specs.OpenStore.{IsUnbroken};
+ghost use Rattle.leveldb_store.specs.OpenTables.{ClosesObsolete};
 ghost use Rattle.leveldb_store.specs.Room.{MakesRoom};
 ghost use Rattle.leveldb_store.specs.SoundCall.{IsSoundCall};
 ghost use Rattle.rusty_leveldb.specs.Engine.{options_in};
@@ -75,9 +76,12 @@ impl<E: Env, C: UserCmp + Copy, FP: FilterPolicy + Copy> Engine<E, C, FP> {
         ensures sound { IsSoundCall E.Env (C.cmp self.old.store.cmp) (Agrees (format_of C.Cmp
             FP.FilterPolicy ⟦<CompressorList as Compressors>⟧.codings (options_in self.old)))
             self.old.store env.old result self.new.store env.new }
+        ensures closes { ClosesObsolete E.Env self.old.store.set env.old self.old.tables env.new
+            self.new.tables }
         ensures rest { self.new ≡ record self.old {
           store = self.new.store;
           options = record (options_in self.old) { log = self.new.options.log };
+          tables = self.new.tables;
         } }
         ensures sink { is_some self.new.options.log ≡ is_some self.old.options.log }
     {
@@ -85,11 +89,15 @@ impl<E: Env, C: UserCmp + Copy, FP: FilterPolicy + Copy> Engine<E, C, FP> {
         match self.options.log.take() {
             Some(logger) => {
                 let mut log = InfoLog(logger);
-                let made = self.store.make_room(env, &self.options, &mut log);
+                let made = self
+                    .store
+                    .make_room(env, &self.options, &mut self.tables, &mut log);
                 self.options.log = Some(log.0);
                 made
             }
-            None => self.store.make_room(env, &self.options, &mut NoLog),
+            None => self
+                .store
+                .make_room(env, &self.options, &mut self.tables, &mut NoLog),
         }
     }
 

@@ -6,7 +6,7 @@ ghost use Rattle.rusty_leveldb.specs.Causes.{IsLongBatch};
 ghost use Rattle.rusty_leveldb.specs.Engine.{Answers, opening_of};
 ghost use Rattle.rusty_leveldb.specs.Unopened.{OpenExcused};
 ghost use Rattle.leveldb_store.specs.BuildTable.{choices_of};
-ghost use Rattle.leveldb_store.specs.Format.{format_of};
+ghost use Rattle.leveldb_version.specs.Format.{format_of};
 ghost use Rattle.leveldb_store.specs.Room.{FailsFor};
 ghost use Rattle.leveldb_store.specs.SoundCall.{TimeGoesOn};
 ghost use Rattle.rusty_leveldb.specs.Serves.{done_or};

@@ -1,24 +1,35 @@
-use Rattle.std.proofs.Common.{◌∙◌, Ok, option_copied, sym, subst}
+use Rattle.std.proofs.Common.{◌∙◌, ap, option_copied, sym, subst}
 use Rattle.std.proofs.lemmas.Result.{err_from_is_err_and}
-use Rattle.leveldb_env.specs.contracts.compressor.CompressorListCompressors.TheImpl.{ghosts as compressors}
-use Rattle.leveldb_store.specs.Format.{format_of}
-use Rattle.leveldb_store.specs.Read.{LooksUpKey}
-use Rattle.leveldb_store.proofs.ReadLemmas.{got_in_memory, got_in_tables, not_got, or_none}
+use Rattle.leveldb_version.specs.Version.{VersionValue, charged}
+use Rattle.leveldb_store.specs.OpenStore.{IsCurrent, OpenStoreValue}
+use Rattle.leveldb_store.proofs.CurrentVersionLemmas.{charged_current}
+use Rattle.leveldb_store.proofs.ReadLemmas.{got_in_memory, got_in_tables}
 use Rattle.leveldb_store.proofs.open_store.OpenStore.get.Goals as goal
 
 pub returns-in-Some : goal.returns-in-Some
 returns-in-Some g c =
-    let format = format_of g.C.Cmp g.FP.FilterPolicy (compressors g.dyn-2).codings c.args.options.now in
-    got_in_memory g.E.Env (g.C.Cmp.cmp c.args.self.now.cmp) format c.args.self.now c.args.env.now c.args.key.now (option_copied c.in-Some.value) (λ older. c.in-Some.ensures older) c.copied.result c.copied.ensures.ok c.copied.ensures.memory
+    got_in_memory g.E.Env _ c.args.self.now c.args.env.now c.args.tables.now c.args.key.now (option_copied c.in-Some.value) (λ older. c.in-Some.ensures older) c.copied.result c.copied.ensures.ok c.copied.ensures.memory
 
 pub returns-in_err-found : goal.returns-in_err-found
 returns-in_err-found g c =
-    let format = format_of g.C.Cmp g.FP.FilterPolicy (compressors g.dyn-2).codings c.args.options.now in
     let failed = err_from_is_err_and c.from_residual.result c.from_residual.ensures.1 in
-    rw failed.1 (rw failed.2 (not_got g.E.Env (g.C.Cmp.cmp c.args.self.now.cmp) format c.args.self.now c.args.env.now c.args.key.now c.in_err-found.field-0.0 c.in_err-found.ensures))
+    let search = c.in_err-found.ensures in
+    rw (failed.1, failed.2)
+    (got_in_tables g.E.Env _ c.args.self.now c.args.env.now c.args.tables.now c.args.key.now search.current search.given (rw (← c.requires) at search.apart) (λ older. c.in_default.ensures older) _ search.searches)
+
+pub invariant_of-self : goal.invariant_of-self
+invariant_of-self g c =
+    let is = c.self.invariant in
+    let inside = c.self.inside in
+    let charged_is = ap (λ p. p.0) c.update_stats.ensures in
+    (is.0, is.1, is.2, is.3, is.4, is.5, is.6, is.7, subst (IsCurrent inside.cmp inside.versions) (sym charged_is) (charged_current inside.cmp inside.versions inside.current is.8 c.in_ok-found.stats.file), is.9, is.10)
 
 pub returns : goal.returns
 returns g c =
-    let format = format_of g.C.Cmp g.FP.FilterPolicy (compressors g.dyn-2).codings c.args.options.now in
-    subst (λ value. LooksUpKey g.E.Env (g.C.Cmp.cmp c.args.self.now.cmp) format c.args.self.now c.args.env.now c.args.key.now (Ok value) c.newest_in_tables.new.env) (or_none c.in_ok-found.found ∙ sym c.unwrap_or.ensures)
-    (got_in_tables g.E.Env (g.C.Cmp.cmp c.args.self.now.cmp) format c.args.self.now c.args.env.now c.args.key.now (λ older. c.in_default.ensures older) c.in_ok-found.found c.in_ok-found.ensures)
+    let old = c.args.self.now in
+    let search = c.in_ok-found.ensures in
+    let file = c.in_ok-found.stats.file in
+    let charged_is = ap (λ p. p.0) c.update_stats.ensures ∙ ap (λ v. (charged v.current file).0) c.self.view_is in
+    let new = ap (λ (v : OpenStoreValue g.row.C.Denot). record v { current = c.update_stats.new.self }) c.self.view_is ∙ ap (λ (v : VersionValue g.row.C.Denot). record old { current = v }) charged_is in
+    rw (c.unwrap_or.ensures, new)
+    (got_in_tables g.E.Env _ old c.args.env.now c.args.tables.now c.args.key.now search.current search.given (rw (← c.requires) at search.apart) (λ older. c.in_default.ensures older) _ search.searches)

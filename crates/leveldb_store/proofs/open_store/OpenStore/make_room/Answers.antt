@@ -1,5 +1,6 @@
 use Rattle.std.proofs.Common.{◌∙◌, Ok, ap, inl, refl}
 use Rattle.std.proofs.lemmas.Result.{err_from_is_err_and}
+use Rattle.leveldb_store.proofs.OpenTablesLemmas.{closes_after, closes_none, closes_then, no_removal}
 use Rattle.leveldb_store.proofs.RoomLemmas.{fails_first, no_room_made, room_tried, step_for, step_switched, step_tabled, usable_switched}
 use Rattle.leveldb_store.proofs.open_store.OpenStore.make_room.Goals as goal
 
@@ -85,3 +86,22 @@ returns-clause-sound g c =
     let all = step_tabled g.E.Env order _ old mid from at first.step first.numbers first.recent switched begun done.switches second c.table_if_waiting-2.result c.table_if_waiting-2.new.self c.table_if_waiting-2.new.env
     c.table_if_waiting-2.ensures.step in
     all.sound
+
+-- ---- the open tables
+
+pub returns-then-not-is_full-clause-closes : goal.returns-then-not-is_full-clause-closes
+returns-then-not-is_full-clause-closes g c =
+    no_removal g.E.Env c.args.self.now.set c.args.env.now c.args.env.now c.args.tables.now (λ modelled. refl)
+
+pub returns-in_err-switch_log-clause-closes : goal.returns-in_err-switch_log-clause-closes
+returns-in_err-switch_log-clause-closes g c =
+    let first = c.in_ok-table_if_waiting.ensures in
+    closes_then g.E.Env c.args.self.now.set c.table_if_waiting.new.self.set first.step.rest.store first.step.rest.numbers first.live first.closes
+    (closes_none g.E.Env c.table_if_waiting.new.self.set c.switch_log.new.self.set c.in_err-switch_log.ensures.switches.tables c.table_if_waiting.new.tables)
+
+pub returns-clause-closes : goal.returns-clause-closes
+returns-clause-closes g c =
+    let first = c.in_ok-table_if_waiting.ensures in
+    let done = c.in_ok-switch_log.ensures.switches in
+    closes_then g.E.Env c.args.self.now.set c.table_if_waiting.new.self.set first.step.rest.store first.step.rest.numbers first.live first.closes
+    (closes_after g.E.Env c.table_if_waiting.new.self.set c.switch_log.new.self.set done.rest.store done.rest.numbers done.tables c.table_if_waiting-2.ensures.closes)

@@ -3,6 +3,7 @@ use Rattle.std.specs.Prelude.{◌≢◌, IsTrue, string_bytes}
 use Rattle.leveldb_env.proofs.EnvLemmas.{Run-call, Run-mono}
 use Rattle.leveldb_env.specs.Env.{ListsChildren}
 use Rattle.leveldb_version.specs.VersionSetValue.{broken}
+use Rattle.leveldb_store.proofs.OpenTablesLemmas.{no_removal, removal_then}
 use Rattle.leveldb_store.proofs.RemoveLemmas.{RemovesObsolete-after, none_removed, removal_keeps, removing_after}
 use Rattle.leveldb_store.proofs.open_store.OpenStore.remove_obsolete.Goals as goal
 
@@ -26,7 +27,7 @@ returns-clause-removes g c =
     subst (λ s. ListsChildren (g.E.Env.observed from).disk.files s (map string_bytes c.deref-2.result.now)) folder
     (subst (λ items. ListsChildren (g.E.Env.observed from).disk.files c.deref.result.now (map string_bytes items)) (sym c.deref-2.ensures.value) (c.in_ok-names.ensures.ok modelled)) in
     RemovesObsolete-after g.E.Env set from usable mid (λ modelled. Run-call modelled c.in_ok-names.ensures.does) c.in_ok-names.ensures.cause.ok (map string_bytes c.deref-2.result.now) listed
-    c.remove_all.result c.remove_all.new.env c.remove_all.ensures c.in_ok-names.ensures.locks
+    c.remove_all.result c.remove_all.new.env c.remove_all.ensures.removes c.in_ok-names.ensures.locks
 
 pub returns-clause-keeps : goal.returns-clause-keeps
 returns-clause-keeps g c = λ modelled meaning allowed w.
@@ -35,4 +36,10 @@ returns-clause-keeps g c = λ modelled meaning allowed w.
     let mid = g.E.Env.observed c.children.new.self in
     let to = g.E.Env.observed c.remove_all.new.env in
     removal_keeps (g.C.Cmp.cmp old.cmp) meaning (λ store. IsTrue (allowed store)) old from to
-    (removing_after old.set from mid to (Run-call modelled c.in_ok-names.ensures.does) (c.remove_all.ensures.run modelled)) w
+    (removing_after old.set from mid to (Run-call modelled c.in_ok-names.ensures.does) (c.remove_all.ensures.removes.run modelled)) w
+
+pub returns-clause-closes : goal.returns-clause-closes
+returns-clause-closes g c =
+    removal_then g.E.Env c.args.self.now.set
+    (no_removal g.E.Env c.args.self.now.set c.args.env.now c.children.new.self c.args.tables.now (λ modelled. (Run-call modelled c.in_ok-names.ensures.does).has))
+    c.remove_all.ensures.closes

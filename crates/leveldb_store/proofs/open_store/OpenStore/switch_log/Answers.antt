@@ -1,10 +1,15 @@
-use Rattle.std.proofs.Common.{◌≡◌, ◌∙◌, ◌+◌, ◌<◌, ◌^◌, List, ℕ, Ok, Err, Some, ap, subst, sym}
+use Rattle.std.proofs.Common.{◌≡◌, ◌∙◌, ◌+◌, ◌<◌, ◌^◌, List, ℕ, Ok, Err, Some, ap, arith, subst, sym}
 use Rattle.std.specs.Prelude.{IsTrue}
 use Rattle.std.proofs.lemmas.Result.{err_from_is_err_and}
 use Rattle.leveldb_env.proofs.AppendedLemmas.{emptied_bytes, synced_bytes}
 use Rattle.leveldb_base.specs.History.{AreUpTo}
 use Rattle.leveldb_env.specs.Env.{BeforeOrAfter, ChangesFiles, emptied}
 use Rattle.leveldb_version.specs.Paths.{log_path}
+use Rattle.leveldb_version.specs.Search.{AreDisjointLevels}
+use Rattle.leveldb_version.specs.VersionEdit.{Edit}
+use Rattle.leveldb_version.specs.VersionSetValue.{VersionSetValue}
+use Rattle.leveldb_store.proofs.CurrentVersionLemmas.{still_current}
+use Rattle.leveldb_store.proofs.GivenNumbersLemmas.{live_given}
 use Rattle.leveldb_store.specs.OpenStore.{HasOwnManifest}
 use Rattle.leveldb_store.specs.Write.{SyncsLog}
 use Rattle.leveldb_store.specs.Written.{KeepsStore, SparesRest}
@@ -102,7 +107,7 @@ returns-clause-switches g c =
     let same = c.self-2.view_is ∙ c.in_ok-sync.ensures.syncs.ok ∙ given in
     let number_is = c.in_ok-number.ensures.number ∙ ap (λ v. v.set.next_file) c.self.view_is in
     switched g.E.Env old from more mid sync rest to (Ok c.in_ok-file.file) opening c.in_ok-file.ensures.locks _
-    (ap (λ v. v.cmp) same) (ap (λ v. v.set) same) (λ i. record { number = number_is i; writer = c.new.ensures i })
+    (ap (λ v. v.cmp) same) (ap (λ v. v.current) same) (ap (λ v. v.set) same) (λ i. record { number = number_is i; writer = c.new.ensures i })
     (ap (λ m. m.kept.entries) c.replace.ensures.after ∙ c.new-fresh.ensures.entries)
     (ap (λ m. m.kept.places) c.replace.ensures.after ∙ c.new-fresh.ensures.places)
     (ap (λ m. Some m.kept) c.replace.ensures.value ∙ ap (λ v. Some v.recent) same) c.in_ok-file.ensures.cause.ok
@@ -144,6 +149,9 @@ invariant_of-self-in_err-path g c =
       λ e. c.self.invariant.5 (sym (ap (λ set. set.manifest) given) ∙ e),
       subst (λ set. AreUpTo set.last_sequence c.self.inside.recent.kept.entries) (sym given) c.self.invariant.6,
       c.self.invariant.7,
+      still_current c.self.inside.cmp c.self.inside.versions c.new_file_number.new.self c.self.inside.current (ap (λ (s : VersionSetValue). s.full) given) c.self.invariant.8,
+      live_given c.self.inside.versions c.new_file_number.new.self (ap (λ (s : VersionSetValue). s.full) given) (omega (arith, ap (λ (s : VersionSetValue). s.next_file) given)) c.self.invariant.9,
+      subst (λ (full : Edit). AreDisjointLevels (g.C.Cmp.cmp c.self.inside.cmp) full.added) (sym (ap (λ (s : VersionSetValue). s.full) given)) c.self.invariant.10,
     )
 
 pub invariant_of-self-2 : goal.invariant_of-self-2
@@ -157,6 +165,9 @@ invariant_of-self-2 g c =
       λ e. c.self.invariant.5 (sym (ap (λ set. set.manifest) given) ∙ e),
       subst (λ set. AreUpTo set.last_sequence c.self.inside.recent.kept.entries) (sym given) c.self.invariant.6,
       c.self.invariant.7,
+      still_current c.self.inside.cmp c.self.inside.versions c.new_file_number.new.self c.self.inside.current (ap (λ (s : VersionSetValue). s.full) given) c.self.invariant.8,
+      live_given c.self.inside.versions c.new_file_number.new.self (ap (λ (s : VersionSetValue). s.full) given) (omega (arith, ap (λ (s : VersionSetValue). s.next_file) given)) c.self.invariant.9,
+      subst (λ (full : Edit). AreDisjointLevels (g.C.Cmp.cmp c.self.inside.cmp) full.added) (sym (ap (λ (s : VersionSetValue). s.full) given)) c.self.invariant.10,
     )
 
 pub invariant_of-self : goal.invariant_of-self
@@ -170,6 +181,9 @@ invariant_of-self g c =
       λ e. c.self.invariant.5 (sym (ap (λ set. set.manifest) same) ∙ e),
       subst (λ set. AreUpTo set.last_sequence c.self.inside.recent.kept.entries) (sym same) c.self.invariant.6,
       c.self.invariant.7,
+      still_current c.self.inside.cmp c.self.inside.versions c.new_file_number.new.self c.self.inside.current (ap (λ (s : VersionSetValue). s.full) same) c.self.invariant.8,
+      live_given c.self.inside.versions c.new_file_number.new.self (ap (λ (s : VersionSetValue). s.full) same) (omega (arith, ap (λ (s : VersionSetValue). s.next_file) same)) c.self.invariant.9,
+      subst (λ (full : Edit). AreDisjointLevels (g.C.Cmp.cmp c.self.inside.cmp) full.added) (sym (ap (λ (s : VersionSetValue). s.full) same)) c.self.invariant.10,
     )
 
 -- ---- time and bytes, and what breaks the store

@@ -1,5 +1,6 @@
-use Rattle.std.proofs.Common.{◌≡◌, ◌∙◌, Ok, arith, false, sym, true}
+use Rattle.std.proofs.Common.{◌≡◌, ◌∙◌, Ok, arith, false, refl, sym, true}
 use Rattle.std.proofs.lemmas.Result.{err_from_is_err_and}
+use Rattle.leveldb_store.proofs.OpenTablesLemmas.{closes_after, closes_none, no_removal}
 use Rattle.leveldb_store.proofs.RoomLemmas.{number_tabled, step_in_order, step_of_none, step_of_table, step_of_tidying, step_then, usable_tabled}
 use Rattle.leveldb_store.proofs.open_store.OpenStore.table_if_waiting.Goals.{then-has_waiting+in_ok-table_waiting, else-has_waiting}
 use Rattle.leveldb_store.proofs.open_store.OpenStore.table_if_waiting.Goals as goal
@@ -50,4 +51,33 @@ returns-clause-numbers g c =
           (number_tabled g.E.Env (g.C.Cmp.cmp c.args.self.now.cmp) _ c.args.self.now c.args.env.now c.requires.usable w.table_waiting.new.self w.table_waiting.new.env
           w.in_ok-table_waiting.ensures.tables)
       | else-has_waiting w ↦ rw w.self-is (omega arith)
+    ]
+
+-- ---- the open tables
+
+pub returns-in_err-table_waiting-clause-closes : goal.returns-in_err-table_waiting-clause-closes
+returns-in_err-table_waiting-clause-closes g c =
+    closes_none g.E.Env c.args.self.now.set c.table_waiting.new.self.set c.in_err-table_waiting.ensures.tables.tables c.args.tables.now
+
+pub returns-in_err-table_waiting-clause-live : goal.returns-in_err-table_waiting-clause-live
+returns-in_err-table_waiting-clause-live g c = c.in_err-table_waiting.ensures.tables.tables.live
+
+pub returns-clause-live : goal.returns-clause-live
+returns-clause-live g c =
+    elim c.if-has_waiting.branch [
+      | then-has_waiting+in_ok-table_waiting w ↦ rw w.self-is w.in_ok-table_waiting.ensures.tables.tables.live
+      | else-has_waiting w ↦ rw w.self-is (λ file there. there)
+    ]
+
+pub returns-clause-closes : goal.returns-clause-closes
+returns-clause-closes g c =
+    let old = c.args.self.now in
+    let from = c.args.env.now in
+    elim c.if-has_waiting.branch [
+      | then-has_waiting+in_ok-table_waiting w ↦
+          let made = w.in_ok-table_waiting.ensures.tables in
+          rw (w.env-is, w.tables-is)
+          (closes_after g.E.Env old.set w.table_waiting.new.self.set made.rest.store made.rest.numbers made.tables w.tidy_up.ensures.closes)
+      | else-has_waiting w ↦
+          rw (w.env-is, w.tables-is) (no_removal g.E.Env old.set from from c.args.tables.now (λ modelled. refl))
     ]

@@ -1,11 +1,20 @@
-use Rattle.std.proofs.Common.{◌≡◌, ◌≢◌, ◌∙◌, Bool, true, false, None, ap, subst, sym}
+use Rattle.std.proofs.Common.{◌≡◌, ◌≢◌, ◌∙◌, Bool, true, false, None, ap, map, arith, subst, sym}
 use Rattle.std.specs.Cmp.{IsTotalOrder}
+use Rattle.std.specs.Option.{option_map}
+use Rattle.leveldb_base.specs.Entries.{internal_pair}
+use Rattle.leveldb_version.specs.VersionEdit.{new_file_of}
+use Rattle.leveldb_store.specs.Written.{waiting_entries}
 use Rattle.std.proofs.lemmas.Result.{err_from_is_err_and}
 use Rattle.leveldb_base.specs.CmpLaws.{total_order}
+use Rattle.leveldb_version.specs.Search.{AreDisjointLevels}
+use Rattle.leveldb_version.specs.VersionEdit.{Edit}
 use Rattle.leveldb_version.specs.VersionSetValue.{VersionSetValue, broken}
 use Rattle.leveldb_base.specs.History.{AreUpTo}
+use Rattle.leveldb_store.proofs.CurrentVersionLemmas.{still_current}
+use Rattle.leveldb_store.proofs.GivenNumbersLemmas.{live_given}
 use Rattle.leveldb_store.specs.OpenStore.{HasOwnManifest, OpenStoreValue}
-use Rattle.leveldb_store.proofs.TableWaitingLemmas.{in_use_of, keeps_done, keeps_failed, keeps_unmade, tables_logged, tables_unbuilt, tables_unlogged, tables_unpicked, unlogged_sound, waiting_has_entries}
+use Rattle.leveldb_store.proofs.LevelsApartLemmas.{apart_with_picked, range_in_order}
+use Rattle.leveldb_store.proofs.TableWaitingLemmas.{in_use_of, keeps_done, keeps_failed, keeps_unmade, keeps_with_current, some_pairs, tables_logged, tables_unbuilt, tables_unlogged, unlogged_sound, waiting_has_entries}
 use Rattle.leveldb_store.proofs.SoundLemmas.{edit_goes_on, given_unbroken, goes_on_then, sound_ok, sound_unbroken, table_goes_on}
 use Rattle.leveldb_store.proofs.open_store.OpenStore.table_waiting.Goals as goal
 
@@ -27,21 +36,6 @@ returns-in_err-file-clause-keeps g c =
     (λ modelled meaning agrees. keeps_unmade (g.C.Cmp.cmp c.self.inside.cmp) meaning _ c.in_ok-number.ensures.fits (g.E.Env.observed c.args.env.now) (g.E.Env.observed c.build_waiting.new.env)
     (made.run modelled) (made.bytes modelled))
 
-pub returns-in_err-level-clause-tables : goal.returns-in_err-level-clause-tables
-returns-in_err-level-clause-tables g c =
-    let p = err_from_is_err_and c.from_residual-in_err-level.result c.from_residual-in_err-level.ensures.1 in
-    let usable = not_broken c.self.inside.versions c.is_broken.result c.is_broken.ensures.1 c.if-is_broken.false in
-    let made = rw (c.in_ok-number.ensures.number, c.in_ok-number.ensures.ok) at c.in_ok-file.ensures.makes in
-    rw (← c.self.view_is, c.in_ok-number.ensures.ok, p.1, p.2)
-    (tables_unpicked g.E.Env _ _ c.args.env.now usable c.in_ok-number.ensures.fits c.build_waiting.new.env c.in_ok-file.file made _ c.in_err-level.ensures.memory)
-
-pub returns-in_err-level-clause-keeps : goal.returns-in_err-level-clause-keeps
-returns-in_err-level-clause-keeps g c =
-    let made = rw (c.in_ok-number.ensures.number, c.in_ok-number.ensures.ok) at c.in_ok-file.ensures.makes in
-    rw (← c.self.view_is, c.in_ok-number.ensures.ok)
-    (λ modelled meaning agrees. keeps_unmade (g.C.Cmp.cmp c.self.inside.cmp) meaning _ c.in_ok-number.ensures.fits (g.E.Env.observed c.args.env.now) (g.E.Env.observed c.build_waiting.new.env)
-    (made.run modelled) (made.bytes modelled))
-
 pub returns-in_err-log_table-clause-tables : goal.returns-in_err-log_table-clause-tables
 returns-in_err-log_table-clause-tables g c =
     let p = err_from_is_err_and c.from_residual-in_err-log_table.result c.from_residual-in_err-log_table.ensures.1 in
@@ -49,8 +43,8 @@ returns-in_err-log_table-clause-tables g c =
     let made = rw (c.in_ok-number.ensures.number, c.in_ok-number.ensures.ok) at c.in_ok-file.ensures.makes in
     let logs = rw c.in_ok-number.ensures.ok at c.in_err-log_table.ensures.logs in
     let used = in_use_of c.self.inside.versions.manifest c.self.invariant.5 usable in
-    rw (← c.self.view_is, c.log_table.ensures.rest, p.1, p.2)
-    (tables_unlogged g.E.Env _ _ c.args.env.now usable c.in_ok-number.ensures.fits c.build_waiting.new.env c.in_ok-level.level c.in_ok-file.file made used.0 used.1 c.self.invariant.4 c.log_table.ensures.locks
+    rw (← c.self.view_is, c.in_err-log_table.ensures.err, p.1, p.2)
+    (tables_unlogged g.E.Env _ _ c.args.env.now usable c.in_ok-number.ensures.fits c.build_waiting.new.env c.level_for-level.result c.in_ok-file.file made used.0 used.1 c.self.invariant.4 c.log_table.ensures.locks
     c.log_table.new.self.set _ (logs used.0 used.1))
 
 pub returns-in_err-log_table-clause-keeps : goal.returns-in_err-log_table-clause-keeps
@@ -61,9 +55,9 @@ returns-in_err-log_table-clause-keeps g c =
     let some = waiting_has_entries c.self.inside.waiting (rw (← c.self.view_is) at c.requires.waits) c.self.invariant.7 in
     let order = rw (← c.self.view_is) at c.requires.order in
     let total : IsTotalOrder (g.C.Cmp.cmp cmp) = total_order (g.met.C.Cmp.preorder cmp) (g.met.C.UserCmp.accepts_all cmp) in
-    let picked = rw c.in_ok-number.ensures.ok at c.in_ok-level.ensures.level in
-    rw (← c.self.view_is, c.log_table.ensures.rest)
-    (λ modelled meaning agrees. keeps_failed g.E.Env _ _ c.args.env.now c.build_waiting.new.env c.in_ok-level.level c.in_ok-file.file some c.build_waiting.ensures.entries made modelled (g.C.Cmp.cmp cmp) order meaning agrees
+    let picked = rw c.in_ok-number.ensures.ok at c.level_for-level.ensures.level in
+    rw (← c.self.view_is, c.in_err-log_table.ensures.err)
+    (λ modelled meaning agrees. keeps_failed g.E.Env _ _ c.args.env.now c.build_waiting.new.env c.level_for-level.result c.in_ok-file.file some c.build_waiting.ensures.entries made modelled (g.C.Cmp.cmp cmp) order meaning agrees
     c.in_ok-number.ensures.fits total picked c.log_table.new.env c.log_table.new.self.set _ logs)
 
 pub returns-clause-tables : goal.returns-clause-tables
@@ -74,10 +68,11 @@ returns-clause-tables g c =
     let used = in_use_of c.self.inside.versions.manifest c.self.invariant.5 usable in
     let gone = ap (λ (v : OpenStoreValue g.row.C.Denot). record v { waiting = None }) (c.self-2.view_is ∙ c.log_table.ensures.rest) in
     let order = rw (← c.self.view_is) at c.requires.order in
-    let picked = rw (c.in_ok-number.ensures.ok, ← order) at c.in_ok-level.ensures.level in
+    let picked = rw (c.in_ok-number.ensures.ok, ← order) at c.level_for-level.ensures.level in
+    let gains = rw (← order) at c.in_ok-log_table.ensures.current in
     rw (← c.self.view_is, gone)
-    (tables_logged g.E.Env _ _ c.args.env.now usable c.in_ok-number.ensures.fits c.build_waiting.new.env c.in_ok-level.level c.in_ok-file.file made used.0 used.1 c.self.invariant.4 c.log_table.ensures.locks
-    c.log_table.new.self.set picked (logs used.0 used.1))
+    (tables_logged g.E.Env _ _ c.args.env.now usable c.in_ok-number.ensures.fits c.build_waiting.new.env c.level_for-level.result c.in_ok-file.file made used.0 used.1 c.self.invariant.4 c.log_table.ensures.locks
+    c.log_table.new.self.set c.self.invariant.9 c.log_table.new.self.current gains picked (logs used.0 used.1))
 
 pub returns-clause-keeps : goal.returns-clause-keeps
 returns-clause-keeps g c =
@@ -87,11 +82,11 @@ returns-clause-keeps g c =
     let some = waiting_has_entries c.self.inside.waiting (rw (← c.self.view_is) at c.requires.waits) c.self.invariant.7 in
     let order = rw (← c.self.view_is) at c.requires.order in
     let total : IsTotalOrder (g.C.Cmp.cmp cmp) = total_order (g.met.C.Cmp.preorder cmp) (g.met.C.UserCmp.accepts_all cmp) in
-    let picked = rw c.in_ok-number.ensures.ok at c.in_ok-level.ensures.level in
+    let picked = rw c.in_ok-number.ensures.ok at c.level_for-level.ensures.level in
     let gone = ap (λ (v : OpenStoreValue g.row.C.Denot). record v { waiting = None }) (c.self-2.view_is ∙ c.log_table.ensures.rest) in
     rw (← c.self.view_is, gone)
-    (λ modelled meaning agrees. keeps_done g.E.Env _ _ c.args.env.now c.build_waiting.new.env c.in_ok-level.level c.in_ok-file.file some c.build_waiting.ensures.entries made modelled (g.C.Cmp.cmp cmp) order meaning agrees
-    c.in_ok-number.ensures.fits total picked c.log_table.new.env c.log_table.new.self.set logs)
+    (λ modelled meaning agrees. keeps_with_current c.log_table.new.self.current (g.C.Cmp.cmp cmp) meaning _ (g.E.Env.observed c.args.env.now) _ (g.E.Env.observed c.log_table.new.env) (keeps_done g.E.Env _ _ c.args.env.now c.build_waiting.new.env c.level_for-level.result c.in_ok-file.file some c.build_waiting.ensures.entries made modelled (g.C.Cmp.cmp cmp) order meaning agrees
+    c.in_ok-number.ensures.fits total picked c.log_table.new.env c.log_table.new.self.set logs))
 
 pub invariant_of-self : goal.invariant_of-self
 invariant_of-self g c =
@@ -104,6 +99,9 @@ invariant_of-self g c =
       λ e. c.self.invariant.5 (sym (ap (λ (set : VersionSetValue). set.manifest) same) ∙ e),
       subst (λ (set : VersionSetValue). AreUpTo set.last_sequence c.self.inside.recent.kept.entries) (sym same) c.self.invariant.6,
       c.self.invariant.7,
+      still_current c.self.inside.cmp c.self.inside.versions c.new_file_number.new.self c.self.inside.current (ap (λ (s : VersionSetValue). s.full) same) c.self.invariant.8,
+      live_given c.self.inside.versions c.new_file_number.new.self (ap (λ (s : VersionSetValue). s.full) same) (omega (arith, ap (λ (s : VersionSetValue). s.next_file) same)) c.self.invariant.9,
+      subst (λ (full : Edit). AreDisjointLevels (g.C.Cmp.cmp c.self.inside.cmp) full.added) (sym (ap (λ (s : VersionSetValue). s.full) same)) c.self.invariant.10,
     )
 
 pub invariant_of-self-2 : goal.invariant_of-self-2
@@ -117,6 +115,9 @@ invariant_of-self-2 g c =
       λ e. c.self.invariant.5 (sym (ap (λ (set : VersionSetValue). set.manifest) given) ∙ e),
       subst (λ (set : VersionSetValue). AreUpTo set.last_sequence c.self.inside.recent.kept.entries) (sym given) c.self.invariant.6,
       c.self.invariant.7,
+      still_current c.self.inside.cmp c.self.inside.versions c.new_file_number.new.self c.self.inside.current (ap (λ (s : VersionSetValue). s.full) given) c.self.invariant.8,
+      live_given c.self.inside.versions c.new_file_number.new.self (ap (λ (s : VersionSetValue). s.full) given) (omega (arith, ap (λ (s : VersionSetValue). s.next_file) given)) c.self.invariant.9,
+      subst (λ (full : Edit). AreDisjointLevels (g.C.Cmp.cmp c.self.inside.cmp) full.added) (sym (ap (λ (s : VersionSetValue). s.full) given)) c.self.invariant.10,
     )
 
 -- ---- time and bytes, and what breaks the store
@@ -127,12 +128,6 @@ returns-in_err-file-clause-sound g c =
     rw (← c.self.view_is, c.in_ok-number.ensures.ok, p.1)
     (sound_unbroken g.E.Env _ _ _ c.args.env.now _ _ c.build_waiting.new.env (table_goes_on g.E.Env c.in_err-file.ensures.makes) (given_unbroken _))
 
-pub returns-in_err-level-clause-sound : goal.returns-in_err-level-clause-sound
-returns-in_err-level-clause-sound g c =
-    let p = err_from_is_err_and c.from_residual-in_err-level.result c.from_residual-in_err-level.ensures.1 in
-    rw (← c.self.view_is, c.in_ok-number.ensures.ok, p.1)
-    (sound_unbroken g.E.Env _ _ _ c.args.env.now _ _ c.build_waiting.new.env (table_goes_on g.E.Env c.in_ok-file.ensures.makes) (given_unbroken _))
-
 pub returns-in_err-log_table-clause-sound : goal.returns-in_err-log_table-clause-sound
 returns-in_err-log_table-clause-sound g c =
     let p = err_from_is_err_and c.from_residual-in_err-log_table.result c.from_residual-in_err-log_table.ensures.1 in
@@ -140,8 +135,8 @@ returns-in_err-log_table-clause-sound g c =
     let made = rw (c.in_ok-number.ensures.number, c.in_ok-number.ensures.ok) at c.in_ok-file.ensures.makes in
     let logs = rw c.in_ok-number.ensures.ok at c.in_err-log_table.ensures.logs in
     let used = in_use_of c.self.inside.versions.manifest c.self.invariant.5 usable in
-    rw (← c.self.view_is, c.log_table.ensures.rest, p.1, p.2)
-    (unlogged_sound g.E.Env _ _ c.args.env.now usable c.in_ok-number.ensures.fits c.build_waiting.new.env c.in_ok-level.level c.in_ok-file.file made used.0 used.1 c.self.invariant.4 c.log_table.ensures.locks
+    rw (← c.self.view_is, c.in_err-log_table.ensures.err, p.1, p.2)
+    (unlogged_sound g.E.Env _ _ c.args.env.now usable c.in_ok-number.ensures.fits c.build_waiting.new.env c.level_for-level.result c.in_ok-file.file made used.0 used.1 c.self.invariant.4 c.log_table.ensures.locks
     c.log_table.new.self.set _ _ _ _ (logs used.0 used.1))
 
 pub returns-clause-sound : goal.returns-clause-sound
@@ -154,4 +149,20 @@ returns-clause-sound g c =
     let logged = logs used.0 used.1 in
     sound_ok g.E.Env _ _ _ c.args.env.now tt _ to
     (goes_on_then g.E.Env (table_goes_on g.E.Env c.in_ok-file.ensures.makes)
-    (edit_goes_on g.E.Env used.0 _ _ _ (c.in_ok-file.ensures.makes.fits c.in_ok-level.level) mid to _ _ logged))
+    (edit_goes_on g.E.Env used.0 _ _ _ (c.in_ok-file.ensures.makes.fits c.level_for-level.result) mid to _ _ logged))
+
+-- ---- the levels
+
+pub log_table-requires-clause-apart : goal.log_table-requires-clause-apart
+log_table-requires-clause-apart g c =
+    let cmp = g.C.Cmp.cmp c.self.inside.cmp in
+    let entries = waiting_entries (option_map (λ memtable. memtable.kept) c.self.inside.waiting) in
+    let total : IsTotalOrder cmp = total_order (g.met.C.Cmp.preorder c.self.inside.cmp) (g.met.C.UserCmp.accepts_all c.self.inside.cmp) in
+    let some = some_pairs entries (waiting_has_entries c.self.inside.waiting (rw (← c.self.view_is) at c.requires.waits) c.self.invariant.7) in
+    let order = rw (← c.self.view_is) at c.requires.order in
+    let made = c.in_ok-file.ensures.makes.made some in
+    let rising = rw order at c.in_ok-file.ensures.rising in
+    let in_order = range_in_order cmp total (map internal_pair entries) rising c.in_ok-file.file.smallest c.in_ok-file.file.largest made.smallest made.largest in
+    let picked = rw c.in_ok-number.ensures.ok at c.level_for-level.ensures.level in
+    rw c.in_ok-number.ensures.ok
+    (apart_with_picked cmp c.self.inside.versions.full.added (new_file_of (c.level_for-level.result, c.in_ok-file.file)) picked in_order c.self.invariant.10)

@@ -2,7 +2,8 @@ use Rattle.std.proofs.Common.{◌∙◌, ℕ, ap, refl, sym}
 use Rattle.std.specs.Prelude.{max}
 use Rattle.std.proofs.lemmas.Result.{err_from_is_err_and}
 use Rattle.leveldb_version.specs.Paths.{log_path}
-use Rattle.leveldb_store.proofs.OpeningBeginLemmas.{all_begun, edit_refused, ended_made, ended_own, ended_path, ended_up_to, log_refused, neither, replay_refused}
+use Rattle.leveldb_store.proofs.CurrentVersionLemmas.{made_current}
+use Rattle.leveldb_store.proofs.OpeningBeginLemmas.{all_begun, edit_refused, ended_apart, ended_given, ended_made, ended_own, ended_path, ended_refused, ended_up_to, log_refused, neither, replay_refused}
 use Rattle.leveldb_store.proofs.opening.begin.begin_writing.Goals as goal
 
 pub returns-in_err-replay-clause-begins : goal.returns-in_err-replay-clause-begins
@@ -30,6 +31,17 @@ returns-in_err-log_if-clause-begins g c =
     c.replay_logs.new.env c.in_ok-replay.ensures.replays c.set_last_seq.new.self set2 c.args.options.now.cmp (c.in_ok-log.log, c.in_ok-log.recent) c.open_log.new.versions c.open_log.new.env
     c.in_ok-log.ensures.opens _ (neither c.args.set.is_anew c.in_ok-replay.replay.leaves_log) _ c.log_if.new.versions c.log_if.new.env c.in_err-log_if.ensures.logs
     c.in_err-log_if.ensures.locks)
+
+pub returns-in_err-current-clause-begins : goal.returns-in_err-current-clause-begins
+returns-in_err-current-clause-begins g c =
+    let failed = err_from_is_err_and c.from_residual-in_err-current.result c.from_residual-in_err-current.ensures.1 in
+    let set1 = c.replay_logs.new.versions in
+    let last = c.max.ensures ∙ ap (λ (n : ℕ). max n c.in_ok-replay.replay.last) c.last_seq.ensures in
+    let set2 = c.set_last_seq.ensures ∙ ap (λ (n : ℕ). record set1 { last_sequence = n }) last in
+    rw failed.1 (ended_refused g.E.Env _ _ c.args.name.now c.args.set.is_anew c.args.set.versions c.args.set.logs.keys c.args.env.now c.requires c.in_ok-replay.replay set1
+    c.replay_logs.new.env c.in_ok-replay.ensures.replays c.set_last_seq.new.self set2 c.args.options.now.cmp (c.in_ok-log.log, c.in_ok-log.recent) c.open_log.new.versions c.open_log.new.env
+    c.in_ok-log.ensures.opens _ (neither c.args.set.is_anew c.in_ok-replay.replay.leaves_log) c.in_ok-log_if.field-0 c.log_if.new.versions c.log_if.new.env c.in_ok-log_if.ensures.logs
+    c.in_ok-log_if.ensures.locks _ (rw failed.2 c.in_err-current.ensures.memory))
 
 pub invariant_of-result : goal.invariant_of-result
 invariant_of-result g c =
@@ -59,6 +71,15 @@ invariant_of-result g c =
           opens _ (neither c.args.set.is_anew c.in_ok-replay.replay.leaves_log) c.in_ok-log_if.field-0 c.log_if.new.versions c.log_if.new.env c.in_ok-log_if.ensures.logs
           c.in_ok-log_if.ensures.locks c.in_ok-log.recent.kept.entries opens.entries,
       tt,
+      made_current (g.C.Cmp.cmp c.args.options.now.cmp) c.args.options.now.cmp c.log_if.new.versions c.files.result.now c.in_ok-current.current c.in_ok-current.ensures.ok c.files.ensures,
+      ended_given g.E.Env _ _ c.args.name.now c.args.set.is_anew c.args.set.versions c.args.set.logs.keys c.args.env.now c.requires c.in_ok-replay.replay set1
+          c.replay_logs.new.env c.in_ok-replay.ensures.replays c.set_last_seq.new.self set2 c.args.options.now.cmp (c.in_ok-log.log, c.in_ok-log.recent) c.open_log.new.versions c.open_log.new.env
+          opens _ (neither c.args.set.is_anew c.in_ok-replay.replay.leaves_log) c.in_ok-log_if.field-0 c.log_if.new.versions c.log_if.new.env c.in_ok-log_if.ensures.logs
+          c.in_ok-log_if.ensures.locks,
+      ended_apart g.E.Env _ _ c.args.name.now c.args.set.is_anew c.args.set.versions c.args.set.logs.keys c.args.env.now c.requires c.in_ok-replay.replay set1
+          c.replay_logs.new.env c.in_ok-replay.ensures.replays c.set_last_seq.new.self set2 c.args.options.now.cmp (c.in_ok-log.log, c.in_ok-log.recent) c.open_log.new.versions c.open_log.new.env
+          opens _ (neither c.args.set.is_anew c.in_ok-replay.replay.leaves_log) c.in_ok-log_if.field-0 c.log_if.new.versions c.log_if.new.env c.in_ok-log_if.ensures.logs
+          c.in_ok-log_if.ensures.locks,
     )
 
 pub returns-clause-begins : goal.returns-clause-begins

@@ -9,7 +9,7 @@ use Rattle.leveldb_env.specs.Env.{ListsChildren}
 use Rattle.leveldb_version.specs.VersionSetValue.{AreFileNumbersUsedUp, VersionSetValue, new_version_set}
 use Rattle.leveldb_store.specs.OpeningSteps.{AreReplayedLogs, HasMisnamedLog, HasNumber, MarksNames}
 use Rattle.leveldb_store.proofs.OpeningCausesLemmas.{listing_found}
-use Rattle.leveldb_store.proofs.RecoverSetLemmas.{is_recovered, logs_misnamed, not_recovered, numbers_used_up, out_of_memory, tables_missing, unlisted}
+use Rattle.leveldb_store.proofs.RecoverSetLemmas.{is_recovered, logs_misnamed, not_recovered, number_not_given, numbers_used_up, out_of_memory, tables_missing, unlisted}
 use Rattle.leveldb_store.proofs.opening.logs.recover_set.Goals as goal
 
 pub returns-in_err-names : goal.returns-in_err-names
@@ -69,6 +69,20 @@ returns-in_err-check_tables g c =
     (λ modelled. Run-call modelled c.children.ensures.does) c.children.ensures.locks listed.1 (map string_bytes c.in_ok-names.names.items) listed.0 c.mark_names.new.versions marks c.recover.new.env
     c.in_ok-is_anew.is_anew c.recover.new.self c.in_ok-is_anew.ensures c.check_tables.new.env c.check_tables.ensures.still c.check_tables.ensures.locks _ _ c.files.ensures c.in_err-check_tables.ensures.cause)
 
+pub returns-in_err-check_numbers : goal.returns-in_err-check_numbers
+returns-in_err-check_numbers g c =
+    let failed = err_from_is_err_and c.from_residual-in_err-check_numbers.result c.from_residual-in_err-check_numbers.ensures.1 in
+    let order = c.args.options.now.cmp in
+    let exact = exact_order (g.C.Cmp.accepts order) (g.C.Cmp.cmp order) (g.met.C.UserCmp.accepts_all order) (g.met.C.Cmp.preorder order) (g.met.C.UserCmp.exact order) in
+    let listed = listing_found (λ names. IsTrue g.E.Env.models_disk → ListsChildren (g.E.Env.observed c.args.env.now).disk.files c.args.store.now (map string_bytes names.items)) c.args.store.now c.children.result
+    c.in_ok-names.names c.in_ok-names.ensures c.children.ensures.ok c.children.ensures.cause in
+    let marks : MarksNames (new_version_set c.args.store.now (g.C.Cmp.name order)) (map string_bytes c.in_ok-names.names.items) c.mark_names.new.versions =
+    subst (λ vs. MarksNames (new_version_set c.args.store.now (g.C.Cmp.name order)) (map string_bytes vs) c.mark_names.new.versions) c.as_slice.ensures.value
+    (subst (λ old. MarksNames old (map string_bytes c.as_slice.result.now) c.mark_names.new.versions) c.in_ok-versions.ensures.ok c.in_ok-mark_names.ensures.ok) in
+    rw (failed.1, failed.2) (number_not_given g.E.Env _ exact c.args.options.now.reuse_manifest c.args.options.now.max_file_size c.args.store.now c.args.env.now c.children.new.self
+    (λ modelled. Run-call modelled c.children.ensures.does) c.children.ensures.locks listed.1 (map string_bytes c.in_ok-names.names.items) listed.0 c.mark_names.new.versions marks c.recover.new.env
+    c.in_ok-is_anew.is_anew c.recover.new.self c.in_ok-is_anew.ensures c.check_tables.new.env c.check_tables.ensures.still c.check_tables.ensures.locks c.in_ok-check_tables.ensures.cause.ok _ c.in_err-check_numbers.ensures.cause)
+
 pub returns-in_err-logs : goal.returns-in_err-logs
 returns-in_err-logs g c =
     let failed = err_from_is_err_and c.from_residual-in_err-logs.result c.from_residual-in_err-logs.ensures.1 in
@@ -100,4 +114,4 @@ returns g c =
     (rw (sym c.log_num.ensures, sym c.prev_log_num.ensures) c.in_ok-logs.ensures.ok) in
     is_recovered g.E.Env _ exact c.args.options.now.reuse_manifest c.args.options.now.max_file_size c.args.store.now c.args.env.now c.children.new.self
     (λ modelled. Run-call modelled c.children.ensures.does) c.children.ensures.locks listed.1 (map string_bytes c.in_ok-names.names.items) listed.0 c.mark_names.new.versions marks c.recover.new.env
-    c.in_ok-is_anew.is_anew c.recover.new.self c.in_ok-is_anew.ensures c.check_tables.new.env c.check_tables.ensures.still c.check_tables.ensures.locks c.in_ok-check_tables.ensures.cause.ok c.in_ok-logs.logs are (let fits : c.versions-2.inside.next_file < 2 ^ 64 = c.versions-2.ranges.1.1.1.0.1 in rw (ap (λ (s : VersionSetValue). s.next_file) (sym c.versions-2.view_is)) fits)
+    c.in_ok-is_anew.is_anew c.recover.new.self c.in_ok-is_anew.ensures c.check_tables.new.env c.check_tables.ensures.still c.check_tables.ensures.locks c.in_ok-check_tables.ensures.cause.ok c.in_ok-logs.logs are c.in_ok-check_numbers.ensures.ok (let fits : c.versions-2.inside.next_file < 2 ^ 64 = c.versions-2.ranges.1.1.1.0.1 in rw (ap (λ (s : VersionSetValue). s.next_file) (sym c.versions-2.view_is)) fits)

@@ -9,7 +9,7 @@ pub returns : goal.returns
 returns g c =
     let old = c.args.self.now in
     let removed = c.remove.ensures in
-    evicted g.E.Env old c.args.number c.ranges.number.fits c.remove.new.self
+    evicted old c.args.number c.ranges.number.fits c.remove.new.self
     (removed.pairs ∙ ap (λ key. record (tables_of old) { pairs = others key (tables_of old).pairs }) c.table_key.ensures)
     (rw c.table_key.ensures at removed.gone) c.is_some.result
     (c.is_some.ensures ∙ ap is_some removed.value ∙ ap (λ key. is_some (value_of key (tables_of old).pairs)) c.table_key.ensures)

@@ -2,64 +2,53 @@ use Rattle.std.proofs.Common.{◌≡◌, ◌∙◌, None, ap, refl}
 use Rattle.std.specs.Prelude.{IsSome}
 use Rattle.leveldb_env.specs.contracts.compressor.CompressorListCompressors.TheImpl.{ghosts as compressors}
 use Rattle.leveldb_table.specs.Cache.{looked_for, value_of}
+use Rattle.leveldb_version.specs.Format.{format_of}
 use Rattle.leveldb_version.specs.TableCache.{table_at, table_options, tables_of}
-use Rattle.leveldb_version.proofs.TableCacheLemmas.{matches_looked, refused_ok, some_of}
-use Rattle.leveldb_version.proofs.TableCacheCallLemmas.{borrowed_none, borrowed_there, matches_opened, matches_unopened, opened_new, stays_open, uses_unopened}
+use Rattle.leveldb_version.proofs.TableCacheLemmas.{some_of}
+use Rattle.leveldb_version.proofs.TableCacheCallLemmas.{borrowed_none, borrowed_there, opened_new, opens_before, opens_unopened, stays_open}
 use Rattle.leveldb_version.proofs.table_cache.TableCache.open_table.Goals as goal
 
 pub returns-then-is_some : goal.returns-then-is_some
 returns-then-is_some g c =
     let old = c.args.self.now in
-    let state = c.args.env.now in
     let number = c.args.number in
-    let by = table_options g.C.Cmp g.FP.FilterPolicy (compressors g.dyn-2).codings c.args.options.now in
+    let options = c.args.options.now in
+    let by = table_options (format_of g.C.Cmp g.FP.FilterPolicy (compressors g.dyn-2).codings options) options in
     let tables = tables_of old in
     let key = c.table_key-name.ensures in
     let found = c.get.ensures.value ∙ ap (λ k. value_of k tables.pairs) key in
     let tables_are = c.get.follows.holds-at-none ∙ ap (λ k. record tables { pairs = looked_for k tables.pairs }) key in
     let open_now : IsSome (table_at old number) = borrowed_there c.get.result found c.is_some.ensures c.if-is_some.true in
     let table = some_of (table_at old number) open_now in
-    record {
-      opens = stays_open g.E.Env by refl old state number c.ranges.number.fits table.0 table.1 _ tables_are;
-      matches = λ was. matches_looked g.E.Env by old _ state number tables_are was;
-    }
+    stays_open g.E.Env by refl old c.args.env.now number c.ranges.number.fits table.0 table.1 _ tables_are
 
 pub returns-in_err-table : goal.returns-in_err-table
 returns-in_err-table g c =
     let old = c.args.self.now in
     let state = c.args.env.now in
     let number = c.args.number in
-    let by = table_options g.C.Cmp g.FP.FilterPolicy (compressors g.dyn-2).codings c.args.options.now in
+    let options = c.args.options.now in
+    let by = table_options (format_of g.C.Cmp g.FP.FilterPolicy (compressors g.dyn-2).codings options) options in
     let tables = tables_of old in
     let key = c.table_key-name.ensures in
     let found = c.get.ensures.value ∙ ap (λ k. value_of k tables.pairs) key in
     let tables_are = c.get.follows.holds-at-none ∙ ap (λ k. record tables { pairs = looked_for k tables.pairs }) key in
     let none : table_at old number ≡ None = borrowed_none c.get.result found c.is_some.ensures c.if-is_some.false in
-    let opens = rw c.deref.ensures at c.in_err-table.ensures in
-    let result = c.from_residual.result in
-    let refused = c.from_residual.ensures.1 in
-    record {
-      opens = record {
-        uses = uses_unopened g.E.Env by refl old state number c.ranges.number.fits none _ tables_are result refused opens _ (λ other why. why);
-        is_open = refused_ok (λ other. other ≡ c.in_err-table.field-0.0) _ result refused;
-      };
-      matches = λ was. matches_unopened g.E.Env by refl old state number c.ranges.number.fits none _ tables_are result refused opens was;
-    }
+    let opens = opens_before g.E.Env by refl old state number c.ranges.number.fits none tables_are c.in_err-table.ensures in
+    opens_unopened g.E.Env by refl old state number c.ranges.number.fits none c.from_residual.result c.from_residual.ensures.1 opens
 
 pub returns : goal.returns
 returns g c =
     let old = c.args.self.now in
     let state = c.args.env.now in
     let number = c.args.number in
-    let by = table_options g.C.Cmp g.FP.FilterPolicy (compressors g.dyn-2).codings c.args.options.now in
+    let options = c.args.options.now in
+    let by = table_options (format_of g.C.Cmp g.FP.FilterPolicy (compressors g.dyn-2).codings options) options in
     let tables = tables_of old in
     let key = c.table_key-name.ensures in
     let found = c.get.ensures.value ∙ ap (λ k. value_of k tables.pairs) key in
     let tables_are = c.get.follows.holds-at-none ∙ ap (λ k. record tables { pairs = looked_for k tables.pairs }) key in
     let none : table_at old number ≡ None = borrowed_none c.get.result found c.is_some.ensures c.if-is_some.false in
     let insert = rw key at c.insert.ensures in
-    let opens = rw c.deref.ensures at c.in_ok-table.ensures in
-    record {
-      opens = opened_new g.E.Env by refl old state number c.ranges.number.fits none _ tables_are c.in_ok-table.table opens c.insert.new.self c.insert.result insert.ok insert.err insert.memory;
-      matches = λ was. matches_opened g.E.Env by refl old state number c.ranges.number.fits none _ tables_are c.in_ok-table.table opens c.insert.new.self c.insert.result insert.ok insert.err was;
-    }
+    let opens = opens_before g.E.Env by refl old state number c.ranges.number.fits none tables_are c.in_ok-table.ensures in
+    opened_new g.E.Env by refl old state number c.ranges.number.fits none c.in_ok-table.table c.open.new.self opens c.insert.new.self c.insert.result insert.ok insert.err insert.memory

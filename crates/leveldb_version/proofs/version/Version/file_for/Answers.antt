@@ -18,7 +18,7 @@ returns g c = λ deep ranges.
     let here = subst (λ (v : VersionValue g.row.C.Denot).
     IsSortedByKey (λ (f : NewFile). f.smallest) (internal_cmp (g.C.Cmp.cmp v.cmp)) (map new_file_of c.files.result.now)
     → AreDisjointRanges (g.C.Cmp.cmp v.cmp) (map new_file_of c.files.result.now)
-    → IsFileFor (g.C.Cmp.cmp v.cmp) (map new_file_of c.files.result.now) c.args.key.now found) c.self.view_is c.file_with_key.ensures in
+    → IsFileFor (g.C.Cmp.cmp v.cmp) (map new_file_of c.files.result.now) c.args.key.now found) c.self.view_is c.file_with_key.ensures.found in
     subst (λ (files : List NewFile).
     IsSortedByKey (λ (f : NewFile). f.smallest) (internal_cmp cmp) files
     → AreDisjointRanges cmp files → IsFileFor cmp files c.args.key.now found) same here

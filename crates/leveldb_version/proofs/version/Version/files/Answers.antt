@@ -11,7 +11,7 @@ use Rattle.leveldb_version.proofs.version.Version.files.Goals as goal
 pub part_of_level-requires : goal.part_of_level-requires
 part_of_level-requires g c =
     subst (λ (files : List (ℕ × FileMetaData)). IsNonDecreasingBy (λ (file : ℕ × FileMetaData). file.0) files) (sym c.as_slice.ensures.value)
-    (levels_rise (g.C.Cmp.cmp c.self.inside.cmp) c.self.inside.files.items c.self.invariant)
+    (levels_rise (g.C.Cmp.cmp c.self.inside.cmp) c.self.inside.files.items c.self.invariant.0)
 
 pub returns-clause-in_order : goal.returns-clause-in_order
 returns-clause-in_order g c =
@@ -21,5 +21,5 @@ returns-clause-in_order g c =
     ap (map new_file_of) (c.part_of_level.ensures ∙ ap (at_level c.args.level) c.as_slice.ensures.value) ∙ at_level_map c.args.level files in
     let sorted : AreInVersionOrder (g.C.Cmp.cmp cmp) (map new_file_of c.part_of_level.result.now) =
     subst (AreInVersionOrder (g.C.Cmp.cmp cmp)) (sym same)
-    (level_in_order (total_order (g.met.C.Cmp.preorder cmp) (g.met.C.UserCmp.accepts_all cmp)) c.args.level (map new_file_of files) c.self.invariant) in
+    (level_in_order (total_order (g.met.C.Cmp.preorder cmp) (g.met.C.UserCmp.accepts_all cmp)) c.args.level (map new_file_of files) c.self.invariant.0) in
     subst (λ (v : VersionValue g.row.C.Denot). AreInVersionOrder (g.C.Cmp.cmp v.cmp) (map new_file_of c.part_of_level.result.now)) c.self.view_is sorted

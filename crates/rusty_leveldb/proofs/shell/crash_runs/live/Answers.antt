@@ -1,4 +1,4 @@
-use Rattle.std.proofs.Common.{rules, ◌≡◌, ◌++◌, ◌∷◌, [], ◌-◌, take, refl, sym, subst, ◌+◌, ◌∙◌}
+use Rattle.std.proofs.Common.{rules, ◌≡◌, ◌++◌, ◌∷◌, [], ◌-◌, ◌≤◌, arith, take, refl, sym, subst, ◌+◌, ◌∙◌}
 use Rattle.std.proofs.lemmas.List.{take_all}
 use Rattle.leveldb_env.specs.MemEnvLaws.{record_only_now, record_counts_now}
 use Rattle.leveldb_env.specs.contracts.mem_env.record.RecordEnvEnv.TheImpl.{ghosts}
@@ -6,7 +6,7 @@ use Rattle.leveldb_env.specs.Record.{moment_of}
 use Rattle.leveldb_env.specs.contracts.compressor.CompressorListCompressors.TheImpl.{ghosts as compressors}
 use Rattle.rusty_leveldb.specs.Serves.{done_or}
 use Rattle.rusty_leveldb.specs.Engine.{opening_of}
-use Rattle.leveldb_store.specs.Format.{format_of}
+use Rattle.leveldb_version.specs.Format.{format_of}
 use Rattle.rusty_leveldb.proofs.Playing.{commands_up_to}
 use Rattle.rusty_leveldb.proofs.Living.{Given, LivesSoFar, given_more, lives_first, lives_more, lives_end, not_lived}
 use Rattle.rusty_leveldb.proofs.shell.crash_runs.live.Goals as goal
@@ -40,8 +40,9 @@ loop-command-preserved g c =
     let more = lives_more g.row.C.Denot g.row.FP.Denot ghosts (format_of g.C.Cmp g.FP.FilterPolicy (compressors g.dyn-2).codings) (record_only_now, record_counts_now) refl c.args.name.now c.args.env.now c.loop-command.env c.answer-reply.new.env (opening_of g.C.Cmp g.FP.FilterPolicy (compressors g.dyn-2).codings c.args.options)
     (take c.loop-command.command-index c.args.commands.now) c.loop-command.replies.items so_far.2 c.loop-command.engine c.answer-reply.new.engine command told reply so_far.4 step in
     let behind = commands_up_to c.args.commands.now c.loop-command.command-index command c.loop-command-test.true c.command-item.is in
-    let is : told ≡ moment_of c.answer-reply.new.env - moment_of c.args.env.now = search rules in (
-      search rules,
+    let is : told ≡ moment_of c.answer-reply.new.env - moment_of c.args.env.now = search rules in
+    let later : moment_of c.loop-command.env ≤ moment_of c.answer-reply.new.env = c.answer-reply.ensures.time refl in (
+      omega (arith, so_far.0, later),
       search rules,
       so_far.2 ++ moment_of c.answer-reply.new.env ∷ [],
       subst (λ items. Given (moment_of c.args.env.now) items (so_far.2 ++ moment_of c.answer-reply.new.env ∷ [])) (sym pushed)

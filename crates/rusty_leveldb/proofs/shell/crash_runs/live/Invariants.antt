@@ -3,7 +3,7 @@ use Rattle.leveldb_env.specs.contracts.mem_env.record.RecordEnvEnv.TheImpl.{ghos
 use Rattle.leveldb_env.specs.Record.{moment_of}
 use Rattle.leveldb_env.specs.contracts.compressor.CompressorListCompressors.TheImpl.{ghosts as compressors}
 use Rattle.rusty_leveldb.specs.Engine.{opening_of}
-use Rattle.leveldb_store.specs.Format.{format_of}
+use Rattle.leveldb_version.specs.Format.{format_of}
 use Rattle.rusty_leveldb.proofs.Living.{Given, LivesSoFar}
 use Rattle.rusty_leveldb.proofs.shell.crash_runs.live.Given as goal
 

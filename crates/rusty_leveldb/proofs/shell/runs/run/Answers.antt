@@ -4,9 +4,10 @@ use Rattle.std.proofs.lemmas.List.{take_all}
 use Rattle.std.proofs.lemmas.Result.{err_from_is_err_and}
 use Rattle.leveldb_env.specs.contracts.compressor.CompressorListCompressors.TheImpl.{ghosts as compressors}
 use Rattle.rusty_leveldb.proofs.UnopenedLemmas.{given_back_under}
-use Rattle.rusty_leveldb.proofs.Playing.{play_first, play_more, play_end, not_opened, not_begun, commands_up_to}
+use Rattle.leveldb_env.proofs.FilterBlockLemmas.{on_ok}
+use Rattle.rusty_leveldb.proofs.Playing.{abandon_fails, play_first, play_more, play_end, not_opened, not_begun, commands_up_to}
 use Rattle.rusty_leveldb.specs.Engine.{opening_of}
-use Rattle.leveldb_store.specs.Format.{format_of}
+use Rattle.leveldb_version.specs.Format.{format_of}
 use Rattle.rusty_leveldb.proofs.shell.runs.run.Goals as goal
 
 pub returns-in_err-reserve-clause-runs : goal.returns-in_err-reserve-clause-runs
@@ -85,10 +86,14 @@ returns-clause-runs g c =
 pub returns-clause-after : goal.returns-clause-after
 returns-clause-after g c =
     let so_far = c.loop-command.invariant in
-    (so_far.2, so_far.3, search rules)
+    let all : length so_far.2 ≡ length c.args.commands.now = search rules in
+    (so_far.2, so_far.3, on_ok c.abandon.result all)
 
 pub returns-clause-cause : goal.returns-clause-cause
-returns-clause-cause g c = search rules
+returns-clause-cause g c =
+    let failures = g.E.Env.failures in
+    abandon_fails (failures c.args.env.now) (failures c.loop-command.env) (failures c.abandon.new.env)
+    c.abandon.result c.loop-command.invariant.0 c.abandon.ensures.cause
 
 pub returns-clause-time : goal.returns-clause-time
 returns-clause-time g c = λ tells.

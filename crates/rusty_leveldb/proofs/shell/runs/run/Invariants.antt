@@ -2,7 +2,7 @@ use Rattle.std.proofs.Common.{◌≡◌, ◌≤◌, ◌++◌, ◌+◌, ◌-◌, 
 use Rattle.leveldb_env.specs.contracts.compressor.CompressorListCompressors.TheImpl.{ghosts as compressors}
 use Rattle.rusty_leveldb.specs.declared.shell.commands.Reply.{Reply}
 use Rattle.rusty_leveldb.specs.Engine.{opening_of}
-use Rattle.leveldb_store.specs.Format.{format_of}
+use Rattle.leveldb_version.specs.Format.{format_of}
 use Rattle.leveldb_store.specs.SoundCall.{TimeGoesOn}
 use Rattle.rusty_leveldb.proofs.Playing.{PlaysSoFar}
 use Rattle.rusty_leveldb.proofs.shell.runs.run.Given as goal

@@ -5,7 +5,7 @@ use Rattle.leveldb_env.specs.contracts.compressor.CompressorListCompressors.TheI
 use Rattle.rusty_leveldb.specs.State as machine
 use Rattle.rusty_leveldb.specs.Serves.{done_or}
 use Rattle.rusty_leveldb.specs.Engine.{Answers}
-use Rattle.leveldb_store.specs.Format.{format_of}
+use Rattle.leveldb_version.specs.Format.{format_of}
 use Rattle.rusty_leveldb.specs.Shell.{change_of}
 use Rattle.rusty_leveldb.proofs.Batching.{not_written}
 use Rattle.rusty_leveldb.proofs.shell.runs.write.Goals as goal

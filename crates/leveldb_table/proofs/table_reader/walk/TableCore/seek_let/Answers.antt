@@ -1,11 +1,11 @@
-use Rattle.std.proofs.Common.{◌≡◌, true, false, None, Some, refl, sym, ◌∙◌, ap, inr}
+use Rattle.std.proofs.Common.{◌≡◌, true, false, Some, refl, sym, ◌∙◌, ap, inr}
 use Rattle.leveldb_base.specs.Types.{pair_at, pair_of}
 use Rattle.leveldb_env.specs.contracts.compressor.CompressorListCompressors.TheImpl
 use Rattle.leveldb_table.specs.TableReaderBlocks.{IsKeyPosition}
 use Rattle.leveldb_table.specs.TableReaderMoves.{line_for}
 use Rattle.leveldb_table.specs.TableReader.{lets}
 use Rattle.leveldb_table.specs.TableBlock.{unnamed}
-use Rattle.leveldb_table.specs.TableReaderWalk.{pairs_over, position_over}
+use Rattle.leveldb_table.specs.TableReaderWalk.{inner_position, pairs_over, position_over}
 use Rattle.leveldb_table.proofs.BlockCacheLemmas.{GainsBlocks-refl}
 use Rattle.leveldb_table.proofs.TableBlockLemmas.{KeepsDisk-refl}
 use Rattle.leveldb_table.proofs.TableReaderWalkLemmas.{block_lines, line_lacks}
@@ -18,9 +18,9 @@ returns-in_default-clause-enters g c =
     let key = c.args.key.now in
     let found = c.in_ok-seek.ensures in
     let none = none_at c.seek.new.self (sym c.current.ensures ∙ ap pair_of c.in_default.is) in
-    enters_ends old _ false (block_lines c.seek.new.self old.index found.block) (ap (λ z. z.cmp) found.block) refl
+    enters_ends old _ false (block_lines c.seek.new.self old.index found.block) (ap (λ z. z.cmp) found.block) (ap inner_position c.leave.ensures)
     (λ bytes parts position right fit indexed. fit.1 ∙ let_none (g.C.Cmp.cmp c.args.table.now.cmp) (lets g.FP.FilterPolicy.matches c.args.table.now) key parts (index_line parts old.index key _ indexed.lines indexed.ordered found.ok ∙ none))
-    (λ bytes. looks_none ((TheImpl.ghosts g.dyn-1).codings c.args.compressors.now) (g.C.Cmp.cmp c.args.table.now.cmp) bytes (pairs_over old.index) (lets g.FP.FilterPolicy.matches c.args.table.now) key (line_for key old) _ (sym found.ok ∙ none) found.ok refl)
+    (λ bytes. looks_none ((TheImpl.ghosts g.dyn-1).codings c.args.compressors.now) (g.C.Cmp.cmp c.args.table.now.cmp) bytes (pairs_over old.index) (lets g.FP.FilterPolicy.matches c.args.table.now) key (line_for key old) _ (sym found.ok ∙ none) found.ok (ap inner_position c.leave.ensures))
 
 pub returns-in_err-handle-clause-enters : goal.returns-in_err-handle-clause-enters
 returns-in_err-handle-clause-enters g c =
@@ -29,7 +29,7 @@ returns-in_err-handle-clause-enters g c =
     let lines = block_lines c.seek.new.self old.index found.block in
     let key = c.args.key.now in
     let line : pair_at (pairs_over c.seek.new.self) (position_over c.seek.new.self) ≡ Some (c.in-Some.field-0-0.now, c.in-Some.value.now) = sym c.current.ensures ∙ ap pair_of c.in-Some.is in
-    enters_own old _ c.from_residual-in_err-handle.result lines (ap (λ z. z.cmp) found.block) refl c.from_residual-in_err-handle.ensures.1 (λ status is.
+    enters_own old _ c.from_residual-in_err-handle.result lines (ap (λ z. z.cmp) found.block) (ap inner_position c.leave.ensures) c.from_residual-in_err-handle.ensures.1 (λ status is.
     let code = ap (λ z. z.code) is ∙ c.in_err-handle.ensures.err.0 in
     inr (
       code,
@@ -46,10 +46,10 @@ returns-then-not-lets-clause-enters g c =
     let found = c.in_ok-seek.ensures in
     let lines = block_lines c.seek.new.self old.index found.block in
     let refuses = ap (λ n. lets g.FP.FilterPolicy.matches c.args.table.now n key) (sym c.offset.ensures) ∙ sym c.lets.ensures ∙ c.if-not-lets.true in
-    enters_ends old _ false lines (ap (λ z. z.cmp) found.block) refl
+    enters_ends old _ false lines (ap (λ z. z.cmp) found.block) (ap inner_position c.leave.ensures)
     (λ bytes parts position right fit indexed. fit.1 ∙ let_by c.seek.new.self key c.in-Some.field-0-0.now c.in-Some.value.now c.in_ok-handle.handle (lets g.FP.FilterPolicy.matches c.args.table.now) false right (lines ∙ indexed.lines)
     (index_line parts old.index key (position_over c.seek.new.self) indexed.lines indexed.ordered found.ok) (sym c.current.ensures ∙ ap pair_of c.in-Some.is) c.in_ok-handle.ensures.ok.1 refuses)
-    (λ bytes. looks_refused ((TheImpl.ghosts g.dyn-1).codings c.args.compressors.now) (g.C.Cmp.cmp c.args.table.now.cmp) bytes (pairs_over old.index) (lets g.FP.FilterPolicy.matches c.args.table.now) key (line_for key old) _ c.in_ok-handle.handle c.in_ok-handle.ensures.ok.0 (names_one c.in_ok-handle.handle (line_by lines found.ok (sym c.current.ensures ∙ ap pair_of c.in-Some.is)) c.in_ok-handle.ensures.ok.1) refuses refl)
+    (λ bytes. looks_refused ((TheImpl.ghosts g.dyn-1).codings c.args.compressors.now) (g.C.Cmp.cmp c.args.table.now.cmp) bytes (pairs_over old.index) (lets g.FP.FilterPolicy.matches c.args.table.now) key (line_for key old) _ c.in_ok-handle.handle c.in_ok-handle.ensures.ok.0 (names_one c.in_ok-handle.handle (line_by lines found.ok (sym c.current.ensures ∙ ap pair_of c.in-Some.is)) c.in_ok-handle.ensures.ok.1) refuses (ap inner_position c.leave.ensures))
 
 pub returns-in_err-enter-clause-enters : goal.returns-in_err-enter-clause-enters
 returns-in_err-enter-clause-enters g c =
@@ -65,7 +65,7 @@ returns-in_err-enter-clause-enters g c =
       fit.1 ∙ let_by c.seek.new.self key c.in-Some.field-0-0.now c.in-Some.value.now c.in_ok-handle.handle (lets g.FP.FilterPolicy.matches c.args.table.now) true right (lines ∙ indexed.lines)
           (index_line parts old.index key (position_over c.seek.new.self) indexed.lines indexed.ordered found.ok) (sym c.current.ensures ∙ ap pair_of c.in-Some.is) c.in_ok-handle.ensures.ok.1 passes,
     ))
-    (λ bytes has holds out. looked_up ((TheImpl.ghosts g.dyn-1).codings c.args.compressors.now) (g.C.Cmp.cmp c.args.table.now.cmp) bytes (lets g.FP.FilterPolicy.matches c.args.table.now) key c.in_ok-handle.handle old (record old { index = c.seek.new.self; inner = None }) out lines (ap (λ z. z.cmp) found.block) c.in_ok-handle.ensures.ok.0 (names_one c.in_ok-handle.handle (line_by lines found.ok (sym c.current.ensures ∙ ap pair_of c.in-Some.is)) c.in_ok-handle.ensures.ok.1) passes) c.in_err-enter.ensures.enters)
+    (λ bytes has holds out. looked_up ((TheImpl.ghosts g.dyn-1).codings c.args.compressors.now) (g.C.Cmp.cmp c.args.table.now.cmp) bytes (lets g.FP.FilterPolicy.matches c.args.table.now) key c.in_ok-handle.handle old (record old { index = c.seek.new.self; inner = c.leave.new.inner; room = c.leave.new.room }) out lines (ap (λ z. z.cmp) found.block) c.in_ok-handle.ensures.ok.0 (names_one c.in_ok-handle.handle (line_by lines found.ok (sym c.current.ensures ∙ ap pair_of c.in-Some.is)) c.in_ok-handle.ensures.ok.1) passes) c.in_err-enter.ensures.enters)
 
 pub returns-clause-enters : goal.returns-clause-enters
 returns-clause-enters g c =
@@ -81,4 +81,4 @@ returns-clause-enters g c =
       fit.1 ∙ let_by c.seek.new.self key c.in-Some.field-0-0.now c.in-Some.value.now c.in_ok-handle.handle (lets g.FP.FilterPolicy.matches c.args.table.now) true right (lines ∙ indexed.lines)
           (index_line parts old.index key (position_over c.seek.new.self) indexed.lines indexed.ordered found.ok) (sym c.current.ensures ∙ ap pair_of c.in-Some.is) c.in_ok-handle.ensures.ok.1 passes,
     ))
-    (λ bytes has holds out. looked_up ((TheImpl.ghosts g.dyn-1).codings c.args.compressors.now) (g.C.Cmp.cmp c.args.table.now.cmp) bytes (lets g.FP.FilterPolicy.matches c.args.table.now) key c.in_ok-handle.handle old (record old { index = c.seek.new.self; inner = None }) out lines (ap (λ z. z.cmp) found.block) c.in_ok-handle.ensures.ok.0 (names_one c.in_ok-handle.handle (line_by lines found.ok (sym c.current.ensures ∙ ap pair_of c.in-Some.is)) c.in_ok-handle.ensures.ok.1) passes) c.in_ok-enter.ensures.enters)
+    (λ bytes has holds out. looked_up ((TheImpl.ghosts g.dyn-1).codings c.args.compressors.now) (g.C.Cmp.cmp c.args.table.now.cmp) bytes (lets g.FP.FilterPolicy.matches c.args.table.now) key c.in_ok-handle.handle old (record old { index = c.seek.new.self; inner = c.leave.new.inner; room = c.leave.new.room }) out lines (ap (λ z. z.cmp) found.block) c.in_ok-handle.ensures.ok.0 (names_one c.in_ok-handle.handle (line_by lines found.ok (sym c.current.ensures ∙ ap pair_of c.in-Some.is)) c.in_ok-handle.ensures.ok.1) passes) c.in_ok-enter.ensures.enters)

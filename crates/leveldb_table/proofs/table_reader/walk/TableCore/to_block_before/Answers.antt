@@ -13,7 +13,7 @@ pub returns-in_err-load_line-clause-enters : goal.returns-in_err-load_line-claus
 returns-in_err-load_line-clause-enters g c =
     let codings = (TheImpl.ghosts g.dyn-1).codings c.args.compressors.now in
     let cmp = g.C.Cmp.cmp c.args.table.now.cmp in
-    let none : inner_position c.load_line.new.self.inner ≡ None = ap inner_position c.in_err-load_line.ensures.err in
+    let none : inner_position c.load_line.new.self.inner ≡ None = ap inner_position (c.in_err-load_line.ensures.err ∙ c.leave.ensures) in
     let index = c.prev.new.self in
     let lines = block_lines index c.args.self.now.index c.in_ok-prev.ensures.block in
     let old = c.args.self.now in

@@ -1,4 +1,4 @@
-use Rattle.std.proofs.Common.{◌≡◌, List, ℕ, None, sym, ◌∙◌, ap, subst, inl, inr, false, refl}
+use Rattle.std.proofs.Common.{◌≡◌, List, ℕ, None, sym, ◌∙◌, ap, subst, inl, inr, false}
 use Rattle.leveldb_env.specs.contracts.compressor.CompressorListCompressors.TheImpl
 use Rattle.leveldb_base.specs.Types.{last_position}
 use Rattle.leveldb_table.specs.BlockCache.{HoldsOnlyOf}
@@ -14,7 +14,7 @@ pub returns-in_err-load_line : goal.returns-in_err-load_line
 returns-in_err-load_line g c =
     let codings = (TheImpl.ghosts g.dyn-1).codings c.args.compressors.now in
     let cmp = g.C.Cmp.cmp c.args.table.now.cmp in
-    let none : inner_position c.load_line.new.self.inner ≡ None = ap inner_position c.in_err-load_line.ensures.err in
+    let none : inner_position c.load_line.new.self.inner ≡ None = ap inner_position (c.in_err-load_line.ensures.err ∙ c.leave.ensures) in
     let index = c.seek_to_last.new.self in
     let lines = block_lines index c.args.self.now.index c.in_ok-seek_to_last.ensures.block in
     let old = c.args.self.now in
@@ -105,7 +105,7 @@ returns-then-not-valid g c =
     let found = c.in_ok-seek_to_last.ensures in
     let none : position_over c.seek_to_last.new.self ≡ None = none_there (position_over c.seek_to_last.new.self) (sym c.valid.ensures ∙ c.if-not-valid.true) in
     record {
-      enters = enters_ends {Fit = λ parts position. position ≡ last_position (pairs_in parts)} old _ false (block_lines c.seek_to_last.new.self old.index found.block) (ap (λ z. z.cmp) found.block) refl
+      enters = enters_ends {Fit = λ parts position. position ≡ last_position (pairs_in parts)} old _ false (block_lines c.seek_to_last.new.self old.index found.block) (ap (λ z. z.cmp) found.block) (ap inner_position c.leave.ensures)
           (λ bytes parts position right fit indexed. fit ∙ last_of_none parts (ap last_position (sym indexed.lines) ∙ sym found.ok ∙ none))
-          (λ bytes. to_no_block ((TheImpl.ghosts g.dyn-1).codings c.args.compressors.now) (g.C.Cmp.cmp c.args.table.now.cmp) bytes (pairs_over old.index) last_position (last_position (pairs_over old.index)) _ (sym found.ok ∙ none) none refl);
+          (λ bytes. to_no_block ((TheImpl.ghosts g.dyn-1).codings c.args.compressors.now) (g.C.Cmp.cmp c.args.table.now.cmp) bytes (pairs_over old.index) last_position (last_position (pairs_over old.index)) _ (sym found.ok ∙ none) none (ap inner_position c.leave.ensures));
     }

@@ -1,0 +1,208 @@
+//! Walks over lists in memory: one that needs nothing, and one that makes a call of a device in
+//! each move.
+ghost use Rattle.std.specs.Prelude.{◌≡◌, ◌<◌, length, IfErr, OnOk, OnErr, None};
+ghost use Rattle.std.specs.Option.{ForSome};
+ghost use Rattle.leveldb_base.specs.Cmp.{bytewise};
+ghost use Rattle.leveldb_base.specs.Types.{count_before};
+
+use bytes::Bytes;
+use leveldb_base::error::{Result, Status, StatusCode};
+use leveldb_base::types::LdbIterator;
+use leveldb_iter::walk::Walk;
+use std::alloc::Global;
+
+/// A device whose next calls succeed, then one fails, and all after it succeed.
+#[derive(Drop)]
+pub struct Device {
+    pub calls_left: u64,
+}
+
+impl Device {
+    fn call(&mut self) -> Result<()>
+        ensures { IfErr result (λ status. status.code ≡ StatusCode.IOError) }
+    {
+        let Some(left) = self.calls_left.checked_sub(1) else {
+            self.calls_left = u64::MAX;
+            return Err(Status {
+                code: StatusCode::IOError,
+                err: None,
+            });
+        };
+        self.calls_left = left;
+        Ok(())
+    }
+}
+
+/// A walk over a sorted list in memory.
+#[derive(Drop)]
+pub struct Listed {
+    pairs: Vec<(Bytes, Bytes)>,
+    at: Option<usize>,
+    ghost within: { ForSome at (λ i. i < length pairs.items) },
+}
+
+/// How many keys at the front are before the key.
+fn keys_before(pairs: &Vec<(Bytes, Bytes)>, key: &[u8]) -> usize
+    ensures { result ≡ count_before bytewise key.now pairs.now.items }
+{
+    let mut n = 0;
+    for pair in pairs {
+        if pair.0.as_slice().cmp(key).is_ge() {
+            break;
+        }
+        n += 1;
+    }
+    n
+}
+
+impl Listed {
+    /// A list of these keys, each of one letter, with the value of that letter.
+    pub fn of(alloc: Global, keys: &'static str) -> Result<Listed> {
+        let mut pairs = Vec::new(alloc);
+        let bytes = keys.as_bytes();
+        for i in 0..bytes.len() {
+            pairs.push((
+                Bytes::copy_from_slice(alloc, &bytes[i..=i])?,
+                Bytes::copy_from_slice(alloc, &bytes[i..=i])?,
+            ))?;
+        }
+        Ok(Listed { pairs, at: None })
+    }
+}
+
+impl LdbIterator for Listed {
+    ghost use Rattle.std.proofs.Common.{rules};
+
+    ghost pairs = { λ it. it.pairs.items };
+
+    ghost position = { λ it. it.at };
+
+    ghost order = { λ _. bytewise };
+
+    ghost fails = { λ _ _ _. ⊥ };
+
+    fn advance(&mut self) -> Result<bool> {
+        let next = match self.at {
+            None => 0,
+            Some(i) => i + 1,
+        };
+        let there = next < self.pairs.len();
+        self.at = if there { Some(next) } else { None };
+        Ok(there)
+    }
+
+    fn prev(&mut self) -> Result<bool> {
+        self.at = match self.at {
+            Some(i) if i > 0 => Some(i - 1),
+            _ => None,
+        };
+        Ok(self.at.is_some())
+    }
+
+    fn seek(&mut self, key: &[u8]) -> Result<()> {
+        let n = keys_before(&self.pairs, key);
+        self.at = if n < self.pairs.len() { Some(n) } else { None };
+        Ok(())
+    }
+
+    fn seek_to_last(&mut self) -> Result<()> {
+        self.at = self.pairs.len().checked_sub(1);
+        Ok(())
+    }
+
+    fn current(&self) -> Option<(&[u8], &[u8])> {
+        match self.at {
+            None => None,
+            Some(i) => {
+                let pair = &self.pairs[i];
+                Some((pair.0.as_slice(), pair.1.as_slice()))
+            }
+        }
+    }
+
+    fn reset(&mut self) {
+        self.at = None;
+    }
+
+    fn valid(&self) -> bool {
+        self.at.is_some()
+    }
+
+    ghost in_range = { λ it. Prim.search rules };
+}
+
+/// A list in memory whose moves each make a call of a device first.
+#[derive(Drop)]
+pub struct Source {
+    pub list: Listed,
+}
+
+impl Source {
+    // Makes the call, and is at no position where that fails.
+    fn call(&mut self, device: &mut Device) -> Result<()>
+        ensures pairs { self.new.list.pairs.items ≡ self.old.list.pairs.items }
+        ensures ok { OnOk result (self.new.list.at ≡ self.old.list.at) }
+        ensures err { OnErr result (self.new.list.at ≡ None) }
+        ensures cause { IfErr result (λ status. status.code ≡ StatusCode.IOError) }
+    {
+        let called = device.call();
+        if called.is_err() {
+            self.list.reset();
+        }
+        called
+    }
+}
+
+impl<T> Walk<Device, T> for Source {
+    ghost use Rattle.iter_tests.specs.Sources.{IsListOf, IsListAt, source_here, FailsAtDevice, source_laws};
+    ghost use Rattle.std.proofs.Common.{rules};
+
+    ghost over = { IsListOf };
+
+    ghost is_at = { IsListAt };
+
+    ghost here = { source_here };
+
+    ghost fails = { FailsAtDevice };
+
+    ghost keeps = { λ _ _. Unit {0} };
+
+    fn advance(&mut self, device: &mut Device, _tables: &mut T) -> Result<bool> {
+        self.call(device)?;
+        self.list.advance()
+    }
+
+    fn prev(&mut self, device: &mut Device, _tables: &mut T) -> Result<bool> {
+        self.call(device)?;
+        self.list.prev()
+    }
+
+    fn seek(&mut self, device: &mut Device, _tables: &mut T, key: &[u8]) -> Result<()> {
+        self.call(device)?;
+        self.list.seek(key)
+    }
+
+    fn seek_to_first(&mut self, device: &mut Device, _tables: &mut T) -> Result<()> {
+        self.call(device)?;
+        self.list.seek_to_first()
+    }
+
+    fn seek_to_last(&mut self, device: &mut Device, _tables: &mut T) -> Result<()> {
+        self.call(device)?;
+        self.list.seek_to_last()
+    }
+
+    fn reset(&mut self) {
+        self.list.reset();
+    }
+
+    fn current(&self) -> Option<(&[u8], &[u8])> {
+        self.list.current()
+    }
+
+    fn valid(&self) -> bool {
+        self.list.valid()
+    }
+
+    ghost laws = { source_laws (λ it. Prim.search rules) };
+}

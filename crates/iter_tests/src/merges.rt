@@ -1,0 +1,211 @@
+//! Merges of lists beside the sorted list of their pairs.
+use crate::children::{Device, Listed, Source};
+use leveldb_base::cmp::DefaultCmp;
+use leveldb_base::error::{Result, StatusCode};
+use leveldb_iter::merging_iter::{MergeCore, MergingIter};
+use leveldb_iter::unlent::Unlent;
+use leveldb_iter::walk::Walk;
+use leveldb_iter::walk_iter::WalkIter;
+use std::alloc::Global;
+
+type Merged = MergeCore<DefaultCmp, Source>;
+
+// Lists of keys, each of a letter, and all keys in order.
+const ROWS: [([&str; 3], &str); 8] = [
+    (["", "", ""], ""),
+    (["", "b", ""], "b"),
+    (["abc", "", ""], "abc"),
+    (["a", "b", "c"], "abc"),
+    (["c", "b", "a"], "abc"),
+    (["ad", "be", "cf"], "abcdef"),
+    (["ef", "abc", "d"], "abcdef"),
+    (["bde", "ag", "cf"], "abcdefg"),
+];
+
+fn merge(alloc: Global, lists: &[&'static str; 3]) -> Result<Merged> {
+    let mut children = Vec::new(alloc);
+    for keys in lists {
+        children.push(Source {
+            list: Listed::of(alloc, keys)?,
+        })?;
+    }
+    Ok(MergeCore::new::<Device, ()>(DefaultCmp, children))
+}
+
+// The moves, each a letter: advance, prev, the first pair, the last, the first at or after "d", and
+// reset.
+const MOVES: [u8; 6] = *b"apflsr";
+
+// Makes the move of a letter.
+fn go(it: &mut Merged, device: &mut Device, letter: u8) -> Result<()> {
+    match letter {
+        b'a' => drop(it.advance(device, &mut ())?),
+        b'p' => drop(it.prev(device, &mut ())?),
+        b'f' => it.seek_to_first(device, &mut ())?,
+        b'l' => it.seek_to_last(device, &mut ())?,
+        b's' => it.seek(device, &mut (), b"d")?,
+        _ => Walk::<Device, ()>::reset(it),
+    }
+    Ok(())
+}
+
+// Where the same move leads in a list of keys.
+fn gone(keys: &[u8], at: Option<usize>, letter: u8) -> Option<usize> {
+    let there = match letter {
+        b'a' => match at {
+            None => Some(0),
+            Some(i) => i.checked_add(1),
+        },
+        b'p' => at?.checked_sub(1),
+        b'f' => Some(0),
+        b'l' => keys.len().checked_sub(1),
+        b's' => Some(keys.iter().filter(|key| **key < b'd').count()),
+        _ => None,
+    };
+    there.filter(|i| *i < keys.len())
+}
+
+// Whether the merge is at the pair of this key, which has itself as its value.
+fn is_at(it: &Merged, key: Option<u8>) -> bool {
+    let valid = Walk::<Device, ()>::valid(it);
+    match (Walk::<Device, ()>::current(it), key) {
+        (None, None) => !valid,
+        (Some((found, value)), Some(key)) => valid
+            && found == [key].as_slice()
+            && value == [key].as_slice(),
+        _ => false,
+    }
+}
+
+// Whether all moves of a number in base 6 lead where they lead in the sorted list.
+fn leads_right(it: &mut Merged, keys: &[u8], moves: u32) -> Result<bool> {
+    let mut device = Device {
+        calls_left: u64::MAX,
+    };
+    let mut rest = moves;
+    let mut at = None;
+    Walk::<Device, ()>::reset(it);
+    for _ in 0..5 {
+        let letter = MOVES[(rest % 6) as usize];
+        rest /= 6;
+        go(it, &mut device, letter)?;
+        at = gone(keys, at, letter);
+        let key = match at {
+            None => None,
+            Some(i) => keys.get(i).copied(),
+        };
+        if !is_at(it, key) {
+            return Ok(false);
+        }
+    }
+    Ok(true)
+}
+
+#[test]
+fn all_moves_in_all_orders(rt: HostRuntime) -> Result<()> {
+    for (lists, keys) in &ROWS {
+        let mut it = merge(rt.alloc(), lists)?;
+        for moves in 0..7776 {
+            assert!(rt;
+                leads_right(&mut it, keys.as_bytes(), moves)?,
+                "{keys}: {moves}"
+            );
+        }
+    }
+    Ok(())
+}
+
+// The moves that are made with a device that fails, in a merge of "ad", "be" and "cf".
+const WALK: &[u8] = b"aaapaplpppaasafl";
+
+// Whether each move leads where it leads in the sorted list, or fails and leaves no position.
+fn goes_on(it: &mut Merged, device: &mut Device, keys: &[u8]) -> bool {
+    let mut at = None;
+    for letter in WALK {
+        at = match go(it, device, *letter) {
+            Ok(()) => gone(keys, at, *letter),
+            Err(status) => {
+                if status.code != StatusCode::IOError {
+                    return false;
+                }
+                None
+            }
+        };
+        let key = match at {
+            None => None,
+            Some(i) => keys.get(i).copied(),
+        };
+        if !is_at(it, key) {
+            return false;
+        }
+    }
+    true
+}
+
+#[test]
+fn a_failed_move_leaves_no_position_and_the_walk_goes_on(rt: HostRuntime) -> Result<()> {
+    for calls_left in 0..60 {
+        let mut it = merge(rt.alloc(), &["ad", "be", "cf"])?;
+        let mut device = Device { calls_left };
+        assert!(rt; goes_on(&mut it, &mut device, b"abcdef"), "{calls_left}");
+    }
+    Ok(())
+}
+
+// The letters of the pairs from the next one on.
+fn letters_left<W: Walk<Device, ()>>(
+    alloc: Global,
+    it: &mut WalkIter<Device, (), W>,
+) -> Result<Vec<u8>> {
+    let mut letters = Vec::new(alloc);
+    for _ in 0..100 {
+        let Some((key, value)) = it.next(alloc)? else {
+            break;
+        };
+        if key != value {
+            break;
+        }
+        letters.extend_from_slice(key.as_slice())?;
+    }
+    Ok(letters)
+}
+
+#[test]
+fn a_merge_beside_its_borrows(rt: HostRuntime) -> Result<()> {
+    let mut device = Device {
+        calls_left: u64::MAX,
+    };
+    let mut tables = ();
+    let core = merge(rt.alloc(), &["bde", "ag", "cf"])?;
+    let mut it: MergingIter<Device, (), DefaultCmp, Source> = WalkIter::new(
+        core,
+        &mut device,
+        &mut tables,
+    );
+    assert!(rt; letters_left(rt.alloc(), &mut it)?.as_slice() == b"abcdefg".as_slice());
+    it.seek(b"d")?;
+    assert!(rt; it.prev()? && it.valid() && it.current() == Some((b"c", b"c")));
+    assert!(rt; letters_left(rt.alloc(), &mut it)?.as_slice() == b"defg".as_slice());
+    it.seek_to_last()?;
+    assert!(rt; !it.advance()? && !it.valid());
+    it.seek_to_first()?;
+    it.reset();
+    assert!(rt; it.advance()? && it.current() == Some((b"a", b"a")));
+    Ok(())
+}
+
+#[test]
+fn iterators_as_walks(rt: HostRuntime) -> Result<()> {
+    let mut device = Device { calls_left: 0 };
+    let mut tables = ();
+    let mut children = Vec::new(rt.alloc());
+    for keys in ["ac", "bd"] {
+        children.push(Unlent(Listed::of(rt.alloc(), keys)?))?;
+    }
+    let core = MergeCore::new::<Device, ()>(DefaultCmp, children);
+    let mut it = WalkIter::new(core, &mut device, &mut tables);
+    assert!(rt; letters_left(rt.alloc(), &mut it)?.as_slice() == b"abcd".as_slice());
+    it.seek_to_last()?;
+    assert!(rt; it.prev()? && it.current() == Some((b"c", b"c")));
+    Ok(())
+}

@@ -1,0 +1,9 @@
+mod CountLemmas
+mod CutLemmas
+mod MergeLemmas
+mod MergedLemmas
+mod MergedEntriesLemmas
+mod ChildrenLemmas
+mod ChoiceLemmas
+mod MergingIterLemmas
+mod SnapshotLemmas

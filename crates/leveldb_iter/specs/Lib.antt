@@ -1,0 +1,10 @@
+pub mod Walk
+pub mod WalkIter
+pub mod Unlent
+pub mod UnlentLaws
+pub mod Merge
+pub mod MergedEntries
+pub mod Children
+pub mod MergingIter
+pub mod MergingIterLaws
+pub mod Snapshot

@@ -1,0 +1,11 @@
+//! Walks over sorted pairs of keys and values: their meaning, and their merge. The snapshots at which
+//! a store is read.
+#![tactic(auto)]
+
+mod children;
+pub mod laws;
+pub mod merging_iter;
+pub mod snapshot;
+pub mod unlent;
+pub mod walk;
+pub mod walk_iter;

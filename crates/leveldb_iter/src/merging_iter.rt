@@ -1,0 +1,219 @@
+//! The merge of walks.
+ghost use Rattle.std.specs.Prelude.{◌≡◌, ◌<◌, length, List, ℕ, None};
+ghost use Rattle.std.specs.Option.{ForSome};
+ghost use Rattle.leveldb_base.specs.Types.{Pair};
+ghost use Rattle.leveldb_iter.specs.Walk.{KeyOrder};
+
+use crate::children::{Step, best_of, step_each, step_one};
+use crate::walk::Walk;
+use crate::walk_iter::WalkIter;
+use leveldb_base::cmp::Cmp;
+use leveldb_base::error::Result;
+use leveldb_base::types::Direction;
+
+/// The merge of walks over sorted lists that share no keys: a walk over all their pairs, in order.
+/// A move in the direction in which it goes makes a step of one child, and a turn one of each. Each
+/// child is then compared once at most. No move takes memory or copies a key.
+#[derive(Drop)]
+pub struct MergeCore<C, I> {
+    cmp: C,
+    children: Vec<I>,
+    current: Option<usize>,
+    direction: Direction,
+    ghost within: { ForSome current (λ i. i < length children.items) },
+}
+
+/// A merge beside borrows of the environment and the tables that its children read from.
+pub type MergingIter<'a, E, T, C, I> = WalkIter<'a, E, T, MergeCore<C, I>>;
+
+impl<C: Cmp, I> MergeCore<C, I> {
+    ghost use Rattle.leveldb_base.specs.declared.error.Status.{Status};
+    ghost use Rattle.leveldb_iter.specs.Children.{AnyFails};
+    ghost use Rattle.leveldb_iter.specs.MergingIter.{AreMerged, IsMergeAt, FailsMerged, merged_here};
+
+    /// The merge of these walks, at no position. They may be at any.
+    pub fn new<E, T>(cmp: C, children: Vec<I>) -> MergeCore<C, I>
+    where
+        I: Walk<E, T>,
+        ensures is_at { (world : E × T) (order : KeyOrder) (pairs : List Pair)
+            → AreMerged I.Walk C.Cmp world cmp children.items order pairs
+            → IsMergeAt I.Walk C.Cmp world result order pairs None }
+        ensures none { merged_here I.Walk result ≡ None }
+        ensures fails { (world later : E × T) (status : Status)
+            → FailsMerged I.Walk world result later status
+            → AnyFails I.Walk world children.items later status }
+    {
+        MergeCore {
+            cmp,
+            children,
+            current: None,
+            direction: Direction::Forward,
+        }
+    }
+}
+
+impl<C: Cmp, I> MergeCore<C, I> {
+    ghost use Rattle.std.specs.Prelude.{◌≡◌, true, ℕ, Some};
+    ghost use Rattle.leveldb_base.specs.declared.types.Direction.TheVariants.{Forward, Reverse};
+    ghost use Rattle.leveldb_base.specs.Types.{Pair, position_within, next_position, previous_position, last_position, seek_position};
+    ghost use Rattle.leveldb_iter.specs.Children.{IsBest, head_of};
+    ghost use Rattle.leveldb_iter.specs.MergingIter.{Readies, IsMergeOver, IsMergeAt};
+
+    // Takes the child that is at the first pair in this direction as the current one.
+    fn choose<E, T>(&mut self, direction: Direction)
+    where
+        I: Walk<E, T>,
+        ensures cmp { self.new.cmp ≡ self.old.cmp }
+        ensures children { self.new.children ≡ self.old.children }
+        ensures direction { self.new.direction ≡ direction }
+        ensures best { let heads = head_of I.Walk self.old.children.items in
+            ((k : ℕ) (pair : Pair) → heads k ≡ Some pair → C.accepts self.old.cmp pair.0 ≡ true)
+            → IsBest (C.cmp self.old.cmp) direction heads self.new.current }
+    {
+        self.direction = direction;
+        self.current = best_of(&self.cmp, direction, self.children.as_slice());
+    }
+
+    // The first half of a move to the next pair.
+    fn to_next<E, T>(&mut self, env: &mut E, tables: &mut T) -> Result<()>
+    where
+        I: Walk<E, T>,
+        ensures { Readies I.Walk C.Cmp (IsMergeAt I.Walk C.Cmp) (λ _. next_position) Forward
+            (env.old, tables.old) self.old result (env.new, tables.new) self.new.cmp
+            self.new.children.items self.new.current }
+    {
+        let current = self.current;
+        self.current = None;
+        match current {
+            None => step_each(&mut self.children, env, tables, Step::First),
+            Some(i) => match self.direction {
+                Direction::Forward => step_one(&mut self.children, env, tables, i, Step::Next),
+                Direction::Reverse => step_each(&mut self.children, env, tables, Step::Next),
+            },
+        }
+    }
+
+    // The first half of a move from a pair to the one before.
+    fn to_previous<E, T>(&mut self, env: &mut E, tables: &mut T, i: usize) -> Result<()>
+    where
+        I: Walk<E, T>,
+        requires { self.old.current ≡ Some i }
+        ensures { Readies I.Walk C.Cmp (IsMergeAt I.Walk C.Cmp) (λ _ _. previous_position) Reverse
+            (env.old, tables.old) self.old result (env.new, tables.new) self.new.cmp
+            self.new.children.items self.new.current }
+    {
+        self.current = None;
+        match self.direction {
+            Direction::Forward => step_each(&mut self.children, env, tables, Step::PrevOrLast),
+            Direction::Reverse => step_one(&mut self.children, env, tables, i, Step::Prev),
+        }
+    }
+
+    // The first half of a move to the first pair.
+    fn to_first<E, T>(&mut self, env: &mut E, tables: &mut T) -> Result<()>
+    where
+        I: Walk<E, T>,
+        ensures { Readies I.Walk C.Cmp (λ world it order pairs _.
+            IsMergeOver I.Walk C.Cmp world it order pairs) (λ _ pairs _. position_within pairs 0)
+            Forward (env.old, tables.old) self.old result (env.new, tables.new) self.new.cmp
+            self.new.children.items self.new.current }
+    {
+        self.current = None;
+        step_each(&mut self.children, env, tables, Step::First)
+    }
+
+    // The first half of a move to the last pair.
+    fn to_last<E, T>(&mut self, env: &mut E, tables: &mut T) -> Result<()>
+    where
+        I: Walk<E, T>,
+        ensures { Readies I.Walk C.Cmp (λ world it order pairs _.
+            IsMergeOver I.Walk C.Cmp world it order pairs) (λ _ pairs _. last_position pairs)
+            Reverse (env.old, tables.old) self.old result (env.new, tables.new) self.new.cmp
+            self.new.children.items self.new.current }
+    {
+        self.current = None;
+        step_each(&mut self.children, env, tables, Step::Last)
+    }
+
+    // The first half of a move to the first pair at or after a key.
+    fn to_key<E, T>(&mut self, env: &mut E, tables: &mut T, key: &[u8]) -> Result<()>
+    where
+        I: Walk<E, T>,
+        ensures { Readies I.Walk C.Cmp (λ world it order pairs _.
+            IsMergeOver I.Walk C.Cmp world it order pairs × (order.accepts key.now ≡ true))
+            (λ order pairs _. seek_position order.cmp pairs key.now) Forward
+            (env.old, tables.old) self.old result (env.new, tables.new) self.new.cmp
+            self.new.children.items self.new.current }
+    {
+        self.current = None;
+        step_each(&mut self.children, env, tables, Step::Seek(key))
+    }
+}
+
+impl<E, T, C: Cmp, I: Walk<E, T>> Walk<E, T> for MergeCore<C, I> {
+    ghost use Rattle.leveldb_iter.specs.MergingIter.{IsMergeOver, IsMergeAt, merged_here, FailsMerged};
+    ghost use Rattle.leveldb_iter.specs.MergingIterLaws.{merged_laws};
+
+    ghost over = { IsMergeOver I.Walk C.Cmp };
+
+    ghost is_at = { IsMergeAt I.Walk C.Cmp };
+
+    ghost here = { merged_here I.Walk };
+
+    ghost fails = { FailsMerged I.Walk };
+
+    ghost keeps = { I.keeps };
+
+    fn advance(&mut self, env: &mut E, tables: &mut T) -> Result<bool> {
+        self.to_next(env, tables)?;
+        self.choose::<E, T>(Direction::Forward);
+        Ok(Walk::<E, T>::valid(self))
+    }
+
+    fn prev(&mut self, env: &mut E, tables: &mut T) -> Result<bool> {
+        let Some(i) = self.current else {
+            return Ok(false);
+        };
+        self.to_previous(env, tables, i)?;
+        self.choose::<E, T>(Direction::Reverse);
+        Ok(Walk::<E, T>::valid(self))
+    }
+
+    fn seek(&mut self, env: &mut E, tables: &mut T, key: &[u8]) -> Result<()> {
+        self.to_key(env, tables, key)?;
+        self.choose::<E, T>(Direction::Forward);
+        Ok(())
+    }
+
+    fn seek_to_first(&mut self, env: &mut E, tables: &mut T) -> Result<()> {
+        self.to_first(env, tables)?;
+        self.choose::<E, T>(Direction::Forward);
+        Ok(())
+    }
+
+    fn seek_to_last(&mut self, env: &mut E, tables: &mut T) -> Result<()> {
+        self.to_last(env, tables)?;
+        self.choose::<E, T>(Direction::Reverse);
+        Ok(())
+    }
+
+    fn reset(&mut self) {
+        self.current = None;
+    }
+
+    fn current(&self) -> Option<(&[u8], &[u8])> {
+        match self.current {
+            None => None,
+            Some(i) => self.children[i].current(),
+        }
+    }
+
+    fn valid(&self) -> bool {
+        match self.current {
+            None => false,
+            Some(i) => self.children[i].valid(),
+        }
+    }
+
+    ghost laws = { merged_laws I.laws };
+}

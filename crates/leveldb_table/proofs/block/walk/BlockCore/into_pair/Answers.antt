@@ -1,8 +1,0 @@
-use Rattle.std.proofs.Common.{arith}
-use Rattle.leveldb_table.proofs.BlockWalkLemmas.{fronts, ends_within}
-use Rattle.leveldb_table.proofs.block.walk.BlockCore.into_pair.Goals as goal
-
-pub slice-requires-clause-in_bounds : goal.slice-requires-clause-in_bounds
-slice-requires-clause-in_bounds g c =
-    let ends = ends_within (fronts c.args.block.now.entries.1) c.args.self.key.items c.args.self.spot c.in-Some.spot c.requires c.in-Some.is in
-    omega (arith, ends)

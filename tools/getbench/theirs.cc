@@ -1,0 +1,103 @@
+// Times look-ups in C++ LevelDB over an environment in memory, as db_bench's readrandom and readmissing do here: all entries are in tables, and as
+// many look-ups go before those that are timed.
+//
+//     theirs COUNT CACHE_SIZE ROUNDS     prints, for each row, its name and the least nanoseconds an operation of the rounds
+#include <chrono>
+#include <cstdint>
+#include <cstdio>
+#include <cstdlib>
+#include <memory>
+#include <random>
+#include <string>
+
+#include "leveldb/cache.h"
+#include "leveldb/db.h"
+#include "leveldb/env.h"
+#include "leveldb/filter_policy.h"
+#include "leveldb/helpers/memenv.h"
+
+namespace {
+
+using Clock = std::chrono::steady_clock;
+
+// A number of sixteen digits.
+std::string KeyOf(uint64_t number) {
+  char text[17];
+  std::snprintf(text, sizeof text, "%016llu", static_cast<unsigned long long>(number));
+  return text;
+}
+
+void Check(const leveldb::Status& status) {
+  if (!status.ok()) {
+    std::fprintf(stderr, "theirs: %s\n", status.ToString().c_str());
+    std::exit(1);
+  }
+}
+
+std::unique_ptr<leveldb::DB> Open(const leveldb::Options& options) {
+  leveldb::DB* db = nullptr;
+  Check(leveldb::DB::Open(options, "/bench", &db));
+  return std::unique_ptr<leveldb::DB>(db);
+}
+
+void Fill(const leveldb::Options& options, uint64_t count) {
+  auto db = Open(options);
+  std::mt19937_64 random(301);
+  std::string value(100, 'v');
+  for (uint64_t number = 0; number < count; ++number) {
+    for (auto& byte : value) byte = static_cast<char>(' ' + random() % 95);
+    Check(db->Put(leveldb::WriteOptions(), KeyOf(number), value));
+  }
+}
+
+// Nanoseconds a look-up of keys at random, or of keys between them; the first half isn't timed.
+double Get(const leveldb::Options& options, uint64_t count, bool missing) {
+  auto db = Open(options);
+  std::mt19937_64 random(17);
+  std::string value;
+  uint64_t found = 0;
+  auto start = Clock::now();
+  for (uint64_t turn = 0; turn < 2 * count; ++turn) {
+    if (turn == count) {
+      found = 0;
+      start = Clock::now();
+    }
+    std::string key = KeyOf(random() % count);
+    if (missing) key += '.';
+    if (db->Get(leveldb::ReadOptions(), key, &value).ok()) ++found;
+  }
+  std::chrono::duration<double, std::nano> took = Clock::now() - start;
+  if (found != (missing ? 0 : count)) {
+    std::fprintf(stderr, "theirs: %llu found\n", static_cast<unsigned long long>(found));
+    std::exit(1);
+  }
+  return took.count() / static_cast<double>(count);
+}
+
+}  // namespace
+
+int main(int argc, char** argv) {
+  if (argc != 4) return 2;
+  uint64_t count = std::strtoull(argv[1], nullptr, 10);
+  uint64_t cache_size = std::strtoull(argv[2], nullptr, 10);
+  int rounds = std::atoi(argv[3]);
+  std::unique_ptr<leveldb::Env> env(leveldb::NewMemEnv(leveldb::Env::Default()));
+  std::unique_ptr<leveldb::Cache> cache(leveldb::NewLRUCache(cache_size));
+  std::unique_ptr<const leveldb::FilterPolicy> filter(leveldb::NewBloomFilterPolicy(10));
+  leveldb::Options options;
+  options.env = env.get();
+  options.create_if_missing = true;
+  options.compression = leveldb::kNoCompression;
+  options.block_cache = cache.get();
+  options.filter_policy = filter.get();
+  Fill(options, count);
+  for (bool missing : {false, true}) {
+    double least = 0;
+    for (int round = 0; round < rounds; ++round) {
+      double took = Get(options, count, missing);
+      if (round == 0 || took < least) least = took;
+    }
+    std::printf("%s %.1f\n", missing ? "readmissing" : "readrandom", least);
+  }
+  return 0;
+}
