@@ -7,9 +7,7 @@ ghost use Rattle.std.specs.Prelude.{◌≡◌, ◌+◌, ◌/◌, IfOk};
 use crate::keys::{Numbers, Values, key_of, missing_key_of};
 use crate::report::{Run, Tally, Timer};
 use crate::rows::Job;
-use leveldb_base::cmp::DefaultCmp;
 use leveldb_env::env::Env;
-use leveldb_env::filter::BloomPolicy;
 use rusty_leveldb::{DB, MemEnv, Options, Result, WriteBatch};
 use std::alloc::Global;
 use std::time::Clock;
@@ -78,14 +76,6 @@ fn put_all_synced<K: Clock, E: Env>(
     Ok(run)
 }
 
-// The options of a store that is read from its tables alone: as it is opened, what its log has becomes one.
-fn options_of(job: Job) -> Options<DefaultCmp, BloomPolicy> {
-    let mut options = Options::default();
-    options.reuse_logs = false;
-    options.block_cache_capacity_bytes = job.scale.cache_size;
-    options
-}
-
 // The key between two that are there, or the one before it, which is.
 fn sought(key: &[u8; 17], missing: bool) -> &[u8] {
     if missing {
@@ -107,7 +97,11 @@ fn get_all<K: Clock, E: Env>(
     ensures { IfOk result (λ run. run.outcome.ops ≡ job.scale.num) }
 {
     let mut numbers = Numbers::random(job.scale.num);
-    let mut db = DB::open(alloc, name, env, options_of(job))?;
+    // As the store is opened, what its log has becomes a table.
+    let mut options = Options::default();
+    options.reuse_logs = false;
+    options.block_cache_capacity_bytes = job.scale.cache_size;
+    let mut db = DB::open(alloc, name, env, options)?;
     let mut tally = Tally::new(job.checked);
     let mut timer = Timer::start(clock)?;
     for turn in 0..2 * job.scale.num {
