@@ -7,3 +7,5 @@ mod ChildrenLemmas
 mod ChoiceLemmas
 mod MergingIterLemmas
 mod SnapshotLemmas
+pub mod DbIterLemmas
+pub mod DbIterBackLemmas
