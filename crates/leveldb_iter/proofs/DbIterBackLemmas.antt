@@ -40,7 +40,7 @@ use Rattle.leveldb_iter.proofs.DbIterLemmas.{at_front, in_parts, tagged, sorted_
 -- ---- the last of a list
 
 -- a list is empty, or it has a last element
-last_of : (pairs : List Pair) → (pairs ≡ []) ⊎ ((before : List Pair) × (last : Pair) × (pairs ≡ before ++ last ∷ []))
+pub last_of : (pairs : List Pair) → (pairs ≡ []) ⊎ ((before : List Pair) × (last : Pair) × (pairs ≡ before ++ last ∷ []))
 last_of [] = inl refl
 last_of (pair ∷ pairs) = by (last_of pairs)
   where
@@ -48,26 +48,26 @@ last_of (pair ∷ pairs) = by (last_of pairs)
     by (inl none) = inr ([], pair, ap (λ list. pair ∷ list) none)
     by (inr some) = inr (pair ∷ some.0, some.1, ap (λ list. pair ∷ list) some.2)
 
-last_length : (before : List Pair) (last : Pair) → length (before ++ last ∷ []) ≡ suc (length before)
+pub last_length : (before : List Pair) (last : Pair) → length (before ++ last ∷ []) ≡ suc (length before)
 last_length before last = length-append before (last ∷ []) ∙ add-one (length before)
 
 -- the position before the end of a front is that of its last pair
-before_end : (front before : List Pair) (last : Pair) → front ≡ before ++ last ∷ [] → previous_position (Some (length front)) ≡ Some (length before)
+pub before_end : (front before : List Pair) (last : Pair) → front ≡ before ++ last ∷ [] → previous_position (Some (length front)) ≡ Some (length before)
 before_end front before last e = ap (λ list. previous_position (Some (length list))) e ∙ ap (λ n. previous_position (Some n)) (last_length before last) ∙ previous_of_suc (length before)
 
-last_before : (front before back : List Pair) (last : Pair) → front ≡ before ++ last ∷ [] → front ++ back ≡ before ++ last ∷ back
+pub last_before : (front before back : List Pair) (last : Pair) → front ≡ before ++ last ∷ [] → front ++ back ≡ before ++ last ∷ back
 last_before front before back last e = ap (λ list. list ++ back) e ∙ append_assoc before (last ∷ []) back
 
 module _ {E T M : Type 0} (walk : WalkGhosts M E T) (laws : WalkLaws walk.over walk.is_at walk.here walk.fails walk.keeps) where
   -- ---- one entry of a scan back
 
   -- before all entries it is at none
-  here_before_all : (world : E × T) (inner : M) (order : KeyOrder) (below front : List Pair) → walk.is_at world inner (internal_order order) below (previous_position (Some (length front))) → front ≡ [] → walk.here inner ≡ None
+  pub here_before_all : (world : E × T) (inner : M) (order : KeyOrder) (below front : List Pair) → walk.is_at world inner (internal_order order) below (previous_position (Some (length front))) → front ≡ [] → walk.here inner ≡ None
   here_before_all world inner order below front at none =
       laws.at_position world inner (internal_order order) below (previous_position (Some (length front))) at ∙ ap (λ list. pair_at below (previous_position (Some (length list)))) none
 
   -- else it is at the last of those at the front
-  here_last : (world : E × T) (inner : M) (order : KeyOrder) (below front back before : List Pair) (last : Pair) → below ≡ front ++ back → walk.is_at world inner (internal_order order) below (previous_position (Some (length front)))
+  pub here_last : (world : E × T) (inner : M) (order : KeyOrder) (below front back before : List Pair) (last : Pair) → below ≡ front ++ back → walk.is_at world inner (internal_order order) below (previous_position (Some (length front)))
       → front ≡ before ++ last ∷ [] → walk.here inner ≡ Some last
   here_last world inner order below front back before last parted at e =
       laws.at_position world inner (internal_order order) below (previous_position (Some (length front))) at
@@ -249,7 +249,7 @@ module _ {E T M : Type 0} (walk : WalkGhosts M E T) (laws : WalkLaws walk.over w
         let last = last_here b.pair b.here_is in
         backward last.0 b.pair last.1 new_found b.unseen b.same_key b.takes at count few some
 
-  back_keeps : {R : Type 0} {old_world : E × T} {old : M} {result : Result R Status} {new_world : E × T} {new : M} → StepsBack walk.over walk.is_at walk.here walk.fails walk.keeps old_world old result new_world new → KeepsBelow walk old_world old new_world new
+  pub back_keeps : {R : Type 0} {old_world : E × T} {old : M} {result : Result R Status} {new_world : E × T} {new : M} → StepsBack walk.over walk.is_at walk.here walk.fails walk.keeps old_world old result new_world new → KeepsBelow walk old_world old new_world new
   back_keeps m = record { over = m.same; kept = m.kept; excuses = m.excuses }
 
   -- ---- a step of a scan back

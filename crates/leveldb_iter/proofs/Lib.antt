@@ -9,3 +9,4 @@ mod MergingIterLemmas
 mod SnapshotLemmas
 pub mod DbIterLemmas
 pub mod DbIterBackLemmas
+pub mod DbIterTurnLemmas

@@ -356,11 +356,13 @@ impl<M> DbIterCore<M> {
             (env.old, tables.old) self.old.walk result (env.new, tables.new) self.new.walk }
     {
         self.at = None;
-        if direction == Direction::Reverse {
-            return Ok(());
+        match direction {
+            Direction::Reverse => Ok(()),
+            Direction::Forward => {
+                self.keep_key::<E, T>()?;
+                self.turn_back(env, tables)
+            }
         }
-        self.keep_key::<E, T>()?;
-        self.turn_back(env, tables)
     }
 
     // Goes to the first entry of a key at or above the sequence number.
