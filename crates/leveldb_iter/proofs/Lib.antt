@@ -10,3 +10,4 @@ mod SnapshotLemmas
 pub mod DbIterLemmas
 pub mod DbIterBackLemmas
 pub mod DbIterTurnLemmas
+pub mod DbIterMoveLemmas

@@ -6,6 +6,7 @@ use Rattle.std.specs.Option.{option_map}
 use Rattle.std.proofs.lemmas.Option.{slice_get_within}
 use Rattle.leveldb_base.specs.Entries.{entries_of_pairs}
 use Rattle.leveldb_base.specs.History.{AreRising}
+use Rattle.leveldb_base.specs.Scan.{count_shown}
 use Rattle.leveldb_base.specs.Types.{Pair, IsPosition, pair_at}
 use Rattle.leveldb_base.specs.View.{view_of}
 use Rattle.leveldb_base.specs.declared.error.Status.{Status}
@@ -42,7 +43,8 @@ module _ {E T M : Type 0} {walk : WalkGhosts M E T}
   shown_at world inner s order Reverse saved below pairs n b = (
     saved,
     refl,
-    ap (slice_get pairs) (sym b.counted) ∙ ap (λ list. slice_get list _) b.view
+    ap (slice_get pairs) (sym b.counted)
+        ∙ ap (λ list. slice_get list (count_shown s (entries_of_pairs b.front))) b.view
         ∙ at_seam (view_of s (entries_of_pairs b.front)) b.more saved,
   )
 
