@@ -4,6 +4,10 @@ use Rattle.std.specs.Prelude.{OnOk, OnErr, IfErr}
 use Rattle.leveldb_base.specs.Types.{Pair, position_within, next_position, previous_position, last_position, seek_position, count_before}
 use Rattle.leveldb_base.specs.declared.error.Status.{Status}
 use Rattle.leveldb_base.specs.declared.types.Direction.{Direction}
+use Rattle.leveldb_base.specs.Entries.{entries_of_pairs}
+use Rattle.leveldb_base.specs.History.{IsView}
+use Rattle.leveldb_base.proofs.EntriesLemmas.{rising_is_sorted}
+use Rattle.leveldb_base.proofs.ViewLemmas.{sorted_has_view}
 use Rattle.leveldb_base.proofs.PositionLemmas.{last_before_end}
 use Rattle.leveldb_iter.specs.declared.db_iter.DbIterCore.{DbIterCore}
 use Rattle.leveldb_iter.specs.declared.walk.Walk.{Ghosts as WalkGhosts}
@@ -238,3 +242,12 @@ module _ {E T M : Type 0} (walk : WalkGhosts M E T) (laws : WalkLaws walk.over w
     cause = tt;
     excuses = λ later status fails. fails;
   }
+
+  -- ---- the view
+
+  -- the pairs are the view of the entries below
+  pub view_is_view : (world : E × T) (inner : M) (s : ℕ) (order : KeyOrder) (below pairs : List Pair) → IsViewOf walk world inner s order below pairs → IsView order.cmp (entries_of_pairs below) s pairs
+  view_is_view world inner s order below pairs view =
+      let sorted = laws.sorted world inner (internal_order order) below view.over in
+      subst (IsView order.cmp (entries_of_pairs below) s) (sym view.view)
+      (sorted_has_view order.cmp view.exact (entries_of_pairs below) s (rising_is_sorted order.cmp view.exact below sorted.rising))

@@ -136,8 +136,11 @@ module _ {E T M : Type 0} {walk : WalkGhosts M E T}
       inl (laws.excuses first second kept it.walk later status fails)
   view_excuses first second kept it later status (inr (inl memory)) = inr (inl memory)
   view_excuses first second kept it later status (inr (inr corrupt)) =
-      inr (inr (corrupt.0, λ order pairs over. corrupt.1 order pairs
-      (over.0, view_at_stays first second kept it order pairs over.0 over.1)))
+      inr (inr (
+        corrupt.0,
+        λ order pairs over. corrupt.1 order pairs
+            (over.0, view_at_stays first second kept it order pairs over.0 over.1),
+      ))
 
   -- the view of sorted entries is sorted
   view_sorted : (world : E × T) (inner : M) (s : ℕ) (order : KeyOrder) (below pairs : List Pair)

@@ -123,8 +123,9 @@ module _ {E T M : Type 0} (walk : WalkGhosts M E T) (world : E × T) (inner : M)
     -- the walk below is at the last of the first
     pub at : walk.is_at world inner (internal_order order) below
         (previous_position (Some (length front)))
-    -- the view is of all, in an exact order
+    -- the pairs are the view of all
     pub view : pairs ≡ view_of s (entries_of_pairs below)
+    -- different keys of users are never equal
     pub exact : IsExactOrder order.cmp
     -- so many pairs are shown before the rest
     pub shown : count_shown s (entries_of_pairs (front ++ over)) ≡ n
@@ -152,8 +153,9 @@ module _ {E T M : Type 0} (walk : WalkGhosts M E T) (world : E × T) (inner : M)
     pub parted : below ≡ front ++ back
     -- the walk below is at the first of the latter
     pub at : walk.is_at world inner (internal_order order) below (Some (length front))
-    -- the view is of all, in an exact order
+    -- the pairs are the view of all
     pub view : pairs ≡ view_of s (entries_of_pairs below)
+    -- different keys of users are never equal
     pub exact : IsExactOrder order.cmp
     -- no entry from the current one on is of a key before this
     pub from : (entry : Entry) → Contains (entries_of_pairs back) entry

@@ -1,5 +1,5 @@
 //! The view of a store at a sequence number, as a walk above one over all entries.
-ghost use Rattle.std.specs.Prelude.{◌≡◌, ◌<◌, ◌≢◌, ◌+◌, ◌^◌, ℕ, true, List, None, Some, IfOk, IfErr, OnErr, is_some, IsErrAnd};
+ghost use Rattle.std.specs.Prelude.{◌≡◌, ◌<◌, ◌+◌, ◌^◌, ℕ, true, List, None, Some, IfOk, IfErr, OnErr, is_some, IsErrAnd};
 ghost use Rattle.std.specs.Bool.{then_some};
 ghost use Rattle.leveldb_base.specs.Error.{IsOutOfMemory};
 ghost use Rattle.leveldb_base.specs.Types.{Pair};
@@ -13,12 +13,13 @@ use leveldb_base::key_types::{ValueType, split_sequence, tag_bytes};
 use leveldb_base::types::{Direction, SequenceNumber};
 use std::alloc::Global;
 
-/// A position in the view of a store at a sequence number, above a walk over all its entries: the
-/// newest value of each key at or below the number, of keys that aren't deleted there. The order
-/// of users' keys is to be one in which only the same bytes are equal.
+/// The view of a store at a sequence number, as a walk above one over all entries: the keys that
+/// have a value there, each with the newest at or below the number. The order of users' keys is to
+/// be one in which only the same bytes are equal, so keys are compared by their bytes alone.
 ///
-/// Going forward the walk below is at the entry that is shown. Going back it is before all entries
-/// of the key that is shown, and the pair is saved.
+/// After a move forward the walk below is at the entry that is shown, and the pair is borrowed from
+/// it. After one back it is before all entries of the pair's key, and the pair is a copy. The two
+/// buffers are kept from move to move.
 #[derive(Drop)]
 pub struct DbIterCore<M> {
     walk: M,
@@ -63,6 +64,7 @@ impl<M> DbIterCore<M> {
     }
 }
 
+// Scans forward.
 impl<M> DbIterCore<M> {
     ghost use Rattle.leveldb_base.specs.KeyTypes.{user_part};
     ghost use Rattle.leveldb_base.specs.declared.error.StatusCode.TheVariants.{Corruption};
@@ -158,10 +160,6 @@ impl<M> DbIterCore<M> {
             Ok(None)
         }
     }
-}
-
-impl<M> DbIterCore<M> {
-    ghost use Rattle.leveldb_iter.specs.DbIterSteps.{MovesBelow, IsOnScan, IsFoundNext, IsLeft};
 
     // Goes on, from the entry that the walk below is at, to one that is shown.
     fn find_next<E, T>(&mut self, env: &mut E, tables: &mut T, skipping: bool) -> Result<()>
@@ -221,10 +219,8 @@ impl<M> DbIterCore<M> {
     }
 }
 
+// Scans back, and the first halves of seeks.
 impl<M> DbIterCore<M> {
-    ghost use Rattle.leveldb_base.specs.KeyTypes.{internal_key};
-    ghost use Rattle.leveldb_base.specs.declared.key_types.ValueType.TheVariants.{TypeValue};
-    ghost use Rattle.leveldb_base.specs.declared.types.Direction.TheVariants.{Forward};
     ghost use Rattle.leveldb_iter.specs.DbIterSteps.{IsTaken, MovesBelow, IsOnScan, IsOnScanBack, IsStepBack, IsTurning, IsFoundPrevious, IsLeftBack, IsSought, IsWhole, is_at_key};
 
     // Takes the entry that the walk below is at for the pair to be shown, and returns whether one
@@ -253,7 +249,9 @@ impl<M> DbIterCore<M> {
         match kind {
             ValueType::TypeDeletion => Ok(Some(false)),
             ValueType::TypeValue => {
-                keep(&mut self.saved_key, user)?;
+                if !taken {
+                    keep(&mut self.saved_key, user)?;
+                }
                 keep(&mut self.saved_value, value)?;
                 Ok(Some(true))
             }
