@@ -1,41 +1,32 @@
 -- Moves back in a view, step by step.
-use Rattle.std.proofs.Common.{◌≡◌, ◌≢◌, ◌⊎◌, inl, inr, ⊎_elim, ℕ, ◌+◌, ◌-◌, ◌<◌, ◌≤◌, ◌^◌, Bool, true, false, List, [], ◌∷◌, ◌++◌, length, take, drop, suc, add-one, refl, sym, ◌∙◌, ap, subst, arith, Option, Some, None, Result, Ok, Err, append_assoc, append-nil, length-append}
-use Rattle.std.specs.Prelude.{slice_get, is_some, OnOk, OnErr, IfOk, IfErr, IsErrAnd, Contains, nat_le, nat_lt, ◌&&◌, if◌then◌else◌}
+use Rattle.std.proofs.Common.{◌≡◌, ◌≢◌, ◌⊎◌, inl, inr, ⊎_elim, ℕ, ◌+◌, ◌<◌, ◌≤◌, ◌^◌, Bool, true, false, List, [], ◌∷◌, ◌++◌, length, suc, add-one, refl, sym, ◌∙◌, ap, subst, arith, Option, Some, None, Result, Ok, append_assoc, length-append}
+use Rattle.std.specs.Prelude.{slice_get, is_some, IsErrAnd, Contains}
 use Rattle.std.specs.Bool.{then_some}
 use Rattle.std.specs.Option.{option_map, option_to_list}
-use Rattle.std.specs.Str.{bytes_eq}
-use Rattle.std.proofs.lemmas.Bool.{leb-true, and_parts, cases_lt, false≢true}
-use Rattle.std.proofs.lemmas.List.Elements.{All-contains, Contains-append_left, Contains-append_right, Contains-append_cases}
-use Rattle.std.proofs.lemmas.Option.{same_Some}
+use Rattle.std.proofs.lemmas.Bool.{cases_lt, false≢true}
 use Rattle.std.specs.declared.cmp.Ordering.TheVariants.{Less}
 use Rattle.std.specs.Ordering.{is_lt}
-use Rattle.leveldb_base.specs.Cmp.{IsExactOrder}
 use Rattle.leveldb_base.specs.Entries.{entry_of_pair, entries_of_pairs, value_of, AreSorted}
-use Rattle.leveldb_base.specs.Error.{IsOutOfMemory}
 use Rattle.leveldb_base.specs.History.{Entry}
 use Rattle.leveldb_base.specs.KeyTypes.{user_part, sequence_part, type_part}
-use Rattle.leveldb_base.specs.Scan.{IsScanning, ScanStepsBack, count_shown, shown_pair}
-use Rattle.leveldb_base.specs.Types.{Pair, IsPosition, pair_at, position_within, next_position, previous_position, last_position, seek_position, count_before}
-use Rattle.leveldb_base.specs.View.{view_of, is_newest, shown_in}
+use Rattle.leveldb_base.specs.Scan.{ScanStepsBack, count_shown, shown_pair}
+use Rattle.leveldb_base.specs.Types.{Pair, pair_at, previous_position}
+use Rattle.leveldb_base.specs.View.{view_of, shown_in}
 use Rattle.leveldb_base.specs.declared.error.Status.{Status}
 use Rattle.leveldb_base.specs.declared.error.StatusCode.TheVariants.{Corruption}
-use Rattle.leveldb_base.specs.declared.key_types.ValueType.TheVariants.{TypeDeletion, TypeValue}
 use Rattle.leveldb_base.specs.declared.types.Direction.{Direction}
-use Rattle.leveldb_base.specs.declared.types.Direction.TheVariants.{Forward, Reverse}
-use Rattle.leveldb_base.proofs.HistoryLemmas.{in_none, in_front, in_rest, in_cases}
+use Rattle.leveldb_base.specs.declared.types.Direction.TheVariants.{Reverse}
+use Rattle.leveldb_base.proofs.HistoryLemmas.{in_cases}
 use Rattle.leveldb_base.proofs.OrderLemmas.{not_lt, exact_total, lt_itself}
-use Rattle.leveldb_base.proofs.PositionLemmas.{position_in, position_out, at_within, previous_of_suc, last_before_end, at_seam}
-use Rattle.leveldb_base.proofs.EntriesLemmas.{entries_append, rising_is_sorted, key_le}
-use Rattle.leveldb_base.proofs.ScanLemmas.{skip_after, shown_append, sorted_front, sorted_back, each_scan_starts, each_scan_steps, each_scan_ends, each_scan_seeks, each_seek_of_pairs, each_scan_resumes}
+use Rattle.leveldb_base.proofs.PositionLemmas.{previous_of_suc}
+use Rattle.leveldb_base.proofs.EntriesLemmas.{entries_append, key_le}
+use Rattle.leveldb_base.proofs.ScanLemmas.{skip_after, shown_append, sorted_front, sorted_back}
 use Rattle.leveldb_base.proofs.BackwardLemmas.{each_scan_steps_back, each_previous_is_last}
-use Rattle.leveldb_iter.specs.declared.entry.Seen.{Seen}
-use Rattle.leveldb_iter.specs.declared.entry.Seen.TheVariants.{End, Shown, Passed}
 use Rattle.leveldb_iter.specs.declared.walk.Walk.{Ghosts as WalkGhosts}
-use Rattle.leveldb_iter.specs.DbIter.{IsViewOf, IsAtEntry, IsBeforeEntries, IsPlacedAt, IsPlaced, FailsOver, user_pair}
-use Rattle.leveldb_iter.specs.DbIterSteps.{IsNoEntry, IsSeen, IsEndBack, IsFoundBack, IsTaken, IsOnScan, IsOnScanBack, IsTurning, IsFoundNext, IsNextStep, IsFoundPrevious, IsStepBack, IsLeft, IsLeftBack, IsSought, IsWhole, KeepsBelow, MovesBelow, number_after}
+use Rattle.leveldb_iter.specs.DbIterSteps.{IsNoEntry, IsEndBack, IsFoundBack, IsTaken, IsOnScanBack, IsFoundPrevious, IsStepBack, KeepsBelow, MovesBelow}
 use Rattle.leveldb_iter.specs.MergedEntries.{internal_order}
-use Rattle.leveldb_iter.specs.Walk.{KeyOrder, Way, WalkLaws, MovesWalk, Advances, StepsBack, SeeksFirst}
-use Rattle.leveldb_iter.proofs.DbIterLemmas.{at_front, in_parts, tagged, sorted_entries, same_moved, stayed, joined, failed, revalued, corrupt}
+use Rattle.leveldb_iter.specs.Walk.{KeyOrder, WalkLaws, StepsBack}
+use Rattle.leveldb_iter.proofs.DbIterLemmas.{at_front, in_parts, tagged, sorted_entries, same_moved, stayed, joined, revalued, corrupt}
 
 -- ---- the last of a list
 

@@ -1,6 +1,6 @@
 -- Whole moves in a view.
-use Rattle.std.proofs.Common.{◌≡◌, inl, inr, ℕ, ◌+◌, Bool, true, List, length, refl, sym, ◌∙◌, ap, subst, Option, Some, None, Result, Ok, Err}
-use Rattle.std.specs.Prelude.{OnOk, OnErr, IfErr}
+use Rattle.std.proofs.Common.{◌≡◌, ℕ, Bool, true, List, length, refl, sym, ap, subst, Option, Some, None, Result, Ok, Err}
+use Rattle.std.specs.Prelude.{OnErr}
 use Rattle.leveldb_base.specs.Types.{Pair, position_within, next_position, previous_position, last_position, seek_position, count_before}
 use Rattle.leveldb_base.specs.declared.error.Status.{Status}
 use Rattle.leveldb_base.specs.declared.types.Direction.{Direction}

@@ -1,6 +1,6 @@
 -- The laws of a view as a walk. They are in specs/ since its impl of `Walk` proves them by this,
 -- and the checker takes no term of proofs/ there.
-use Rattle.std.proofs.Common.{◌≡◌, ℕ, ◌<◌, ◌++◌, ◌∷◌, [], List, length, refl, sym, ◌∙◌, ap, subst, inl, inr, Option, Some, None}
+use Rattle.std.proofs.Common.{◌≡◌, ℕ, ◌++◌, ◌∷◌, [], List, length, refl, sym, ◌∙◌, ap, subst, inl, inr, Option, Some, None}
 use Rattle.std.specs.Prelude.{slice_get}
 use Rattle.std.specs.Option.{option_map}
 use Rattle.std.proofs.lemmas.Option.{slice_get_within}
@@ -17,7 +17,7 @@ use Rattle.leveldb_base.proofs.PositionLemmas.{at_seam}
 use Rattle.leveldb_base.proofs.ViewLemmas.{sorted_has_view}
 use Rattle.leveldb_iter.specs.declared.db_iter.DbIterCore.{DbIterCore}
 use Rattle.leveldb_iter.specs.declared.walk.Walk.{Ghosts as WalkGhosts}
-use Rattle.leveldb_iter.specs.DbIter.{IsViewOf, IsAtEntry, IsBeforeEntries, IsPlacedAt, IsPlaced, IsViewAt, IsViewOver, view_pair, view_here, FailsView, user_pair}
+use Rattle.leveldb_iter.specs.DbIter.{IsViewOf, IsPlacedAt, IsPlaced, IsViewAt, IsViewOver, view_pair, view_here, FailsView, user_pair}
 use Rattle.leveldb_iter.specs.MergedEntries.{internal_order}
 use Rattle.leveldb_iter.specs.Walk.{KeyOrder, IsSortedIn, WalkLaws}
 

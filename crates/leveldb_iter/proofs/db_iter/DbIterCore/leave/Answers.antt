@@ -1,4 +1,4 @@
-use Rattle.std.proofs.Common.{rules, Some, refl, ap, ◌∙◌}
+use Rattle.std.proofs.Common.{rules, refl}
 use Rattle.leveldb_iter.proofs.DbIterLemmas.{leaves_none, leaves_forward, leaves_reverse}
 use Rattle.leveldb_iter.proofs.db_iter.DbIterCore.leave.Goals as goal
 

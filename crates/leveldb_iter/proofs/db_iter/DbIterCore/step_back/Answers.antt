@@ -1,4 +1,3 @@
-use Rattle.std.proofs.Common.{rules, refl, ◌∙◌}
 use Rattle.leveldb_iter.proofs.DbIterBackLemmas.{step_back_ends, step_back_passes, step_back_passes_last}
 use Rattle.leveldb_iter.proofs.db_iter.DbIterCore.step_back.Goals as goal
 
