@@ -173,6 +173,7 @@ impl<C: Cmp> Source<C> {
     // Makes the call, and is at no position where that fails.
     fn call(&mut self, device: &mut Device) -> Result<()>
         ensures pairs { self.new.list.pairs.items ≡ self.old.list.pairs.items }
+        ensures order { C.cmp self.new.list.cmp ≡ C.cmp self.old.list.cmp }
         ensures ok { OnOk result (self.new.list.at ≡ self.old.list.at) }
         ensures err { OnErr result (self.new.list.at ≡ None) }
         ensures cause { IfErr result (λ status. status.code ≡ StatusCode.IOError) }
