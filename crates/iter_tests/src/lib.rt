@@ -4,3 +4,5 @@
 mod children;
 #[cfg(test)]
 mod merges;
+#[cfg(test)]
+mod views;

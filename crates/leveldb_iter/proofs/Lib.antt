@@ -7,3 +7,7 @@ mod ChildrenLemmas
 mod ChoiceLemmas
 mod MergingIterLemmas
 mod SnapshotLemmas
+pub mod DbIterLemmas
+pub mod DbIterBackLemmas
+pub mod DbIterTurnLemmas
+pub mod DbIterMoveLemmas
