@@ -2,6 +2,7 @@ pub mod Histories
 pub mod MachineLemmas
 pub mod RunsLemmas
 pub mod LawsLemmas
+mod ViewsLemmas
 pub mod ReadsLemmas
 pub mod UnopenedLemmas
 pub mod Bounds
@@ -33,5 +34,6 @@ pub mod ClosingLemmas
 pub mod ReadingLemmas
 pub mod WritingLemmas
 pub mod RestLemmas
+pub mod SnapshotLemmas
 pub mod CallsLemmas
 pub mod WriteCallLemmas
