@@ -14,4 +14,5 @@ pub mod TableBuilderFinishLemmas
 pub mod TableReaderLemmas
 pub mod TableReaderWalkLemmas
 pub mod TableReaderMovesLemmas
+pub mod TableReaderStepsLemmas
 pub mod TableMoreLemmas
