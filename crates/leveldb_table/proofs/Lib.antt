@@ -14,5 +14,4 @@ pub mod TableBuilderFinishLemmas
 pub mod TableReaderLemmas
 pub mod TableReaderWalkLemmas
 pub mod TableReaderMovesLemmas
-pub mod TableReaderStepsLemmas
 pub mod TableMoreLemmas
