@@ -34,4 +34,7 @@ pub mod WritingLaws
 pub mod OpeningLaws
 pub mod Format
 pub mod TableCache
+pub mod TableMoves
+pub mod VersionIter
+pub mod VersionIterLaws
 pub mod Search

@@ -5,4 +5,5 @@ pub mod laws;
 pub mod table_cache;
 pub mod version;
 pub mod version_edit;
+pub mod version_iter;
 pub mod version_set;
