@@ -37,4 +37,7 @@ pub mod TableCache
 pub mod TableMoves
 pub mod VersionIter
 pub mod VersionIterLaws
+pub mod VersionIters
+pub mod StoreWalk
+pub mod StoreWalkLaws
 pub mod Search
