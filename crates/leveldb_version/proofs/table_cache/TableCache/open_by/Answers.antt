@@ -27,4 +27,4 @@ returns g c =
     let store = c.deref.ensures ∙ ap store_of anew ∙ renewed_store old in
     let path : c.deref-2.result.now ≡ path_at old number = c.deref-2.ensures ∙ c.in_ok-path.ensures.ok ∙ ap (λ s. table_path s number) store in
     let opens = rw path at c.in_ok-file.ensures in
-    numbered g.E.Env by number c.args.env.now old c.renew.new.self anew c.in_ok-file.file c.in_ok-file.size opens.ok opens.reads.kept_disk opens.reads.cause.ok c.new.result c.new.ensures
+    numbered g.E.Env by number c.args.env.now old c.renew.new.self anew c.in_ok-file.file c.in_ok-file.size opens.ok opens.reads.kept_disk opens.reads.cause.ok c.open.result (rw c.new.ensures at c.open.ensures)
