@@ -1,6 +1,7 @@
 -- Where a step by the compressors of a format leads in a table that is one by what its ids mean, and why it fails there.
 use Rattle.std.specs.Prelude.{◌≢◌, IsSomeAnd, OnOk, OnErr, IfErr, slice_get}
-use Rattle.std.proofs.Common.{◌≡◌, ◌⊎◌, inl, inr, ℕ, suc, ◌+◌, ◌<◌, Bool, true, List, [], ◌∷◌, ◌++◌, length, map, Option, None, Some, Result, Ok, Err, refl, sym, ◌∙◌, ap, subst, arith}
+use Rattle.std.proofs.Common.{◌≡◌, ◌⊎◌, inl, inr, ℕ, zero, suc, ◌+◌, ◌-◌, ◌<◌, if◌then◌else◌, nat_lt, Bool, true, List, [], ◌∷◌, ◌++◌, length, map, Option, None, Some, Result, Ok, Err, refl, sym, ◌∙◌, ap, subst, arith}
+use Rattle.std.proofs.lemmas.Bool.Decides.{nat_tests}
 use Rattle.std.proofs.lemmas.List.{length-append, length-map}
 use Rattle.std.specs.declared.cmp.Ordering.{Ordering}
 use Rattle.leveldb_base.specs.BlockHandle.{Handle, HandleFits, handle_bytes}
@@ -39,7 +40,10 @@ last_some_of (x ∷ xs) some = (length xs, refl)
 -- nothing is before the first
 first_of_all : (n : ℕ) → previous_position (Some n) ≡ None → n ≡ 0
 first_of_all zero e = refl
-first_of_all (suc n) e = absurd (cc)
+first_of_all (suc n) e = let test : nat_lt 0 (suc n) ≡ true = grind (arith, nat_tests) in never (sym (ap (λ b. if b then Some (suc n - 1) else None) test) ∙ e)
+  where
+    never : {m : ℕ} → Some m ≡ None → suc n ≡ 0
+    never some = cc
 
 no_previous : {parts : List Part} {line : Option ℕ} {pairs : List Pair} {inner : Option ℕ} {n : ℕ} → IsAtPair parts line pairs inner n → previous_position inner ≡ None → previous_position line ≡ None → previous_position (Some n) ≡ None
 no_previous {n = n} s first none =
