@@ -77,6 +77,7 @@ pub mod SearchLemmas
 pub mod ReadTableLemmas
 pub mod TableStepLemmas
 pub mod TableMoveLemmas
+pub mod VersionIterLemmas
 pub mod NewestLemmas
 pub mod SearchTableLemmas
 pub mod NewestTablesLemmas

@@ -85,16 +85,22 @@ module _ {E C FP K F : Type 0} {order : CmpGhosts (InternalKeyCmp C)} (env : Env
     pub at : IsAtPairOrNone (table_parts over.tables) (Some it.at)
         (table_pairs (table_in over.tables it.at)) inner position
 
-  -- Why a move fails that begins in one world and ends in another: out of memory, at a failure of
-  -- the device that was counted, or for a fault of a table. Where the files are tables, that is since
-  -- the format lacks a compressor.
-  abbrev pub FailsInTables : E × ReadTables E C FP K F order → VersionIter C order
-      → E × ReadTables E C FP K F order → Status → Type 0
-  FailsInTables world it later status = IsOutOfMemory status
-      ⊎ (env.failures world.0 < env.failures later.0) ⊎ (env.failures later.0 ≡ 2 ^ 64 - 1)
-      ⊎ (IsTableFault (reading world.1).format status.code
-      × ((meaning : Meaning) (tables : List FileTable) → AreTablesThere meaning world it tables
-      → (status.code ≡ NotSupported) × LacksCompressor (reading world.1).format meaning))
+  -- out of memory, at a failure of the device that was counted from one world to another, or for
+  -- this reason
+  abbrev pub FailsOr : Type 0 → E × ReadTables E C FP K F order → E × ReadTables E C FP K F order
+      → Status → Type 0
+  FailsOr Why world later status = IsOutOfMemory status
+      ⊎ (env.failures world.0 < env.failures later.0) ⊎ (env.failures later.0 ≡ 2 ^ 64 - 1) ⊎ Why
+
+  -- Why a move fails that begins in one world and ends in another: for a fault of a table; and where
+  -- the files are tables, only since the format lacks a compressor.
+  pub record FailsInTables (world : E × ReadTables E C FP K F order) (it : VersionIter C order)
+      (later : E × ReadTables E C FP K F order) (status : Status) : Type 0 where
+    pub fault : FailsOr (IsTableFault (reading world.1).format status.code) world later status
+    pub lacks : (meaning : Meaning) (tables : List FileTable)
+        → AreTablesThere meaning world it tables
+        → FailsOr ((status.code ≡ NotSupported)
+        × LacksCompressor (reading world.1).format meaning) world later status
 
   -- What a move leaves of the world: tables are read by the same cache, with the same options.
   pub record KeepsReading (first second : E × ReadTables E C FP K F order) : Type 0 where

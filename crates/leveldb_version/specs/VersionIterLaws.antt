@@ -8,6 +8,7 @@ use Rattle.leveldb_base.specs.Types.{IsPosition, Pair, pair_at}
 use Rattle.leveldb_base.specs.declared.cmp.Cmp.{Ghosts as CmpGhosts}
 use Rattle.leveldb_base.specs.declared.cmp.internal.InternalKeyCmp.{InternalKeyCmp}
 use Rattle.leveldb_base.specs.declared.error.Status.{Status}
+use Rattle.leveldb_base.specs.declared.error.StatusCode.TheVariants.{NotSupported}
 use Rattle.leveldb_env.specs.Compressor.{Codings}
 use Rattle.leveldb_env.specs.Env.{Files}
 use Rattle.leveldb_env.specs.declared.env.Env.{Ghosts as EnvGhosts}
@@ -25,7 +26,7 @@ use Rattle.leveldb_version.specs.Paths.{table_path}
 use Rattle.leveldb_version.specs.TableCache.{TableOptions, files_at, options_by, store_of}
 use Rattle.leveldb_version.specs.TableMoves.{AreTablesMatched, FileTable, IsAtInTable, IsIndexedFor, IsTableAt, KeepsTables, core_here, table_pairs}
 use Rattle.leveldb_version.specs.VersionEdit.{new_file_of}
-use Rattle.leveldb_version.specs.VersionIter.{AreTablesThere, FailsInTables, IsAtInTables, IsOverTables, KeepsReading, reading, table_in, table_parts, version_here}
+use Rattle.leveldb_version.specs.VersionIter.{AreTablesThere, FailsInTables, FailsOr, IsAtInTables, IsOverTables, KeepsReading, reading, table_in, table_parts, version_here}
 use Rattle.leveldb_version.specs.declared.table_cache.TableCache.{TableCache}
 use Rattle.leveldb_version.specs.declared.table_cache.moves.ReadTables.{ReadTables}
 use Rattle.leveldb_version.specs.declared.version_iter.VersionIter.{VersionIter}
@@ -44,6 +45,23 @@ in_range_of : (parts : List Part) (line : Option ℕ) (pairs : List Pair) (inner
     → IsAtPairOrNone parts line pairs inner position → IsPosition (pairs_in parts) position
 in_range_of parts line pairs inner None at = tt
 in_range_of parts line pairs inner (Some n) at = within_in at
+
+module _ {E C FP K F : Type 0} {order : CmpGhosts (InternalKeyCmp C)} (env : EnvGhosts E F)
+    (cmp : CmpGhosts C) (filters : FilterGhosts FP) (codings : K → Codings) where
+  -- a reason in a later world is one in an earlier
+  fails_or_before : (first second : E × ReadTables E C FP K F order)
+      → env.failures first.0 ≤ env.failures second.0
+      → (These Those : Type 0) → (These → Those)
+      → (later : E × ReadTables E C FP K F order) (status : Status)
+      → FailsOr env cmp filters codings These second later status
+      → FailsOr env cmp filters codings Those first later status
+  fails_or_before first second counted These Those along later status (inl out) = inl out
+  fails_or_before first second counted These Those along later status (inr (inl more)) =
+      inr (inl (omega (arith, counted, more)))
+  fails_or_before first second counted These Those along later status (inr (inr (inl most))) =
+      inr (inr (inl most))
+  fails_or_before first second counted These Those along later status (inr (inr (inr why))) =
+      inr (inr (inr (along why)))
 
 module _ {E C FP K F : Type 0} {order : CmpGhosts (InternalKeyCmp C)} {env : EnvGhosts E F}
     {cmp : CmpGhosts C} {filters : FilterGhosts FP} {codings : K → Codings} where
@@ -97,18 +115,24 @@ module _ {E C FP K F : Type 0} {order : CmpGhosts (InternalKeyCmp C)} {env : Env
       → (later : E × ReadTables E C FP K F order) (status : Status)
       → FailsInTables env cmp filters codings second new later status
       → FailsInTables env cmp filters codings first old later status
-  fails_before first second kept old new there later status (inl out) = inl out
-  fails_before first second kept old new there later status (inr (inl counted)) =
-      let before = kept.tables.later in inr (inl (omega (arith, before, counted)))
-  fails_before first second kept old new there later status (inr (inr (inl most))) =
-      inr (inr (inl most))
-  fails_before first second kept old new there later status (inr (inr (inr (fault, why)))) =
+  fails_before first second kept old new there later status fails =
       let e = reading_stays first second kept in
-      inr (inr (inr (
-        subst (λ (by : TableOptions C FP). IsTableFault by.format status.code) e fault,
-        λ meaning tables was. (let lacks = why meaning tables (there meaning tables was) in
-        (lacks.0, subst (λ (by : TableOptions C FP). LacksCompressor by.format meaning) e lacks.1))
-      )))
+      let keeps = kept.tables in
+      record {
+        fault = fails_or_before env cmp filters codings first second keeps.later
+            (IsTableFault (reading env cmp filters codings second.1).format status.code)
+            (IsTableFault (reading env cmp filters codings first.1).format status.code)
+            (λ fault. subst (λ (by : TableOptions C FP). IsTableFault by.format status.code) e fault)
+            later status fails.fault;
+        lacks = λ meaning tables was. fails_or_before env cmp filters codings first second keeps.later
+            ((status.code ≡ NotSupported)
+            × LacksCompressor (reading env cmp filters codings second.1).format meaning)
+            ((status.code ≡ NotSupported)
+            × LacksCompressor (reading env cmp filters codings first.1).format meaning)
+            (λ lacks. (lacks.0, subst (λ (by : TableOptions C FP).
+            LacksCompressor by.format meaning) e lacks.1))
+            later status (fails.lacks meaning tables (there meaning tables was));
+      }
 
   over_stays : (first second : E × ReadTables E C FP K F order)
       → KeepsReading env cmp filters codings first second → (it : VersionIter C order)
