@@ -1,6 +1,6 @@
 -- What the steps of a walk over the tables of files come to, and its moves.
 use Rattle.std.specs.Prelude.{IfErr, IfOk, IsErrAnd, OnErr, OnOk, is_some, slice_get, slice_index_or}
-use Rattle.std.proofs.Common.{◌≡◌, ◌≢◌, ◌⊎◌, inl, inr, ⊎_elim, ℕ, zero, suc, ◌+◌, ◌-◌, ◌<◌, ◌≤◌, ◌^◌, Bool, true, false, List, [], ◌∷◌, length, map, Option, None, Some, Result, Ok, Err, refl, sym, ◌∙◌, ap, subst, arith}
+use Rattle.std.proofs.Common.{◌≡◌, ◌≢◌, ◌⊎◌, inl, inr, ⊎_elim, ℕ, zero, suc, ◌+◌, ◌-◌, ◌<◌, ◌≤◌, ◌^◌, Bool, true, false, List, [], ◌∷◌, ◌++◌, length, map, Option, None, Some, Result, Ok, Err, refl, sym, ◌∙◌, ap, subst, arith}
 use Rattle.std.proofs.lemmas.Result.{on_ok_weaker}
 use Rattle.std.specs.declared.cmp.Ordering.{Ordering}
 use Rattle.leveldb_base.specs.Cmp.{IsExactOrder}
@@ -16,30 +16,25 @@ use Rattle.leveldb_env.specs.Compressor.{Codings}
 use Rattle.leveldb_env.specs.declared.env.Env.{Ghosts as EnvGhosts}
 use Rattle.leveldb_env.specs.declared.filter.FilterPolicy.{Ghosts as FilterGhosts}
 use Rattle.leveldb_iter.specs.Walk.{KeyOrder, MovesWalk, key_order}
+use Rattle.leveldb_table.proofs.TableReaderWalkLemmas.{position_in, some_none}
 use Rattle.leveldb_table.specs.Table.{Part}
+use Rattle.leveldb_table.specs.TableReader.{pairs_in}
 use Rattle.leveldb_table.specs.TableBlock.{FailsFor}
 use Rattle.leveldb_table.specs.TableReaderWalk.{IsAtPairOrNone, inner_pairs, inner_position}
 use Rattle.leveldb_table.specs.declared.table_reader.walk.TableCore.{TableCore}
 use Rattle.leveldb_table.specs.declared.table_reader.walk.TableStep.{TableStep}
+use Rattle.leveldb_table.specs.declared.table_reader.walk.TableStep.TheVariants.{First, Last, NextBlock, BlockBefore, Seek}
 use Rattle.leveldb_version.proofs.TableMoveLemmas.{left_indexed, left_position}
 use Rattle.leveldb_version.specs.Batches.{Each}
 use Rattle.leveldb_version.specs.Format.{IsTableFault, LacksCompressor, Meaning}
+use Rattle.leveldb_version.specs.Store.{IsLastKey}
 use Rattle.leveldb_version.specs.TableCache.{TableOptions, files_at, path_at}
-use Rattle.leveldb_version.specs.TableMoves.{FileTable, IsAtInTable, IsIndexedFor, IsLedTo, IsTableAt, LeavesPairs, MovesInNumbered, core_here, core_position, table_pairs}
+use Rattle.leveldb_version.specs.TableMoves.{FileTable, IsAtInTable, IsIndexedFor, IsLedTo, IsTableAt, IsToEnd, LeavesPairs, MovesInNumbered, core_here, core_position, table_pairs}
 use Rattle.leveldb_version.specs.VersionEdit.{new_file_of}
 use Rattle.leveldb_version.specs.VersionIter.{AreTablesThere, FailsInTables, FailsOr, IsAtInTables, IsOverTables, KeepsReading, MovesThere, MovesToFile, StaysThere, StepsInFile, TurnsTo, reading, table_in, table_parts, version_here}
 use Rattle.leveldb_version.specs.VersionIterLaws.{fails_before, reading_kept, there_stays}
 use Rattle.leveldb_version.specs.declared.table_cache.moves.ReadTables.{ReadTables}
 use Rattle.leveldb_version.specs.declared.version_iter.VersionIter.{VersionIter}
-
--- past a list's end
-pub slice_get_past : {T : Type 0} (xs : List T) (i : ℕ) → slice_get xs i ≡ None → length xs ≤ i
-slice_get_past [] i none = omega arith
-slice_get_past (x ∷ xs) zero none = absurd (never none)
-  where
-    never : Some x ≡ None → ⊥
-    never e = cc
-slice_get_past (x ∷ xs) (suc i) none = let rest = slice_get_past xs i none in omega (arith, rest)
 
 -- the table of a file
 each_at : (R : ℕ × FileMetaData → FileTable → Type 0) (files : List (ℕ × FileMetaData)) (tables : List FileTable) (i : ℕ) (file : ℕ × FileMetaData) → slice_get files i ≡ Some file → Each R files tables → R file (table_in tables i)
@@ -70,6 +65,60 @@ here_none (Some core) none = ap (pair_at (inner_pairs core.inner)) none
 pub at_none : {C : Type 0} {order : CmpGhosts C} (cmp : List ℕ → List ℕ → Ordering) (parts : List Part) (core : Option (TableCore C order)) → IsIndexedFor cmp parts core → core_position core ≡ None → IsAtInTable cmp parts core None
 at_none cmp parts None indexed none = refl
 at_none cmp parts (Some core) indexed none = record { lines = indexed.lines; ordered = indexed.ordered; at = none }
+
+no_cons : {T : Type 0} {x : T} {xs : List T} → x ∷ xs ≡ [] → ⊥
+no_cons e = cc
+
+not_true : false ≡ true → ⊥
+not_true e = cc
+
+-- a move to an end leads there from wherever the walk is
+led_any : {C : Type 0} {order : CmpGhosts C} (to : TableStep) → IsToEnd to → (cmp : List ℕ → List ℕ → Ordering) (parts : List Part) (core : Option (TableCore C order)) (position : Option ℕ) → IsLedTo {order = order} to cmp parts None position → IsLedTo to cmp parts core position
+led_any First ends cmp parts core position led = led
+led_any Last ends cmp parts core position led = led
+led_any NextBlock ends cmp parts core position led = absurd ends
+led_any BlockBefore ends cmp parts core position led = absurd ends
+led_any (Seek key) ends cmp parts core position led = absurd ends
+
+-- to a pair, where there is one
+end_led : {C : Type 0} (order : CmpGhosts C) (to : TableStep) → IsToEnd to → (cmp : List ℕ → List ℕ → Ordering) (parts : List Part) → pairs_in parts ≢ [] → (n : ℕ) × IsLedTo {order = order} to cmp parts None (Some n)
+end_led order First ends cmp parts some = (0, sym (position_in (pairs_in parts) 0 (some_long (pairs_in parts) some)))
+  where
+    some_long : (xs : List Pair) → xs ≢ [] → 0 < length xs
+    some_long [] some = absurd (some refl)
+    some_long (x ∷ xs) some = omega arith
+end_led order Last ends cmp parts some = by (pairs_in parts) some
+  where
+    by : (xs : List Pair) → xs ≢ [] → (n : ℕ) × (Some n ≡ last_position xs)
+    by [] some = absurd (some refl)
+    by (x ∷ xs) some = (length xs, refl)
+end_led order NextBlock ends cmp parts some = absurd ends
+end_led order BlockBefore ends cmp parts some = absurd ends
+end_led order (Seek key) ends cmp parts some = absurd ends
+
+-- a list with a last key has a pair
+last_key_some : {key : List ℕ} {pairs : List Pair} → IsLastKey key pairs → pairs ≢ []
+last_key_some {key} {pairs} last none = by last.0 (sym last.2 ∙ none)
+  where
+    by : (front : List Pair) → front ++ (key, last.1) ∷ [] ≡ [] → ⊥
+    by [] e = no_cons e
+    by (x ∷ front) e = no_cons e
+
+no_some : {T : Type 0} (o : Option T) → false ≡ is_some o → o ≡ None
+no_some None e = refl
+no_some (Some x) e = absurd (not_true e)
+
+-- a walk at a pair of its table is at a position
+at_some : {C : Type 0} {order : CmpGhosts C} (cmp : List ℕ → List ℕ → Ordering) (parts : List Part) (core : Option (TableCore C order)) (n : ℕ) → IsAtInTable cmp parts core (Some n) → core_position core ≡ None → ⊥
+at_some cmp parts None n at none = some_none at
+at_some cmp parts (Some core) n at none = let pair = at.at in some_none (sym pair.at_position ∙ none)
+
+-- the table of a file that is there
+each_in : (R : ℕ × FileMetaData → FileTable → Type 0) (files : List (ℕ × FileMetaData)) (tables : List FileTable) (i : ℕ) → i < length files → Each R files tables → (file : ℕ × FileMetaData) × R file (table_in tables i)
+each_in R [] tables i within each = absurd (omega (arith, within))
+each_in R (x ∷ files) [] i within each = absurd each
+each_in R (x ∷ files) (t ∷ tables) zero within each = (x, each.0)
+each_in R (x ∷ files) (t ∷ tables) (suc i) within each = each_in R files tables i (omega (arith, within)) each.1
 
 module _ {E C FP K F : Type 0} {order : CmpGhosts (InternalKeyCmp C)} (env : EnvGhosts E F) (cmp : CmpGhosts C) (filters : FilterGhosts FP) (codings : K → Codings) where
   -- ---- why it fails
@@ -149,7 +198,7 @@ module _ {E C FP K F : Type 0} {order : CmpGhosts (InternalKeyCmp C)} (env : Env
   }
 
   -- past the last file
-  pub steps_past : (to : TableStep) (world : E × ReadTables E C FP K F order) (old new : VersionIter C order) → LeavesPairs old.core new.core → new.at ≡ old.at → new.files.now ≡ old.files.now → slice_get old.files.now old.at ≡ None
+  pub steps_past : (to : TableStep) (world : E × ReadTables E C FP K F order) (old new : VersionIter C order) → LeavesPairs old.core new.core → new.at ≡ old.at → new.files.now ≡ old.files.now → length old.files.now ≤ old.at
       → StepsInFile env cmp filters codings to world old (Ok false) world new
   steps_past to world old new left at files none = record {
     moves = record {
@@ -159,9 +208,80 @@ module _ {E C FP K F : Type 0} {order : CmpGhosts (InternalKeyCmp C)} (env : Env
     };
     there = sym (ap is_some (left_position old.core new.core left));
     at = at;
-    ok = λ meaning tables there within position led. absurd (past tables old.files.now old.at none (each_long _ old.files.now tables there.each) within);
+    ok = λ meaning tables there within position led. absurd (let long = each_long (λ file table. ((new_file_of file).number < 2 ^ 64) × ((new_file_of file).largest ≡ table.largest)
+          × IsTableAt (cmp.cmp world.1.cmp) meaning (files_at env world.0) (path_at world.1.cache.now (new_file_of file).number) table) old.files.now tables there.each in omega (arith, long, none, within));
   }
-    where
-      past : (tables : List FileTable) (files : List (ℕ × FileMetaData)) (i : ℕ) → slice_get files i ≡ None → length files ≡ length tables → i < length tables → ⊥
-      past tables files i none long within = absurd (omega (arith, within, long, slice_get_past files i none))
 
+
+  -- ---- a move to the end of a file's table
+
+  module _ (world : E × ReadTables E C FP K F order) (old turned : VersionIter C order) (turns : TurnsTo old.at old.core turned.at turned.core) (files : turned.files.now ≡ old.files.now) where
+    there_turned : (meaning : Meaning) (tables : List FileTable) → AreTablesThere env cmp filters codings meaning world old tables → AreTablesThere env cmp filters codings meaning world turned tables
+    there_turned meaning tables there = record {
+      matched = there.matched;
+      agrees = there.agrees;
+      each = subst (λ (fs : List (ℕ × FileMetaData)). Each (λ file table. ((new_file_of file).number < 2 ^ 64) × ((new_file_of file).largest ≡ table.largest)
+          × IsTableAt (cmp.cmp world.1.cmp) meaning (files_at env world.0) (path_at world.1.cache.now (new_file_of file).number) table) fs tables) (sym files) there.each;
+      indexed = ⊎_elim
+          (λ (anew : turned.core ≡ None). subst (IsIndexedFor (order.cmp (record { 0 = world.1.cmp })) (table_in tables turned.at).parts) (sym anew) tt)
+          (λ (same : (old.at ≡ turned.at) × (turned.core ≡ old.core)). subst (λ i. IsIndexedFor (order.cmp (record { 0 = world.1.cmp })) (table_in tables i).parts turned.core) same.0
+          (subst (IsIndexedFor (order.cmp (record { 0 = world.1.cmp })) (table_in tables old.at).parts) (sym same.1) there.indexed))
+          turns;
+    }
+
+    module _ (to : TableStep) (ends : IsToEnd to) (r : Result Bool Status) (later : E × ReadTables E C FP K F order) (new : VersionIter C order) (step : StepsInFile env cmp filters codings to world turned r later new) (within : turned.at < length old.files.now) where
+      stays_turned : StaysThere env cmp filters codings world old later new
+      stays_turned = let stays = step.moves.stays in record {
+        kept = stays.kept;
+        files = stays.files ∙ files;
+        there = λ meaning tables there. stays.there meaning tables (there_turned meaning tables there);
+      }
+
+      fails_turned : (q : Result Bool Status) → IfErr q (FailsInTables env cmp filters codings world turned later) → IfErr q (FailsInTables env cmp filters codings world old later)
+      fails_turned (Ok there) fails = tt
+      fails_turned (Err status) fails = fails_before world world (reading_kept world) old turned there_turned later status fails
+
+      ok_turned : (meaning : Meaning) (tables : List FileTable) → AreTablesThere env cmp filters codings meaning world old tables → turned.at < length tables → (position : Option ℕ)
+          → IsLedTo {order = order} to (order.cmp (record { 0 = world.1.cmp })) (table_in tables turned.at).parts None position → OnOk r (IsAtInTable (order.cmp (record { 0 = world.1.cmp })) (table_in tables turned.at).parts new.core position)
+      ok_turned meaning tables there in_tables position led = step.ok meaning tables (there_turned meaning tables there) in_tables position (led_any to ends (order.cmp (record { 0 = world.1.cmp })) (table_in tables turned.at).parts turned.core position led)
+
+      pub to_file_made : MovesToFile env cmp filters codings turned.at to world old r later new
+      to_file_made = record {
+        moves = record { stays = stays_turned; cause = fails_turned r step.moves.cause; err = step.moves.err };
+        there = step.there;
+        past = λ past. absurd (omega (arith, past, within));
+        at_file = λ inside. step.at;
+        ok = ok_turned;
+      }
+
+      -- a table without a pair is damaged
+      pub to_file_empty : r ≡ Ok false → (result : Result Bool Status) → IsErrAnd result (λ status. status.code ≡ Corruption) → MovesToFile env cmp filters codings turned.at to world old result later new
+      to_file_empty r_is (Ok there) damaged = absurd damaged
+      to_file_empty r_is (Err status) damaged = record {
+        moves = record {
+          stays = stays_turned;
+          cause = record {
+            fault = inr (inr (inr (inl damaged)));
+            lacks = λ meaning tables there. absurd (not_empty meaning tables there);
+          };
+          err = nowhere;
+        };
+        there = tt;
+        past = λ past. absurd (omega (arith, past, within));
+        at_file = λ inside. step.at;
+        ok = λ meaning tables there in_tables position led. tt;
+      }
+        where
+          nowhere : core_position new.core ≡ None
+          nowhere = no_some (core_position new.core) (subst (λ q. IfOk q (λ there. there ≡ is_some (core_position new.core))) r_is step.there)
+
+          not_empty : (meaning : Meaning) (tables : List FileTable) → AreTablesThere env cmp filters codings meaning world old tables → ⊥
+          not_empty meaning tables there =
+              let long = each_long (λ file table. ((new_file_of file).number < 2 ^ 64) × ((new_file_of file).largest ≡ table.largest)
+              × IsTableAt (cmp.cmp world.1.cmp) meaning (files_at env world.0) (path_at world.1.cache.now (new_file_of file).number) table) old.files.now tables there.each in
+              let some = each_in (λ file table. ((new_file_of file).number < 2 ^ 64) × ((new_file_of file).largest ≡ table.largest)
+              × IsTableAt (cmp.cmp world.1.cmp) meaning (files_at env world.0) (path_at world.1.cache.now (new_file_of file).number) table) old.files.now tables turned.at within there.each in
+              let led = end_led order to ends (order.cmp (record { 0 = world.1.cmp })) (table_in tables turned.at).parts (last_key_some some.1.2.last) in
+              let at = subst (λ q. OnOk q (IsAtInTable (order.cmp (record { 0 = world.1.cmp })) (table_in tables turned.at).parts new.core (Some led.0))) r_is
+              (ok_turned meaning tables there (omega (arith, long, within)) (Some led.0) led.1) in
+              at_some (order.cmp (record { 0 = world.1.cmp })) (table_in tables turned.at).parts new.core led.0 at nowhere

@@ -51,6 +51,14 @@ pub record IsTableAt (cmp : List ℕ → List ℕ → Ordering) (meaning : Meani
   pub parted : is.parts ≡ table.parts
   pub last : IsLastKey table.largest (table_pairs table)
 
+-- the move leads to the first pair or to the last
+abbrev pub IsToEnd : TableStep → Type 0
+IsToEnd First = Unit {0}
+IsToEnd Last = Unit {0}
+IsToEnd NextBlock = ⊥
+IsToEnd BlockBefore = ⊥
+IsToEnd (Seek key) = ⊥
+
 -- ---- a walk over a table, which may not have begun
 
 module _ {C : Type 0} {order : CmpGhosts C} where

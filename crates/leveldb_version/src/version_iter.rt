@@ -3,7 +3,7 @@ ghost use Rattle.std.specs.Prelude.{◌≡◌, ◌≢◌, ◌<◌, ◌≤◌, �
 ghost use Rattle.std.specs.declared.cmp.Ordering.TheVariants.{Less};
 ghost use Rattle.leveldb_base.specs.KeyTypes.{internal_cmp};
 ghost use Rattle.leveldb_base.specs.Types.{next_position, pair_of, previous_position};
-ghost use Rattle.leveldb_version.specs.TableMoves.{LeavesPairs, StepsInBlock, core_position};
+ghost use Rattle.leveldb_version.specs.TableMoves.{IsToEnd, LeavesPairs, StepsInBlock, core_position};
 ghost use Rattle.leveldb_version.specs.VersionEdit.{new_file_of};
 ghost use Rattle.leveldb_base.specs.declared.types.FileMetaData.{FileMetaData};
 
@@ -100,10 +100,12 @@ impl<'a, C: UserCmp + Copy + Drop> VersionIter<'a, C> {
         ensures { StepsInFile E.Env C.Cmp FP.FilterPolicy K.codings to.entry (env.old, tables.old)
             self.old result (env.new, tables.new) self.new }
     {
-        let Some(file) = self.files.get(self.at) else {
+        let at = self.at;
+        if at >= self.files.len() {
             self.leave();
             return Ok(false);
-        };
+        }
+        let file = &self.files[at];
         tables.compressors.move_in_table(
             env,
             tables.cache,
@@ -115,8 +117,8 @@ impl<'a, C: UserCmp + Copy + Drop> VersionIter<'a, C> {
         )
     }
 
-    // Makes a move in the table of the file of this index, which has a pair; past the last file to
-    // no position. Returns whether it is at a pair then.
+    // Moves to the first or the last pair of the table of the file of this index; past the last file
+    // to no position. Returns whether it is at a pair then.
     fn to_file<'b, E: Env, FP: FilterPolicy + Copy + Drop, K: ReadsTables<E, C, FP>>(
         &mut self,
         env: &mut E,
@@ -124,6 +126,7 @@ impl<'a, C: UserCmp + Copy + Drop> VersionIter<'a, C> {
         at: usize,
         to: TableStep,
     ) -> Result<bool>
+        requires { IsToEnd to }
         ensures { MovesToFile E.Env C.Cmp FP.FilterPolicy K.codings at to.entry
             (env.old, tables.old) self.old result (env.new, tables.new) self.new }
     {

@@ -1,3 +1,4 @@
+use Rattle.leveldb_version.proofs.VersionIterLemmas.{to_file_made}
 use Rattle.leveldb_version.proofs.version_iter.VersionIter.to_file.Goals as goal
 
 pub returns-then-at-self : goal.returns-then-at-self
