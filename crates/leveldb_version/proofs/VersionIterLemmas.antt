@@ -15,7 +15,7 @@ use Rattle.leveldb_base.specs.declared.types.FileMetaData.{FileMetaData}
 use Rattle.leveldb_env.specs.Compressor.{Codings}
 use Rattle.leveldb_env.specs.declared.env.Env.{Ghosts as EnvGhosts}
 use Rattle.leveldb_env.specs.declared.filter.FilterPolicy.{Ghosts as FilterGhosts}
-use Rattle.leveldb_iter.specs.Walk.{KeyOrder, MovesWalk, key_order}
+use Rattle.leveldb_iter.specs.Walk.{KeyOrder, MovesWalk, Resets, key_order}
 use Rattle.leveldb_table.proofs.TableReaderWalkLemmas.{position_in, some_none}
 use Rattle.leveldb_table.specs.Table.{Part}
 use Rattle.leveldb_table.specs.TableReader.{pairs_in}
@@ -254,6 +254,10 @@ module _ {E C FP K F : Type 0} {order : CmpGhosts (InternalKeyCmp C)} (env : Env
         ok = ok_turned;
       }
 
+      pub to_file_refused : {status : Status} → r ≡ Err status → (result : Result Bool Status) → IsErrAnd result (λ other. other ≡ status) → MovesToFile env cmp filters codings turned.at to world old result later new
+      to_file_refused r_is (Ok there) refused = absurd refused
+      to_file_refused r_is (Err other) refused = subst (λ (q : Result Bool Status). MovesToFile env cmp filters codings turned.at to world old q later new) (r_is ∙ ap Err (sym refused)) to_file_made
+
       -- a table without a pair is damaged
       pub to_file_empty : r ≡ Ok false → (result : Result Bool Status) → IsErrAnd result (λ status. status.code ≡ Corruption) → MovesToFile env cmp filters codings turned.at to world old result later new
       to_file_empty r_is (Ok there) damaged = absurd damaged
@@ -285,3 +289,83 @@ module _ {E C FP K F : Type 0} {order : CmpGhosts (InternalKeyCmp C)} (env : Env
               let at = subst (λ q. OnOk q (IsAtInTable (order.cmp (record { 0 = world.1.cmp })) (table_in tables turned.at).parts new.core (Some led.0))) r_is
               (ok_turned meaning tables there (omega (arith, long, within)) (Some led.0) led.1) in
               at_some (order.cmp (record { 0 = world.1.cmp })) (table_in tables turned.at).parts new.core led.0 at nowhere
+
+  -- past the last file
+  pub to_file_past : (at : ℕ) (to : TableStep) (world : E × ReadTables E C FP K F order) (old new : VersionIter C order) → LeavesPairs old.core new.core → new.at ≡ old.at → new.files.now ≡ old.files.now → length old.files.now ≤ at
+      → MovesToFile env cmp filters codings at to world old (Ok false) world new
+  to_file_past at to world old new left same files past = record {
+    moves = record {
+      stays = record { kept = reading_kept world; files = files; there = λ meaning tables there. there_left world old new left same files meaning tables there };
+      cause = tt;
+      err = tt;
+    };
+    there = sym (ap is_some (left_position old.core new.core left));
+    past = λ more. left_position old.core new.core left;
+    at_file = λ inside. absurd (omega (arith, inside, past));
+    ok = λ meaning tables there within position led. absurd (let long = each_long (λ file table. ((new_file_of file).number < 2 ^ 64) × ((new_file_of file).largest ≡ table.largest)
+        × IsTableAt (cmp.cmp world.1.cmp) meaning (files_at env world.0) (path_at world.1.cache.now (new_file_of file).number) table) old.files.now tables there.each in omega (arith, long, past, within));
+  }
+
+  -- ---- the moves of the walk
+
+  abbrev Over : E × ReadTables E C FP K F order → VersionIter C order → KeyOrder → List Pair → Type 0
+  Over = IsOverTables env cmp filters codings
+
+  abbrev At : E × ReadTables E C FP K F order → VersionIter C order → KeyOrder → List Pair → Option ℕ → Type 0
+  At = IsAtInTables env cmp filters codings
+
+  -- the list stays
+  over_after : (world : E × ReadTables E C FP K F order) (old : VersionIter C order) (later : E × ReadTables E C FP K F order) (new : VersionIter C order) → StaysThere env cmp filters codings world old later new
+      → (keys : KeyOrder) (pairs : List Pair) → Over world old keys pairs → Over later new keys pairs
+  over_after world old later new stays keys pairs over = let kept = stays.kept in record {
+    meaning = over.meaning;
+    tables = over.tables;
+    there = stays.there over.meaning over.tables over.there;
+    keys_are = over.keys_are ∙ ap (λ (c : C). key_order order (record { 0 = c })) (sym kept.cmp_stays);
+    pairs_are = over.pairs_are;
+    sorted = over.sorted;
+    parted = over.parted;
+    accepted = over.accepted;
+  }
+
+  -- at no pair it is at no position
+  none_after : (world : E × ReadTables E C FP K F order) (it : VersionIter C order) → core_position it.core ≡ None → (keys : KeyOrder) (pairs : List Pair) → Over world it keys pairs → At world it keys pairs None
+  none_after world it none keys pairs over = record {
+    over = over;
+    inner = None;
+    in_table = at_none keys.cmp (table_in over.tables it.at).parts it.core
+        (let there = over.there in subst (λ (o : KeyOrder). IsIndexedFor o.cmp (table_in over.tables it.at).parts it.core) (sym over.keys_are) there.indexed) none;
+    at = refl;
+  }
+
+  -- what a move comes to, where it is said to which position it leads
+  pub walk_moves : {R : Type 0} (From : E × ReadTables E C FP K F order → VersionIter C order → KeyOrder → List Pair → Option ℕ → Type 0) (to : KeyOrder → List Pair → Option ℕ → Option ℕ)
+      (world : E × ReadTables E C FP K F order) (old : VersionIter C order) (result : Result R Status) (later : E × ReadTables E C FP K F order) (new : VersionIter C order)
+      → MovesThere env cmp filters codings world old result later new
+      → ((keys : KeyOrder) (pairs : List Pair) (position : Option ℕ) → From world old keys pairs position → OnOk result (At later new keys pairs (to keys pairs position)))
+      → MovesWalk Over At version_here (FailsInTables env cmp filters codings) (KeepsReading env cmp filters codings) From to world old result later new
+  walk_moves From to world old result later new moves ok = let stays = moves.stays in record {
+    ok = ok;
+    same = over_after world old later new stays;
+    err = λ keys pairs over. on_err_weaker result (λ none. none_after later new none keys pairs (over_after world old later new stays keys pairs over)) moves.err;
+    none = on_err_weaker result (here_none new.core) moves.err;
+    kept = stays.kept;
+    cause = moves.cause;
+    excuses = fails_before world later stays.kept old new stays.there;
+  }
+    where
+      on_err_weaker : {R P Q : Type 0} (r : Result R Status) → (P → Q) → OnErr r P → OnErr r Q
+      on_err_weaker (Ok x) f is = tt
+      on_err_weaker (Err s) f is = f is
+
+  -- to no position
+  pub walk_resets : (old new : VersionIter C order) → LeavesPairs old.core new.core → new.at ≡ old.at → new.files.now ≡ old.files.now
+      → Resets Over At version_here (FailsInTables env cmp filters codings) (KeepsReading env cmp filters codings) old new
+  walk_resets old new left same files = record {
+    at_none = λ world keys pairs over. none_after world new (left_position old.core new.core left) keys pairs (over_after world old world new (stays world) keys pairs over);
+    none = here_none new.core (left_position old.core new.core left);
+    excuses = λ world later status. fails_before world world (reading_kept world) old new (λ meaning tables there. there_left world old new left same files meaning tables there) later status;
+  }
+    where
+      stays : (world : E × ReadTables E C FP K F order) → StaysThere env cmp filters codings world old world new
+      stays world = record { kept = reading_kept world; files = files; there = λ meaning tables there. there_left world old new left same files meaning tables there }
