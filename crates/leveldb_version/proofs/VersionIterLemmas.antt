@@ -1,6 +1,8 @@
 -- What the steps of a walk over the tables of files come to, and its moves.
 use Rattle.std.specs.Prelude.{IfErr, IfOk, IsErrAnd, OnErr, OnOk, is_some, slice_get, slice_index_or}
 use Rattle.std.proofs.Common.{◌≡◌, ◌≢◌, ◌⊎◌, inl, inr, ⊎_elim, ℕ, zero, suc, ◌+◌, ◌-◌, ◌<◌, ◌≤◌, ◌^◌, Bool, true, false, List, [], ◌∷◌, ◌++◌, length, map, Option, None, Some, Result, Ok, Err, refl, sym, ◌∙◌, ap, subst, arith}
+use Rattle.std.proofs.lemmas.Bool.{cases_lt}
+use Rattle.std.proofs.lemmas.List.{length-append, length-map}
 use Rattle.std.proofs.lemmas.Result.{on_ok_weaker}
 use Rattle.std.specs.declared.cmp.Ordering.{Ordering}
 use Rattle.leveldb_base.specs.Cmp.{IsExactOrder}
@@ -16,14 +18,16 @@ use Rattle.leveldb_env.specs.Compressor.{Codings}
 use Rattle.leveldb_env.specs.declared.env.Env.{Ghosts as EnvGhosts}
 use Rattle.leveldb_env.specs.declared.filter.FilterPolicy.{Ghosts as FilterGhosts}
 use Rattle.leveldb_iter.specs.Walk.{KeyOrder, MovesWalk, Resets, key_order}
-use Rattle.leveldb_table.proofs.TableReaderWalkLemmas.{position_in, some_none}
-use Rattle.leveldb_table.specs.Table.{Part}
+use Rattle.leveldb_table.proofs.TableReaderWalkLemmas.{after_none, pairs_cut, position_in, position_none, position_out, some_none, to_block}
+use Rattle.leveldb_table.specs.Table.{Part, index_pair}
 use Rattle.leveldb_table.specs.TableReader.{pairs_in}
+use Rattle.leveldb_table.specs.TableReaderBlocks.{IsAfterLine}
 use Rattle.leveldb_table.specs.TableBlock.{FailsFor}
 use Rattle.leveldb_table.specs.TableReaderWalk.{IsAtPairOrNone, inner_pairs, inner_position}
 use Rattle.leveldb_table.specs.declared.table_reader.walk.TableCore.{TableCore}
 use Rattle.leveldb_table.specs.declared.table_reader.walk.TableStep.{TableStep}
 use Rattle.leveldb_table.specs.declared.table_reader.walk.TableStep.TheVariants.{First, Last, NextBlock, BlockBefore, Seek}
+use Rattle.leveldb_version.proofs.TableCacheLemmas.{on_ok, refused_ok}
 use Rattle.leveldb_version.proofs.TableMoveLemmas.{left_indexed, left_position}
 use Rattle.leveldb_version.specs.Batches.{Each}
 use Rattle.leveldb_version.specs.Format.{IsTableFault, LacksCompressor, Meaning}
@@ -31,7 +35,7 @@ use Rattle.leveldb_version.specs.Store.{IsLastKey}
 use Rattle.leveldb_version.specs.TableCache.{TableOptions, files_at, path_at}
 use Rattle.leveldb_version.specs.TableMoves.{FileTable, IsAtInTable, IsIndexedFor, IsLedTo, IsTableAt, IsToEnd, LeavesPairs, MovesInNumbered, core_here, core_position, table_pairs}
 use Rattle.leveldb_version.specs.VersionEdit.{new_file_of}
-use Rattle.leveldb_version.specs.VersionIter.{AreTablesThere, FailsInTables, FailsOr, IsAtInTables, IsOverTables, KeepsReading, MovesThere, MovesToFile, StaysThere, StepsInFile, TurnsTo, reading, table_in, table_parts, version_here}
+use Rattle.leveldb_version.specs.VersionIter.{AreTablesThere, FailsInTables, FailsOr, IsAtInTables, IsOverTables, KeepsReading, MovesThere, MovesToFile, StaysThere, StepsInFile, TurnsTo, reading, table_in, table_part, table_parts, version_here}
 use Rattle.leveldb_version.specs.VersionIterLaws.{fails_before, reading_kept, there_stays}
 use Rattle.leveldb_version.specs.declared.table_cache.moves.ReadTables.{ReadTables}
 use Rattle.leveldb_version.specs.declared.version_iter.VersionIter.{VersionIter}
@@ -104,6 +108,10 @@ last_key_some {key} {pairs} last none = by last.0 (sym last.2 ∙ none)
     by [] e = no_cons e
     by (x ∷ front) e = no_cons e
 
+long_some : (xs : List Pair) → xs ≢ [] → 0 < length xs
+long_some [] some = absurd (some refl)
+long_some (x ∷ xs) some = omega arith
+
 no_some : {T : Type 0} (o : Option T) → false ≡ is_some o → o ≡ None
 no_some None e = refl
 no_some (Some x) e = absurd (not_true e)
@@ -119,6 +127,26 @@ each_in R [] tables i within each = absurd (omega (arith, within))
 each_in R (x ∷ files) [] i within each = absurd each
 each_in R (x ∷ files) (t ∷ tables) zero within each = (x, each.0)
 each_in R (x ∷ files) (t ∷ tables) (suc i) within each = each_in R files tables i (omega (arith, within)) each.1
+
+-- after the last table is no position
+past_tables : (parts : List Part) (line position : Option ℕ) (i : ℕ) → IsAfterLine parts line position → next_position (map index_pair parts) line ≡ position_within (map index_pair parts) i → length parts ≤ i → position ≡ None
+past_tables parts line position i after is past =
+    let out = position_out (map index_pair parts) i (let long = length-map parts index_pair in omega (arith, long, past)) in
+    let behind = position_none (map index_pair parts) (length after.before) (sym after.next ∙ is ∙ out) in
+    let all : length parts ≡ length after.before + length after.after = ap length after.parted ∙ length-append after.before after.after in
+    let rest : after.after ≡ [] = empty after.after (omega (arith, behind, all, length-map parts index_pair)) in
+    let pairs : pairs_in parts ≡ pairs_in after.before ++ pairs_in after.after = ap pairs_in after.parted ∙ pairs_cut after.before after.after in
+    let last : length (pairs_in after.after) ≡ 0 = ap (λ z. length (pairs_in z)) rest in
+    after.to ∙ position_out (pairs_in parts) (length (pairs_in after.before)) (omega (arith, ap length pairs, length-append (pairs_in after.before) (pairs_in after.after), last))
+  where
+    empty : (xs : List Part) → length xs ≡ 0 → xs ≡ []
+    empty [] e = refl
+    empty (x ∷ xs) e = absurd (omega (arith, e))
+
+part_in : (tables : List FileTable) (i : ℕ) → i < length tables → slice_get (table_parts tables) i ≡ Some (table_part (table_in tables i))
+part_in [] i within = absurd (omega (arith, within))
+part_in (t ∷ tables) zero within = refl
+part_in (t ∷ tables) (suc i) within = part_in tables i (omega (arith, within))
 
 module _ {E C FP K F : Type 0} {order : CmpGhosts (InternalKeyCmp C)} (env : EnvGhosts E F) (cmp : CmpGhosts C) (filters : FilterGhosts FP) (codings : K → Codings) where
   -- ---- why it fails
@@ -358,6 +386,26 @@ module _ {E C FP K F : Type 0} {order : CmpGhosts (InternalKeyCmp C)} (env : Env
       on_err_weaker (Ok x) f is = tt
       on_err_weaker (Err s) f is = f is
 
+  moves_made : {R S : Type 0} {x : R} {world later : E × ReadTables E C FP K F order} {old new : VersionIter C order} (y : S) → MovesThere env cmp filters codings world old (Ok x) later new → MovesThere env cmp filters codings world old (Ok y) later new
+  moves_made y moves = record { stays = moves.stays; cause = tt; err = tt }
+
+  moves_refused : {R S : Type 0} {status : Status} {world later : E × ReadTables E C FP K F order} {old new : VersionIter C order} (result : Result S Status) → IsErrAnd result (λ other. other ≡ status)
+      → MovesThere env cmp filters codings {R = R} world old (Err status) later new → MovesThere env cmp filters codings world old result later new
+  moves_refused (Ok x) refused moves = absurd refused
+  moves_refused {world = world} {later} {old} (Err other) refused moves = record {
+    stays = moves.stays;
+    cause = subst (FailsInTables env cmp filters codings world old later) (sym refused) moves.cause;
+    err = moves.err;
+  }
+
+  -- a move that is refused
+  pub walk_refused : {R S : Type 0} {status : Status} (From : E × ReadTables E C FP K F order → VersionIter C order → KeyOrder → List Pair → Option ℕ → Type 0) (to : KeyOrder → List Pair → Option ℕ → Option ℕ)
+      (world : E × ReadTables E C FP K F order) (old : VersionIter C order) (result : Result S Status) (later : E × ReadTables E C FP K F order) (new : VersionIter C order) → IsErrAnd result (λ other. other ≡ status)
+      → MovesThere env cmp filters codings {R = R} world old (Err status) later new
+      → MovesWalk Over At version_here (FailsInTables env cmp filters codings) (KeepsReading env cmp filters codings) From to world old result later new
+  walk_refused {status = status} From to world old result later new refused moves =
+      walk_moves From to world old result later new (moves_refused result refused moves) (λ keys pairs position from. refused_ok (λ other. other ≡ status) _ result refused)
+
   -- to no position
   pub walk_resets : (old new : VersionIter C order) → LeavesPairs old.core new.core → new.at ≡ old.at → new.files.now ≡ old.files.now
       → Resets Over At version_here (FailsInTables env cmp filters codings) (KeepsReading env cmp filters codings) old new
@@ -369,3 +417,63 @@ module _ {E C FP K F : Type 0} {order : CmpGhosts (InternalKeyCmp C)} (env : Env
     where
       stays : (world : E × ReadTables E C FP K F order) → StaysThere env cmp filters codings world old world new
       stays world = record { kept = reading_kept world; files = files; there = λ meaning tables there. there_left world old new left same files meaning tables there }
+
+  -- ---- to the first pair of a file's table
+
+  module _ {world : E × ReadTables E C FP K F order} {old : VersionIter C order} {keys : KeyOrder} {pairs : List Pair} (over : Over world old keys pairs) where
+    tables_long : length old.files.now ≡ length over.tables
+    tables_long = let there = over.there in each_long (λ file table. ((new_file_of file).number < 2 ^ 64) × ((new_file_of file).largest ≡ table.largest)
+        × IsTableAt (cmp.cmp world.1.cmp) over.meaning (files_at env world.0) (path_at world.1.cache.now (new_file_of file).number) table) old.files.now over.tables there.each
+
+    table_some : (i : ℕ) → i < length over.tables → table_pairs (table_in over.tables i) ≢ []
+    table_some i within =
+        let there = over.there in let long = tables_long in
+        let one = each_in (λ file table. ((new_file_of file).number < 2 ^ 64) × ((new_file_of file).largest ≡ table.largest)
+        × IsTableAt (cmp.cmp world.1.cmp) over.meaning (files_at env world.0) (path_at world.1.cache.now (new_file_of file).number) table) old.files.now over.tables i (omega (arith, long, within)) there.each in
+        last_key_some one.1.2.last
+
+    pub file_first : (i : ℕ) (result : Result Bool Status) (later : E × ReadTables E C FP K F order) (new : VersionIter C order) → MovesToFile env cmp filters codings i First world old result later new
+        → (line position : Option ℕ) → IsAfterLine (table_parts over.tables) line position → next_position (map index_pair (table_parts over.tables)) line ≡ position_within (map index_pair (table_parts over.tables)) i
+        → OnOk result (At later new keys pairs position)
+    unfolding over_after
+    file_first i result later new moves line position after is = ⊎_elim inside past (cases_lt i (length over.tables))
+      where
+        stays : StaysThere env cmp filters codings world old later new
+        stays = let m = moves.moves in m.stays
+
+        lines_long : length (map index_pair (table_parts over.tables)) ≡ length over.tables
+        lines_long = length-map (table_parts over.tables) index_pair ∙ length-map over.tables table_part
+
+        past : length over.tables ≤ i → OnOk result (At later new keys pairs position)
+        past more =
+            let long = tables_long in
+            let none = past_tables (table_parts over.tables) line position i after is (let parts = length-map over.tables table_part in omega (arith, parts, more)) in
+            on_ok result (subst (At later new keys pairs) (sym none) (none_after later new (moves.past (omega (arith, long, more))) keys pairs (over_after world old later new stays keys pairs over)))
+
+        inside : i < length over.tables → OnOk result (At later new keys pairs position)
+        inside within =
+            let long = tables_long in
+            let at = moves.at_file (omega (arith, long, within)) in
+            let keys_is : order.cmp (record { 0 = world.1.cmp }) ≡ keys.cmp = ap (λ (o : KeyOrder). o.cmp) (sym over.keys_are) in
+            on_ok_weaker result (λ landed. record {
+              over = over_after world old later new stays keys pairs over;
+              inner = position_within (table_pairs (table_in over.tables i)) 0;
+              in_table = subst (λ n. IsAtInTable keys.cmp (table_in over.tables n).parts new.core (position_within (table_pairs (table_in over.tables i)) 0)) (sym at)
+                  (subst (λ (o : List ℕ → List ℕ → Ordering). IsAtInTable o (table_in over.tables i).parts new.core (position_within (table_pairs (table_in over.tables i)) 0)) keys_is landed);
+              at = subst (λ n. IsAtPairOrNone (table_parts over.tables) (Some n) (table_pairs (table_in over.tables n)) (position_within (table_pairs (table_in over.tables i)) 0) position) (sym at)
+                  (subst (λ inner. IsAtPairOrNone (table_parts over.tables) (Some i) (table_pairs (table_in over.tables i)) inner position)
+                  (sym (position_in (table_pairs (table_in over.tables i)) 0 (long_some (table_pairs (table_in over.tables i)) (table_some i within))))
+                  (to_block after i (table_part (table_in over.tables i)) (is ∙ position_in (map index_pair (table_parts over.tables)) i (omega (arith, lines_long, within))) (part_in over.tables i within) (table_some i within)));
+            }) (moves.ok over.meaning over.tables over.there within (position_within (table_pairs (table_in over.tables i)) 0) refl)
+
+    -- to the first pair of all
+    pub first_of : (result : Result Bool Status) (later : E × ReadTables E C FP K F order) (new : VersionIter C order) → MovesToFile env cmp filters codings 0 First world old result later new → OnOk result (At later new keys pairs (position_within pairs 0))
+    first_of result later new moves =
+        subst (λ ps. OnOk result (At later new keys pairs (position_within ps 0))) (sym over.pairs_are)
+        (file_first 0 result later new moves None (position_within (pairs_in (table_parts over.tables)) 0) (after_none (table_parts over.tables) None None [] None None refl refl refl) refl)
+
+  -- a move to the first pair
+  pub walk_first : {there : Bool} (world : E × ReadTables E C FP K F order) (old : VersionIter C order) (later : E × ReadTables E C FP K F order) (new : VersionIter C order) → MovesToFile env cmp filters codings 0 First world old (Ok there) later new
+      → MovesWalk Over At version_here (FailsInTables env cmp filters codings) (KeepsReading env cmp filters codings) {R = Unit {0}} (λ world it keys pairs position. Over world it keys pairs) (λ keys pairs position. position_within pairs 0) world old (Ok tt) later new
+  walk_first {there} world old later new moves =
+      walk_moves (λ world it keys pairs position. Over world it keys pairs) (λ keys pairs position. position_within pairs 0) world old (Ok tt) later new (moves_made tt moves.moves) (λ keys pairs position over. first_of over (Ok there) later new moves)
