@@ -18,7 +18,7 @@ use Rattle.leveldb_env.specs.Compressor.{Codings}
 use Rattle.leveldb_env.specs.declared.env.Env.{Ghosts as EnvGhosts}
 use Rattle.leveldb_env.specs.declared.filter.FilterPolicy.{Ghosts as FilterGhosts}
 use Rattle.leveldb_iter.specs.Walk.{KeyOrder, MovesWalk, Resets, key_order}
-use Rattle.leveldb_table.proofs.TableReaderWalkLemmas.{after_none, pairs_cut, position_in, position_none, position_out, some_none, to_block}
+use Rattle.leveldb_table.proofs.TableReaderWalkLemmas.{after_none, last_block, pairs_cut, position_in, position_none, position_out, some_none, to_block}
 use Rattle.leveldb_table.specs.Table.{Part, index_pair}
 use Rattle.leveldb_table.specs.TableReader.{pairs_in}
 use Rattle.leveldb_table.specs.TableReaderBlocks.{IsAfterLine}
@@ -111,6 +111,18 @@ last_key_some {key} {pairs} last none = by last.0 (sym last.2 ∙ none)
 long_some : (xs : List Pair) → xs ≢ [] → 0 < length xs
 long_some [] some = absurd (some refl)
 long_some (x ∷ xs) some = omega arith
+
+some_last : (xs : List Pair) → xs ≢ [] → (k : ℕ) × (last_position xs ≡ Some k)
+some_last [] some = absurd (some refl)
+some_last (x ∷ xs) some = (length xs, refl)
+
+last_line : (xs : List Pair) (i : ℕ) → length xs ≡ i + 1 → last_position xs ≡ Some i
+last_line [] i count = absurd (omega (arith, count))
+last_line (x ∷ xs) i count = ap Some (omega (arith, count))
+
+no_tables : (xs : List FileTable) → length xs ≡ 0 → xs ≡ []
+no_tables [] none = refl
+no_tables (x ∷ xs) none = absurd (omega (arith, none))
 
 no_some : {T : Type 0} (o : Option T) → false ≡ is_some o → o ≡ None
 no_some None e = refl
@@ -477,3 +489,65 @@ module _ {E C FP K F : Type 0} {order : CmpGhosts (InternalKeyCmp C)} (env : Env
       → MovesWalk Over At version_here (FailsInTables env cmp filters codings) (KeepsReading env cmp filters codings) {R = Unit {0}} (λ world it keys pairs position. Over world it keys pairs) (λ keys pairs position. position_within pairs 0) world old (Ok tt) later new
   walk_first {there} world old later new moves =
       walk_moves (λ world it keys pairs position. Over world it keys pairs) (λ keys pairs position. position_within pairs 0) world old (Ok tt) later new (moves_made tt moves.moves) (λ keys pairs position over. first_of over (Ok there) later new moves)
+
+  -- ---- to the last pair of a file's table
+
+  module _ {world : E × ReadTables E C FP K F order} {old : VersionIter C order} {keys : KeyOrder} {pairs : List Pair} (over : Over world old keys pairs) where
+    pub file_last : (i : ℕ) (result : Result Bool Status) (later : E × ReadTables E C FP K F order) (new : VersionIter C order) → MovesToFile env cmp filters codings i Last world old result later new → i < length over.tables → (position : Option ℕ)
+        → ((k : ℕ) → last_position (table_pairs (table_in over.tables i)) ≡ Some k → IsAtPairOrNone (table_parts over.tables) (Some i) (table_pairs (table_in over.tables i)) (Some k) position)
+        → OnOk result (At later new keys pairs position)
+    unfolding over_after
+    file_last i result later new moves within position leads =
+        on_ok_weaker result (λ landed. record {
+          over = over_after world old later new stays keys pairs over;
+          inner = last_position (table_pairs (table_in over.tables i));
+          in_table = subst (λ n. IsAtInTable keys.cmp (table_in over.tables n).parts new.core (last_position (table_pairs (table_in over.tables i)))) (sym at)
+              (subst (λ (o : List ℕ → List ℕ → Ordering). IsAtInTable o (table_in over.tables i).parts new.core (last_position (table_pairs (table_in over.tables i)))) keys_is landed);
+          at = subst (λ n. IsAtPairOrNone (table_parts over.tables) (Some n) (table_pairs (table_in over.tables n)) (last_position (table_pairs (table_in over.tables i))) position) (sym at)
+              (subst (λ inner. IsAtPairOrNone (table_parts over.tables) (Some i) (table_pairs (table_in over.tables i)) inner position) (sym last.1) (leads last.0 last.1));
+        }) (moves.ok over.meaning over.tables over.there within (last_position (table_pairs (table_in over.tables i))) refl)
+      where
+        stays : StaysThere env cmp filters codings world old later new
+        stays = let m = moves.moves in m.stays
+
+        last : (k : ℕ) × (last_position (table_pairs (table_in over.tables i)) ≡ Some k)
+        last = some_last (table_pairs (table_in over.tables i)) (table_some over i within)
+
+        at : new.at ≡ i
+        at = let long = tables_long over in moves.at_file (omega (arith, long, within))
+
+        keys_is : order.cmp (record { 0 = world.1.cmp }) ≡ keys.cmp
+        keys_is = ap (λ (o : KeyOrder). o.cmp) (sym over.keys_are)
+
+    -- to the last pair of all
+    pub last_of : (i : ℕ) → length old.files.now ≡ i + 1 → (result : Result Bool Status) (later : E × ReadTables E C FP K F order) (new : VersionIter C order) → MovesToFile env cmp filters codings i Last world old result later new
+        → OnOk result (At later new keys pairs (last_position pairs))
+    last_of i count result later new moves =
+        let long = tables_long over in
+        let within : i < length over.tables = omega (arith, long, count) in
+        subst (λ ps. OnOk result (At later new keys pairs (last_position ps))) (sym over.pairs_are)
+        (file_last i result later new moves within (last_position (pairs_in (table_parts over.tables)))
+        (λ k last. last_block (table_parts over.tables) i (table_part (table_in over.tables i)) k
+        (last_line (map index_pair (table_parts over.tables)) i (let lines = length-map (table_parts over.tables) index_pair in let parts = length-map over.tables table_part in omega (arith, lines, parts, long, count)))
+        (part_in over.tables i within) last))
+
+    -- without files there is none
+    none_of_all : length old.files.now ≡ 0 → pairs ≡ []
+    none_of_all none = over.pairs_are ∙ ap (λ (ts : List FileTable). pairs_in (table_parts ts)) (no_tables over.tables (let long = tables_long over in omega (arith, long, none)))
+
+  -- a move to the last pair
+  pub walk_last : {there : Bool} (i : ℕ) (world : E × ReadTables E C FP K F order) (old : VersionIter C order) → length old.files.now ≡ i + 1 → (later : E × ReadTables E C FP K F order) (new : VersionIter C order)
+      → MovesToFile env cmp filters codings i Last world old (Ok there) later new
+      → MovesWalk Over At version_here (FailsInTables env cmp filters codings) (KeepsReading env cmp filters codings) {R = Unit {0}} (λ world it keys pairs position. Over world it keys pairs) (λ keys pairs position. last_position pairs) world old (Ok tt) later new
+  walk_last {there} i world old count later new moves =
+      walk_moves (λ world it keys pairs position. Over world it keys pairs) (λ keys pairs position. last_position pairs) world old (Ok tt) later new (moves_made tt moves.moves) (λ keys pairs position over. last_of over i count (Ok there) later new moves)
+
+  -- where there is no file
+  pub walk_last_none : (world : E × ReadTables E C FP K F order) (old new : VersionIter C order) → LeavesPairs old.core new.core → new.at ≡ old.at → new.files.now ≡ old.files.now → length old.files.now ≡ 0
+      → MovesWalk Over At version_here (FailsInTables env cmp filters codings) (KeepsReading env cmp filters codings) {R = Unit {0}} (λ world it keys pairs position. Over world it keys pairs) (λ keys pairs position. last_position pairs) world old (Ok tt) world new
+  walk_last_none world old new left same files none =
+      walk_moves (λ world it keys pairs position. Over world it keys pairs) (λ keys pairs position. last_position pairs) world old (Ok tt) world new (record { stays = stays; cause = tt; err = tt })
+      (λ keys pairs position over. subst (λ ps. At world new keys pairs (last_position ps)) (sym (none_of_all over none)) (none_after world new (left_position old.core new.core left) keys pairs (over_after world old world new stays keys pairs over)))
+    where
+      stays : StaysThere env cmp filters codings world old world new
+      stays = record { kept = reading_kept world; files = files; there = λ meaning tables there. there_left world old new left same files meaning tables there }

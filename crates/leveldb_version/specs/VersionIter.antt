@@ -1,7 +1,10 @@
 -- Walks over the tables of files, one after the other: which list such a walk is over, and where it is.
 use Rattle.std.specs.Prelude.{◌≡◌, ◌⊎◌, ◌-◌, ◌<◌, ◌≤◌, ◌^◌, ℕ, Bool, Result, IfOk, IfErr, OnOk, OnErr, is_some, List, [], ◌∷◌, Option, None, Some, length, map, slice_get, slice_index_or}
 use Rattle.std.specs.Borrow.{Bor}
+use Rattle.std.specs.Ordering.{is_lt}
+use Rattle.std.specs.declared.cmp.Ordering.{Ordering}
 use Rattle.leveldb_base.specs.Error.{IsOutOfMemory}
+use Rattle.leveldb_base.specs.KeyTypes.{internal_cmp}
 use Rattle.leveldb_base.specs.Types.{Pair}
 use Rattle.leveldb_base.specs.declared.cmp.Cmp.{Ghosts as CmpGhosts}
 use Rattle.leveldb_base.specs.declared.cmp.internal.InternalKeyCmp.{InternalKeyCmp}
@@ -158,6 +161,10 @@ module _ {E C FP K F : Type 0} {order : CmpGhosts (InternalKeyCmp C)} (env : Env
         let parts = (table_in tables at).parts in (position : Option ℕ)
         → IsLedTo {order = order} to keys parts None position
         → OnOk result (IsAtInTable keys parts new.core position)
+
+-- a file's largest key is before this one
+abbrev pub ends_before_key : (List ℕ → List ℕ → Ordering) → List ℕ → ℕ × FileMetaData → Bool
+ends_before_key cmp key file = is_lt (internal_cmp cmp (new_file_of file).largest key)
 
 -- a turn to a file: the walk in it is the one that had begun, or none if that was in another
 abbrev pub TurnsTo : {C : Type 0} {order : CmpGhosts C} → ℕ → Option (TableCore C order) → ℕ

@@ -1,10 +1,9 @@
 //! Walks over the tables of files, one after the other.
-ghost use Rattle.std.specs.Prelude.{◌≡◌, ◌≢◌, ◌<◌, ◌≤◌, ℕ, None, Some, is_some, length, slice_get};
-ghost use Rattle.std.specs.declared.cmp.Ordering.TheVariants.{Less};
-ghost use Rattle.leveldb_base.specs.KeyTypes.{internal_cmp};
+ghost use Rattle.std.specs.Prelude.{◌≡◌, ◌≤◌, None, false, is_some, length, true};
+ghost use Rattle.std.specs.List.Sorted.{IsPartitionPoint, IsPartitionedBy};
 ghost use Rattle.leveldb_base.specs.Types.{next_position, pair_of, previous_position};
 ghost use Rattle.leveldb_version.specs.TableMoves.{IsToEnd, LeavesPairs, StepsInBlock, core_position};
-ghost use Rattle.leveldb_version.specs.VersionEdit.{new_file_of};
+ghost use Rattle.leveldb_version.specs.VersionIter.{ends_before_key};
 ghost use Rattle.leveldb_base.specs.declared.types.FileMetaData.{FileMetaData};
 
 use crate::table_cache::{ReadTables, ReadsTables};
@@ -186,14 +185,12 @@ fn back_inside<C: Cmp + Copy + Drop>(core: &mut Option<TableCore<C>>) -> Result<
 }
 
 // The index of the first file whose largest key is at or after this one, or the number of files,
-// found by halving.
+// found by halving if the first ones come first.
 fn file_at_or_after<C: UserCmp>(cmp: &C, files: &[(usize, FileMetaData)], key: &[u8]) -> usize
     ensures bound { result ≤ length files.now }
-    ensures before { (i : ℕ) → i < result → (file : ℕ × FileMetaData)
-        → slice_get files.now i ≡ Some file
-        → internal_cmp (C.cmp cmp.now) (new_file_of file).largest key.now ≡ Less }
-    ensures at { (file : ℕ × FileMetaData) → slice_get files.now result ≡ Some file
-        → internal_cmp (C.cmp cmp.now) (new_file_of file).largest key.now ≢ Less }
+    ensures parts { let test = ends_before_key (C.cmp cmp.now) key.now in
+        IsPartitionedBy test files.now
+        → IsPartitionPoint (λ file. test file ≡ true) (λ file. test file ≡ false) files.now result }
 {
     files.partition_point(|file| cmp_internal_key(cmp, &file.1.largest, key).is_lt())
 }
