@@ -122,14 +122,15 @@ module _ {E C FP F : Type 0} {order : CmpGhosts (InternalKeyCmp C)} (env : EnvGh
       step_lands (not_begun none new_none env_is blocks_is out) =
           (λ position led. refused_ok IsOutOfMemory _ result out, subst (IsIndexedFor (key_order by.format) one.parts) (sym new_none) tt, unbegun_reads (Wants agrees) env_is out)
       step_lands (stepped from at is_walk new_is in_cmp) =
-          subst (λ o. Lands agrees to one.parts state old result after o) (sym new_is)
-          ((λ position led. on_ok_weaker result (λ step. record {
-            lines = lines_after;
-            ordered = order_after;
-            at = step_leads agrees (store_order exact) has_parts from begun (λ key fit. fit) to (table_position at) position step (led_by table to (key_order by.format) one.parts old from position is_walk led);
-          }) (steps.steps one.bytes has holds)),
-          record { lines = lines_after; ordered = order_after },
-          reads_weaker env result (λ status lack. step_wants agrees (store_order exact) has_parts from begun to status (lack.1 one.bytes has holds)) steps.reads)
+          subst (λ o. Lands agrees to one.parts state old result after o) (sym new_is) (
+            (λ position led. on_ok_weaker result (λ step. record {
+              lines = lines_after;
+              ordered = order_after;
+              at = step_leads agrees (store_order exact) has_parts from begun (λ key fit. fit) to (table_position at) position step (led_by table to (key_order by.format) one.parts old from position is_walk led);
+            }) (steps.steps one.bytes has holds)),
+            record { lines = lines_after; ordered = order_after },
+            reads_weaker env result (λ status lack. step_wants agrees (store_order exact) has_parts from begun to status (lack.1 one.bytes has holds)) steps.reads,
+          )
         where
           steps : StepsInTable env by.format.codings (key_order by.format) (id_of table) (file_of table) (step_to to) state blocks from result after gained at
           steps = subst (λ (o : List ℕ → List ℕ → Ordering). StepsInTable env by.format.codings o (id_of table) (file_of table) (step_to to) state blocks from result after gained at) (ap order.cmp opened.ordered.0 ∙ order_is) in_cmp
@@ -168,8 +169,11 @@ module _ {E C FP F : Type 0} {order : CmpGhosts (InternalKeyCmp C)} (env : EnvGh
     pub moves_unopened : {status : Status} {after : E} {new : TableCache E C FP F order} (new_core : Option (TableCore (InternalKeyCmp C) order)) → LeavesPairs core new_core
         → OpensTableAt env by number state old (Err status) after new → MovesInNumbered env by number to state old core (Err status) after new new_core
     moves_unopened {status} {after} {new} new_core left opens = let uses = opens.uses in record {
-      table = λ matched meaning agrees one it indexed. (λ position led. tt, left_indexed (key_order by.format) one.parts core new_core left indexed,
-          (reads_refused env {T = Unit {0}} {Why = Wants agrees} (Err status) refl (reads_weaker env {Why = Wants agrees} (Err status) (λ other why. unopened_by old agrees matched.modelled one it other why.1) uses.reads)).cause);
+      table = λ matched meaning agrees one it indexed. (
+        λ position led. tt,
+        left_indexed (key_order by.format) one.parts core new_core left indexed,
+        (reads_refused env {T = Unit {0}} {Why = Wants agrees} (Err status) refl (reads_weaker env {Why = Wants agrees} (Err status) (λ other why. unopened_by old agrees matched.modelled one it other why.1) uses.reads)).cause,
+      );
       there = tt;
       err = left_position core new_core left;
       reads = reads_refused env {T = Unit {0}} (Err status) refl (reads_weaker env (Err status) (λ other why. fault_of env by.format other why.1.code) uses.reads);
@@ -285,8 +289,11 @@ module _ {E C FP F : Type 0} {order : CmpGhosts (InternalKeyCmp C)} (env : EnvGh
       pub moves_unreopened : (none : table_at cache number ≡ None) {status : Status} {after : E} {new : TableCache E C FP F order} → OpensNumbered env by number mid cache (Err status) after new
           → (new_core : Option (TableCore (InternalKeyCmp C) order)) → LeavesPairs core new_core → MovesInNumbered env by number to state old core (Err status) after new new_core
       moves_unreopened none {status} {after} {new} reopens new_core left =
-          moves_from (Err status) new_core (λ matched meaning agrees one it indexed. (λ position led. tt, left_indexed (key_order by.format) one.parts core new_core left indexed,
-          reads_refused env {T = StoreTable E C FP F order} {Why = Wants agrees} (Err status) refl (reads_weaker env {Why = Wants agrees} (Err status) (λ other why. unopened_by cache agrees matched.modelled one it other why) reopens.reads)))
+          moves_from (Err status) new_core (λ matched meaning agrees one it indexed. (
+            λ position led. tt,
+            left_indexed (key_order by.format) one.parts core new_core left indexed,
+            reads_refused env {T = StoreTable E C FP F order} {Why = Wants agrees} (Err status) refl (reads_weaker env {Why = Wants agrees} (Err status) (λ other why. unopened_by cache agrees matched.modelled one it other why) reopens.reads),
+          ))
           tt (left_position core new_core left) reads (record {
             disk = reads.kept_disk;
             later = reads.cause.later;

@@ -249,9 +249,8 @@ module _ {E C FP K F : Type 0} {order : CmpGhosts (InternalKeyCmp C)} (env : Env
     there = sym (ap is_some (left_position old.core new.core left));
     at = at;
     ok = λ meaning tables there within position led. absurd (let long = each_long (λ file table. ((new_file_of file).number < 2 ^ 64) × ((new_file_of file).largest ≡ table.largest)
-          × IsTableAt (cmp.cmp world.1.cmp) meaning (files_at env world.0) (path_at world.1.cache.now (new_file_of file).number) table) old.files.now tables there.each in omega (arith, long, none, within));
+        × IsTableAt (cmp.cmp world.1.cmp) meaning (files_at env world.0) (path_at world.1.cache.now (new_file_of file).number) table) old.files.now tables there.each in omega (arith, long, none, within));
   }
-
 
   -- ---- a move to the end of a file's table
 

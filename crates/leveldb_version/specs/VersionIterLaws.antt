@@ -129,8 +129,11 @@ module _ {E C FP K F : Type 0} {order : CmpGhosts (InternalKeyCmp C)} {env : Env
             × LacksCompressor (reading env cmp filters codings second.1).format meaning)
             ((status.code ≡ NotSupported)
             × LacksCompressor (reading env cmp filters codings first.1).format meaning)
-            (λ lacks. (lacks.0, subst (λ (by : TableOptions C FP).
-            LacksCompressor by.format meaning) e lacks.1))
+            (λ lacks. (
+              lacks.0,
+              subst (λ (by : TableOptions C FP).
+                  LacksCompressor by.format meaning) e lacks.1,
+            ))
             later status (fails.lacks meaning tables (there meaning tables was));
       }
 

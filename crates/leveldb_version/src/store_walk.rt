@@ -31,8 +31,7 @@ impl<
     FP: FilterPolicy + Copy + Drop,
     K: ReadsTables<E, C, FP>,
     M: LdbIterator,
-> Walk<E, ReadTables<'b, E, C, FP, K>> for StoreWalk<'a, C, M>
-{
+> Walk<E, ReadTables<'b, E, C, FP, K>> for StoreWalk<'a, C, M> {
     ghost use Rattle.leveldb_version.specs.StoreWalk.{IsStoreOver, IsStoreAt, FailsInStore, store_here};
     ghost use Rattle.leveldb_version.specs.StoreWalkLaws.{store_laws};
     ghost use Rattle.leveldb_version.specs.VersionIter.{KeepsReading};

@@ -184,13 +184,7 @@ impl<E: Env, C: UserCmp + Copy + Drop, FP: FilterPolicy + Copy + Drop> TableCach
             OpensTableAt E.Env by number env.old self.old result env.new self.new }
     {
         let compressors = &options.compressor_list;
-        self.open_table_by(
-            env,
-            options.cmp,
-            options.filter_policy,
-            compressors,
-            number,
-        )
+        self.open_table_by(env, options.cmp, options.filter_policy, compressors, number)
     }
 
     // `open_table`, by these parts of the options.
@@ -244,13 +238,7 @@ impl<E: Env, C: UserCmp + Copy + Drop, FP: FilterPolicy + Copy + Drop> TableCach
             OpensNumbered E.Env by number env.old self.old result env.new self.new }
     {
         let compressors = &options.compressor_list;
-        self.open_by(
-            env,
-            options.cmp,
-            options.filter_policy,
-            compressors,
-            number,
-        )
+        self.open_by(env, options.cmp, options.filter_policy, compressors, number)
     }
 
     // `open`, by these parts of the options.

@@ -137,11 +137,7 @@ impl<'a, C: UserCmp + Copy + Drop> VersionIter<'a, C> {
         if self.step(env, tables, to)? {
             return Ok(true);
         }
-        err(
-            self.alloc,
-            StatusCode::Corruption,
-            "a table has no pairs",
-        )
+        err(self.alloc, StatusCode::Corruption, "a table has no pairs")
     }
 }
 
@@ -202,8 +198,7 @@ impl<
     C: UserCmp + Copy + Drop,
     FP: FilterPolicy + Copy + Drop,
     K: ReadsTables<E, C, FP>,
-> Walk<E, ReadTables<'b, E, C, FP, K>> for VersionIter<'a, C>
-{
+> Walk<E, ReadTables<'b, E, C, FP, K>> for VersionIter<'a, C> {
     ghost use Rattle.leveldb_version.specs.VersionIter.{IsOverTables, IsAtInTables, FailsInTables, KeepsReading, version_here};
     ghost use Rattle.leveldb_version.specs.VersionIterLaws.{version_laws};
 

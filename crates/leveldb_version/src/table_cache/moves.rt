@@ -54,8 +54,7 @@ where
 }
 
 impl<E: Env, C: UserCmp + Copy + Drop, FP: FilterPolicy + Copy + Drop> ReadsTables<E, C, FP>
-    for CompressorList
-{
+    for CompressorList {
     fn move_in_table(
         &self,
         env: &mut E,
