@@ -23,7 +23,7 @@ use Rattle.leveldb_table.specs.Table.{Part, index_pair}
 use Rattle.leveldb_table.specs.TableReader.{pairs_in}
 use Rattle.leveldb_table.specs.TableReaderBlocks.{IsAfterLine}
 use Rattle.leveldb_table.specs.TableBlock.{FailsFor}
-use Rattle.leveldb_table.specs.TableReaderWalk.{IsAtPairOrNone, inner_pairs, inner_position}
+use Rattle.leveldb_table.specs.TableReaderWalk.{IsAtPairOrNone, inner_pairs, inner_position, pairs_over}
 use Rattle.leveldb_table.specs.declared.table_reader.walk.TableCore.{TableCore}
 use Rattle.leveldb_table.specs.declared.table_reader.walk.TableStep.{TableStep}
 use Rattle.leveldb_table.specs.declared.table_reader.walk.TableStep.TheVariants.{First, Last, NextBlock, BlockBefore, Seek}
@@ -33,7 +33,7 @@ use Rattle.leveldb_version.specs.Batches.{Each}
 use Rattle.leveldb_version.specs.Format.{IsTableFault, LacksCompressor, Meaning}
 use Rattle.leveldb_version.specs.Store.{IsLastKey}
 use Rattle.leveldb_version.specs.TableCache.{TableOptions, files_at, path_at}
-use Rattle.leveldb_version.specs.TableMoves.{FileTable, IsAtInTable, IsIndexedFor, IsLedTo, IsTableAt, IsToEnd, LeavesPairs, MovesInNumbered, core_here, core_position, table_pairs}
+use Rattle.leveldb_version.specs.TableMoves.{FileTable, IsAtInTable, IsIndexedFor, IsLedTo, IsTableAt, IsToEnd, LeavesPairs, MovesInNumbered, StepsInBlock, core_here, core_position, table_pairs}
 use Rattle.leveldb_version.specs.VersionEdit.{new_file_of}
 use Rattle.leveldb_version.specs.VersionIter.{AreTablesThere, FailsInTables, FailsOr, IsAtInTables, IsOverTables, KeepsReading, MovesThere, MovesToFile, StaysThere, StepsInFile, TurnsTo, reading, table_in, table_part, table_parts, version_here}
 use Rattle.leveldb_version.specs.VersionIterLaws.{fails_before, reading_kept, there_stays}
@@ -124,7 +124,7 @@ no_tables : (xs : List FileTable) → length xs ≡ 0 → xs ≡ []
 no_tables [] none = refl
 no_tables (x ∷ xs) none = absurd (omega (arith, none))
 
-no_some : {T : Type 0} (o : Option T) → false ≡ is_some o → o ≡ None
+pub no_some : {T : Type 0} (o : Option T) → false ≡ is_some o → o ≡ None
 no_some None e = refl
 no_some (Some x) e = absurd (not_true e)
 
@@ -132,6 +132,32 @@ no_some (Some x) e = absurd (not_true e)
 at_some : {C : Type 0} {order : CmpGhosts C} (cmp : List ℕ → List ℕ → Ordering) (parts : List Part) (core : Option (TableCore C order)) (n : ℕ) → IsAtInTable cmp parts core (Some n) → core_position core ≡ None → ⊥
 at_some cmp parts None n at none = some_none at
 at_some cmp parts (Some core) n at none = let pair = at.at in some_none (sym pair.at_position ∙ none)
+
+-- a walk at no pair is at no position
+inner_none : {C : Type 0} {order : CmpGhosts C} (cmp : List ℕ → List ℕ → Ordering) (parts : List Part) (core : Option (TableCore C order)) (inner : Option ℕ) → IsAtInTable cmp parts core inner → core_position core ≡ None → inner ≡ None
+inner_none cmp parts core None at none = refl
+inner_none cmp parts core (Some n) at none = absurd (at_some cmp parts core n at none)
+
+outer_none : (parts : List Part) (line : Option ℕ) (pairs : List Pair) (inner position : Option ℕ) → inner ≡ None → IsAtPairOrNone parts line pairs inner position → position ≡ None
+outer_none parts line pairs inner None none at = refl
+outer_none parts line pairs inner (Some n) none at = absurd (some_none (sym at.at_position ∙ none))
+
+-- what a step inside a block leaves
+inside_indexed : {C : Type 0} {order : CmpGhosts C} (to : List Pair → Option ℕ → Option ℕ) (cmp : List ℕ → List ℕ → Ordering) (parts : List Part) (old : Option (TableCore C order)) (result : Result Bool Status) (new : Option (TableCore C order))
+    → StepsInBlock to old result new → IsIndexedFor cmp parts old → IsIndexedFor cmp parts new
+inside_indexed to cmp parts None result new step indexed = subst (IsIndexedFor cmp parts) (sym step.0) tt
+inside_indexed to cmp parts (Some old) result None step indexed = absurd step
+inside_indexed {order = order} to cmp parts (Some old) result (Some new) step indexed = record { lines = ap pairs_over step.index ∙ indexed.lines; ordered = ap (λ z. order.cmp z.block.cmp) step.index ∙ indexed.ordered }
+
+inside_memory : {C : Type 0} {order : CmpGhosts C} (to : List Pair → Option ℕ → Option ℕ) (old : Option (TableCore C order)) (result : Result Bool Status) (new : Option (TableCore C order)) → StepsInBlock to old result new → IfErr result IsOutOfMemory
+inside_memory to None result new step = subst (λ r. IfErr r IsOutOfMemory) (sym step.1) tt
+inside_memory to (Some old) result None step = absurd step
+inside_memory to (Some old) result (Some new) step = step.memory
+
+inside_err : {C : Type 0} {order : CmpGhosts C} (to : List Pair → Option ℕ → Option ℕ) (old : Option (TableCore C order)) (result : Result Bool Status) (new : Option (TableCore C order)) → StepsInBlock to old result new → OnErr result (core_position new ≡ None)
+inside_err to None result new step = subst (λ r. OnErr r (core_position new ≡ None)) (sym step.1) tt
+inside_err to (Some old) result None step = absurd step
+inside_err to (Some old) result (Some new) step = step.err
 
 -- the table of a file that is there
 each_in : (R : ℕ × FileMetaData → FileTable → Type 0) (files : List (ℕ × FileMetaData)) (tables : List FileTable) (i : ℕ) → i < length files → Each R files tables → (file : ℕ × FileMetaData) × R file (table_in tables i)
@@ -550,3 +576,54 @@ module _ {E C FP K F : Type 0} {order : CmpGhosts (InternalKeyCmp C)} (env : Env
     where
       stays : StaysThere env cmp filters codings world old world new
       stays = record { kept = reading_kept world; files = files; there = λ meaning tables there. there_left world old new left same files meaning tables there }
+
+  -- ---- a step inside a block
+
+  module _ (to : List Pair → Option ℕ → Option ℕ) (world : E × ReadTables E C FP K F order) (old : VersionIter C order) (result : Result Bool Status) (core : Option (TableCore (InternalKeyCmp C) order)) (step : StepsInBlock to old.core result core) where
+    stays_inside : StaysThere env cmp filters codings world old world (record old { core = core })
+    stays_inside = record {
+      kept = reading_kept world;
+      files = refl;
+      there = λ meaning tables there. record {
+        matched = there.matched;
+        agrees = there.agrees;
+        each = there.each;
+        indexed = inside_indexed to (order.cmp (record { 0 = world.1.cmp })) (table_in tables old.at).parts old.core result core step there.indexed;
+      };
+    }
+
+    pub moves_inside : MovesThere env cmp filters codings world old result world (record old { core = core })
+    moves_inside = record {
+      stays = stays_inside;
+      cause = caused_inside result (inside_memory to old.core result core step);
+      err = inside_err to old.core result core step;
+    }
+      where
+        caused_inside : (r : Result Bool Status) → IfErr r IsOutOfMemory → IfErr r (FailsInTables env cmp filters codings world old world)
+        caused_inside (Ok there) out = tt
+        caused_inside (Err status) out = record { fault = inl out; lacks = λ meaning tables there. inl out }
+
+    -- and then another move
+    pub moves_then : {R : Type 0} (second : Result R Status) (later : E × ReadTables E C FP K F order) (new : VersionIter C order) → MovesThere env cmp filters codings world (record old { core = core }) second later new → MovesThere env cmp filters codings world old second later new
+    moves_then second later new moves = let stays = moves.stays in record {
+      stays = record { kept = stays.kept; files = stays.files; there = λ meaning tables there. stays.there meaning tables (mid.there meaning tables there) };
+      cause = before second moves.cause;
+      err = moves.err;
+    }
+      where
+        mid : StaysThere env cmp filters codings world old world (record old { core = core })
+        mid = stays_inside
+
+        before : {R : Type 0} (r : Result R Status) → IfErr r (FailsInTables env cmp filters codings world (record old { core = core }) later) → IfErr r (FailsInTables env cmp filters codings world old later)
+        before (Ok x) fails = tt
+        before (Err status) fails = fails_before world world (reading_kept world) old (record old { core = core }) mid.there later status fails
+
+  -- a walk at no pair moves to the first
+  pub walk_begins : (world : E × ReadTables E C FP K F order) (old : VersionIter C order) (result : Result Bool Status) (later : E × ReadTables E C FP K F order) (new : VersionIter C order) → core_position old.core ≡ None
+      → MovesToFile env cmp filters codings 0 First world old result later new
+      → MovesWalk Over At version_here (FailsInTables env cmp filters codings) (KeepsReading env cmp filters codings) At (λ keys. next_position) world old result later new
+  walk_begins world old result later new nowhere moves =
+      walk_moves At (λ keys. next_position) world old result later new moves.moves (λ keys pairs position at. (let over = at.over in
+      let inner = inner_none keys.cmp (table_in over.tables old.at).parts old.core at.inner at.in_table nowhere in
+      let none = outer_none (table_parts over.tables) (Some old.at) (table_pairs (table_in over.tables old.at)) at.inner position inner at.at in
+      subst (λ p. OnOk result (At later new keys pairs (next_position pairs p))) (sym none) (first_of over result later new moves)))

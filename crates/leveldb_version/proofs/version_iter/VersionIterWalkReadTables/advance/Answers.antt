@@ -1,10 +1,16 @@
+use Rattle.std.proofs.Common.{Err, sym, ◌∙◌}
+use Rattle.leveldb_base.specs.Types.{next_position}
+use Rattle.leveldb_version.proofs.VersionIterLemmas.{moves_inside, moves_then, no_some, walk_begins, walk_refused}
 use Rattle.leveldb_version.proofs.version_iter.VersionIterWalkReadTables.advance.Goals as goal
 
 pub returns-then-not-is_at_pair-clause-moves : goal.returns-then-not-is_at_pair-clause-moves
-returns-then-not-is_at_pair-clause-moves g c = ?
+returns-then-not-is_at_pair-clause-moves g c =
+    walk_begins g.E.Env g.C.Cmp g.FP.FilterPolicy g.K.Compressors.codings (c.args.env.now, c.args.tables.now) c.args.self.now c.to_file.result (c.to_file.new.env, c.to_file.new.tables) c.to_file.new.self (no_some _ (sym c.if-not-is_at_pair.true ∙ c.is_at_pair.ensures)) c.to_file.ensures
 
 pub returns-in_err-next_inside-clause-moves : goal.returns-in_err-next_inside-clause-moves
-returns-in_err-next_inside-clause-moves g c = ?
+returns-in_err-next_inside-clause-moves g c =
+    walk_refused g.E.Env g.C.Cmp g.FP.FilterPolicy g.K.Compressors.codings _ _ (c.args.env.now, c.args.tables.now) c.args.self.now c.from_residual.result (c.args.env.now, c.args.tables.now) (record c.args.self.now { core = c.next_inside.new.core }) c.from_residual.ensures.1
+    (moves_inside g.E.Env g.C.Cmp g.FP.FilterPolicy g.K.Compressors.codings next_position (c.args.env.now, c.args.tables.now) c.args.self.now (Err c.in_err-next_inside.field-0.0) c.next_inside.new.core c.in_err-next_inside.ensures)
 
 pub returns-then-branch-clause-moves : goal.returns-then-branch-clause-moves
 returns-then-branch-clause-moves g c = ?
