@@ -18,12 +18,12 @@ use Rattle.leveldb_env.specs.Compressor.{Codings}
 use Rattle.leveldb_env.specs.declared.env.Env.{Ghosts as EnvGhosts}
 use Rattle.leveldb_env.specs.declared.filter.FilterPolicy.{Ghosts as FilterGhosts}
 use Rattle.leveldb_iter.specs.Walk.{KeyOrder, MovesWalk, Resets, key_order}
-use Rattle.leveldb_table.proofs.TableReaderWalkLemmas.{after_none, last_block, pairs_cut, position_in, position_none, position_out, some_none, to_block}
+use Rattle.leveldb_table.proofs.TableReaderWalkLemmas.{after_none, is_there_along, last_block, next_in, pairs_cut, position_in, position_none, position_out, some_none, some_there, to_block}
 use Rattle.leveldb_table.specs.Table.{Part, index_pair}
 use Rattle.leveldb_table.specs.TableReader.{pairs_in}
 use Rattle.leveldb_table.specs.TableReaderBlocks.{IsAfterLine}
 use Rattle.leveldb_table.specs.TableBlock.{FailsFor}
-use Rattle.leveldb_table.specs.TableReaderWalk.{IsAtPairOrNone, inner_pairs, inner_position, pairs_over}
+use Rattle.leveldb_table.specs.TableReaderWalk.{IsAtPairOrNone, inner_pairs, inner_position, pairs_over, position_over}
 use Rattle.leveldb_table.specs.declared.table_reader.walk.TableCore.{TableCore}
 use Rattle.leveldb_table.specs.declared.table_reader.walk.TableStep.{TableStep}
 use Rattle.leveldb_table.specs.declared.table_reader.walk.TableStep.TheVariants.{First, Last, NextBlock, BlockBefore, Seek}
@@ -141,6 +141,31 @@ inner_none cmp parts core (Some n) at none = absurd (at_some cmp parts core n at
 outer_none : (parts : List Part) (line : Option ℕ) (pairs : List Pair) (inner position : Option ℕ) → inner ≡ None → IsAtPairOrNone parts line pairs inner position → position ≡ None
 outer_none parts line pairs inner None none at = refl
 outer_none parts line pairs inner (Some n) none at = absurd (some_none (sym at.at_position ∙ none))
+
+-- a pair of a block is one of all
+some_position : (parts : List Part) (line : Option ℕ) (pairs : List Pair) (inner : Option ℕ) (k : ℕ) (position : Option ℕ) → inner ≡ Some k → IsAtPairOrNone parts line pairs inner position → (n : ℕ) × (position ≡ Some n)
+some_position parts line pairs inner k None is at = absurd (some_none (sym is ∙ at))
+some_position parts line pairs inner k (Some n) is at = (n, refl)
+
+-- a step inside a block to its next pair
+inside_next : {C : Type 0} {order : CmpGhosts C} (cmp : List ℕ → List ℕ → Ordering) (parts : List Part) (old : Option (TableCore C order)) (result : Result Bool Status) (new : Option (TableCore C order)) (inner : Option ℕ) → StepsInBlock next_position old result new → result ≡ Ok true
+    → is_some (core_position old) ≡ true → IsAtInTable cmp parts old inner → IsAtInTable cmp parts new (next_position (pairs_in parts) inner) × ((k : ℕ) × (next_position (pairs_in parts) inner ≡ Some k) × (inner ≡ None → ⊥))
+inside_next cmp parts None result new inner step made valid at = absurd (not_true valid)
+inside_next cmp parts (Some old) result None inner step made valid at = absurd step
+inside_next cmp parts (Some old) result (Some new) None step made valid at = absurd (not_true (sym (ap is_some at.at) ∙ valid))
+inside_next {order = order} cmp parts (Some old) result (Some new) (Some n) step made valid at =
+    let moved = subst (λ r. OnOk r (inner_position new.inner ≡ next_position (inner_pairs old.inner) (inner_position old.inner))) made step.ok in
+    let there = subst (λ r. IfOk r (λ there. there ≡ is_some (inner_position new.inner))) made step.there in
+    let k = some_there (inner_position new.inner) (sym there) in
+    let landed = next_in at.at k.0 (sym moved ∙ k.1) in
+    let lands = is_there_along parts (next_position (pairs_in parts) (Some n)) (ap position_over step.index) step.pairs k.1 landed in
+    let some = some_position parts (position_over new.index) (inner_pairs new.inner) (inner_position new.inner) k.0 (next_position (pairs_in parts) (Some n)) k.1 lands in
+    (record { lines = ap pairs_over step.index ∙ at.lines; ordered = ap (λ z. order.cmp z.block.cmp) step.index ∙ at.ordered; at = lands }, (some.0, some.1, λ none. some_none none))
+
+-- the next pair of a table is the next of all
+outer_next : (parts : List Part) (line : Option ℕ) (pairs : List Pair) (inner position : Option ℕ) (k : ℕ) → next_position pairs inner ≡ Some k → IsAtPairOrNone parts line pairs inner position → (inner ≡ None → ⊥) → IsAtPairOrNone parts line pairs (next_position pairs inner) (next_position (pairs_in parts) position)
+outer_next parts line pairs inner None k is at some = absurd (some at)
+outer_next parts line pairs inner (Some n) k is at some = subst (λ z. IsAtPairOrNone parts line pairs z (next_position (pairs_in parts) (Some n))) (sym is) (next_in at k is)
 
 -- what a step inside a block leaves
 inside_indexed : {C : Type 0} {order : CmpGhosts C} (to : List Pair → Option ℕ → Option ℕ) (cmp : List ℕ → List ℕ → Ordering) (parts : List Part) (old : Option (TableCore C order)) (result : Result Bool Status) (new : Option (TableCore C order))
@@ -627,3 +652,26 @@ module _ {E C FP K F : Type 0} {order : CmpGhosts (InternalKeyCmp C)} (env : Env
       let inner = inner_none keys.cmp (table_in over.tables old.at).parts old.core at.inner at.in_table nowhere in
       let none = outer_none (table_parts over.tables) (Some old.at) (table_pairs (table_in over.tables old.at)) at.inner position inner at.at in
       subst (λ p. OnOk result (At later new keys pairs (next_position pairs p))) (sym none) (first_of over result later new moves)))
+
+  -- to the next pair of the block where it is
+  pub walk_inside : (world : E × ReadTables E C FP K F order) (old : VersionIter C order) (result : Result Bool Status) (core : Option (TableCore (InternalKeyCmp C) order)) → StepsInBlock next_position old.core result core → result ≡ Ok true
+      → is_some (core_position old.core) ≡ true
+      → MovesWalk Over At version_here (FailsInTables env cmp filters codings) (KeepsReading env cmp filters codings) At (λ keys. next_position) world old (Ok true) world (record old { core = core })
+  unfolding over_after
+  walk_inside world old result core step made valid =
+      walk_moves At (λ keys. next_position) world old (Ok true) world (record old { core = core }) (moves_made true (subst (λ (r : Result Bool Status). MovesThere env cmp filters codings world old r world (record old { core = core })) made moves))
+      (λ keys pairs position at. (let over = at.over in
+      let here = inside_next keys.cmp (table_in over.tables old.at).parts old.core result core at.inner step made valid at.in_table in
+      record {
+        over = over_after world old world (record old { core = core }) stays keys pairs over;
+        inner = next_position (table_pairs (table_in over.tables old.at)) at.inner;
+        in_table = here.0;
+        at = subst (λ ps. IsAtPairOrNone (table_parts over.tables) (Some old.at) (table_pairs (table_in over.tables old.at)) (next_position (table_pairs (table_in over.tables old.at)) at.inner) (next_position ps position)) (sym over.pairs_are)
+            (outer_next (table_parts over.tables) (Some old.at) (table_pairs (table_in over.tables old.at)) at.inner position here.1.0 here.1.1 at.at (λ none. here.1.2 none));
+      }))
+    where
+      moves : MovesThere env cmp filters codings world old result world (record old { core = core })
+      moves = moves_inside next_position world old result core step
+
+      stays : StaysThere env cmp filters codings world old world (record old { core = core })
+      stays = let m = moves in m.stays

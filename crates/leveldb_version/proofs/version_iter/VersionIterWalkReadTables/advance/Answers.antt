@@ -1,6 +1,6 @@
-use Rattle.std.proofs.Common.{Err, sym, ◌∙◌}
+use Rattle.std.proofs.Common.{Err, Ok, ap, sym, ◌∙◌}
 use Rattle.leveldb_base.specs.Types.{next_position}
-use Rattle.leveldb_version.proofs.VersionIterLemmas.{moves_inside, moves_then, no_some, walk_begins, walk_refused}
+use Rattle.leveldb_version.proofs.VersionIterLemmas.{moves_inside, moves_then, no_some, walk_begins, walk_inside, walk_refused}
 use Rattle.leveldb_version.proofs.version_iter.VersionIterWalkReadTables.advance.Goals as goal
 
 pub returns-then-not-is_at_pair-clause-moves : goal.returns-then-not-is_at_pair-clause-moves
@@ -13,10 +13,13 @@ returns-in_err-next_inside-clause-moves g c =
     (moves_inside g.E.Env g.C.Cmp g.FP.FilterPolicy g.K.Compressors.codings next_position (c.args.env.now, c.args.tables.now) c.args.self.now (Err c.in_err-next_inside.field-0.0) c.next_inside.new.core c.in_err-next_inside.ensures)
 
 pub returns-then-branch-clause-moves : goal.returns-then-branch-clause-moves
-returns-then-branch-clause-moves g c = ?
+returns-then-branch-clause-moves g c =
+    walk_inside g.E.Env g.C.Cmp g.FP.FilterPolicy g.K.Compressors.codings (c.args.env.now, c.args.tables.now) c.args.self.now c.next_inside.result c.next_inside.new.core c.next_inside.ensures (c.in_ok-next_inside.was ∙ ap Ok c.if-branch.true) (sym c.is_at_pair.ensures ∙ c.if-not-is_at_pair.false)
 
 pub returns-in_err-step-clause-moves : goal.returns-in_err-step-clause-moves
-returns-in_err-step-clause-moves g c = ?
+returns-in_err-step-clause-moves g c =
+    walk_refused g.E.Env g.C.Cmp g.FP.FilterPolicy g.K.Compressors.codings _ _ (c.args.env.now, c.args.tables.now) c.args.self.now c.from_residual-in_err-step.result (c.step.new.env, c.step.new.tables) c.step.new.self c.from_residual-in_err-step.ensures.1
+    (moves_then g.E.Env g.C.Cmp g.FP.FilterPolicy g.K.Compressors.codings next_position (c.args.env.now, c.args.tables.now) c.args.self.now c.next_inside.result c.next_inside.new.core c.next_inside.ensures (Err c.in_err-step.field-0.0) (c.step.new.env, c.step.new.tables) c.step.new.self c.in_err-step.ensures.moves)
 
 pub returns-then-branch-2-clause-moves : goal.returns-then-branch-2-clause-moves
 returns-then-branch-2-clause-moves g c = ?
