@@ -77,6 +77,8 @@ pub mod SearchLemmas
 pub mod ReadTableLemmas
 pub mod TableStepLemmas
 pub mod TableMoveLemmas
+pub mod VersionIterBackLemmas
+pub mod VersionIterForwardLemmas
 pub mod VersionIterLemmas
 pub mod NewestLemmas
 pub mod SearchTableLemmas

@@ -73,7 +73,7 @@ at_none cmp parts (Some core) indexed none = record { lines = indexed.lines; ord
 no_cons : {T : Type 0} {x : T} {xs : List T} → x ∷ xs ≡ [] → ⊥
 no_cons e = cc
 
-not_true : false ≡ true → ⊥
+pub not_true : false ≡ true → ⊥
 not_true e = cc
 
 -- a move to an end leads there from wherever the walk is
@@ -134,16 +134,16 @@ at_some cmp parts None n at none = some_none at
 at_some cmp parts (Some core) n at none = let pair = at.at in some_none (sym pair.at_position ∙ none)
 
 -- a walk at no pair is at no position
-inner_none : {C : Type 0} {order : CmpGhosts C} (cmp : List ℕ → List ℕ → Ordering) (parts : List Part) (core : Option (TableCore C order)) (inner : Option ℕ) → IsAtInTable cmp parts core inner → core_position core ≡ None → inner ≡ None
+pub inner_none : {C : Type 0} {order : CmpGhosts C} (cmp : List ℕ → List ℕ → Ordering) (parts : List Part) (core : Option (TableCore C order)) (inner : Option ℕ) → IsAtInTable cmp parts core inner → core_position core ≡ None → inner ≡ None
 inner_none cmp parts core None at none = refl
 inner_none cmp parts core (Some n) at none = absurd (at_some cmp parts core n at none)
 
-outer_none : (parts : List Part) (line : Option ℕ) (pairs : List Pair) (inner position : Option ℕ) → inner ≡ None → IsAtPairOrNone parts line pairs inner position → position ≡ None
+pub outer_none : (parts : List Part) (line : Option ℕ) (pairs : List Pair) (inner position : Option ℕ) → inner ≡ None → IsAtPairOrNone parts line pairs inner position → position ≡ None
 outer_none parts line pairs inner None none at = refl
 outer_none parts line pairs inner (Some n) none at = absurd (some_none (sym at.at_position ∙ none))
 
 -- a pair of a block is one of all
-some_position : (parts : List Part) (line : Option ℕ) (pairs : List Pair) (inner : Option ℕ) (k : ℕ) (position : Option ℕ) → inner ≡ Some k → IsAtPairOrNone parts line pairs inner position → (n : ℕ) × (position ≡ Some n)
+pub some_position : (parts : List Part) (line : Option ℕ) (pairs : List Pair) (inner : Option ℕ) (k : ℕ) (position : Option ℕ) → inner ≡ Some k → IsAtPairOrNone parts line pairs inner position → (n : ℕ) × (position ≡ Some n)
 some_position parts line pairs inner k None is at = absurd (some_none (sym is ∙ at))
 some_position parts line pairs inner k (Some n) is at = (n, refl)
 
@@ -163,12 +163,12 @@ inside_next {order = order} cmp parts (Some old) result (Some new) (Some n) step
     (record { lines = ap pairs_over step.index ∙ at.lines; ordered = ap (λ z. order.cmp z.block.cmp) step.index ∙ at.ordered; at = lands }, (some.0, some.1, λ none. some_none none))
 
 -- the next pair of a table is the next of all
-outer_next : (parts : List Part) (line : Option ℕ) (pairs : List Pair) (inner position : Option ℕ) (k : ℕ) → next_position pairs inner ≡ Some k → IsAtPairOrNone parts line pairs inner position → (inner ≡ None → ⊥) → IsAtPairOrNone parts line pairs (next_position pairs inner) (next_position (pairs_in parts) position)
+pub outer_next : (parts : List Part) (line : Option ℕ) (pairs : List Pair) (inner position : Option ℕ) (k : ℕ) → next_position pairs inner ≡ Some k → IsAtPairOrNone parts line pairs inner position → (inner ≡ None → ⊥) → IsAtPairOrNone parts line pairs (next_position pairs inner) (next_position (pairs_in parts) position)
 outer_next parts line pairs inner None k is at some = absurd (some at)
 outer_next parts line pairs inner (Some n) k is at some = subst (λ z. IsAtPairOrNone parts line pairs z (next_position (pairs_in parts) (Some n))) (sym is) (next_in at k is)
 
 -- what a step inside a block leaves
-inside_indexed : {C : Type 0} {order : CmpGhosts C} (to : List Pair → Option ℕ → Option ℕ) (cmp : List ℕ → List ℕ → Ordering) (parts : List Part) (old : Option (TableCore C order)) (result : Result Bool Status) (new : Option (TableCore C order))
+pub inside_indexed : {C : Type 0} {order : CmpGhosts C} (to : List Pair → Option ℕ → Option ℕ) (cmp : List ℕ → List ℕ → Ordering) (parts : List Part) (old : Option (TableCore C order)) (result : Result Bool Status) (new : Option (TableCore C order))
     → StepsInBlock to old result new → IsIndexedFor cmp parts old → IsIndexedFor cmp parts new
 inside_indexed to cmp parts None result new step indexed = subst (IsIndexedFor cmp parts) (sym step.0) tt
 inside_indexed to cmp parts (Some old) result None step indexed = absurd step
@@ -206,7 +206,7 @@ past_tables parts line position i after is past =
     empty [] e = refl
     empty (x ∷ xs) e = absurd (omega (arith, e))
 
-part_in : (tables : List FileTable) (i : ℕ) → i < length tables → slice_get (table_parts tables) i ≡ Some (table_part (table_in tables i))
+pub part_in : (tables : List FileTable) (i : ℕ) → i < length tables → slice_get (table_parts tables) i ≡ Some (table_part (table_in tables i))
 part_in [] i within = absurd (omega (arith, within))
 part_in (t ∷ tables) zero within = refl
 part_in (t ∷ tables) (suc i) within = part_in tables i (omega (arith, within))
@@ -405,7 +405,7 @@ module _ {E C FP K F : Type 0} {order : CmpGhosts (InternalKeyCmp C)} (env : Env
   At = IsAtInTables env cmp filters codings
 
   -- the list stays
-  over_after : (world : E × ReadTables E C FP K F order) (old : VersionIter C order) (later : E × ReadTables E C FP K F order) (new : VersionIter C order) → StaysThere env cmp filters codings world old later new
+  unfoldable pub over_after : (world : E × ReadTables E C FP K F order) (old : VersionIter C order) (later : E × ReadTables E C FP K F order) (new : VersionIter C order) → StaysThere env cmp filters codings world old later new
       → (keys : KeyOrder) (pairs : List Pair) → Over world old keys pairs → Over later new keys pairs
   over_after world old later new stays keys pairs over = let kept = stays.kept in record {
     meaning = over.meaning;
@@ -419,7 +419,7 @@ module _ {E C FP K F : Type 0} {order : CmpGhosts (InternalKeyCmp C)} (env : Env
   }
 
   -- at no pair it is at no position
-  none_after : (world : E × ReadTables E C FP K F order) (it : VersionIter C order) → core_position it.core ≡ None → (keys : KeyOrder) (pairs : List Pair) → Over world it keys pairs → At world it keys pairs None
+  pub none_after : (world : E × ReadTables E C FP K F order) (it : VersionIter C order) → core_position it.core ≡ None → (keys : KeyOrder) (pairs : List Pair) → Over world it keys pairs → At world it keys pairs None
   none_after world it none keys pairs over = record {
     over = over;
     inner = None;
@@ -448,7 +448,7 @@ module _ {E C FP K F : Type 0} {order : CmpGhosts (InternalKeyCmp C)} (env : Env
       on_err_weaker (Ok x) f is = tt
       on_err_weaker (Err s) f is = f is
 
-  moves_made : {R S : Type 0} {x : R} {world later : E × ReadTables E C FP K F order} {old new : VersionIter C order} (y : S) → MovesThere env cmp filters codings world old (Ok x) later new → MovesThere env cmp filters codings world old (Ok y) later new
+  pub moves_made : {R S : Type 0} {x : R} {world later : E × ReadTables E C FP K F order} {old new : VersionIter C order} (y : S) → MovesThere env cmp filters codings world old (Ok x) later new → MovesThere env cmp filters codings world old (Ok y) later new
   moves_made y moves = record { stays = moves.stays; cause = tt; err = tt }
 
   moves_refused : {R S : Type 0} {status : Status} {world later : E × ReadTables E C FP K F order} {old new : VersionIter C order} (result : Result S Status) → IsErrAnd result (λ other. other ≡ status)
@@ -483,7 +483,7 @@ module _ {E C FP K F : Type 0} {order : CmpGhosts (InternalKeyCmp C)} (env : Env
   -- ---- to the first pair of a file's table
 
   module _ {world : E × ReadTables E C FP K F order} {old : VersionIter C order} {keys : KeyOrder} {pairs : List Pair} (over : Over world old keys pairs) where
-    tables_long : length old.files.now ≡ length over.tables
+    pub tables_long : length old.files.now ≡ length over.tables
     tables_long = let there = over.there in each_long (λ file table. ((new_file_of file).number < 2 ^ 64) × ((new_file_of file).largest ≡ table.largest)
         × IsTableAt (cmp.cmp world.1.cmp) over.meaning (files_at env world.0) (path_at world.1.cache.now (new_file_of file).number) table) old.files.now over.tables there.each
 
@@ -605,7 +605,7 @@ module _ {E C FP K F : Type 0} {order : CmpGhosts (InternalKeyCmp C)} (env : Env
   -- ---- a step inside a block
 
   module _ (to : List Pair → Option ℕ → Option ℕ) (world : E × ReadTables E C FP K F order) (old : VersionIter C order) (result : Result Bool Status) (core : Option (TableCore (InternalKeyCmp C) order)) (step : StepsInBlock to old.core result core) where
-    stays_inside : StaysThere env cmp filters codings world old world (record old { core = core })
+    pub stays_inside : StaysThere env cmp filters codings world old world (record old { core = core })
     stays_inside = record {
       kept = reading_kept world;
       files = refl;
