@@ -148,10 +148,10 @@ module _ {E C FP K F : Type 0} {order : CmpGhosts (InternalKeyCmp C)} (env : Env
         }
       where
         inside_there : (before after : Option (TableCore (InternalKeyCmp C) order)) → StepsInBlock (λ _. previous_position) before result after → result ≡ Ok true → true ≡ is_some (core_position after)
-        inside_there None after step made = absurd (never (sym step.1 ∙ made))
+        inside_there None after step made = absurd (never result step.1 made)
           where
-            never : Ok {E = Status} false ≡ Ok true → ⊥
-            never e = cc
+            never : (r : Result Bool Status) → r ≡ Ok false → r ≡ Ok true → ⊥
+            never r is made = cc
         inside_there (Some before) None step made = absurd step
         inside_there (Some before) (Some after) step made = subst (λ (r : Result Bool Status). IfOk r (λ there. there ≡ is_some (inner_position after.inner))) made step.there
 

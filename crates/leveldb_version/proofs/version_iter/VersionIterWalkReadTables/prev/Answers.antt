@@ -26,10 +26,10 @@ returns-then-branch-2-clause-moves g c =
 pub returns-then-self-eq0-clause-moves : goal.returns-then-self-eq0-clause-moves
 returns-then-self-eq0-clause-moves g c =
     walk_no_pair g.E.Env g.C.Cmp g.FP.FilterPolicy g.K.Compressors.codings (c.args.env.now, c.args.tables.now) c.args.self.now c.back_inside.result c.back_inside.new.core c.back_inside.ensures (c.in_ok-back_inside.was ∙ ap Ok c.if-branch.false) (sym c.is_at_pair.ensures ∙ c.if-not-is_at_pair.false)
-    c.step.result (c.step.new.env, c.step.new.tables) c.step.new.self c.step.ensures (c.in_ok-step.was ∙ ap Ok c.if-branch-2.false) ?
+    c.step.result (c.step.new.env, c.step.new.tables) c.step.new.self c.step.ensures (c.in_ok-step.was ∙ ap Ok c.if-branch-2.false) (sym c.step.ensures.at ∙ c.if-self-eq0.true)
 
 pub returns-clause-moves : goal.returns-clause-moves
 returns-clause-moves g c =
     walk_file_before g.E.Env g.C.Cmp g.FP.FilterPolicy g.K.Compressors.codings (c.args.env.now, c.args.tables.now) c.args.self.now c.back_inside.result c.back_inside.new.core c.back_inside.ensures (c.in_ok-back_inside.was ∙ ap Ok c.if-branch.false) (sym c.is_at_pair.ensures ∙ c.if-not-is_at_pair.false)
-    c.step.result (c.step.new.env, c.step.new.tables) c.step.new.self c.step.ensures (c.in_ok-step.was ∙ ap Ok c.if-branch-2.false) _ ?
+    c.step.result (c.step.new.env, c.step.new.tables) c.step.new.self c.step.ensures (c.in_ok-step.was ∙ ap Ok c.if-branch-2.false) _ (omega (arith, c.step.ensures.at, c.if-self-eq0.false))
     c.to_file.result (c.to_file.new.env, c.to_file.new.tables) c.to_file.new.self c.to_file.ensures
