@@ -222,7 +222,7 @@ impl<
         if self.step(env, tables, TableStep::NextBlock)? {
             return Ok(true);
         }
-        let next = self.at.saturating_add(1).min(self.files.len());
+        let next = self.at.saturating_add(1);
         self.to_file(env, tables, next, TableStep::First)
     }
 

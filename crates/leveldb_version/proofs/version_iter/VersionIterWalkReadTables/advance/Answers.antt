@@ -30,5 +30,5 @@ returns-then-branch-2-clause-moves g c =
 pub returns-clause-moves : goal.returns-clause-moves
 returns-clause-moves g c =
     walk_next_file g.E.Env g.C.Cmp g.FP.FilterPolicy g.K.Compressors.codings (c.args.env.now, c.args.tables.now) c.args.self.now c.next_inside.result c.next_inside.new.core c.next_inside.ensures (c.in_ok-next_inside.was ∙ ap Ok c.if-branch.false) (sym c.is_at_pair.ensures ∙ c.if-not-is_at_pair.false)
-    c.step.result (c.step.new.env, c.step.new.tables) c.step.new.self c.step.ensures (c.in_ok-step.was ∙ ap Ok c.if-branch-2.false) _ (λ within. let moves = c.step.ensures.moves in let stays = moves.stays in omega (arith, within, c.step.ensures.at, c.min-next.ensures, c.saturating_add.ensures, ap length stays.files))
+    c.step.result (c.step.new.env, c.step.new.tables) c.step.new.self c.step.ensures (c.in_ok-step.was ∙ ap Ok c.if-branch-2.false) _ (λ within. let moves = c.step.ensures.moves in let stays = moves.stays in omega (arith, within, c.step.ensures.at, c.saturating_add-next.ensures, ap length stays.files))
     c.to_file-2.result (c.to_file-2.new.env, c.to_file-2.new.tables) c.to_file-2.new.self c.to_file-2.ensures
