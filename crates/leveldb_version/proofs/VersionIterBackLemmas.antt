@@ -1,7 +1,7 @@
 -- Steps of a walk over the tables of files to the pair before: in its block, in the block before, and
 -- in the file before.
 use Rattle.std.specs.Prelude.{IfOk, OnOk, is_some, nat_lt, slice_get}
-use Rattle.std.proofs.Common.{◌≡◌, ◌≢◌, ℕ, zero, suc, ◌+◌, ◌-◌, ◌<◌, Bool, true, false, if◌then◌else◌, List, [], ◌∷◌, length, map, Option, None, Some, Result, Ok, Err, refl, sym, ◌∙◌, ap, subst, arith}
+use Rattle.std.proofs.Common.{◌≡◌, ◌≢◌, ℕ, zero, suc, ◌+◌, ◌-◌, ◌<◌, Bool, true, false, if◌then◌else◌, List, [], ◌∷◌, length, Option, None, Some, Result, Ok, refl, sym, ◌∙◌, ap, subst, arith}
 use Rattle.std.proofs.lemmas.Bool.Decides.{nat_tests}
 use Rattle.std.specs.declared.cmp.Ordering.{Ordering}
 use Rattle.leveldb_base.specs.Types.{Pair, last_position, previous_position}
@@ -22,8 +22,8 @@ use Rattle.leveldb_table.specs.declared.table_reader.walk.TableCore.{TableCore}
 use Rattle.leveldb_table.specs.declared.table_reader.walk.TableStep.TheVariants.{Last, BlockBefore}
 use Rattle.leveldb_version.proofs.VersionIterForwardLemmas.{file_within, moves_on, pair_some}
 use Rattle.leveldb_version.proofs.VersionIterLemmas.{file_last, inner_none, no_some, none_after, not_true, over_after, part_in, stays_inside, walk_moves}
-use Rattle.leveldb_version.specs.TableMoves.{FileTable, IsAtInTable, IsLedTo, StepsInBlock, core_position, table_pairs}
-use Rattle.leveldb_version.specs.VersionIter.{FailsInTables, IsAtInTables, IsOverTables, KeepsReading, MovesThere, MovesToFile, StaysThere, StepsInFile, table_in, table_part, table_parts, version_here}
+use Rattle.leveldb_version.specs.TableMoves.{IsAtInTable, IsLedTo, StepsInBlock, core_position, table_pairs}
+use Rattle.leveldb_version.specs.VersionIter.{FailsInTables, IsAtInTables, IsOverTables, KeepsReading, MovesToFile, StaysThere, StepsInFile, table_in, table_part, table_parts, version_here}
 use Rattle.leveldb_version.specs.declared.table_cache.moves.ReadTables.{ReadTables}
 use Rattle.leveldb_version.specs.declared.version_iter.VersionIter.{VersionIter}
 
@@ -181,10 +181,12 @@ module _ {E C FP K F : Type 0} {order : CmpGhosts (InternalKeyCmp C)} (env : Env
           let keys_is : order.cmp (record { 0 = world.1.cmp }) ≡ keys.cmp = ap (λ (o : KeyOrder). o.cmp) (sym over.keys_are) in
           let led = led_prev keys.cmp table.parts old.core result core at.inner step made valid at.in_table in
           let within = file_within over.tables old.at (table_pairs table) at.inner position led.1 at.at in
-          let to = previous_position at.inner in
-          (subst (λ (o : List ℕ → List ℕ → Ordering). OnOk stepped (IsAtInTable o table.parts new.core to)) keys_is
-          (back.ok over.meaning over.tables (inside.there over.meaning over.tables over.there) within to
-          (subst (λ (o : List ℕ → List ℕ → Ordering). IsLedTo BlockBefore o table.parts core to) (sym keys_is) led.0)), led.1)
+          let to = previous_position at.inner in (
+            subst (λ (o : List ℕ → List ℕ → Ordering). OnOk stepped (IsAtInTable o table.parts new.core to)) keys_is
+                (back.ok over.meaning over.tables (inside.there over.meaning over.tables over.there) within to
+                (subst (λ (o : List ℕ → List ℕ → Ordering). IsLedTo BlockBefore o table.parts core to) (sym keys_is) led.0)),
+            led.1,
+          )
 
       -- in the block before
       at_block_before : stepped ≡ Ok true → At later new keys pairs (previous_position position)

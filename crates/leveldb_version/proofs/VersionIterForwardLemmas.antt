@@ -1,6 +1,6 @@
 -- Steps of a walk over the tables of files out of a block: to the next block, and to the next file.
 use Rattle.std.specs.Prelude.{IfErr, IfOk, OnOk, is_some}
-use Rattle.std.proofs.Common.{◌≡◌, ◌≢◌, ℕ, ◌+◌, ◌<◌, Bool, true, false, List, ◌∷◌, ◌++◌, length, map, Option, None, Some, Result, Ok, Err, refl, sym, ◌∙◌, ap, subst, arith}
+use Rattle.std.proofs.Common.{◌≡◌, ◌≢◌, ℕ, ◌+◌, ◌<◌, Bool, true, false, List, ◌∷◌, length, map, Option, None, Some, Result, Ok, Err, refl, sym, ◌∙◌, ap, subst, arith}
 use Rattle.std.proofs.lemmas.List.{length-append, length-map}
 use Rattle.std.specs.declared.cmp.Ordering.{Ordering}
 use Rattle.leveldb_base.specs.Types.{Pair, next_position, position_within}
@@ -20,7 +20,7 @@ use Rattle.leveldb_table.specs.declared.table_reader.walk.TableCore.{TableCore}
 use Rattle.leveldb_table.specs.declared.table_reader.walk.TableStep.TheVariants.{First, NextBlock}
 use Rattle.leveldb_version.proofs.VersionIterLemmas.{file_first, inner_none, no_some, not_true, outer_next, over_after, stays_inside, tables_long, walk_moves}
 use Rattle.leveldb_version.specs.TableMoves.{FileTable, IsAtInTable, IsLedTo, StepsInBlock, core_position, table_pairs}
-use Rattle.leveldb_version.specs.VersionIter.{AreTablesThere, FailsInTables, IsAtInTables, IsOverTables, KeepsReading, MovesThere, MovesToFile, StaysThere, StepsInFile, table_in, table_part, table_parts, version_here}
+use Rattle.leveldb_version.specs.VersionIter.{FailsInTables, IsAtInTables, IsOverTables, KeepsReading, MovesThere, MovesToFile, StaysThere, StepsInFile, table_in, table_part, table_parts, version_here}
 use Rattle.leveldb_version.specs.VersionIterLaws.{fails_before, reading_kept_on}
 use Rattle.leveldb_version.specs.declared.table_cache.moves.ReadTables.{ReadTables}
 use Rattle.leveldb_version.specs.declared.version_iter.VersionIter.{VersionIter}
@@ -95,10 +95,12 @@ module _ {E C FP K F : Type 0} {order : CmpGhosts (InternalKeyCmp C)} (env : Env
           let keys_is : order.cmp (record { 0 = world.1.cmp }) ≡ keys.cmp = ap (λ (o : KeyOrder). o.cmp) (sym over.keys_are) in
           let led = led_next keys.cmp table.parts old.core result core at.inner step made valid at.in_table in
           let within = file_within over.tables old.at (table_pairs table) at.inner position led.1 at.at in
-          let to = next_position (table_pairs table) at.inner in
-          (subst (λ (o : List ℕ → List ℕ → Ordering). OnOk stepped (IsAtInTable o table.parts new.core to)) keys_is
-          (next.ok over.meaning over.tables (inside.there over.meaning over.tables over.there) within to
-          (subst (λ (o : List ℕ → List ℕ → Ordering). IsLedTo NextBlock o table.parts core to) (sym keys_is) led.0)), led.1)
+          let to = next_position (table_pairs table) at.inner in (
+            subst (λ (o : List ℕ → List ℕ → Ordering). OnOk stepped (IsAtInTable o table.parts new.core to)) keys_is
+                (next.ok over.meaning over.tables (inside.there over.meaning over.tables over.there) within to
+                (subst (λ (o : List ℕ → List ℕ → Ordering). IsLedTo NextBlock o table.parts core to) (sym keys_is) led.0)),
+            led.1,
+          )
 
       -- in the next block
       at_next_block : stepped ≡ Ok true → At later new keys pairs (next_position pairs position)

@@ -138,12 +138,12 @@ pub inner_none : {C : Type 0} {order : CmpGhosts C} (cmp : List ℕ → List ℕ
 inner_none cmp parts core None at none = refl
 inner_none cmp parts core (Some n) at none = absurd (at_some cmp parts core n at none)
 
-pub outer_none : (parts : List Part) (line : Option ℕ) (pairs : List Pair) (inner position : Option ℕ) → inner ≡ None → IsAtPairOrNone parts line pairs inner position → position ≡ None
+outer_none : (parts : List Part) (line : Option ℕ) (pairs : List Pair) (inner position : Option ℕ) → inner ≡ None → IsAtPairOrNone parts line pairs inner position → position ≡ None
 outer_none parts line pairs inner None none at = refl
 outer_none parts line pairs inner (Some n) none at = absurd (some_none (sym at.at_position ∙ none))
 
 -- a pair of a block is one of all
-pub some_position : (parts : List Part) (line : Option ℕ) (pairs : List Pair) (inner : Option ℕ) (k : ℕ) (position : Option ℕ) → inner ≡ Some k → IsAtPairOrNone parts line pairs inner position → (n : ℕ) × (position ≡ Some n)
+some_position : (parts : List Part) (line : Option ℕ) (pairs : List Pair) (inner : Option ℕ) (k : ℕ) (position : Option ℕ) → inner ≡ Some k → IsAtPairOrNone parts line pairs inner position → (n : ℕ) × (position ≡ Some n)
 some_position parts line pairs inner k None is at = absurd (some_none (sym is ∙ at))
 some_position parts line pairs inner k (Some n) is at = (n, refl)
 
@@ -168,7 +168,7 @@ outer_next parts line pairs inner None k is at some = absurd (some at)
 outer_next parts line pairs inner (Some n) k is at some = subst (λ z. IsAtPairOrNone parts line pairs z (next_position (pairs_in parts) (Some n))) (sym is) (next_in at k is)
 
 -- what a step inside a block leaves
-pub inside_indexed : {C : Type 0} {order : CmpGhosts C} (to : List Pair → Option ℕ → Option ℕ) (cmp : List ℕ → List ℕ → Ordering) (parts : List Part) (old : Option (TableCore C order)) (result : Result Bool Status) (new : Option (TableCore C order))
+inside_indexed : {C : Type 0} {order : CmpGhosts C} (to : List Pair → Option ℕ → Option ℕ) (cmp : List ℕ → List ℕ → Ordering) (parts : List Part) (old : Option (TableCore C order)) (result : Result Bool Status) (new : Option (TableCore C order))
     → StepsInBlock to old result new → IsIndexedFor cmp parts old → IsIndexedFor cmp parts new
 inside_indexed to cmp parts None result new step indexed = subst (IsIndexedFor cmp parts) (sym step.0) tt
 inside_indexed to cmp parts (Some old) result None step indexed = absurd step
@@ -448,7 +448,7 @@ module _ {E C FP K F : Type 0} {order : CmpGhosts (InternalKeyCmp C)} (env : Env
       on_err_weaker (Ok x) f is = tt
       on_err_weaker (Err s) f is = f is
 
-  pub moves_made : {R S : Type 0} {x : R} {world later : E × ReadTables E C FP K F order} {old new : VersionIter C order} (y : S) → MovesThere env cmp filters codings world old (Ok x) later new → MovesThere env cmp filters codings world old (Ok y) later new
+  moves_made : {R S : Type 0} {x : R} {world later : E × ReadTables E C FP K F order} {old new : VersionIter C order} (y : S) → MovesThere env cmp filters codings world old (Ok x) later new → MovesThere env cmp filters codings world old (Ok y) later new
   moves_made y moves = record { stays = moves.stays; cause = tt; err = tt }
 
   moves_refused : {R S : Type 0} {status : Status} {world later : E × ReadTables E C FP K F order} {old new : VersionIter C order} (result : Result S Status) → IsErrAnd result (λ other. other ≡ status)
