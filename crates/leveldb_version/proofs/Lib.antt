@@ -79,6 +79,7 @@ pub mod ReadTableLemmas
 pub mod TableStepLemmas
 pub mod TableMoveLemmas
 pub mod VersionIterLemmas
+pub mod VersionIterSeekLemmas
 pub mod NewestLemmas
 pub mod SearchTableLemmas
 pub mod NewestTablesLemmas
