@@ -405,7 +405,7 @@ module _ {E C FP K F : Type 0} {order : CmpGhosts (InternalKeyCmp C)} (env : Env
   At = IsAtInTables env cmp filters codings
 
   -- the list stays
-  pub over_after : (world : E × ReadTables E C FP K F order) (old : VersionIter C order) (later : E × ReadTables E C FP K F order) (new : VersionIter C order) → StaysThere env cmp filters codings world old later new
+  unfoldable pub over_after : (world : E × ReadTables E C FP K F order) (old : VersionIter C order) (later : E × ReadTables E C FP K F order) (new : VersionIter C order) → StaysThere env cmp filters codings world old later new
       → (keys : KeyOrder) (pairs : List Pair) → Over world old keys pairs → Over later new keys pairs
   over_after world old later new stays keys pairs over = let kept = stays.kept in record {
     meaning = over.meaning;

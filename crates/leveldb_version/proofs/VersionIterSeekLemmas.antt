@@ -140,3 +140,153 @@ module _ {E C FP K F : Type 0} {order : CmpGhosts (InternalKeyCmp C)} (env : Env
       before : (r : Result S Status) → IfErr r (FailsInTables env cmp filters codings mid between later) → IfErr r (FailsInTables env cmp filters codings world old later)
       before (Ok x) fails = tt
       before (Err status) fails = let a = one.stays in fails_before world mid a.kept old between a.there later status fails
+
+  -- ---- to a key
+
+  module _ (order_is : (c : C) → order.cmp (record { 0 = c }) ≡ internal_cmp (cmp.cmp c)) (total : (c : C) → IsTotalOrder (cmp.cmp c)) (preorder : (c : C) → IsPreorderOn (order.accepts (record { 0 = c })) (order.cmp (record { 0 = c })))
+      (any_accepted : (c : C) (key : List ℕ) → order.accepts (record { 0 = c }) key ≡ true → internal_accepts any_user_key key ≡ true) where
+    module _ {world : E × ReadTables E C FP K F order} {old : VersionIter C order} {keys : KeyOrder} {pairs : List Pair} (over : IsOverTables env cmp filters codings world old keys pairs) (sought : Bor (List ℕ)) (fit : keys.accepts sought.now ≡ true)
+        (i : ℕ) (bound : i ≤ length old.files.now)
+        (point : IsPartitionedBy (ends_before_key (cmp.cmp world.1.cmp) sought.now) old.files.now
+        → IsPartitionPoint (λ file. ends_before_key (cmp.cmp world.1.cmp) sought.now file ≡ true) (λ file. ends_before_key (cmp.cmp world.1.cmp) sought.now file ≡ false) old.files.now i) where
+      abbrev Row : ℕ × FileMetaData → FileTable → Type 0
+      Row file table = ((new_file_of file).number < 2 ^ 64) × ((new_file_of file).largest ≡ table.largest)
+          × IsTableAt (cmp.cmp world.1.cmp) over.meaning (files_at env world.0) (path_at world.1.cache.now (new_file_of file).number) table
+
+      abbrev Lines : List Pair
+      Lines = map index_pair (table_parts over.tables)
+
+      rows : Each Row old.files.now over.tables
+      rows = let there = over.there in there.each
+
+      long : length old.files.now ≡ length over.tables
+      long = tables_long env cmp filters codings over
+
+      lines_long : length Lines ≡ length over.tables
+      lines_long = length-map (table_parts over.tables) index_pair ∙ length-map over.tables table_part
+
+      cmp_is : keys.cmp ≡ internal_cmp (cmp.cmp world.1.cmp)
+      cmp_is = ap (λ (o : KeyOrder). o.cmp) over.keys_are ∙ order_is world.1.cmp
+
+      pre : IsPreorderOn keys.accepts keys.cmp
+      pre = subst (λ (o : KeyOrder). IsPreorderOn o.accepts o.cmp) (sym over.keys_are) (preorder world.1.cmp)
+
+      some : AllByRecursion (λ (part : Part). part.pairs ≢ []) (table_parts over.tables)
+      some = all_some Row (λ file table row. last_key_some row.2.last) old.files.now over.tables rows
+
+      ends : (k : ℕ) (d : ℕ × FileMetaData) → k < length old.files.now → ends_before_key (cmp.cmp world.1.cmp) sought.now (slice_index_or old.files.now k d) ≡ is_lt (internal_cmp (cmp.cmp world.1.cmp) (table_in over.tables k).largest sought.now)
+      ends k d within = same_ends (internal_cmp (cmp.cmp world.1.cmp)) sought.now Row (λ file table row. row.1) old.files.now over.tables rows k d within
+
+      -- the files that end before the key come first
+      parted : IsPartitionedBy (ends_before_key (cmp.cmp world.1.cmp) sought.now) old.files.now
+      parted j k d before within passes =
+          let same = long in
+          ends j d (omega (arith, before, within))
+          ∙ rising (internal_total (total world.1.cmp)) sought.now over.tables (subst (λ (o : List ℕ → List ℕ → Ordering). AreParted o (table_parts over.tables)) cmp_is over.parted) some
+          j k (record { bytes = []; parts = []; largest = [] }) before (omega (arith, within, same)) (sym (ends k d within) ∙ passes)
+
+      -- and the table of the first that doesn't is the one for the key
+      line_at : seek_position keys.cmp Lines sought.now ≡ position_within Lines i
+      line_at = ap (position_within Lines) (subst (λ (o : List ℕ → List ℕ → Ordering). count_before o sought.now Lines ≡ i) (sym cmp_is)
+          (counted (internal_total (total world.1.cmp)) sought.now over.tables i (let same = long in omega (arith, bound, same)) below from))
+        where
+          file_at : (k : ℕ) → k < length old.files.now → ℕ × FileMetaData
+          file_at k within = (each_in Row old.files.now over.tables k within rows).0
+
+          below : (k : ℕ) → k < i → is_lt (internal_cmp (cmp.cmp world.1.cmp) (table_in over.tables k).largest sought.now) ≡ true
+          below k less =
+              let within : k < length old.files.now = omega (arith, less, bound) in
+              sym (ends k (file_at k within) within) ∙ (point parted).0 k (file_at k within) (omega arith) less
+
+          from : (k : ℕ) → i ≤ k → k < length over.tables → is_lt (internal_cmp (cmp.cmp world.1.cmp) (table_in over.tables k).largest sought.now) ≡ false
+          from k more less =
+              let same = long in
+              let within : k < length old.files.now = omega (arith, less, same) in
+              sym (ends k (file_at k within) within) ∙ (point parted).1 k (file_at k within) more within
+
+      -- past the last file no pair is at or after the key
+      pub sought_none : length old.files.now ≤ i → seek_position keys.cmp pairs sought.now ≡ None
+      sought_none past =
+          ap (λ ps. seek_position keys.cmp ps sought.now) over.pairs_are
+          ∙ seek_none pre over.parted over.accepted sought.now fit (line_at ∙ position_out Lines i (let same = long in let lines = lines_long in omega (arith, same, lines, past)))
+
+      module _ (inside : i < length old.files.now) (turned : VersionIter C order) (turns : TurnsTo old.at old.core turned.at turned.core) (turned_at : turned.at ≡ i) (files : turned.files.now ≡ old.files.now)
+          (there : Bool) (later : E × ReadTables E C FP K F order) (new : VersionIter C order) (step : StepsInFile env cmp filters codings (Seek sought) world turned (Ok there) later new) where
+        within : i < length over.tables
+        within = let same = long in omega (arith, inside, same)
+
+        stays : StaysThere env cmp filters codings world old later new
+        stays = let moves = moves_turned world old turned turns files (Ok there) later new step.moves in moves.stays
+
+        line_is : seek_position keys.cmp Lines sought.now ≡ Some i
+        line_is = line_at ∙ position_in Lines i (let lines = lines_long in let less = within in omega (arith, lines, less))
+
+        landed : IsAtInTable keys.cmp (table_in over.tables i).parts new.core (seek_position keys.cmp (table_pairs (table_in over.tables i)) sought.now)
+        landed =
+            subst (λ (n : ℕ). IsAtInTable keys.cmp (table_in over.tables n).parts new.core (seek_position keys.cmp (table_pairs (table_in over.tables n)) sought.now)) turned_at
+            (subst (λ (o : List ℕ → List ℕ → Ordering). IsAtInTable o (table_in over.tables turned.at).parts new.core (seek_position o (table_pairs (table_in over.tables turned.at)) sought.now)) (ap (λ (o : KeyOrder). o.cmp) (sym over.keys_are))
+            (step.ok over.meaning over.tables (there_turned env cmp filters codings world old turned turns files over.meaning over.tables over.there) (let less = within in omega (arith, less, turned_at))
+            (seek_position (order.cmp (record { 0 = world.1.cmp })) (table_pairs (table_in over.tables turned.at)) sought.now)
+            (refl, any_accepted world.1.cmp sought.now (subst (λ (o : KeyOrder). o.accepts sought.now ≡ true) over.keys_are fit))))
+
+        -- a pair of the file's table
+        pub sought_there : there ≡ true → IsAtInTables env cmp filters codings later new keys pairs (seek_position keys.cmp pairs sought.now)
+        unfolding over_after
+        sought_there is =
+            let inner = seek_position keys.cmp (table_pairs (table_in over.tables i)) sought.now in
+            let j = is_there keys.cmp (table_in over.tables i).parts new.core inner landed (sym is ∙ step.there) in
+            let at = step.at ∙ turned_at in
+            record {
+              over = over_after env cmp filters codings world old later new stays keys pairs over;
+              inner = inner;
+              in_table = subst (λ (n : ℕ). IsAtInTable keys.cmp (table_in over.tables n).parts new.core inner) (sym at) landed;
+              at = subst (λ (n : ℕ). IsAtPairOrNone (table_parts over.tables) (Some n) (table_pairs (table_in over.tables n)) inner (seek_position keys.cmp pairs sought.now)) (sym at)
+                  (subst (λ (ps : List Pair). IsAtPairOrNone (table_parts over.tables) (Some i) (table_pairs (table_in over.tables i)) inner (seek_position keys.cmp ps sought.now)) (sym over.pairs_are)
+                  (subst (λ (o : Option ℕ). IsAtPairOrNone (table_parts over.tables) (Some i) (table_pairs (table_in over.tables i)) o (seek_position keys.cmp (pairs_in (table_parts over.tables)) sought.now)) (sym j.1)
+                  (seek_in pre over.parted over.accepted sought.now fit i (table_part (table_in over.tables i)) j.0 line_is (part_in over.tables i within) j.1)));
+            }
+
+        -- or the first pair of the next file's
+        pub sought_after : there ≡ false → (result : Result Bool Status) (last_world : E × ReadTables E C FP K F order) (last : VersionIter C order) → MovesToFile env cmp filters codings (i + 1) First later new result last_world last
+            → OnOk result (IsAtInTables env cmp filters codings last_world last keys pairs (seek_position keys.cmp pairs sought.now))
+        unfolding over_after
+        sought_after is result last_world last moves =
+            let none = inner_none keys.cmp (table_in over.tables i).parts new.core (seek_position keys.cmp (table_pairs (table_in over.tables i)) sought.now) landed (no_some (core_position new.core) (sym is ∙ step.there)) in
+            subst (λ (ps : List Pair). OnOk result (IsAtInTables env cmp filters codings last_world last keys pairs (seek_position keys.cmp ps sought.now))) (sym over.pairs_are)
+            (file_first env cmp filters codings (over_after env cmp filters codings world old later new stays keys pairs over) (i + 1) result last_world last moves (Some i) (seek_position keys.cmp (pairs_in (table_parts over.tables)) sought.now)
+            (seek_after pre over.parted over.accepted sought.now fit some i (table_part (table_in over.tables i)) line_is (part_in over.tables i within) none) refl)
+
+    -- ---- the move
+
+    module _ (world : E × ReadTables E C FP K F order) (old : VersionIter C order) (sought : Bor (List ℕ)) (i : ℕ) (bound : i ≤ length old.files.now)
+        (point : IsPartitionedBy (ends_before_key (cmp.cmp world.1.cmp) sought.now) old.files.now
+        → IsPartitionPoint (λ file. ends_before_key (cmp.cmp world.1.cmp) sought.now file ≡ true) (λ file. ends_before_key (cmp.cmp world.1.cmp) sought.now file ≡ false) old.files.now i) where
+      -- what such a move comes to
+      abbrev pub Sought : E × ReadTables E C FP K F order → VersionIter C order → Type 0
+      Sought later new =
+          MovesWalk (IsOverTables env cmp filters codings) (IsAtInTables env cmp filters codings) version_here (FailsInTables env cmp filters codings) (KeepsReading env cmp filters codings) {R = Unit {0}}
+          (λ world it keys pairs position. IsOverTables env cmp filters codings world it keys pairs × (keys.accepts sought.now ≡ true)) (λ keys pairs position. seek_position keys.cmp pairs sought.now) world old (Ok tt) later new
+
+      pub seeks_none : (new : VersionIter C order) → LeavesPairs old.core new.core → new.at ≡ old.at → new.files.now ≡ old.files.now → i ≡ length old.files.now → Sought world new
+      seeks_none new left same files past =
+          walk_moves env cmp filters codings (λ world it keys pairs position. IsOverTables env cmp filters codings world it keys pairs × (keys.accepts sought.now ≡ true)) (λ keys pairs position. seek_position keys.cmp pairs sought.now) world old (Ok tt) world new
+          (record { stays = stays_left; cause = tt; err = tt })
+          (λ keys pairs position from. subst (IsAtInTables env cmp filters codings world new keys pairs) (sym (sought_none from.0 sought from.1 i bound point (omega (arith, past))))
+          (none_after env cmp filters codings world new (left_position old.core new.core left) keys pairs (over_after env cmp filters codings world old world new stays_left keys pairs from.0)))
+        where
+          stays_left : StaysThere env cmp filters codings world old world new
+          stays_left = record { kept = reading_kept world; files = files; there = λ meaning tables there. there_left env cmp filters codings world old new left same files meaning tables there }
+
+      module _ (inside : i < length old.files.now) (turned : VersionIter C order) (turns : TurnsTo old.at old.core turned.at turned.core) (turned_at : turned.at ≡ i) (files : turned.files.now ≡ old.files.now)
+          (there : Bool) (later : E × ReadTables E C FP K F order) (new : VersionIter C order) (step : StepsInFile env cmp filters codings (Seek sought) world turned (Ok there) later new) where
+        pub seeks_in : there ≡ true → Sought later new
+        seeks_in is =
+            walk_moves env cmp filters codings (λ world it keys pairs position. IsOverTables env cmp filters codings world it keys pairs × (keys.accepts sought.now ≡ true)) (λ keys pairs position. seek_position keys.cmp pairs sought.now) world old (Ok tt) later new
+            (moves_made env cmp filters codings tt (moves_turned world old turned turns files (Ok there) later new step.moves))
+            (λ keys pairs position from. sought_there from.0 sought from.1 i bound point inside turned turns turned_at files there later new step is)
+
+        pub seeks_after : there ≡ false → (any : Bool) (last_world : E × ReadTables E C FP K F order) (last : VersionIter C order) → MovesToFile env cmp filters codings (i + 1) First later new (Ok any) last_world last → Sought last_world last
+        seeks_after is any last_world last moves =
+            walk_moves env cmp filters codings (λ world it keys pairs position. IsOverTables env cmp filters codings world it keys pairs × (keys.accepts sought.now ≡ true)) (λ keys pairs position. seek_position keys.cmp pairs sought.now) world old (Ok tt) last_world last
+            (moves_made env cmp filters codings tt (moves_on world old (Ok there) later new (moves_turned world old turned turns files (Ok there) later new step.moves) (Ok any) last_world last moves.moves))
+            (λ keys pairs position from. sought_after from.0 sought from.1 i bound point inside turned turns turned_at files there later new step is (Ok any) last_world last moves)

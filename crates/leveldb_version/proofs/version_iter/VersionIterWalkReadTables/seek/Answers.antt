@@ -1,11 +1,17 @@
-use Rattle.std.proofs.Common.{Err, Ok, ap, subst, sym}
+use Rattle.std.specs.Prelude.{◌&&◌, nat_le}
+use Rattle.std.proofs.Common.{◌∙◌, Err, Ok, ap, length, refl, subst, sym}
+use Rattle.leveldb_base.specs.CmpLaws.{internal_preorder, total_order}
+use Rattle.leveldb_base.specs.KeyTypes.{user_part}
 use Rattle.leveldb_version.proofs.VersionIterLemmas.{walk_refused}
-use Rattle.leveldb_version.proofs.VersionIterSeekLemmas.{moves_on, moves_turned}
+use Rattle.leveldb_version.proofs.VersionIterSeekLemmas.{moves_on, moves_turned, seeks_none}
 use Rattle.leveldb_version.specs.VersionIter.{TurnsTo}
 use Rattle.leveldb_version.proofs.version_iter.VersionIterWalkReadTables.seek.Goals as goal
+use Rattle.leveldb_version.proofs.version_iter.VersionIterWalkReadTables.seek.Goals.{else-not-branch, then-not-branch+in_ok-to_file}
 
 pub returns-then-at-self : goal.returns-then-at-self
-returns-then-at-self g c = ?
+returns-then-at-self g c = record {
+  moves = seeks_none g.E.Env g.C.Cmp g.FP.FilterPolicy g.K.Compressors.codings (λ cmp. refl) (λ cmp. total_order (g.met.C.Cmp.preorder cmp) (g.met.C.UserCmp.accepts_all cmp)) (λ cmp. internal_preorder (g.met.C.Cmp.preorder cmp)) (λ cmp key accepted. ap (λ b. nat_le 8 (length key) && b) (sym (g.met.C.UserCmp.accepts_all cmp (user_part key))) ∙ accepted) (c.args.env.now, c.args.tables.now) c.args.self.now c.args.key c.file_at_or_after-at.result c.file_at_or_after-at.ensures.bound c.file_at_or_after-at.ensures.parts c.leave.new.self c.leave.ensures.core c.leave.ensures.at (ap (λ f. f.now) c.leave.ensures.files) c.if-at-self.true;
+}
 
 pub returns-in_err-step : goal.returns-in_err-step
 returns-in_err-step g c = record {
@@ -24,4 +30,4 @@ returns-in_err-to_file g c = record {
 }
 
 pub returns : goal.returns
-returns g c = ?
+returns g c = elim c.if-not-branch.branch [ then-not-branch+in_ok-to_file w ↦ let h = w in ? | else-not-branch w ↦ let h = w in ? ]
