@@ -83,3 +83,4 @@ pub mod SearchTableLemmas
 pub mod NewestTablesLemmas
 pub mod GetLemmas
 pub mod DisjointLemmas
+pub mod VersionItersLemmas
