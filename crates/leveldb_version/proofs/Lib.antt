@@ -84,3 +84,8 @@ pub mod NewestTablesLemmas
 pub mod GetLemmas
 pub mod DisjointLemmas
 pub mod VersionItersLemmas
+pub mod TablesInTurnLemmas
+pub mod PairwiseLemmas
+pub mod TableRunLemmas
+pub mod WalkFilesLemmas
+

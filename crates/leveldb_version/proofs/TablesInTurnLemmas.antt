@@ -14,7 +14,7 @@ use Rattle.leveldb_base.specs.KeyTypes.{internal_cmp, sequence_part, user_part}
 use Rattle.leveldb_base.specs.Types.{Pair}
 use Rattle.leveldb_table.specs.Table.{AreAccepted, AreParted}
 use Rattle.leveldb_table.specs.TableReader.{pairs_in}
-use Rattle.leveldb_version.proofs.LevelsLemmas.{decided, is_true, none_before, not_less}
+use Rattle.leveldb_version.proofs.LevelsLemmas.{none_before}
 use Rattle.leveldb_version.specs.Batches.{Each}
 use Rattle.leveldb_version.specs.Store.{any_user_key}
 use Rattle.leveldb_version.specs.TableMoves.{FileTable, table_pairs}
@@ -32,6 +32,18 @@ of_all P (y ∷ xs) all x c = ⊎_elim
     (λ (same : y ≡ x). subst P same all.0)
     (λ (rest : Contains xs x). of_all P xs all.1 x rest)
     (in_cases y x xs c)
+
+decided : {A : Type 0} (b : Bool) → b ≡ true → b ≡ false → A
+decided b t f = cc
+
+is_true : (b : Bool) → (b ≡ false → ⊥) → b ≡ true
+is_true true h = refl
+is_true false h = absurd (h refl)
+
+not_less : (o : Ordering) → o ≢ Less → is_lt o ≡ false
+not_less Less h = absurd (h refl)
+not_less Equal h = refl
+not_less Greater h = refl
 
 less : (o : Ordering) → is_lt o ≡ true → o ≡ Less
 less Less t = refl
@@ -57,12 +69,12 @@ module _ {cmp : List ℕ → List ℕ → Ordering} (total : IsTotalOrder cmp) w
   -- what is before a key is before what isn't before that key
   pub before_upto : (a b c : List ℕ) → cmp a b ≡ Less → cmp c b ≢ Less → cmp a c ≡ Less
   before_upto a b c first upto = less (cmp a c)
-      (is_true (is_lt (cmp a c)) (λ no. decided (is_lt (cmp a b)) (ap is_lt first) (none_before cmp total b c a (not_less (cmp c b) upto) no)))
+      (is_true (is_lt (cmp a c)) (λ other. decided (is_lt (cmp a b)) (ap is_lt first) (none_before cmp total b c a (not_less (cmp c b) upto) other)))
 
   -- and what isn't after a key is before all that the key is before
   pub upto_before : (a b c : List ℕ) → cmp b a ≢ Less → cmp b c ≡ Less → cmp a c ≡ Less
   upto_before a b c upto last = less (cmp a c)
-      (is_true (is_lt (cmp a c)) (λ no. decided (is_lt (cmp b c)) (ap is_lt last) (none_before cmp total c a b no (not_less (cmp b a) upto))))
+      (is_true (is_lt (cmp a c)) (λ other. decided (is_lt (cmp b c)) (ap is_lt last) (none_before cmp total c a b other (not_less (cmp b a) upto))))
 
 -- a file's table: its keys rise and are internal keys, from the file's smallest to its largest
 pub record IsRun (cmp : List ℕ → List ℕ → Ordering) (file : NewFile) (table : FileTable) : Type 0 where
@@ -85,9 +97,9 @@ pub in_table : {cmp : List ℕ → List ℕ → Ordering} (files : List NewFile)
 in_table [] [] each pair c = absurd (in_none pair c)
 in_table [] (t ∷ ts) each pair c = absurd each
 in_table (f ∷ fs) [] each pair c = absurd each
-in_table {cmp} (f ∷ fs) (t ∷ ts) each pair c = ⊎_elim
+in_table {cmp = cmp} (f ∷ fs) (t ∷ ts) each pair c = ⊎_elim
     (λ (here : Contains (table_pairs t) pair). (f, t, in_front f fs, each.0, here))
-    (λ (there : Contains (pairs_in (table_parts ts)) pair). let rest = in_table {cmp} fs ts each.1 pair there in (rest.0, rest.1, in_rest f rest.0 fs rest.2, rest.3, rest.4))
+    (λ (there : Contains (pairs_in (table_parts ts)) pair). let rest = in_table {cmp = cmp} fs ts each.1 pair there in (rest.0, rest.1, in_rest f rest.0 fs rest.2, rest.3, rest.4))
     (Contains-append_cases (table_pairs t) (pairs_in (table_parts ts)) pair c)
 
 module _ {cmp : List ℕ → List ℕ → Ordering} (total : IsTotalOrder cmp) (keys_total : IsTotalOrder (internal_cmp cmp)) where
@@ -105,7 +117,7 @@ module _ {cmp : List ℕ → List ℕ → Ordering} (total : IsTotalOrder cmp) (
   turns_rise (f ∷ fs) [] each turn = absurd each
   turns_rise (f ∷ fs) (t ∷ ts) each turn =
       rising_append (internal_cmp cmp) (table_pairs t) (pairs_in (table_parts ts)) each.0.rising (turns_rise fs ts each.1 turn.1)
-      (λ a b c d. let from = in_table {cmp} fs ts each.1 b d in
+      (λ a b c d. let from = in_table {cmp = cmp} fs ts each.1 b d in
       upto_before keys_total a.0 t.largest b.0 (each.0.upto a c) (last_before f from.0 t from.1 each.0 from.3 (turn.0 from.0 from.2) b from.4))
 
   pub turns_parted : (files : List NewFile) (tables : List FileTable) → Each (IsRun cmp) files tables → AreInTurn cmp files → AreParted (internal_cmp cmp) (table_parts tables)
@@ -122,11 +134,11 @@ module _ {cmp : List ℕ → List ℕ → Ordering} (total : IsTotalOrder cmp) (
   )
 
 -- all keys are internal keys
-pub turns_accepted : {cmp : List ℕ → List ℕ → Ordering} (accepts : List ℕ → Bool) → ((key : List ℕ) → internal_accepts any_user_key key ≡ true → accepts key ≡ true)
+pub turns_accepted : (cmp : List ℕ → List ℕ → Ordering) (accepts : List ℕ → Bool) → ((key : List ℕ) → internal_accepts any_user_key key ≡ true → accepts key ≡ true)
     → (files : List NewFile) (tables : List FileTable) → Each (IsRun cmp) files tables → AreAccepted accepts (table_parts tables)
-turns_accepted {cmp} accepts takes files tables each = record {
+turns_accepted cmp accepts takes files tables each = record {
   pairs = all_of (λ (pair : Pair). accepts pair.0 ≡ true) (pairs_in (table_parts tables))
-      (λ pair c. let from = in_table {cmp} files tables each pair c in takes pair.0 (from.3.accepted pair from.4));
+      (λ pair c. let from = in_table {cmp = cmp} files tables each pair c in takes pair.0 (from.3.accepted pair from.4));
   lines = lines files tables each;
 }
   where

@@ -1,6 +1,7 @@
 -- Walks that are appended one by one.
 use Rattle.std.specs.Prelude.{All, flat_map, reverse}
-use Rattle.std.proofs.Common.{◌≡◌, ℕ, zero, suc, ◌+◌, ◌-◌, ◌<◌, ◌≤◌, List, [], ◌∷◌, ◌++◌, None, length, map, take, drop, refl, sym, ◌∙◌, ap, append_assoc, subst, arith}
+use Rattle.std.proofs.Common.{◌≡◌, ⊎_elim, ℕ, zero, suc, ◌==◌, ◌+◌, ◌-◌, ◌<◌, ◌≤◌, Bool, true, false, List, [], ◌∷◌, ◌++◌, None, length, map, take, drop, refl, sym, ◌∙◌, ap, append_assoc, subst, arith}
+use Rattle.std.proofs.lemmas.Bool.{cases_lt, eq-eqb, eqb-true}
 use Rattle.std.proofs.lemmas.List.{append-nil, length-append, map-append}
 use Rattle.std.proofs.lemmas.List.Concat.{flat_map-append}
 use Rattle.std.proofs.lemmas.List.Elements.{All-append, All-nil, All-push}
@@ -8,6 +9,7 @@ use Rattle.std.proofs.lemmas.Grind.{reverse_onto}
 use Rattle.leveldb_base.specs.declared.cmp.Cmp.{Ghosts as CmpGhosts}
 use Rattle.leveldb_base.specs.declared.cmp.internal.InternalKeyCmp.{InternalKeyCmp}
 use Rattle.leveldb_base.specs.declared.types.FileMetaData.{FileMetaData}
+use Rattle.leveldb_version.proofs.SearchLemmas.{empty}
 use Rattle.leveldb_version.specs.Version.{VersionValue, at_level}
 use Rattle.leveldb_version.specs.VersionIters.{AreVersionIters, AreWalksOf, each_alone, files_of_iters, files_of_walks, if_some, levels_of_walks}
 use Rattle.leveldb_version.specs.declared.version_iter.VersionIter.{VersionIter}
@@ -45,6 +47,16 @@ levels_more level files from to =
 alone_more : (file : ℕ × FileMetaData) (files : List (ℕ × FileMetaData)) → each_alone (file ∷ files) ≡ each_alone files ++ (file ∷ []) ∷ []
 alone_more file files =
     ap (map (λ f. f ∷ [])) (reverse_onto files file []) ∙ map-append (λ f. f ∷ []) (reverse files) (file ∷ [])
+
+-- whether a part has files, by the test of its length
+pub some_files : (part files : List (ℕ × FileMetaData)) (test : Bool) → test ≡ (length part == 0) → test ≡ false → part ≡ files → 0 < length files
+some_files part files test is off same = ⊎_elim
+    (λ (less : 0 < length part). subst (λ (fs : List (ℕ × FileMetaData)). 0 < length fs) same less)
+    (λ (most : length part ≤ 0). let t = eq-eqb (length part) 0 (omega (arith, most)) in let never : true ≡ false = sym t ∙ sym is ∙ off in cc)
+    (cases_lt 0 (length part))
+
+pub no_files : (part files : List (ℕ × FileMetaData)) (test : Bool) → test ≡ (length part == 0) → test ≡ true → part ≡ files → files ≡ []
+no_files part files test is on same = sym same ∙ empty part (eqb-true (length part) 0 (sym is ∙ on))
 
 drop_front : (files more : List (ℕ × FileMetaData)) → drop (length files) (files ++ more) ≡ more
 drop_front [] more = refl
