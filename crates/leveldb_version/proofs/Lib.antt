@@ -88,4 +88,6 @@ pub mod TablesInTurnLemmas
 pub mod PairwiseLemmas
 pub mod TableRunLemmas
 pub mod WalkFilesLemmas
-
+pub mod WalkOrderLemmas
+pub mod WalkTablesLemmas
+pub mod VersionLayersLemmas

@@ -1,5 +1,5 @@
 -- What holds of each element of a list and each later one, and of the elements of two lists.
-use Rattle.std.specs.Prelude.{Contains, AllPairs, All, filter, reverse}
+use Rattle.std.specs.Prelude.{Contains, AllPairs, All, filter, reverse, slice_index_or}
 use Rattle.std.proofs.Common.{◌≡◌, ◌⊎◌, inl, inr, ⊎_elim, ℕ, zero, suc, ◌+◌, ◌<◌, Bool, true, false, List, [], ◌∷◌, ◌++◌, cond, length, map, refl, sym, ◌∙◌, ap, subst, arith}
 use Rattle.std.proofs.lemmas.Cmp.{upto}
 use Rattle.std.proofs.lemmas.Grind.{reverse_onto}
@@ -47,11 +47,11 @@ pairwise_map R f (x ∷ xs) pairs = (
 
 pub pairwise_filter : {A : Type 0} (R : A → A → Type 0) (p : A → Bool) (xs : List A) → Pairwise R xs → Pairwise R (filter p xs)
 pairwise_filter R p [] pairs = tt
-pairwise_filter {A} R p (x ∷ xs) pairs = by (p x)
+pairwise_filter {A} R p (x ∷ xs) pairs = by (p x) (pairwise_filter R p xs pairs.1)
   where
-    by : (b : Bool) → Pairwise R (cond b (x ∷ filter p xs) (filter p xs))
-    by true = ((λ y c. pairs.0 y (kept_passes p xs y c).0), pairwise_filter R p xs pairs.1)
-    by false = pairwise_filter R p xs pairs.1
+    by : (b : Bool) → Pairwise R (filter p xs) → Pairwise R (cond b (x ∷ filter p xs) (filter p xs))
+    by true rest = ((λ y c. pairs.0 y (kept_passes p xs y c).0), rest)
+    by false rest = rest
 
 pub pairwise_append : {A : Type 0} (R : A → A → Type 0) (xs ys : List A) → Pairwise R xs → Pairwise R ys → ((x y : A) → Contains xs x → Contains ys y → R x y) → Pairwise R (xs ++ ys)
 pairwise_append R [] ys first second across = second
@@ -85,7 +85,8 @@ pub pairwise_sorted : {A : Type 0} {R : A → A → Ordering} → IsTotalOrder R
 pairwise_sorted total [] sorted = tt
 pairwise_sorted total (x ∷ []) sorted = ((λ y c. absurd (in_none y c)), tt)
 pairwise_sorted {A} {R} total (x ∷ next ∷ xs) sorted =
-    let rest = pairwise_sorted total (next ∷ xs) (λ k d low high. sorted (suc k) d (omega arith) (omega (arith, high))) in
+    let rest = pairwise_sorted total (next ∷ xs) (λ k d low high. let shift : suc k + 1 ≡ suc (k + 1) = omega arith in
+    subst (λ n. is_lt (R (slice_index_or (x ∷ next ∷ xs) n d) (slice_index_or (next ∷ xs) k d)) ≡ false) shift (sorted (suc k) d (omega arith) (omega (arith, high)))) in
     (from rest, rest)
   where
     to : (a b : A) → is_lt (R b a) ≡ false → is_gt (R a b) ≡ false
