@@ -91,3 +91,4 @@ pub mod WalkFilesLemmas
 pub mod WalkOrderLemmas
 pub mod WalkTablesLemmas
 pub mod VersionLayersLemmas
+pub mod TablesToWalkLemmas
