@@ -19,7 +19,7 @@ use std::alloc::Global;
 ///
 /// After a move forward the walk below is at the entry that is shown, and the pair is borrowed from
 /// it. After one back it is before all entries of the pair's key, and the pair is a copy. The two
-/// buffers are kept from move to move. A move that comes to a pair below whose key has no tag fails.
+/// buffers are kept from move to move. A move to a pair below whose key has no tag fails.
 #[derive(Drop)]
 pub struct DbIterCore<M> {
     walk: M,
