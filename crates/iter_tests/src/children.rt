@@ -84,22 +84,49 @@ impl Listed<InternalKeyCmp<DefaultCmp>> {
         entries: &[(u8, u8, ValueType)],
     ) -> Result<Listed<InternalKeyCmp<DefaultCmp>>> {
         let mut pairs = Vec::new(alloc);
-        for (letter, digit, kind) in entries {
-            let mut key = Vec::new(alloc);
-            key.push(*letter)?;
-            key.extend_from_slice(&tag_bytes(u64::from(*digit), *kind))?;
-            let value = match kind {
-                ValueType::TypeDeletion => Bytes::new(),
-                ValueType::TypeValue => Bytes::copy_from_slice(alloc, &[*digit])?,
-            };
-            pairs.push((Bytes::copy_from_slice(alloc, key.as_slice())?, value))?;
-        }
+        push_entries(alloc, &mut pairs, entries)?;
         Ok(Listed {
             cmp: InternalKeyCmp(DefaultCmp),
             pairs,
             at: None,
         })
     }
+
+    /// The same with a pair between two lists of entries whose key has three bytes, and so no tag.
+    pub fn of_damaged(
+        alloc: Global,
+        front: &[(u8, u8, ValueType)],
+        back: &[(u8, u8, ValueType)],
+    ) -> Result<Listed<InternalKeyCmp<DefaultCmp>>> {
+        let mut pairs = Vec::new(alloc);
+        push_entries(alloc, &mut pairs, front)?;
+        pairs.push((Bytes::copy_from_slice(alloc, b"bad")?, Bytes::new()))?;
+        push_entries(alloc, &mut pairs, back)?;
+        Ok(Listed {
+            cmp: InternalKeyCmp(DefaultCmp),
+            pairs,
+            at: None,
+        })
+    }
+}
+
+// Adds the pairs of these entries.
+fn push_entries(
+    alloc: Global,
+    pairs: &mut Vec<(Bytes, Bytes)>,
+    entries: &[(u8, u8, ValueType)],
+) -> Result<()> {
+    for (letter, digit, kind) in entries {
+        let mut key = Vec::new(alloc);
+        key.push(*letter)?;
+        key.extend_from_slice(&tag_bytes(u64::from(*digit), *kind))?;
+        let value = match kind {
+            ValueType::TypeDeletion => Bytes::new(),
+            ValueType::TypeValue => Bytes::copy_from_slice(alloc, &[*digit])?,
+        };
+        pairs.push((Bytes::copy_from_slice(alloc, key.as_slice())?, value))?;
+    }
+    Ok(())
 }
 
 impl<C: Cmp> LdbIterator for Listed<C> {

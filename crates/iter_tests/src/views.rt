@@ -154,3 +154,36 @@ fn a_failed_move_leaves_no_position_and_the_view_goes_on(rt: HostRuntime) -> Res
     }
     Ok(())
 }
+
+// Entries before and after a pair whose key has no tag, moves, and the key to which each leads; '!'
+// is for a move that comes to that pair.
+const DAMAGED: [(&str, &str, &str, &str); 3] = [
+    ("a4+b4+", "d4+e4+", "aaaaspllpafa", "ab!ad!ee!aab"),
+    ("", "d4+e4+", "afsaplps", "!!de!e!d"),
+    ("a4+b4-", "", "laafal", "!a!a!!"),
+];
+
+// Whether a move leads to the pair of this key, or fails there and leaves no position.
+fn leads_to(it: &mut View, letter: u8, key: u8) -> bool {
+    let mut device = Device {
+        calls_left: u64::MAX,
+    };
+    match go(it, &mut device, letter) {
+        Ok(()) => is_at(it, Some((key, 4))),
+        Err(status) => { key == b'!' && status.code == StatusCode::Corruption && is_at(it, None) }
+    }
+}
+
+#[test]
+fn a_key_without_a_tag_is_corrupt_and_the_view_goes_on(rt: HostRuntime) -> Result<()> {
+    for (front, back, letters, keys) in &DAMAGED {
+        let front = entries_of(rt.alloc(), front.as_bytes())?;
+        let back = entries_of(rt.alloc(), back.as_bytes())?;
+        let list = Listed::of_damaged(rt.alloc(), front.as_slice(), back.as_slice())?;
+        let mut it = DbIterCore::new::<Device, ()>(rt.alloc(), Source { list }, 9);
+        for (letter, key) in letters.as_bytes().iter().zip(keys.as_bytes()) {
+            assert!(rt; leads_to(&mut it, *letter, *key), "{letters}: {letter}");
+        }
+    }
+    Ok(())
+}

@@ -1,5 +1,5 @@
 -- Moves back in a view, step by step.
-use Rattle.std.proofs.Common.{◌≡◌, ◌≢◌, ◌⊎◌, inl, inr, ⊎_elim, ℕ, ◌+◌, ◌<◌, ◌≤◌, ◌^◌, Bool, true, false, List, [], ◌∷◌, ◌++◌, length, suc, add-one, refl, sym, ◌∙◌, ap, subst, arith, Option, Some, None, Result, Ok, append_assoc, length-append}
+use Rattle.std.proofs.Common.{◌≡◌, ◌≢◌, ◌⊎◌, inl, inr, ⊎_elim, ℕ, ◌+◌, ◌<◌, ◌≤◌, ◌^◌, Bool, true, false, List, [], ◌∷◌, ◌++◌, length, suc, add-one, refl, sym, ◌∙◌, ap, subst, arith, Option, Some, None, Result, Ok, Err, append_assoc, length-append}
 use Rattle.std.specs.Prelude.{slice_get, is_some, IsErrAnd, Contains}
 use Rattle.std.specs.Bool.{then_some}
 use Rattle.std.specs.Option.{option_map, option_to_list}
@@ -23,10 +23,10 @@ use Rattle.leveldb_base.proofs.EntriesLemmas.{entries_append, key_le}
 use Rattle.leveldb_base.proofs.ScanLemmas.{skip_after, shown_append, sorted_front, sorted_back}
 use Rattle.leveldb_base.proofs.BackwardLemmas.{each_scan_steps_back, each_previous_is_last}
 use Rattle.leveldb_iter.specs.declared.walk.Walk.{Ghosts as WalkGhosts}
-use Rattle.leveldb_iter.specs.DbIterSteps.{IsNoEntry, IsEndBack, IsFoundBack, IsTaken, IsOnScanBack, IsFoundPrevious, IsStepBack, KeepsBelow, MovesBelow}
+use Rattle.leveldb_iter.specs.DbIterSteps.{IsNoEntry, IsUnread, IsEndBack, IsFoundBack, IsTaken, IsOnScanBack, IsFoundPrevious, IsStepBack, KeepsBelow, MovesBelow}
 use Rattle.leveldb_iter.specs.MergedEntries.{internal_order}
 use Rattle.leveldb_iter.specs.Walk.{KeyOrder, WalkLaws, StepsBack}
-use Rattle.leveldb_iter.proofs.DbIterLemmas.{at_front, in_parts, tagged, sorted_entries, same_moved, stayed, joined, revalued, corrupt}
+use Rattle.leveldb_iter.proofs.DbIterLemmas.{none_from_is_some, at_front, sorted_entries, unread, same_moved, stayed, joined, revalued, corrupt}
 
 -- ---- the last of a list
 
@@ -121,11 +121,9 @@ module _ {E T M : Type 0} (walk : WalkGhosts M E T) (laws : WalkLaws walk.over w
     none_before none = ⊎_elim
         (λ (empty : on.front ≡ []). empty)
         (λ (some : (before : List Pair) × (last : Pair) × (on.front ≡ before ++ last ∷ [])).
-        let here = here_last world inner order below on.front (on.over ++ on.rest) some.0 some.1 on.parted on.at some.2 in
-        let long = tagged walk laws world inner order below (previous_position (Some (length on.front))) some.1 on.at
-        (subst (λ list. Contains list some.1) (sym (on.parted ∙ last_before on.front some.0 (on.over ++ on.rest) some.1 some.2)) (in_parts some.0 (on.over ++ on.rest) some.1)) in
-        let short = none some.1 here in
-        absurd (omega (arith, long, short)))
+        let here : walk.here inner ≡ Some some.1 = here_last world inner order below on.front (on.over ++ on.rest) some.0 some.1 on.parted on.at some.2 in
+        let no : None ≡ Some some.1 = sym none ∙ here in
+        absurd cc)
         (last_of on.front)
 
     pub ends_before_all : (taken : Bool) (saved : Pair) → found ≡ then_some taken saved → IsNoEntry (walk.here inner) → IsFoundPrevious walk world inner s (then_some taken Reverse) saved order below pairs n
@@ -245,6 +243,10 @@ module _ {E T M : Type 0} (walk : WalkGhosts M E T) (laws : WalkLaws walk.over w
 
   -- ---- a step of a scan back
 
+  pub step_back_unread : {world : E × T} {inner mid : M} {s : ℕ} {found : Option Pair} {passed : ℕ} {To : Option Bool → KeyOrder → List Pair → List Pair → ℕ → Type 0} {status : Status} → mid ≡ inner → IsUnread (walk.here inner) status
+      → MovesBelow walk (IsOnScanBack walk world inner s found passed) To world inner (Err status) world mid
+  step_back_unread same fails = unread walk laws same (λ order below pairs n on. (previous_position (Some (length on.front)), on.at)) fails
+
   module _ {world : E × T} {inner mid : M} {s : ℕ} (taken : Bool) (saved new_saved : Pair) {seen : Option Bool} (same : mid ≡ inner) (takes : IsTaken s (then_some taken saved) (walk.here inner) saved new_saved seen) where
     pub step_back_ends : (direction : Option Direction) → seen ≡ None → direction ≡ then_some taken Reverse → (passed next : ℕ)
         → MovesBelow walk (IsOnScanBack walk world inner s (then_some taken saved) passed) (IsStepBack walk world mid s direction new_saved next) world inner (Ok None) world mid
@@ -276,7 +278,7 @@ module _ {E T M : Type 0} (walk : WalkGhosts M E T) (laws : WalkLaws walk.over w
       step_back_passes_last direction is_not reverse passed next = record {
         ok = λ order below pairs n on. subst (λ d. IsFoundPrevious walk new_world new s d new_saved order below pairs n) (sym reverse)
             (ends_before_all (went_back on 0 (omega arith) (λ positive. absurd (omega (arith, positive)))) now new_saved refl
-            (λ pair here. absurd (false≢true (sym is_not ∙ valid_is ∙ ap is_some here))));
+            (none_from_is_some (walk.here new) (sym valid_is ∙ is_not)));
         keeps = back_keeps (same_moved walk laws same m);
         cause = tt;
       }

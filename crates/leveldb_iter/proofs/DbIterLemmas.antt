@@ -1,21 +1,20 @@
 -- Moves in a view, step by step.
 use Rattle.std.proofs.Common.{◌≡◌, ◌⊎◌, inl, inr, ⊎_elim, ℕ, ◌+◌, ◌<◌, ◌≤◌, ◌^◌, Bool, true, false, List, [], ◌∷◌, ◌++◌, length, refl, sym, ◌∙◌, ap, subst, arith, Option, Some, None, Result, Ok, Err, append_assoc, length-append}
-use Rattle.std.specs.Prelude.{slice_get, is_some, IfOk, IfErr, IsErrAnd, Contains, nat_le}
+use Rattle.std.specs.Prelude.{slice_get, is_some, IfOk, IfErr, IsErrAnd, nat_le}
 use Rattle.std.specs.Bool.{then_some}
 use Rattle.std.proofs.lemmas.Bool.{leb-true, and_parts, false≢true}
-use Rattle.std.proofs.lemmas.List.Elements.{All-contains, Contains-append_right}
+use Rattle.std.proofs.lemmas.Option.{slice_get_within, get_or_from_slice_get}
 use Rattle.leveldb_base.specs.Cmp.{IsExactOrder}
 use Rattle.leveldb_base.specs.Entries.{entry_of_pair, entries_of_pairs, value_of, AreSorted}
 use Rattle.leveldb_base.specs.KeyTypes.{user_part, type_part}
 use Rattle.leveldb_base.specs.Scan.{IsScanning, count_shown}
-use Rattle.leveldb_base.specs.Types.{Pair, position_within, next_position, previous_position}
+use Rattle.leveldb_base.specs.Types.{Pair, pair_at, position_within, next_position, previous_position}
 use Rattle.leveldb_base.specs.View.{view_of, is_newest}
 use Rattle.leveldb_base.specs.declared.error.Status.{Status}
 use Rattle.leveldb_base.specs.declared.error.StatusCode.TheVariants.{Corruption}
 use Rattle.leveldb_base.specs.declared.key_types.ValueType.TheVariants.{TypeDeletion, TypeValue}
 use Rattle.leveldb_base.specs.declared.types.Direction.{Direction}
 use Rattle.leveldb_base.specs.declared.types.Direction.TheVariants.{Forward, Reverse}
-use Rattle.leveldb_base.proofs.HistoryLemmas.{in_front}
 use Rattle.leveldb_base.proofs.PositionLemmas.{position_in, at_within, previous_of_suc}
 use Rattle.leveldb_base.proofs.EntriesLemmas.{entries_append, rising_is_sorted}
 use Rattle.leveldb_base.proofs.ScanLemmas.{each_scan_starts, each_scan_steps, each_scan_ends, each_scan_resumes}
@@ -23,7 +22,7 @@ use Rattle.leveldb_iter.specs.declared.entry.Seen.{Seen}
 use Rattle.leveldb_iter.specs.declared.entry.Seen.TheVariants.{End, Shown, Passed}
 use Rattle.leveldb_iter.specs.declared.walk.Walk.{Ghosts as WalkGhosts}
 use Rattle.leveldb_iter.specs.DbIter.{IsAtEntry, IsBeforeEntries, IsPlaced, FailsOver}
-use Rattle.leveldb_iter.specs.DbIterSteps.{IsNoEntry, IsSeen, IsOnScan, IsFoundNext, IsNextStep, IsLeft, KeepsBelow, MovesBelow, number_after}
+use Rattle.leveldb_iter.specs.DbIterSteps.{IsNoEntry, IsUnread, IsSeen, IsOnScan, IsFoundNext, IsNextStep, IsLeft, KeepsBelow, MovesBelow, number_after}
 use Rattle.leveldb_iter.specs.MergedEntries.{internal_order}
 use Rattle.leveldb_iter.specs.Walk.{KeyOrder, Way, WalkLaws, MovesWalk, Advances, SeeksFirst}
 
@@ -39,13 +38,14 @@ map_if_err (Err s) f p = f s p
 
 -- ---- positions
 
+pub none_from_is_some : {X : Type 0} (here : Option X) → is_some here ≡ false → here ≡ None
+none_from_is_some None is_not = refl
+none_from_is_some (Some x) is_not = absurd cc
+
 -- the pair at the front of the latter of two lists
 pub at_front : (front back : List Pair) → slice_get (front ++ back) (length front) ≡ slice_get back 0
 at_front [] back = refl
 at_front (pair ∷ front) back = at_front front back
-
-pub in_parts : (front back : List Pair) (pair : Pair) → Contains (front ++ pair ∷ back) pair
-in_parts front back pair = Contains-append_right front (pair ∷ back) pair (in_front pair back)
 
 more_length : (front back : List Pair) (pair : Pair) → length front < length (front ++ pair ∷ back)
 more_length front back pair = omega (arith, length-append front (pair ∷ back))
@@ -96,11 +96,32 @@ module _ {E T M : Type 0} (walk : WalkGhosts M E T) (laws : WalkLaws walk.over w
   -- ---- what the walk below is at
 
   -- a pair below has a tag
-  pub tagged : (world : E × T) (inner : M) (order : KeyOrder) (below : List Pair) (position : Option ℕ) (pair : Pair) → walk.is_at world inner (internal_order order) below position → Contains below pair → 8 ≤ length pair.0
-  tagged world inner order below position pair at c =
-      let sorted = laws.sorted world inner (internal_order order) below (laws.over_list world inner (internal_order order) below position at) in
-      let accepted = All-contains (λ (x : Pair). (internal_order order).accepts x.0 ≡ true) below pair sorted.accepted c in
-      leb-true 8 (length pair.0) (and_parts (nat_le 8 (length pair.0)) (order.accepts (user_part pair.0)) accepted).0
+  tagged : (world : E × T) (inner : M) (order : KeyOrder) (below : List Pair) (position : Option ℕ) (pair : Pair) → walk.is_at world inner (internal_order order) below position → walk.here inner ≡ Some pair → 8 ≤ length pair.0
+  tagged world inner order below position pair at here = by position (sym (laws.at_position world inner (internal_order order) below position at) ∙ here)
+    where
+      by : (found : Option ℕ) → pair_at below found ≡ Some pair → 8 ≤ length pair.0
+      by None e = absurd cc
+      by (Some i) e =
+          let sorted = laws.sorted world inner (internal_order order) below (laws.over_list world inner (internal_order order) below position at) in
+          let accepted = subst (λ (x : Pair). (internal_order order).accepts x.0 ≡ true) (get_or_from_slice_get below i pair ([], []) e) (sorted.accepted i ([], []) (slice_get_within below i pair e)) in
+          leb-true 8 (length pair.0) (and_parts (nat_le 8 (length pair.0)) (order.accepts (user_part pair.0)) accepted).0
+
+  -- a part that can't read the pair that it is at
+  pub unread : {R : Type 0} {From : KeyOrder → List Pair → List Pair → ℕ → Type 0} {To : R → KeyOrder → List Pair → List Pair → ℕ → Type 0} {world : E × T} {inner mid : M} {status : Status} → mid ≡ inner
+      → ((order : KeyOrder) (below pairs : List Pair) (n : ℕ) → From order below pairs n → (position : Option ℕ) × walk.is_at world inner (internal_order order) below position)
+      → IsUnread (walk.here inner) status → MovesBelow walk From To world inner (Err status) world mid
+  unread {From = From} {To} {world} {inner} {mid} {status} same at fails = subst (λ it. MovesBelow walk From To world inner (Err status) world it) (sym same) (record { ok = tt; keeps = kept_itself world inner; cause = by fails })
+    where
+      by : IsUnread (walk.here inner) status → FailsOver walk (λ order pairs. (below : List Pair) × (n : ℕ) × From order below pairs n) world inner world status
+      by (inl memory) = inr (inl memory)
+      by (inr short) = inr (inr (
+        short.0,
+        λ order pairs from.
+            let place = at order from.0 pairs from.1 from.2 in
+            let long = tagged world inner order from.0 place.0 short.1 place.1 short.2 in
+            let few = short.3 in
+            omega (arith, long, few),
+      ))
 
   -- the entries below are sorted
   pub sorted_entries : (world : E × T) (inner : M) (order : KeyOrder) (below : List Pair) (position : Option ℕ) → IsExactOrder order.cmp → walk.is_at world inner (internal_order order) below position → AreSorted order.cmp (entries_of_pairs below)
@@ -136,11 +157,9 @@ module _ {E T M : Type 0} (walk : WalkGhosts M E T) (laws : WalkLaws walk.over w
         by : (back : List Pair) → on.back ≡ back → position_within pairs n ≡ None
         by [] e = each_scan_ends s pairs n skip (subst (λ list. IsScanning s pairs n skip (entries_of_pairs list)) e on.scanning)
         by (pair ∷ back) e =
-            let parted : below ≡ on.front ++ pair ∷ back = on.parted ∙ ap (λ list. on.front ++ list) e in
-            let here = at_back world inner order below on.front (pair ∷ back) parted on.at in
-            let long = tagged world inner order below (position_within below (length on.front)) pair on.at (subst (λ list. Contains list pair) (sym parted) (in_parts on.front back pair)) in
-            let short = none pair here in
-            absurd (omega (arith, long, short))
+            let here : walk.here inner ≡ Some pair = at_back world inner order below on.front (pair ∷ back) (on.parted ∙ ap (λ list. on.front ++ list) e) on.at in
+            let no : None ≡ Some pair = sym none ∙ here in
+            absurd cc
 
     -- at a pair, that is the first of those to come
     pub first_is : (pair : Pair) → walk.here inner ≡ Some pair → (back : List Pair) × (on.back ≡ pair ∷ back)
@@ -249,6 +268,10 @@ module _ {E T M : Type 0} (walk : WalkGhosts M E T) (laws : WalkLaws walk.over w
 
   -- ---- a step of a scan forward
 
+  pub step_unread : {world : E × T} {inner mid : M} {s : ℕ} {skip : Option (List ℕ)} {passed : ℕ} {To : Option Bool → KeyOrder → List Pair → List Pair → ℕ → Type 0} {status : Status} → mid ≡ inner → IsUnread (walk.here inner) status
+      → MovesBelow walk (IsOnScan walk world inner s skip passed) To world inner (Err status) world mid
+  step_unread same fails = unread same (λ order below pairs n on. (position_within below (length on.front), on.at)) fails
+
   module _ {world : E × T} {inner mid : M} {s : ℕ} {skip : Option (List ℕ)} (saved : Pair) {seen : Seen} (same : mid ≡ inner) (sees : IsSeen s skip (walk.here inner) saved.0 seen) where
     -- no entry is left
     pub step_ends : (direction : Option Direction) → seen ≡ End → direction ≡ None → (passed next : ℕ)
@@ -290,7 +313,7 @@ module _ {E T M : Type 0} (walk : WalkGhosts M E T) (laws : WalkLaws walk.over w
       step_passes_last direction is_not none passed next = record {
         ok = λ order below pairs n on.
             found_none (went_on on 0 (omega arith) (λ positive. absurd (omega (arith, positive)))) direction saved none
-            (λ pair here. absurd (false≢true (sym is_not ∙ valid_is ∙ ap is_some here)));
+            (none_from_is_some (walk.here new) (sym valid_is ∙ is_not));
         keeps = advance_keeps (same_moved same m);
         cause = tt;
       }

@@ -8,12 +8,14 @@ use Rattle.std.specs.Str.{bytes_eq}
 use Rattle.std.specs.declared.cmp.Ordering.TheVariants.{Less}
 use Rattle.leveldb_base.specs.Cmp.{IsExactOrder}
 use Rattle.leveldb_base.specs.Entries.{entry_of_pair, entries_of_pairs}
+use Rattle.leveldb_base.specs.Error.{IsOutOfMemory}
 use Rattle.leveldb_base.specs.History.{Entry}
 use Rattle.leveldb_base.specs.KeyTypes.{user_part, sequence_part, type_part}
 use Rattle.leveldb_base.specs.Scan.{IsScanning, count_shown, shown_pair}
 use Rattle.leveldb_base.specs.Types.{Pair, pair_at, position_within, previous_position, count_before}
 use Rattle.leveldb_base.specs.View.{view_of, is_newest}
 use Rattle.leveldb_base.specs.declared.error.Status.{Status}
+use Rattle.leveldb_base.specs.declared.error.StatusCode.TheVariants.{Corruption}
 use Rattle.leveldb_base.specs.declared.key_types.ValueType.{ValueType}
 use Rattle.leveldb_base.specs.declared.key_types.ValueType.TheVariants.{TypeDeletion, TypeValue}
 use Rattle.leveldb_base.specs.declared.types.Direction.{Direction}
@@ -26,11 +28,20 @@ use Rattle.leveldb_iter.specs.Walk.{KeyOrder}
 
 -- ---- one entry
 
--- there is no pair whose key has a tag
+-- no entry is there
 abbrev pub IsNoEntry : Option Pair → Type 0
-IsNoEntry here = (pair : Pair) → here ≡ Some pair → length pair.0 < 8
+IsNoEntry here = here ≡ None
 
--- the type, the sequence number, the user's key and the value of a pair whose key has a tag
+-- the error of a pair whose key has no tag
+abbrev pub IsUntagged : Option Pair → Status → Type 0
+IsUntagged here status = (status.code ≡ Corruption)
+    × (pair : Pair) × (here ≡ Some pair) × (length pair.0 < 8)
+
+-- the errors of a pair that is read and kept
+abbrev pub IsUnread : Option Pair → Status → Type 0
+IsUnread here status = IsOutOfMemory status ⊎ IsUntagged here status
+
+-- the type, the sequence number, the user's key and the value of the pair
 abbrev pub IsEntryRead : Option Pair → Option (ValueType × ℕ × Bor (List ℕ) × Bor (List ℕ)) → Type 0
 IsEntryRead here None = IsNoEntry here
 IsEntryRead here (Some read) = (pair : Pair) × (here ≡ Some pair) × (read.0 ≡ type_part pair.0)

@@ -50,7 +50,7 @@ module _ {W It : Type 0} (over : W → It → KeyOrder → List Pair → Type 0)
     pub at_position : (world : W) (it : It) (order : KeyOrder) (pairs : List Pair)
         (position : Option ℕ) → is_at world it order pairs position
         → here it ≡ pair_at pairs position
-    -- no move leaves a world as it is
+    -- where no move is made, a world is kept
     pub keeps_itself : (world : W) → keeps world world
     -- two moves leave what the second leaves of what the first left
     pub keeps_on : (first second third : W) → keeps first second → keeps second third

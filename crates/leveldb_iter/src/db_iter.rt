@@ -19,7 +19,7 @@ use std::alloc::Global;
 ///
 /// After a move forward the walk below is at the entry that is shown, and the pair is borrowed from
 /// it. After one back it is before all entries of the pair's key, and the pair is a copy. The two
-/// buffers are kept from move to move.
+/// buffers are kept from move to move. A move to a pair below whose key has no tag fails.
 #[derive(Drop)]
 pub struct DbIterCore<M> {
     walk: M,
@@ -68,7 +68,7 @@ impl<M> DbIterCore<M> {
 impl<M> DbIterCore<M> {
     ghost use Rattle.leveldb_base.specs.KeyTypes.{user_part};
     ghost use Rattle.leveldb_base.specs.declared.error.StatusCode.TheVariants.{Corruption};
-    ghost use Rattle.leveldb_iter.specs.DbIterSteps.{IsSeen, MovesBelow, IsOnScan, IsNextStep, IsFoundNext, IsLeft};
+    ghost use Rattle.leveldb_iter.specs.DbIterSteps.{IsSeen, IsUnread, MovesBelow, IsOnScan, IsNextStep, IsFoundNext, IsLeft};
 
     // The error of entries that can't be counted.
     fn endless(&self) -> Result<()>
@@ -91,9 +91,10 @@ impl<M> DbIterCore<M> {
         ensures ok { IfOk result (IsSeen self.old.sequence
             (then_some skipping self.old.saved_key.items) (M.here self.old.walk)
             self.new.saved_key.items) }
-        ensures cause { IfErr result IsOutOfMemory }
+        ensures cause { IfErr result (IsUnread (M.here self.old.walk)) }
     {
-        let Some((kind, sequence, user, _)) = entry_at::<E, T, M>(&self.walk) else {
+        let alloc = *self.saved_key.allocator();
+        let Some((kind, sequence, user, _)) = entry_at::<E, T, M>(alloc, &self.walk)? else {
             return Ok(Seen::End);
         };
         if sequence > self.sequence || (skipping && user == self.saved_key.as_slice()) {
@@ -221,7 +222,7 @@ impl<M> DbIterCore<M> {
 
 // Scans back, and the first halves of seeks.
 impl<M> DbIterCore<M> {
-    ghost use Rattle.leveldb_iter.specs.DbIterSteps.{IsTaken, MovesBelow, IsOnScan, IsOnScanBack, IsStepBack, IsTurning, IsFoundPrevious, IsLeftBack, IsSought, IsWhole, is_at_key};
+    ghost use Rattle.leveldb_iter.specs.DbIterSteps.{IsTaken, IsUnread, MovesBelow, IsOnScan, IsOnScanBack, IsStepBack, IsTurning, IsFoundPrevious, IsLeftBack, IsSought, IsWhole, is_at_key};
 
     // Takes the entry that the walk below is at for the pair to be shown, and returns whether one
     // is taken. A deletion takes it back. An entry of another key ends the search.
@@ -235,9 +236,10 @@ impl<M> DbIterCore<M> {
             (then_some taken (self.old.saved_key.items, self.old.saved_value.items))
             (M.here self.old.walk) (self.old.saved_key.items, self.old.saved_value.items)
             (self.new.saved_key.items, self.new.saved_value.items)) }
-        ensures cause { IfErr result IsOutOfMemory }
+        ensures cause { IfErr result (IsUnread (M.here self.old.walk)) }
     {
-        let Some((kind, sequence, user, value)) = entry_at::<E, T, M>(&self.walk) else {
+        let alloc = *self.saved_key.allocator();
+        let Some((kind, sequence, user, value)) = entry_at::<E, T, M>(alloc, &self.walk)? else {
             return Ok(None);
         };
         if sequence > self.sequence {

@@ -1,12 +1,13 @@
 //! The entry that a walk over internal keys is at.
 ghost use Rattle.std.specs.Prelude.{◌≡◌, IfOk, IfErr};
 ghost use Rattle.leveldb_base.specs.Error.{IsOutOfMemory};
-ghost use Rattle.leveldb_iter.specs.DbIterSteps.{IsEntryRead};
+ghost use Rattle.leveldb_iter.specs.DbIterSteps.{IsEntryRead, IsUntagged};
 
 use crate::walk::Walk;
-use leveldb_base::error::Result;
+use leveldb_base::error::{Result, StatusCode, err};
 use leveldb_base::key_types::{TAG_LEN, UserKey, ValueType, parse_internal_key};
 use leveldb_base::types::SequenceNumber;
+use std::alloc::Global;
 
 // What a scan forward sees of the entry that it is at.
 #[derive(Clone, Copy)]
@@ -19,18 +20,25 @@ pub(crate) enum Seen {
     Passed(bool),
 }
 
-// The type, the number, the user's key and the value of the entry that the walk is at.
+// The type, the number, the user's key and the value of an entry.
+type EntryRead<'a> = (ValueType, SequenceNumber, UserKey<'a>, &'a [u8]);
+
+// The entry that the walk is at, if it is at a pair, whose key is then to have a tag.
 pub(crate) fn entry_at<E, T, M: Walk<E, T>>(
+    alloc: Global,
     walk: &M,
-) -> Option<(ValueType, SequenceNumber, UserKey<'_>, &[u8])>
-    ensures { IsEntryRead (M.here walk.now) result }
+) -> Result<Option<EntryRead<'_>>>
+    ensures ok { IfOk result (IsEntryRead (M.here walk.now)) }
+    ensures cause { IfErr result (IsUntagged (M.here walk.now)) }
 {
-    let (key, value) = walk.current()?;
+    let Some((key, value)) = walk.current() else {
+        return Ok(None);
+    };
     if key.len() < TAG_LEN {
-        return None;
+        return err(alloc, StatusCode::Corruption, "a key has no tag");
     }
     let (kind, sequence, user) = parse_internal_key(key);
-    Some((kind, sequence, user, value))
+    Ok(Some((kind, sequence, user, value)))
 }
 
 // Replaces the bytes.

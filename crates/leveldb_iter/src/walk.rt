@@ -43,7 +43,7 @@ pub trait Walk<E, T> {
         ensures valid { IfOk result (λ is_valid. is_valid ≡ is_some (here self.new)) };
 
     /// Moves to the first pair whose key is at or after `key`, or to no position where all are
-    /// before it. The key is to be one that the order accepts; another leads to some position.
+    /// before it. The key is to be one that the order accepts; where another leads isn't said.
     fn seek(&mut self, env: &mut E, tables: &mut T, key: &[u8]) -> Result<()>
         ensures moves { SeeksKey over is_at here fails keeps key.now (env.old, tables.old) self.old
             result (env.new, tables.new) self.new };

@@ -1,14 +1,15 @@
-use Rattle.std.proofs.Common.{arith, refl, inr, sym, ◌∙◌, ap, not}
+use Rattle.std.proofs.Common.{arith, refl, inr, sym, ◌∙◌, ap, subst, not}
 use Rattle.std.specs.Bool.{then_some}
 use Rattle.std.proofs.lemmas.Bool.{false≢true}
 use Rattle.leveldb_base.specs.Types.{Pair}
+use Rattle.leveldb_iter.specs.DbIterSteps.{IsEntryRead}
 use Rattle.leveldb_base.proofs.OrderLemmas.{bytes_same}
 use Rattle.leveldb_iter.proofs.db_iter.DbIterCore.take.Goals as goal
 
 pub returns-then-ne-clause-ok : goal.returns-then-ne-clause-ok
 returns-then-ne-clause-ok g c =
     let saved : Pair = (c.args.self.now.saved_key.items, c.args.self.now.saved_value.items) in
-    let read = c.in-Some.ensures in (
+    let read = subst (IsEntryRead (g.M.Walk.here c.args.self.now.walk)) c.in-Some.is c.in_ok-kind.ensures.ok in (
       inr (
         read.0,
         saved,
