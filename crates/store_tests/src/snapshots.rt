@@ -8,7 +8,7 @@ use std::process::Abort;
 /// The value of `k` at a snapshot, or `-`; or `!` where that is `InvalidArgument`.
 fn seen_at(engine: &mut DefaultEngine<MemEnv>, env: &mut MemEnv, snapshot: Snapshot) -> Result<u8> {
     match engine.get_at(env, snapshot, b"k") {
-        Ok(Some(value)) => Ok(value.as_slice()[0]),
+        Ok(Some(value)) => Ok(value.as_slice().first().copied().unwrap_or(b'?')),
         Ok(None) => Ok(b'-'),
         Err(status) if status.code == StatusCode::InvalidArgument => Ok(b'!'),
         Err(status) => Err(status),
