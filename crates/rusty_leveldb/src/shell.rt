@@ -7,6 +7,7 @@ mod lines;
 mod program;
 mod replies;
 mod runs;
+mod walks;
 mod words;
 
 pub use commands::{Command, Item, Move, Reply, Step};
