@@ -295,6 +295,11 @@ impl SlowStore {
         Ok(())
     }
 
+    /// Something was answered that no store answers.
+    pub fn was_impossible(&mut self) {
+        self.states.clear();
+    }
+
     /// A close was answered Ok.
     pub fn closed(&mut self) -> Result<()> {
         self.flushed()?;
