@@ -34,6 +34,8 @@ mod rooms;
 #[cfg(test)]
 mod rows;
 #[cfg(test)]
+mod snapshots;
+#[cfg(test)]
 mod steps;
 #[cfg(test)]
 mod stores;
@@ -43,3 +45,5 @@ mod sweep;
 mod sweeps;
 #[cfg(test)]
 mod switches;
+#[cfg(test)]
+mod views;
