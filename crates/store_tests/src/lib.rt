@@ -34,6 +34,8 @@ mod rooms;
 #[cfg(test)]
 mod rows;
 #[cfg(test)]
+mod snapshot_calls;
+#[cfg(test)]
 mod snapshots;
 #[cfg(test)]
 mod steps;
@@ -45,3 +47,5 @@ mod sweep;
 mod sweeps;
 #[cfg(test)]
 mod switches;
+#[cfg(test)]
+mod views;

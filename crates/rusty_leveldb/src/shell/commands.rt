@@ -14,6 +14,15 @@ pub enum Command {
     Write { sync: bool, items: Vec<Item> },
     /// Look up a key.
     Get(Vec<u8>),
+    /// Hold a snapshot of the store as it is now.
+    Snap,
+    /// Look up a key in the snapshot of this number.
+    GetAt(usize, Vec<u8>),
+    /// Release the snapshot of this number.
+    Release(usize),
+    /// Make these moves with an iterator, from no position on: over the store as it is now, or over
+    /// the snapshot of this number.
+    Walk(Option<usize>, Vec<Move>),
     /// Sync all that was written.
     Flush,
     /// Sync, and give back the lock; then every command is refused.
@@ -27,6 +36,30 @@ pub enum Item {
     Delete(Vec<u8>),
 }
 
+/// A move of an iterator.
+#[derive(Debug, Drop)]
+pub enum Move {
+    /// To the first pair.
+    First,
+    /// To the pair after the position, or from no position to the first pair.
+    Next,
+    /// To the pair before the position.
+    Prev,
+    /// To the first pair whose key is this one or comes after it.
+    Seek(Vec<u8>),
+}
+
+/// Where a move led.
+#[derive(Debug, Drop)]
+pub enum Step {
+    /// To this key, with its value.
+    At(Vec<u8>, Vec<u8>),
+    /// To no position.
+    Invalid,
+    /// The move failed, and left no position.
+    Refused(Status),
+}
+
 /// What a command is answered.
 #[derive(Debug, Drop)]
 pub enum Reply {
@@ -35,5 +68,9 @@ pub enum Reply {
     Value(Bytes),
     /// The key has no value.
     Nothing,
+    /// The number of a snapshot that is held from now on.
+    Snapshot(usize),
+    /// Where each move of a walk led.
+    Walk(Vec<Step>),
     Refused(Status),
 }
