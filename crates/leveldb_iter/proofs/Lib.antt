@@ -4,6 +4,7 @@ mod MergeLemmas
 mod MergedLemmas
 mod MergedEntriesLemmas
 mod ChildrenLemmas
+pub mod MovesLemmas
 mod ChoiceLemmas
 mod MergingIterLemmas
 mod SnapshotLemmas

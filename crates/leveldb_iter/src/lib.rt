@@ -5,6 +5,7 @@
 mod children;
 pub mod laws;
 pub mod merging_iter;
+pub mod moves;
 pub mod snapshot;
 pub mod unlent;
 pub mod walk;
