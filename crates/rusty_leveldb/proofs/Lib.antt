@@ -31,6 +31,7 @@ pub mod EngineLemmas
 pub mod SyncLemmas
 pub mod ClosingLemmas
 pub mod ReadingLemmas
+pub mod WalkLemmas
 pub mod WritingLemmas
 pub mod RestLemmas
 pub mod CallsLemmas

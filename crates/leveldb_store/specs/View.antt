@@ -1,0 +1,74 @@
+-- A walk over the view of an open store at a sequence number: which pairs it is over, why its moves
+-- fail, and what they leave.
+use Rattle.std.specs.Prelude.{◌≡◌, ◌≤◌, ◌⊎◌, ℕ, List, None}
+use Rattle.leveldb_base.specs.Error.{IsOutOfMemory}
+use Rattle.leveldb_base.specs.History.{History, IsView, entries_of}
+use Rattle.leveldb_base.specs.Types.{Pair}
+use Rattle.leveldb_base.specs.declared.cmp.Cmp.{Ghosts as CmpGhosts}
+use Rattle.leveldb_base.specs.declared.cmp.internal.InternalKeyCmp.{InternalKeyCmp}
+use Rattle.leveldb_base.specs.declared.error.Status.{Status}
+use Rattle.leveldb_base.specs.declared.error.StatusCode.TheVariants.{NotSupported}
+use Rattle.leveldb_env.specs.declared.env.Env.{Ghosts}
+use Rattle.leveldb_iter.specs.Walk.{KeyOrder}
+use Rattle.leveldb_iter.specs.declared.walk.Walk.{Ghosts as WalkGhosts}
+use Rattle.leveldb_table.specs.TableBlock.{KeepsDisk}
+use Rattle.leveldb_version.specs.Format.{Agrees, IsTableFault, LacksCompressor, Meaning}
+use Rattle.leveldb_version.specs.Levels.{LiveTable}
+use Rattle.leveldb_version.specs.TableCache.{TableOptions, files_at}
+use Rattle.leveldb_version.specs.declared.table_cache.TableCache.{TableCache}
+use Rattle.leveldb_store.specs.OpenStore.{OpenStoreValue}
+use Rattle.leveldb_store.specs.OpenTables.{AreOpenTablesOf}
+use Rattle.leveldb_store.specs.Read.{HasOpenTables, HasTablesToRead}
+use Rattle.leveldb_store.specs.Room.{HasFailed}
+use Rattle.leveldb_store.specs.Written.{Shows}
+
+-- Of walks that read from an environment and tables.
+module _ {E F T W : Type 0} (env : Ghosts E F) (walk : WalkGhosts W E T) where
+  -- why a move fails between two worlds: out of memory, at a failure of the device that was counted,
+  -- or for this cause
+  abbrev pub FailsBetween : E × T → E × T → (Status → Type 0) → Status → Type 0
+  FailsBetween from to Why status = IsOutOfMemory status
+      ⊎ HasFailed (env.failures from.0) (env.failures to.0) ⊎ Why status
+
+  -- What any walk of this type leaves, and how failures are counted.
+  pub record ReadsAlone : Type 0 where
+    -- no file changes, nor does a lock
+    pub kept : (from to : E × T) → walk.keeps from to → KeepsDisk env from.0 to.0
+    -- no failure is forgotten
+    pub later : (from to : E × T) → walk.keeps from to → env.failures from.0 ≤ env.failures to.0
+    -- an error that isn't out of memory, and was counted in no call of the very move, may come at any
+    -- time
+    pub counts : (from to : E × T) (it : W) (status : Status) → walk.fails from it to status
+        → FailsBetween from to (λ e. (other : E × T) → walk.fails from it other e) status
+
+-- `by` says what tables are opened with, of a store.
+module _ {E F C FP W : Type 0} {keys : CmpGhosts (InternalKeyCmp C)} (env : Ghosts E F)
+    (walk : WalkGhosts W E (TableCache E C FP F keys)) (by : TableOptions C FP)
+    (value : OpenStoreValue C) where
+  -- the open tables are the store's in a world
+  abbrev pub HasOpenIn : E × TableCache E C FP F keys → Type 0
+  HasOpenIn world = HasOpenTables env by value world.0 world.1
+
+  -- A walk over the view of the store at a sequence number, in the order of users' keys.
+  pub record ViewsStore (order : KeyOrder) (sequence : ℕ) (it : W) : Type 0 where
+    -- it is over the view at that number of each history that memory and tables show from there on,
+    -- or from a number before it, and at no position
+    pub over : (world : E × TableCache E C FP F keys) → HasOpenIn world
+        → (meaning : Meaning) → Agrees by.format meaning
+        → (history : History) (since : ℕ) → since ≤ sequence
+        → Shows by.format.order meaning value (files_at env world.0) history since
+        → (pairs : List Pair) × IsView by.format.order (entries_of history) sequence pairs
+        × walk.is_at world it order pairs None
+    -- an error that no failure explains is the fault of a table
+    pub fault : (from to : E × TableCache E C FP F keys) (status : Status)
+        → walk.fails from it to status
+        → FailsBetween env walk from to (λ e. IsTableFault by.format e.code) status
+    -- and where the live tables are there, it comes since the format lacks a compressor
+    pub lacks : (from : E × TableCache E C FP F keys) (meaning : Meaning) (live : List LiveTable)
+        → HasTablesToRead env by value from.0 from.1 meaning live
+        → (to : E × TableCache E C FP F keys) (status : Status) → walk.fails from it to status
+        → FailsBetween env walk from to (λ e. (e.code ≡ NotSupported)
+        × LacksCompressor by.format meaning) status
+    -- no move opens a table of another store, or with other options
+    pub still_open : (from to : E × TableCache E C FP F keys) → walk.keeps from to
+        → HasOpenIn from → AreOpenTablesOf env by value.set (files_at env to.0) to.1
