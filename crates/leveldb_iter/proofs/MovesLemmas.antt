@@ -1,6 +1,6 @@
 -- Moves of a walk, and lists of them.
 use Rattle.std.specs.Prelude.{is_some}
-use Rattle.std.proofs.Common.{◌≡◌, ℕ, List, [], ◌∷◌, ◌++◌, refl, sym, ◌∙◌, ap, subst, Option, None, Result, Ok, Err}
+use Rattle.std.proofs.Common.{◌≡◌, ℕ, suc, length, true, List, [], ◌∷◌, ◌++◌, refl, sym, ◌∙◌, ap, subst, Option, None, Some, Result, Ok, Err}
 use Rattle.leveldb_base.specs.Types.{Pair}
 use Rattle.leveldb_base.specs.declared.error.Status.{Status}
 use Rattle.leveldb_iter.specs.declared.moves.Move.{Move}
@@ -68,3 +68,21 @@ moves_more walk [] (s ∷ steps) old_world old so_far then = absurd so_far
 moves_more walk (m ∷ moves) [] old_world old so_far then = absurd so_far
 moves_more walk (m ∷ moves) (s ∷ steps) old_world old so_far then =
     (so_far.0, so_far.1, so_far.2, moves_more walk moves steps so_far.0 so_far.1 so_far.3 then)
+
+-- what moves leave of a world, one after another
+pub moves_kept : {E T W : Type 0} (walk : WalkGhosts W E T) → WalkLaws walk.over walk.is_at walk.here walk.fails walk.keeps
+    → (moves : List Move) (steps : List Step) (old_world : E × T) (old : W) (new_world : E × T) (new : W)
+    → MovesAll walk old_world old moves steps new_world new → walk.keeps old_world new_world
+moves_kept walk laws [] [] old_world old new_world new moves = subst (λ w. walk.keeps old_world w) (sym moves.0) (laws.keeps_itself old_world)
+moves_kept walk laws [] (s ∷ steps) old_world old new_world new moves = absurd moves
+moves_kept walk laws (m ∷ rest) [] old_world old new_world new moves = absurd moves
+moves_kept walk laws (m ∷ rest) (s ∷ steps) old_world old new_world new moves =
+    laws.keeps_on old_world moves.0 new_world moves.2.kept (moves_kept walk laws rest steps moves.0 moves.1 new_world new moves.3)
+
+-- there is a step for each move
+pub moves_counted : {E T W : Type 0} (walk : WalkGhosts W E T) (moves : List Move) (steps : List Step) (old_world : E × T) (old : W) (new_world : E × T) (new : W)
+    → MovesAll walk old_world old moves steps new_world new → length steps ≡ length moves
+moves_counted walk [] [] old_world old new_world new moves = refl
+moves_counted walk [] (s ∷ steps) old_world old new_world new moves = absurd moves
+moves_counted walk (m ∷ rest) [] old_world old new_world new moves = absurd moves
+moves_counted walk (m ∷ rest) (s ∷ steps) old_world old new_world new moves = ap suc (moves_counted walk rest steps moves.0 moves.1 new_world new moves.3)
