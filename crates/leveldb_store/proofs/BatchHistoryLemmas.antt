@@ -1,7 +1,7 @@
 -- What a batch makes of a store's history while its record comes to the log, and after it.
-use Rattle.std.proofs.Common.{◌≡◌, ◌∙◌, ◌∷◌, ◌++◌, ◌+◌, ◌%◌, inl, inr, ℕ, Bool, true, false, List, [], length, None, Some, ap, append_assoc, arith, refl, subst, sym}
+use Rattle.std.proofs.Common.{◌≡◌, ◌∙◌, ◌≤◌, ◌∷◌, ◌++◌, ◌+◌, ◌%◌, inl, inr, ⊎_elim, ℕ, Bool, true, false, List, [], length, None, Some, ap, append_assoc, arith, refl, subst, sym}
 use Rattle.std.specs.declared.cmp.Ordering.{Ordering}
-use Rattle.leveldb_base.specs.History.{Entry, History, Item}
+use Rattle.leveldb_base.specs.History.{Entry, History, Item, entries_of, greatest}
 use Rattle.leveldb_base.specs.Types.{Pair}
 use Rattle.leveldb_env.proofs.EnvLemmas.{Run-mono, appended, begun, extended-same}
 use Rattle.leveldb_env.specs.Env.{AreBytes, File, Files, Observed, Run, bytes_of, extended, longer_file, synced}
@@ -14,23 +14,25 @@ use Rattle.leveldb_version.proofs.BatchWrittenLemmas.{batch_is_written, synced_l
 use Rattle.leveldb_version.proofs.BytesLemmas.{bytes_stay}
 use Rattle.leveldb_version.proofs.KeepsLemmas.{keeping_holds, sync_keeps}
 use Rattle.leveldb_version.proofs.LogKeepsLemmas.{framed_are_bytes}
-use Rattle.leveldb_version.proofs.NumbersLemmas.{placed_length}
+use Rattle.leveldb_version.proofs.NumbersLemmas.{placed_above, placed_length}
 use Rattle.leveldb_version.specs.Contents.{Store}
-use Rattle.leveldb_version.specs.Holds.{IsSafe}
+use Rattle.leveldb_version.specs.Holds.{Carries, IsSafe}
 use Rattle.leveldb_version.specs.LogEdit.{AppendingAndSyncing}
+use Rattle.leveldb_version.specs.Paths.{table_path}
 use Rattle.leveldb_version.specs.Store.{IsStore}
 use Rattle.leveldb_version.specs.StoreSteps.{AppendedAreBytes}
 use Rattle.leveldb_version.specs.Writing.{IsWrittenBy}
 use Rattle.leveldb_version.specs.WritingLaws.{BatchIsWritten}
-use Rattle.leveldb_store.proofs.HistoryLemmas.{keeps_history, written_shows}
-use Rattle.leveldb_store.proofs.SwitchLemmas.{shows_stay, tables_same, written_as}
+use Rattle.leveldb_store.proofs.HistoryLemmas.{keeps_history}
+use Rattle.leveldb_store.proofs.BatchShownLemmas.{batch_is_shown}
+use Rattle.leveldb_store.proofs.SwitchLemmas.{shows_stay, tables_same, tables_stay, written_as}
 use Rattle.leveldb_store.proofs.SyncBatchLemmas.{log_there, written_after_sync}
 use Rattle.leveldb_store.proofs.TableKeepsLemmas.{KeepsHistory-refl, appending_and_syncing}
 use Rattle.leveldb_version.specs.Format.{IsTableOf, Meaning}
 use Rattle.leveldb_store.specs.OpenStore.{OpenStoreValue}
 use Rattle.leveldb_store.specs.Write.{HasNumbers, logged, open_log_path, with_recent, with_writer}
 use Rattle.leveldb_store.specs.WriteBatch.{AddsBatch, HoldsBatches, IsOf, LeavesHistory, next_batch}
-use Rattle.leveldb_store.specs.Written.{IsWritten, memory_of}
+use Rattle.leveldb_store.specs.Written.{IsWritten, KeepsShown, memory_of}
 
 -- the store after a batch of these items, whose record has this text
 abbrev pub after_batch : {C : Type 0} → OpenStoreValue C → List Item → List ℕ → Kept
@@ -65,6 +67,15 @@ module _ {C : Type 0} (cmp : List ℕ → List ℕ → Ordering) (meaning : Mean
   abbrev log_file : File
   log_file = w.by.writable.log.file
 
+  -- no entry of the history is past the last number
+  reached : greatest (entries_of history) ≤ last
+  reached = ⊎_elim of of is_of.holds.now
+    where
+      of : Carries store (IsStore store cmp T) allowed (last + 0) history files
+          → greatest (entries_of history) ≤ last
+      of c = let least = c.matches.reached in let most = c.matches.bounded in
+          omega (arith, least, most)
+
   -- ---- where nothing came to the log
 
   -- there may be more room in the memtable
@@ -79,8 +90,8 @@ module _ {C : Type 0} (cmp : List ℕ → List ℕ → Ordering) (meaning : Mean
             (subst (λ es. IsWrittenBy store cmp T files w.edits
             (record (memory_of old) { recent = es })) (sym same) w.by) log_file
             (log_there cmp meaning allowed old files w) w.writer;
-        shows = λ then s. shows_stay cmp meaning old (with_recent old recent) files files then refl
-            refl same refl (λ file live. refl) s;
+        shows = λ then since s. shows_stay cmp meaning old (with_recent old recent) files files then
+            since refl refl same refl (λ file live. refl) s;
       }) refl refl
 
   -- ---- while the record comes to the log
@@ -127,6 +138,12 @@ module _ {C : Type 0} (cmp : List ℕ → List ℕ → Ordering) (meaning : Mean
       run_framed : Run (AppendingAndSyncing path framing files) from to
       run_framed = subst (λ bytes. Run (AppendingAndSyncing path bytes files) from to) frame_is run
 
+      -- no table changes
+      tables_then : (number : ℕ)
+          → to.disk.files (table_path store number) ≡ files (table_path store number)
+      tables_then number = tables_same store old.log.number files to.disk.files
+          (appending_and_syncing path framing files to.disk.files run_framed.has) number
+
       safe_run : (bound : ℕ) → bound ≡ last + length batch → Run
           (IsSafe store (IsStore store cmp T) allowed bound durable (history ++ batch ∷ [])) from
           to
@@ -143,11 +160,9 @@ module _ {C : Type 0} (cmp : List ℕ → List ℕ → Ordering) (meaning : Mean
       pending_leaves writer broken recent same = record {
         written = λ unbroken. let never : true ≡ false = sym broken ∙ unbroken.log in
             absurd (cc never);
-        shows = shows_stay cmp meaning old (with_writer (with_recent old recent) writer) files
-            to.disk.files history refl refl same refl
-            (λ file live. tables_same store old.log.number files to.disk.files
-            (appending_and_syncing path framing files to.disk.files run_framed.has) file.number)
-            (written_shows cmp meaning allowed old files history durable w is_of.holds);
+        shows = λ since s. shows_stay cmp meaning old (with_writer (with_recent old recent) writer)
+            files to.disk.files history since refl refl same refl
+            (λ file live. tables_then file.number) s;
         holds = pending_at to.disk.files run_framed.has;
         moments = safe_run (last + length batch) refl;
       }
@@ -200,9 +215,20 @@ module _ {C : Type 0} (cmp : List ℕ → List ℕ → Ordering) (meaning : Mean
         moments_then = safe_run ((last + length items) + 0)
             (omega (arith, placed_length (last + 1) items))
 
+        -- what was shown is shown with the batch
+        shows_then : KeepsShown cmp meaning old files history new to.disk.files
+            (history ++ batch ∷ [])
+        shows_then since s = record {
+          tables = s.tables;
+          has = tables_stay cmp meaning old new files to.disk.files s.tables refl refl
+              (λ file live. tables_then file.number) s.has;
+          shows = batch_is_shown cmp (memory_of old) (memory_of new) s.tables history batch since
+              last reached (placed_above (last + 1) items last (omega arith)) union refl s.shows;
+        }
+
         pub batch_added : (sync : Bool)
             → to.disk.files ≡ logged path (frame old.log.writer text) sync files
-            → AddsBatch cmp meaning allowed from history durable batch sync new to
+            → AddsBatch cmp meaning allowed old from history durable batch sync new to
         batch_added false is = record {
           durable_now = durable;
           grows = inl refl;
@@ -210,6 +236,7 @@ module _ {C : Type 0} (cmp : List ℕ → List ℕ → Ordering) (meaning : Mean
           is_of = subst
               (λ f. IsOf cmp meaning allowed new f (history ++ batch ∷ []) durable)
               (sym (is ∙ ap (λ bytes. extended path bytes files) frame_is)) longer_is_of;
+          shows = shows_then;
           moments = moments_then;
         }
         batch_added true is = record {
@@ -221,5 +248,6 @@ module _ {C : Type 0} (cmp : List ℕ → List ℕ → Ordering) (meaning : Mean
               (length (history ++ batch ∷ [])))
               (sym (is ∙ ap (λ bytes. synced path (extended path bytes files)) frame_is))
               synced_is_of;
+          shows = shows_then;
           moments = moments_then;
         }

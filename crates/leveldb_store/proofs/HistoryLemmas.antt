@@ -5,7 +5,7 @@ use Rattle.std.proofs.Common.{◌≡◌, ◌∷◌, ◌++◌, ◌+◌, ℕ, Bool
 use Rattle.std.proofs.lemmas.List.Elements.{All-cons, All-nil}
 use Rattle.std.specs.declared.cmp.Ordering.{Ordering}
 use Rattle.leveldb_base.proofs.HistoryLemmas.{in_front, in_rest}
-use Rattle.leveldb_base.specs.History.{Entry, History, count_of}
+use Rattle.leveldb_base.specs.History.{Entry, History, count_of, entries_of, greatest}
 use Rattle.leveldb_env.proofs.EnvLemmas.{Run-mono, Run-trans}
 use Rattle.leveldb_env.specs.Env.{Files, Observed, Run}
 use Rattle.leveldb_version.proofs.KeepsLemmas.{keeping_holds}
@@ -56,7 +56,7 @@ module _ {C : Type 0} (cmp : List ℕ → List ℕ → Ordering) (meaning : Mean
     pub written_shows : (value : OpenStoreValue C) (files : Files) (history : History)
         (durable : ℕ) → IsWritten cmp meaning value files
         → HoldsBatches cmp meaning allowed value files history durable None
-        → Shows cmp meaning value files history
+        → Shows cmp meaning value files history (greatest (entries_of history))
     written_shows value files history durable w holds =
         let t = live_tables_of value files w in
         record {
@@ -98,8 +98,7 @@ module _ {C : Type 0} (cmp : List ℕ → List ℕ → Ordering) (meaning : Mean
       pub keeps_history : LeavesHistory cmp meaning allowed old from history durable None new to
       keeps_history = record {
         written = λ unbroken. (refl, keeps.written unbroken);
-        shows = keeps.shows history
-            (written_shows old from.disk.files history durable is_of.written is_of.holds);
+        shows = keeps.shows history;
         holds = holds_then;
         moments = Run-mono (λ files each. each.crash durable history is_of.holds.crash) kept;
       }
@@ -146,22 +145,24 @@ module _ {C : Type 0} (cmp : List ℕ → List ℕ → Ordering) (meaning : Mean
           (later : first.set.last_sequence ≤ last.set.last_sequence) where
         -- it adds a batch
         pub adds_after : (batch : List Entry) (sync : Bool)
-            → AddsBatch cmp meaning allowed b history durable batch sync last c
-            → AddsBatch cmp meaning allowed a history durable batch sync last c
+            → AddsBatch cmp meaning allowed mid b history durable batch sync last c
+            → AddsBatch cmp meaning allowed first a history durable batch sync last c
         adds_after batch sync adds = record {
           durable_now = adds.durable_now;
           grows = adds.grows;
           synced = adds.synced;
           is_of = adds.is_of;
+          shows = λ since s. adds.shows since (left.shows since s);
           moments = spared_from last c (batch ∷ []) (last.set.last_sequence + 0) same_store
               (omega (arith, later)) adds.moments;
         }
 
         -- it makes all durable
-        pub durable_after : MakesDurable cmp meaning allowed b history durable last c
-            → MakesDurable cmp meaning allowed a history durable last c
+        pub durable_after : MakesDurable cmp meaning allowed mid b history durable last c
+            → MakesDurable cmp meaning allowed first a history durable last c
         durable_after makes = record {
           is_of = makes.is_of;
+          shows = λ since s. makes.shows since (left.shows since s);
           moments = subst (λ h. Run
               (IsSafe last.set.store (IsStore last.set.store cmp (IsTableOf cmp meaning)) allowed
               (last.set.last_sequence + 0) durable h) a c) (append-nil history)
@@ -185,7 +186,7 @@ module _ {C : Type 0} (cmp : List ℕ → List ℕ → Ordering) (meaning : Mean
             → LeavesHistory cmp meaning allowed first a history durable pending last c
         leaves_after pending last c leaves = record {
           written = leaves.written;
-          shows = leaves.shows;
+          shows = λ since s. leaves.shows since (left.shows since s);
           holds = leaves.holds;
           moments = by pending leaves.moments;
         }

@@ -4,6 +4,7 @@ mod OpeningNamesLemmas
 mod OpeningCausesLemmas
 mod OpeningSyncsLemmas
 pub mod SwitchLemmas
+mod BatchShownLemmas
 pub mod RemoveLemmas
 pub mod GivenTablesLemmas
 pub mod OpenTablesLemmas

@@ -10,7 +10,7 @@ use Rattle.leveldb_base.proofs.LayersLemmas.{found_is_value}
 use Rattle.leveldb_base.specs.CmpLaws.{sequence_part-internal_key, user_part-internal_key}
 use Rattle.leveldb_base.specs.Entries.{FindsNewest, HasNewest}
 use Rattle.leveldb_base.specs.Error.{IsOutOfMemory}
-use Rattle.leveldb_base.specs.History.{AreUpTo, Entry, History, IsValueAt, SameView, entries_of, greatest}
+use Rattle.leveldb_base.specs.History.{AreUpTo, Entry, History, IsValueAt, SameView, entries_of}
 use Rattle.leveldb_base.specs.KeyTypes.{greatest_sequence, sequence_part, user_part}
 use Rattle.leveldb_base.specs.Layers.{IsOlder, value_found}
 use Rattle.leveldb_base.specs.declared.cmp.Cmp.{Ghosts as CmpGhosts}
@@ -126,38 +126,36 @@ value_same these those s key (Some value) same there = (same key value).0 there
 
 module _ {E F C FP : Type 0} {order : CmpGhosts (InternalKeyCmp C)} (env : EnvGhosts E F)
     (by : TableOptions C FP) (old : OpenStoreValue C) (from : E)
-    (tables : TableCache E C FP F order) (key : List ℕ) where
+    (tables : TableCache E C FP F order) (sequence : ℕ) (key : List ℕ) where
   abbrev Gets : Result (Option (List ℕ)) Status → OpenStoreValue C → E
       → TableCache E C FP F order → Type 0
-  Gets = LooksUpKey env by old from tables key
+  Gets = LooksUpKey env by old from tables sequence key
 
   -- what memory and tables have is the key's value in the history that they show
-  shown : {meaning : Meaning} {files : Files} {history : History}
-      → greatest (entries_of history) ≤ old.set.last_sequence
-      → (shows : Shows by.format.order meaning old files history)
+  shown : {meaning : Meaning} {files : Files} {history : History} {since : ℕ}
+      → since ≤ sequence
+      → (shows : Shows by.format.order meaning old files history since)
       → (found : Option (Option (List ℕ)))
-      → FindsNewest (in_memory old ++ table_entries shows.tables) old.set.last_sequence key found
-      → IsValueAt (entries_of history) old.set.last_sequence key (value_found found)
+      → FindsNewest (in_memory old ++ table_entries shows.tables) sequence key found
+      → IsValueAt (entries_of history) sequence key (value_found found)
   shown {history = history} bound shows found all =
       let recent = old.recent.entries in
       let waiting = waiting_entries old.waiting in
       let entries = table_entries shows.tables in
-      let last = old.set.last_sequence in
-      value_same (recent ++ (waiting ++ entries)) (entries_of history) last key (value_found found)
-      (shows.shows.same last bound)
-      (found_is_value (recent ++ (waiting ++ entries)) last key found
-      (subst (λ es. FindsNewest es last key found) (append_assoc recent waiting entries) all))
+      value_same (recent ++ (waiting ++ entries)) (entries_of history) sequence key
+      (value_found found) (shows.shows.same sequence bound)
+      (found_is_value (recent ++ (waiting ++ entries)) sequence key found
+      (subst (λ es. FindsNewest es sequence key found) (append_assoc recent waiting entries) all))
 
   -- ---- memory has the key
 
-  pub got_in_memory : (value : Option (List ℕ)) → FindsInMemory old key (Some value)
+  pub got_in_memory : (value : Option (List ℕ)) → FindsInMemory old sequence key (Some value)
       → (result : Result (Option (List ℕ)) Status) → IfOk result (λ copy. copy ≡ value)
       → IfErr result IsOutOfMemory → Gets result old from tables
   got_in_memory value finds result copy memory = record {
-    finds = λ opened meaning agrees history bound shows. by_result history result copy
+    finds = λ opened meaning agrees history since bound shows. by_result history result copy
         (shown bound shows (Some value) (finds_before (in_memory old) (table_entries shows.tables)
-        old.set.last_sequence key value shows.shows.tables_older
-        (finds shows.shows.waiting_older)));
+        sequence key value shows.shows.tables_older (finds shows.shows.waiting_older)));
     reads = read result memory;
     lacks = λ meaning live has. fails_of result memory;
     still_open = λ opened. opened.are;
@@ -172,10 +170,10 @@ module _ {E F C FP : Type 0} {order : CmpGhosts (InternalKeyCmp C)} (env : EnvGh
     where
       by_result : (history : History) (result : Result (Option (List ℕ)) Status)
           → IfOk result (λ copy. copy ≡ value)
-          → IsValueAt (entries_of history) old.set.last_sequence key value
-          → IfOk result (IsValueAt (entries_of history) old.set.last_sequence key)
+          → IsValueAt (entries_of history) sequence key value
+          → IfOk result (IsValueAt (entries_of history) sequence key)
       by_result history (Ok copy) same is =
-          subst (IsValueAt (entries_of history) old.set.last_sequence key) (sym same) is
+          subst (IsValueAt (entries_of history) sequence key) (sym same) is
       by_result history (Err status) same is = tt
 
       read : {Why : Status → Type 0} (result : Result (Option (List ℕ)) Status)
@@ -192,13 +190,14 @@ module _ {E F C FP : Type 0} {order : CmpGhosts (InternalKeyCmp C)} (env : EnvGh
 
   module _ (current : IsCurrent old.cmp old.set old.current)
       (given : AreNumbersGiven old.set old.set.full.added)
-      (apart : AreDisjointLevels by.format.order old.set.full.added) (none : FindsInMemory old key None)
+      (apart : AreDisjointLevels by.format.order old.set.full.added)
+      (none : FindsInMemory old sequence key None)
       (searched : Result (Option (Option (List ℕ)) × GetStats) Status) {to : E}
       {now : TableCache E C FP F order}
-      (searches : LooksUpNewest env by (sought_key old key) from tables old.current searched to now)
+      (searches : LooksUpNewest env by (sought_key sequence key) from tables old.current searched to now)
     where
       matched : HasOpenTables env by old from tables
-          → AreOpenTablesMatched env by (sought_key old key) from tables
+          → AreOpenTablesMatched env by (sought_key sequence key) from tables
       matched opened = record { modelled = opened.modelled; matches = opened.are.matches }
 
       -- the live tables are the version's
@@ -206,7 +205,7 @@ module _ {E F C FP : Type 0} {order : CmpGhosts (InternalKeyCmp C)} (env : EnvGh
           → (live : List LiveTable)
           → HasLiveTables by.format.order meaning old (files_at env from) live
           → LevelOrder by.format.order live
-          → AreVersionTables env by (sought_key old key) from tables old.current meaning live
+          → AreVersionTables env by (sought_key sequence key) from tables old.current meaning live
       version_tables opened meaning live has levels = record {
         files_are = subst (λ files. IsPermutation files (new_files_of old.current))
             (sym has.files_are) current.same_files;
@@ -240,35 +239,34 @@ module _ {E F C FP : Type 0} {order : CmpGhosts (InternalKeyCmp C)} (env : EnvGh
 
       -- the key's value is what memory and tables have of it
       finds_value : HasOpenTables env by old from tables → (meaning : Meaning)
-          → Agrees by.format meaning → (history : History)
-          → greatest (entries_of history) ≤ old.set.last_sequence
-          → (shows : Shows by.format.order meaning old (files_at env from) history)
+          → Agrees by.format meaning → (history : History) (since : ℕ) → since ≤ sequence
+          → (shows : Shows by.format.order meaning old (files_at env from) history since)
           → (found : Option (Option (List ℕ)))
-          → FindsNewest (table_entries shows.tables) (sequence_part (sought_key old key))
-          (user_part (sought_key old key)) found
-          → IsValueAt (entries_of history) old.set.last_sequence key (unwrap_or found None)
-      finds_value opened meaning agrees history bound shows found finds =
-          let last = old.set.last_sequence in
-          let n = min last greatest_sequence in
+          → FindsNewest (table_entries shows.tables) (sequence_part (sought_key sequence key))
+          (user_part (sought_key sequence key)) found
+          → IsValueAt (entries_of history) sequence key (unwrap_or found None)
+      finds_value opened meaning agrees history since bound shows found finds =
+          let n = min sequence greatest_sequence in
           let entries = table_entries shows.tables in
           let here : FindsNewest entries n key found =
           subst (λ k. FindsNewest entries n k found) (user_part-internal_key key n TypeValue)
-          (subst (λ m. FindsNewest entries m (user_part (sought_key old key)) found)
+          (subst (λ m. FindsNewest entries m (user_part (sought_key sequence key)) found)
           (sequence_part-internal_key key n TypeValue (omega arith)) finds) in
-          subst (IsValueAt (entries_of history) last key) (or_none found)
-          (shown bound shows found (finds_after (in_memory old) entries last key found
+          subst (IsValueAt (entries_of history) sequence key) (or_none found)
+          (shown bound shows found (finds_after (in_memory old) entries sequence key found
           (none shows.shows.waiting_older)
-          (finds_up_to entries last key found (tables_up_to by.format.order meaning old.set.store
+          (finds_up_to entries sequence key found (tables_up_to by.format.order meaning old.set.store
           (files_at env from) shows.tables shows.has.each) here)))
 
       pub got_in_tables : Gets (value_searched searched)
           (with_charge old (charge_of searched)) to now
       got_in_tables = record {
-        finds = λ opened meaning agrees history bound shows. value_of
-            (FindsNewest (table_entries shows.tables) (sequence_part (sought_key old key))
-            (user_part (sought_key old key)))
-            (IsValueAt (entries_of history) old.set.last_sequence key) searched
-            (λ found finds. finds_value opened meaning agrees history bound shows found finds)
+        finds = λ opened meaning agrees history since bound shows. value_of
+            (FindsNewest (table_entries shows.tables) (sequence_part (sought_key sequence key))
+            (user_part (sought_key sequence key)))
+            (IsValueAt (entries_of history) sequence key) searched
+            (λ found finds. finds_value opened meaning agrees history since bound shows found
+            finds)
             (searches.finds (matched opened) meaning agrees shows.tables
             (version_tables opened meaning shows.tables shows.has shows.shows.levels));
         reads = read_of searched searches.reads;
@@ -311,7 +309,7 @@ module _ {E F C FP : Type 0} {order : CmpGhosts (InternalKeyCmp C)} (env : EnvGh
   -- ---- there is no memory for the key that is searched for
 
   pub not_searched : (status : Status) → IsOutOfMemory status
-      → LooksUpNewest env by (sought_key old key) from tables old.current (Err status) from tables
+      → LooksUpNewest env by (sought_key sequence key) from tables old.current (Err status) from tables
   not_searched status memory = record {
     finds = λ matched meaning agrees live are. tt;
     goes = λ apart. tt;

@@ -47,7 +47,7 @@ use Rattle.leveldb_version.specs.Writing.{IsObsolete}
 use Rattle.leveldb_version.specs.Format.{IsTableOf, Meaning}
 use Rattle.leveldb_store.specs.OpenStore.{OpenStoreValue}
 use Rattle.leveldb_store.specs.Switch.{AreRemoved, DeletesFile, HasFirstCause, IsObsoleteName, IsObsoletePath, RemovesName, RemovesNames, RemovesNoOther, RemovesObsolete, without_files}
-use Rattle.leveldb_store.specs.Written.{IsWritten, KeepsStore, Shows, memory_of}
+use Rattle.leveldb_store.specs.Written.{IsWritten, KeepsShown, KeepsStore, Shows, memory_of}
 use Rattle.leveldb_store.proofs.SwitchLemmas.{Keeps, keeps_same, shows_stay, written_as}
 
 -- ---- the numbers of live files
@@ -189,13 +189,13 @@ module _ {C : Type 0} (cmp : List ℕ → List ℕ → Ordering) (meaning : Mean
   pub record KeepsFiles (before after : Files) : Type 0 where
     pub moments : (bound : ℕ) → Keeps cmp meaning allowed store bound before after
     pub written : IsWritten cmp meaning old after
-    pub shows : (history : History) → Shows cmp meaning old before history → Shows cmp meaning old after history
+    pub shows : (history : History) → KeepsShown cmp meaning old before history old after history
 
   none_kept : (files now : Files) → now ≡ files → IsWritten cmp meaning old files → KeepsFiles files now
   none_kept files now is w = record {
     moments = λ bound. keeps_same cmp meaning allowed store bound files now is;
     written = subst (IsWritten cmp meaning old) (sym is) w;
-    shows = λ history s. subst (λ f. Shows cmp meaning old f history) (sym is) s;
+    shows = λ history since s. subst (λ f. Shows cmp meaning old f history since) (sym is) s;
   }
 
   module _ (files : Files) (w : IsWritten cmp meaning old files) (name : List ℕ) (n : ℕ) (kind : FileType) (is : IsFileName name n kind) (gone : IsObsolete old.set kind n) where
@@ -236,7 +236,7 @@ module _ {C : Type 0} (cmp : List ℕ → List ℕ → Ordering) (meaning : Mean
           (numbered_up_to store cmp (IsTableOf cmp meaning) name n kind is old.set.next_file (w.by.tracked.numbers name n kind is there)) after same_but
           ((bytes_stay files w.by.tracked.bytes).delete path))
           log_file (subst (λ k. after (log_path store k) ≡ Some log_file) w.by.log_is log_there) w.writer;
-      shows = λ history s. shows_stay cmp meaning old old files after history refl refl refl refl table_there s;
+      shows = λ history since s. shows_stay cmp meaning old old files after history since refl refl refl refl table_there s;
     }
 
     pub one_removed : KeepsFiles files after
@@ -258,7 +258,7 @@ module _ {C : Type 0} (cmp : List ℕ → List ℕ → Ordering) (meaning : Mean
       subst (λ p. KeepsFiles files (deleted p mid)) (sym it.2) (record {
         moments = λ bound. keeps_then store cmp (IsTableOf cmp meaning) allowed bound files mid (deleted (in_folder store it.0) mid) (first.moments bound) (second.moments bound);
         written = second.written;
-        shows = λ history s. second.shows history (first.shows history s);
+        shows = λ history since s. second.shows history since (first.shows history since s);
       })
 
   -- a removal keeps the store

@@ -60,7 +60,7 @@ module _ {C : Type 0} (cmp : List ℕ → List ℕ → Ordering) (meaning : Mean
             (λ store. IsTrue (allowed store)) bound v1.disk.files) v1 v2) same_store
             (two.moments bound (subst (λ n. n ≤ bound) (sym same_last) late)));
         written = two.written;
-        shows = λ history s. two.shows history (one.shows history s);
+        shows = λ history since s. two.shows history since (one.shows history since s);
       }
 
 module _ {C : Type 0} {models_disk : Bool} where

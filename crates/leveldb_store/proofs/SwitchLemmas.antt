@@ -121,7 +121,7 @@ module _ (cmp : List ℕ → List ℕ → Ordering) (meaning : Meaning) where
 
 module _ {C : Type 0} (cmp : List ℕ → List ℕ → Ordering) (meaning : Meaning) where
   -- the set has the same files, whose tables stay
-  tables_stay : (old new : OpenStoreValue C) (before after : Files) (tables : List LiveTable) → new.set.store ≡ old.set.store → new.set.full ≡ old.set.full
+  pub tables_stay : (old new : OpenStoreValue C) (before after : Files) (tables : List LiveTable) → new.set.store ≡ old.set.store → new.set.full ≡ old.set.full
       → ((file : NewFile) → Contains old.set.full.added file → after (table_path old.set.store file.number) ≡ before (table_path old.set.store file.number))
       → HasLiveTables cmp meaning old before tables → HasLiveTables cmp meaning new after tables
   tables_stay old new before after tables same_store same_full same has = record {
@@ -134,14 +134,14 @@ module _ {C : Type 0} (cmp : List ℕ → List ℕ → Ordering) (meaning : Mean
   }
 
   -- what was shown is shown by the same memory where the tables stay
-  pub shows_stay : (old new : OpenStoreValue C) (before after : Files) (history : History) → new.set.store ≡ old.set.store → new.set.full ≡ old.set.full
+  pub shows_stay : (old new : OpenStoreValue C) (before after : Files) (history : History) (since : ℕ) → new.set.store ≡ old.set.store → new.set.full ≡ old.set.full
       → new.recent.entries ≡ old.recent.entries → waiting_entries new.waiting ≡ waiting_entries old.waiting
       → ((file : NewFile) → Contains old.set.full.added file → after (table_path old.set.store file.number) ≡ before (table_path old.set.store file.number))
-      → Shows cmp meaning old before history → Shows cmp meaning new after history
-  shows_stay old new before after history same_store same_full recent waiting same s = record {
+      → Shows cmp meaning old before history since → Shows cmp meaning new after history since
+  shows_stay old new before after history since same_store same_full recent waiting same s = record {
     tables = s.tables;
     has = tables_stay old new before after s.tables same_store same_full same s.has;
-    shows = same_memory_shows cmp (memory_of old) (memory_of new) s.tables history (greatest (entries_of history))
+    shows = same_memory_shows cmp (memory_of old) (memory_of new) s.tables history since
         (same_entries old.recent.entries new.recent.entries (sym recent)) (same_entries (waiting_entries old.waiting) (waiting_entries new.waiting) (sym waiting)) s.shows;
   }
 
@@ -204,7 +204,7 @@ module _ {C : Type 0} (cmp : List ℕ → List ℕ → Ordering) (meaning : Mean
         keeps_given = record {
           moments = λ bound reached. begun from (keeps_same cmp meaning allowed store bound first first refl);
           written = λ unbroken. written_given_there;
-          shows = λ history s. shows_stay old given first first history refl refl refl refl (λ file live. refl) s;
+          shows = λ history since s. shows_stay old given first first history since refl refl refl refl (λ file live. refl) s;
         }
 
         -- ---- the log is synced
@@ -225,7 +225,7 @@ module _ {C : Type 0} (cmp : List ℕ → List ℕ → Ordering) (meaning : Mean
             moments = λ bound reached. sync_run does bound;
             written = λ unbroken. subst (IsWritten cmp meaning (with_writer given writer)) (sym undone)
                 (subst (λ it. IsWritten cmp meaning (with_writer given it) first) (sym (usable unbroken.log)) written_given_there);
-            shows = λ history s. shows_stay old (with_writer given writer) first to.disk.files history refl refl refl refl (λ file live. ap (λ (f : Files). f (table_path store file.number)) undone) s;
+            shows = λ history since s. shows_stay old (with_writer given writer) first to.disk.files history since refl refl refl refl (λ file live. ap (λ (f : Files). f (table_path store file.number)) undone) s;
           }
 
           -- ---- and a log is made
@@ -262,7 +262,7 @@ module _ {C : Type 0} (cmp : List ℕ → List ℕ → Ordering) (meaning : Mean
               written = λ unbroken. written_as given to.disk.files w.edits (made to.disk.files (opening.now modelled)).stays (file_kept log_file)
                   (SameBut-emptied next_path second to.disk.files (opening.now modelled) path (logs_apart store old.set.next_file old.log.number (omega (arith, more)) fits (λ same. omega (arith, same, less))) ∙ kept_second)
                   (w.writer ∙ ap (λ (b : List ℕ). new_writer log_block_size (length b % log_block_size)) (sym (append-nil (bytes_of log_file))));
-              shows = λ history s. shows_stay old given first to.disk.files history refl refl refl refl (λ file live. tables_then file) s;
+              shows = λ history since s. shows_stay old given first to.disk.files history since refl refl refl refl (λ file live. tables_then file) s;
             }
 
             -- the log was switched
@@ -271,10 +271,10 @@ module _ {C : Type 0} (cmp : List ℕ → List ℕ → Ordering) (meaning : Mean
               moments = λ bound reached. run bound;
               written = λ unbroken. written_as new to.disk.files w.edits (subst (λ (m : EngineMemory). IsWrittenBy m.set.store cmp (IsTableOf cmp meaning) to.disk.files w.edits m) memory_is by_new) (kept_file [])
                   (ap to.disk.files path_is ∙ new_there) (ap (λ (l : OpenLogValue). l.writer) switched.log);
-              shows = λ history s. record {
+              shows = λ history since s. record {
                 tables = s.tables;
                 has = tables_stay old new first to.disk.files s.tables (ap (λ (v : VersionSetValue). v.store) switched.set) (ap (λ (v : VersionSetValue). v.full) switched.set) (λ file live. tables_then file) s.has;
-                shows = waits_shown cmp (memory_of old) (memory_of new) s.tables history (greatest (entries_of history)) none_wait switched.recent (ap waiting_entries switched.waiting) s.shows;
+                shows = waits_shown cmp (memory_of old) (memory_of new) s.tables history since none_wait switched.recent (ap waiting_entries switched.waiting) s.shows;
               };
             }
               where

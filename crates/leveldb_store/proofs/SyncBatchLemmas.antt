@@ -5,7 +5,7 @@ use Rattle.std.specs.declared.cmp.Ordering.{Ordering}
 use Rattle.leveldb_base.specs.Error.{IsOutOfMemory}
 use Rattle.leveldb_base.specs.History.{History}
 use Rattle.leveldb_base.specs.declared.error.Status.{Status}
-use Rattle.leveldb_env.proofs.EnvLemmas.{Run-call, Run-mono, begun, synced-same}
+use Rattle.leveldb_env.proofs.EnvLemmas.{Run-call, Run-mono, SameBut-synced, begun, synced-same}
 use Rattle.leveldb_env.specs.Env.{BeforeOrAfter, ChangesFiles, File, Files, Observed, Run, bytes_of, file_kept, synced}
 use Rattle.leveldb_env.specs.declared.env.Env.{Ghosts}
 use Rattle.leveldb_mem.specs.Log.{log_block_size}
@@ -17,7 +17,7 @@ use Rattle.leveldb_version.specs.Contents.{Store}
 use Rattle.leveldb_version.specs.Paths.{log_path, table_path}
 use Rattle.leveldb_version.specs.StoreSteps.{KeepsHistory}
 use Rattle.leveldb_store.proofs.HistoryLemmas.{keeps_history}
-use Rattle.leveldb_store.proofs.SwitchLemmas.{shows_stay, written_as}
+use Rattle.leveldb_store.proofs.SwitchLemmas.{shows_stay, tables_same, written_as}
 use Rattle.leveldb_store.proofs.TableKeepsLemmas.{KeepsHistory-refl}
 use Rattle.leveldb_version.specs.Format.{IsTableOf, Meaning}
 use Rattle.leveldb_store.specs.OpenStore.{OpenStoreValue}
@@ -71,7 +71,7 @@ module _ {C : Type 0} (cmp : List ℕ → List ℕ → Ordering) (meaning : Mean
 
     -- all is durable after it
     pub sync_durable : to.disk.files ≡ synced (open_log_path old) from.disk.files
-        → MakesDurable cmp meaning allowed from history durable old to
+        → MakesDurable cmp meaning allowed old from history durable old to
     sync_durable is = record {
       is_of = subst
           (λ files. IsOf cmp meaning allowed old files history (length history)) (sym is)
@@ -81,6 +81,13 @@ module _ {C : Type 0} (cmp : List ℕ → List ℕ → Ordering) (meaning : Mean
                 from.disk.files is_of.written.edits (memory_of old) is_of.written.by history
                 durable is_of.holds;
           });
+      shows = λ since s. shows_stay cmp meaning old old from.disk.files to.disk.files history since
+          refl refl refl refl
+          (λ file live. ap (λ (f : Files). f (table_path old.set.store file.number)) is
+          ∙ tables_same old.set.store old.log.number from.disk.files
+          (synced (open_log_path old) from.disk.files)
+          (SameBut-synced (open_log_path old) from.disk.files
+          (synced (open_log_path old) from.disk.files) (inr refl)) file.number) s;
       moments = Run-mono (λ files each. each.crash durable history is_of.holds.crash)
           (sync_run (old.set.last_sequence + 0));
     }
@@ -91,9 +98,9 @@ module _ {C : Type 0} (cmp : List ℕ → List ℕ → Ordering) (meaning : Mean
     sync_broken undone = record {
       moments = λ bound reached. sync_run bound;
       written = λ unbroken. let never : true ≡ false = unbroken.log in absurd (cc never);
-      shows = λ history s. shows_stay cmp meaning old
+      shows = λ history since s. shows_stay cmp meaning old
           (with_writer old (broken_writer old.log.writer)) from.disk.files to.disk.files history
-          refl refl refl refl
+          since refl refl refl refl
           (λ file live. ap (λ (f : Files). f (table_path old.set.store file.number)) undone) s;
     }
 
@@ -113,7 +120,7 @@ module _ {C : Type 0} (cmp : List ℕ → List ℕ → Ordering) (meaning : Mean
       (record {
         moments = λ bound reached. begun from (KeepsHistory-refl from.disk.files);
         written = λ unbroken. is_of.written;
-        shows = λ history s. s;
+        shows = λ history since s. s;
       }) refl refl
 
 module _ {E F C : Type 0} (env : Ghosts E F) (cmp : List ℕ → List ℕ → Ordering)
@@ -122,8 +129,8 @@ module _ {E F C : Type 0} (env : Ghosts E F) (cmp : List ℕ → List ℕ → Or
       → SyncsLog env old from result new to → SyncsBatches env cmp old from result new to
   syncs_batches (Ok done) new to sync = record {
     ok = λ modelled meaning allowed history durable is_of.
-        subst (λ v. MakesDurable cmp meaning (λ it. IsTrue (allowed it)) (env.observed from) history
-        durable v (env.observed to)) (sym sync.ok)
+        subst (λ v. MakesDurable cmp meaning (λ it. IsTrue (allowed it)) old (env.observed from)
+        history durable v (env.observed to)) (sym sync.ok)
         (sync_durable cmp meaning (λ it. IsTrue (allowed it)) old (env.observed from) history
         durable is_of modelled (env.observed to) (sync.does modelled)
         ((sync.does modelled).ok modelled));

@@ -52,7 +52,7 @@ use Rattle.leveldb_version.specs.WritingLaws.{HasWaiting, TablesAreInRange, Wait
 use Rattle.leveldb_store.proofs.LevelForLemmas.{output_level_fits}
 use Rattle.leveldb_version.specs.Format.{IsTableOf, Meaning}
 use Rattle.leveldb_store.specs.OpenStore.{OpenStoreValue}
-use Rattle.leveldb_store.specs.Written.{HasLiveTables, IsWritten, Shows, memory_of, waiting_entries}
+use Rattle.leveldb_store.specs.Written.{HasLiveTables, IsWritten, KeepsShown, Shows, memory_of, waiting_entries}
 
 -- ---- lists
 
@@ -403,15 +403,14 @@ module _ {C : Type 0} (cmp : List ℕ → List ℕ → Ordering) (meaning : Mean
         unread_keeps store cmp T allowed path from mid same is.by.tracked.bytes unread bound
 
     -- what was shown is shown
-    pub shows_made : (history : History) → Shows cmp meaning old from history
-        → Shows cmp meaning given mid history
-    shows_made history s = record {
+    pub shows_made : (history : History) → KeepsShown cmp meaning old from history given mid history
+    shows_made history since s = record {
       tables = s.tables;
       has = live_on cmp meaning old given from mid s.tables refl refl
           (λ table c. same (table_path store table.file.number)
           (apart table.file (file_of s.tables s.has.files_are table c))) s.has;
-      shows = shows_again cmp (memory_of old) (memory_of given) s.tables s.tables history
-          (greatest (entries_of history)) refl refl (λ table c. c) (λ table c. c) s.shows;
+      shows = shows_again cmp (memory_of old) (memory_of given) s.tables s.tables history since
+          refl refl (λ table c. c) (λ table c. c) s.shows;
     }
 
     module _ (bytes : AppendedAreBytes mid) where
@@ -532,17 +531,16 @@ module _ {C : Type 0} (cmp : List ℕ → List ℕ → Ordering) (meaning : Mean
           -- an error leaves the set's files, and what was shown is shown
           pub shows_failed : (set : VersionSetValue) → set.store ≡ store
               → set.full ≡ old.set.full → (history : History)
-              → Shows cmp meaning old from history
-              → Shows cmp meaning (record old { set = set }) now history
-          shows_failed set same_store full history s =
-              let then = shows_made history s in
+              → KeepsShown cmp meaning old from history (record old { set = set }) now history
+          shows_failed set same_store full history since s =
+              let then = shows_made history since s in
               record {
                 tables = then.tables;
                 has = live_on cmp meaning given (record old { set = set }) mid now then.tables
                     same_store full (same_tables then.tables then.has.files_are) then.has;
                 shows = shows_again cmp (memory_of given) (memory_of (record old { set = set }))
-                    then.tables then.tables history (greatest (entries_of history)) refl refl
-                    (λ t c. c) (λ t c. c) then.shows;
+                    then.tables then.tables history since refl refl (λ t c. c) (λ t c. c)
+                    then.shows;
               }
 
         -- ---- after it
@@ -575,70 +573,70 @@ module _ {C : Type 0} (cmp : List ℕ → List ℕ → Ordering) (meaning : Mean
               let l = live_below cmp meaning store from is.edits (memory_of old) is.by other c in
               omega (arith, l.1, e, number))
 
-          module _ (history : History) (s : Shows cmp meaning old from history) where
-            then : Shows cmp meaning given mid history
-            then = shows_made history s
+          module _ (history : History) (since : ℕ) (s : Shows cmp meaning old from history since)
+            where
+              then : Shows cmp meaning given mid history since
+              then = shows_made history since s
 
-            abbrev all : List LiveTable
-            all = then.tables ++ table ∷ []
+              abbrev all : List LiveTable
+              all = then.tables ++ table ∷ []
 
-            has_tables : HasTables store cmp T mid (live_after is.edits) then.tables
-            has_tables = live_tables cmp meaning store mid is.edits (memory_of given) w_made
-                then.tables then.has.files_are then.has.each
+              has_tables : HasTables store cmp T mid (live_after is.edits) then.tables
+              has_tables = live_tables cmp meaning store mid is.edits (memory_of given) w_made
+                  then.tables then.has.files_are then.has.each
 
-            bounded : (t : LiveTable) → Contains then.tables t → IsBounded cmp t
-            bounded t c = range mid t
-                (All-contains (HasTable store cmp T mid) then.tables t then.has.each c)
+              bounded : (t : LiveTable) → Contains then.tables t → IsBounded cmp t
+              bounded t c = range mid t
+                  (All-contains (HasTable store cmp T mid) then.tables t then.has.each c)
 
-            -- what was shown is shown, with one table more
-            in_place : ShowsHistory cmp (memory_of done) (table ∷ then.tables) history
-                (greatest (entries_of history))
-            in_place = shows_again cmp (record (memory_of given) { waiting = [] }) (memory_of done)
-                (table ∷ then.tables) (table ∷ then.tables) history (greatest (entries_of history))
-                refl refl (λ t c. c) (λ t c. c)
-                (tabled_is_shown cmp (memory_of given) table then.tables history
-                (greatest (entries_of history)) total (itself (waiting_entries old.waiting))
-                (addable then.tables has_tables) bounded then.shows)
+              -- what was shown is shown, with one table more
+              in_place : ShowsHistory cmp (memory_of done) (table ∷ then.tables) history since
+              in_place = shows_again cmp (record (memory_of given) { waiting = [] }) (memory_of done)
+                  (table ∷ then.tables) (table ∷ then.tables) history since refl refl (λ t c. c)
+                  (λ t c. c)
+                  (tabled_is_shown cmp (memory_of given) table then.tables history since total
+                  (itself (waiting_entries old.waiting)) (addable then.tables has_tables) bounded
+                  then.shows)
 
-            to_end : (t : LiveTable) → Contains (table ∷ then.tables) t → Contains all t
-            to_end t c = ⊎_elim
-                (λ (here : table ≡ t). subst (Contains all) here (Contains-push then.tables table))
-                (λ (rest : Contains then.tables t).
-                Contains-append_left then.tables (table ∷ []) t rest)
-                (in_cases table t then.tables c)
+              to_end : (t : LiveTable) → Contains (table ∷ then.tables) t → Contains all t
+              to_end t c = ⊎_elim
+                  (λ (here : table ≡ t). subst (Contains all) here (Contains-push then.tables table))
+                  (λ (rest : Contains then.tables t).
+                  Contains-append_left then.tables (table ∷ []) t rest)
+                  (in_cases table t then.tables c)
 
-            from_end : (t : LiveTable) → Contains all t → Contains (table ∷ then.tables) t
-            from_end t c = ⊎_elim
-                (λ (rest : Contains then.tables t). in_rest table t then.tables rest)
-                (λ (here : table ≡ t).
-                subst (Contains (table ∷ then.tables)) here (in_front table then.tables))
-                (Contains-push_cases then.tables table t c)
+              from_end : (t : LiveTable) → Contains all t → Contains (table ∷ then.tables) t
+              from_end t c = ⊎_elim
+                  (λ (rest : Contains then.tables t). in_rest table t then.tables rest)
+                  (λ (here : table ≡ t).
+                  subst (Contains (table ∷ then.tables)) here (in_front table then.tables))
+                  (Contains-push_cases then.tables table t c)
 
-            before : HasLiveTables cmp meaning given now then.tables
-            before = live_on cmp meaning given given mid now then.tables refl refl
-                (same_tables now passes then.tables then.has.files_are) then.has
+              before : HasLiveTables cmp meaning given now then.tables
+              before = live_on cmp meaning given given mid now then.tables refl refl
+                  (same_tables now passes then.tables then.has.files_are) then.has
 
-            new_there : now (table_path store file.number) ≡ mid (table_path store file.number)
-            new_there = others now passes Table (table_path store file.number)
-                (is_table_path store file.number edit_fits.number) (λ e. cc)
+              new_there : now (table_path store file.number) ≡ mid (table_path store file.number)
+              new_there = others now passes Table (table_path store file.number)
+                  (is_table_path store file.number edit_fits.number) (λ e. cc)
 
-            pub shows_done : Shows cmp meaning done now history
-            shows_done = record {
-              tables = all;
-              has = record {
-                files_are = map_pushed then.tables
-                    ∙ ap (λ fs. fs ++ file ∷ []) then.has.files_are ∙ sym added_is;
-                each = All-push (HasTable store cmp T now) then.tables table before.each
-                    (table_on store cmp T mid now table
-                    (same_bytes (mid (table_path store file.number))
-                    (now (table_path store file.number)) new_there) has);
-              };
-              shows = shows_again cmp (memory_of done) (memory_of done) (table ∷ then.tables) all
-                  history (greatest (entries_of history)) refl refl to_end from_end in_place;
-            }
-              where
-                map_pushed : (tables : List LiveTable)
-                    → map (λ (t : LiveTable). t.file) (tables ++ table ∷ [])
-                    ≡ map (λ (t : LiveTable). t.file) tables ++ file ∷ []
-                map_pushed [] = refl
-                map_pushed (t ∷ tables) = ap (λ fs. t.file ∷ fs) (map_pushed tables)
+              pub shows_done : Shows cmp meaning done now history since
+              shows_done = record {
+                tables = all;
+                has = record {
+                  files_are = map_pushed then.tables
+                      ∙ ap (λ fs. fs ++ file ∷ []) then.has.files_are ∙ sym added_is;
+                  each = All-push (HasTable store cmp T now) then.tables table before.each
+                      (table_on store cmp T mid now table
+                      (same_bytes (mid (table_path store file.number))
+                      (now (table_path store file.number)) new_there) has);
+                };
+                shows = shows_again cmp (memory_of done) (memory_of done) (table ∷ then.tables) all
+                    history since refl refl to_end from_end in_place;
+              }
+                where
+                  map_pushed : (tables : List LiveTable)
+                      → map (λ (t : LiveTable). t.file) (tables ++ table ∷ [])
+                      ≡ map (λ (t : LiveTable). t.file) tables ++ file ∷ []
+                  map_pushed [] = refl
+                  map_pushed (t ∷ tables) = ap (λ fs. t.file ∷ fs) (map_pushed tables)

@@ -206,7 +206,7 @@ module _ {C : Type 0} (cmp : List ℕ → List ℕ → Ordering) (meaning : Mean
   keeps_nothing value observed allowed is = record {
     moments = λ bound late. begun observed (KeepsHistory-refl observed.disk.files);
     written = λ unbroken. is;
-    shows = λ history s. s;
+    shows = λ history since s. s;
   }
 
   module _ (old : OpenStoreValue C) (next_fits : old.set.next_file + 1 < 2 ^ 64)
@@ -312,12 +312,12 @@ module _ {C : Type 0} (cmp : List ℕ → List ℕ → Ordering) (meaning : Mean
             (written_done cmp meaning old v0.disk.files is next_fits v1.disk.files run.has
             (bytes is.by.tracked.bytes) total file level number edit_fits has kept v2.disk.files
             files);
-        shows = λ history s.
+        shows = λ history since s.
             subst (λ x. Shows cmp meaning (record old { set = x; waiting = None }) v2.disk.files
-            history) (sym l.ok)
+            history since) (sym l.ok)
             (shows_done cmp meaning old v0.disk.files is next_fits v1.disk.files run.has
             (bytes is.by.tracked.bytes) total file level number edit_fits has kept v2.disk.files
-            files history s);
+            files history since s);
       }
         where
           l : AppendsEdit models_disk (w1 is).manifest (with_number_given old.set)
@@ -729,8 +729,8 @@ module _ {C : Type 0} (next : VersionValue C) where
         written = λ unbroken.
             let w = kept.written (record { manifest = unbroken.manifest; log = unbroken.log }) in
             record { edits = w.edits; by = w.by; writer = w.writer };
-        shows = λ history shown.
-            let s = kept.shows history shown in
+        shows = λ history since shown.
+            let s = kept.shows history since shown in
             record {
               tables = s.tables;
               has = record { files_are = s.has.files_are; each = s.has.each };

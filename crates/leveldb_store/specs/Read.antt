@@ -2,7 +2,7 @@
 use Rattle.std.specs.Prelude.{◌≡◌, ◌≤◌, ◌++◌, ◌⊎◌, ℕ, List, Option, None, Some, Result, Ok, Err, IfErr, IfOk, IsTrue, min, unwrap_or}
 use Rattle.leveldb_base.specs.Entries.{FindsNewest}
 use Rattle.leveldb_base.specs.Error.{IsOutOfMemory}
-use Rattle.leveldb_base.specs.History.{Entry, History, IsValueAt, entries_of, greatest}
+use Rattle.leveldb_base.specs.History.{Entry, History, IsValueAt, entries_of}
 use Rattle.leveldb_base.specs.KeyTypes.{greatest_sequence, internal_key}
 use Rattle.leveldb_base.specs.Layers.{IsOlder}
 use Rattle.leveldb_base.specs.declared.cmp.Cmp.{Ghosts as CmpGhosts}
@@ -30,17 +30,17 @@ use Rattle.leveldb_store.specs.Written.{HasLiveTables, Shows, waiting_entries}
 abbrev pub in_memory : {C : Type 0} → OpenStoreValue C → List Entry
 in_memory value = value.recent.entries ++ waiting_entries value.waiting
 
--- what memory has of a key at the last number, if the entries that wait are the older ones: a value,
--- a deletion, or nothing
-abbrev pub FindsInMemory : {C : Type 0} → OpenStoreValue C → List ℕ
+-- what memory has of a key at a number, if the entries that wait are the older ones: a value, a
+-- deletion, or nothing
+abbrev pub FindsInMemory : {C : Type 0} → OpenStoreValue C → ℕ → List ℕ
     → Option (Option (List ℕ)) → Type 0
-FindsInMemory value key found = IsOlder (waiting_entries value.waiting) value.recent.entries
-    → FindsNewest (in_memory value) value.set.last_sequence key found
+FindsInMemory value sequence key found =
+    IsOlder (waiting_entries value.waiting) value.recent.entries
+    → FindsNewest (in_memory value) sequence key found
 
--- the internal key that is searched for in tables
-abbrev pub sought_key : {C : Type 0} → OpenStoreValue C → List ℕ → List ℕ
-sought_key value key =
-    internal_key key (min value.set.last_sequence greatest_sequence) TypeValue
+-- the internal key that is searched for in tables; no entry has a number past the greatest
+abbrev pub sought_key : ℕ → List ℕ → List ℕ
+sought_key sequence key = internal_key key (min sequence greatest_sequence) TypeValue
 
 -- the file that a search charges with a seek, if one
 abbrev pub charge_of : Result (Option (Option (List ℕ)) × GetStats) Status → Option LevelFile
@@ -77,12 +77,12 @@ module _ {E F C FP : Type 0} {order : CmpGhosts (InternalKeyCmp C)} (env : Ghost
     pub has_live : HasLiveTables by.format.order meaning old (files_at env from) live
     pub levels : LevelOrder by.format.order live
 
-  module _ (key : List ℕ) (result : Result (Option (List ℕ)) Status) (new : OpenStoreValue C)
-      (to : E) (now : TableCache E C FP F order) where
+  module _ (sequence : ℕ) (key : List ℕ) (result : Result (Option (List ℕ)) Status)
+      (new : OpenStoreValue C) (to : E) (now : TableCache E C FP F order) where
     -- Memory has the key, whose value is copied. Nothing changes.
     pub record GetsFromMemory : Type 0 where
       pub value : Option (List ℕ)
-      pub finds : FindsInMemory old key (Some value)
+      pub finds : FindsInMemory old sequence key (Some value)
       pub copy : IfOk result (λ copy. copy ≡ value)
       pub memory : IfErr result IsOutOfMemory
       pub nothing_changes : (new ≡ old) × (to ≡ from) × (now ≡ tables)
@@ -91,21 +91,22 @@ module _ {E F C FP : Type 0} {order : CmpGhosts (InternalKeyCmp C)} (env : Ghost
     -- apart. The file that the search charges has one seek less then, and nothing else of the store
     -- changes.
     pub record GetsFromTables : Type 0 where
-      pub none : FindsInMemory old key None
+      pub none : FindsInMemory old sequence key None
       pub apart : AreDisjointLevels by.format.order (new_files_of old.current)
       pub searched : Result (Option (Option (List ℕ)) × GetStats) Status
-      pub searches : LooksUpNewest env by (sought_key old key) from tables old.current searched to
-          now
+      pub searches : LooksUpNewest env by (sought_key sequence key) from tables old.current
+          searched to now
       pub result_is : result ≡ value_searched searched
       pub charges : new ≡ with_charge old (charge_of searched)
 
-    -- what a look-up of a key returns and leaves
+    -- what a look-up of a key at a number returns and leaves
     pub record LooksUpKey : Type 0 where
-      -- the key's value at the last number, or none, in each history that memory and tables show
+      -- the key's value at that number, or none, in each history that memory and tables show from
+      -- that number on, or from one before it
       pub finds : HasOpenTables → (meaning : Meaning) → Agrees by.format meaning
-          → (history : History) → greatest (entries_of history) ≤ old.set.last_sequence
-          → Shows by.format.order meaning old (files_at env from) history
-          → IfOk result (IsValueAt (entries_of history) old.set.last_sequence key)
+          → (history : History) (since : ℕ) → since ≤ sequence
+          → Shows by.format.order meaning old (files_at env from) history since
+          → IfOk result (IsValueAt (entries_of history) sequence key)
       -- No file changes, nor does a lock. An error is out of memory, a table that can't be read,
       -- which counts no failure, or a failure that was counted.
       pub reads : ReadsFile env (λ status. IsTableFault by.format status.code) from to result

@@ -12,7 +12,7 @@ use Rattle.leveldb_version.specs.Store.{IsStore}
 use Rattle.leveldb_version.specs.Format.{IsTableOf, Meaning}
 use Rattle.leveldb_store.specs.OpenStore.{IsUnbroken, OpenStoreValue}
 use Rattle.leveldb_store.specs.Write.{AreNumbersUsedUp, HasNumbers, IsLogLost, open_log_path}
-use Rattle.leveldb_store.specs.Written.{IsWritten, Shows}
+use Rattle.leveldb_store.specs.Written.{IsWritten, KeepsShown}
 
 -- the batch that these items make after a store's last entry
 abbrev pub next_batch : {C : Type 0} → OpenStoreValue C → List Item → List Entry
@@ -45,28 +45,32 @@ module _ {C : Type 0} (cmp : List ℕ → List ℕ → Ordering) (meaning : Mean
     pub written : IsWritten cmp meaning value files
     pub holds : HoldsBatches value files history durable None
 
-  -- the batch is the history's last, and durable with all before it if that is asked for
-  pub record AddsBatch (from : Observed) (history : History) (durable : ℕ) (batch : List Entry)
-      (sync : Bool) (new : OpenStoreValue C) (to : Observed) : Type 0 where
+  -- The batch is the history's last, and durable with all before it if that is asked for. What was
+  -- shown is shown with it.
+  pub record AddsBatch (old : OpenStoreValue C) (from : Observed) (history : History) (durable : ℕ)
+      (batch : List Entry) (sync : Bool) (new : OpenStoreValue C) (to : Observed) : Type 0 where
     pub durable_now : ℕ
     pub grows : (durable_now ≡ durable) ⊎ (durable_now ≡ length (history ++ batch ∷ []))
     pub synced : IsTrue sync → durable_now ≡ length (history ++ batch ∷ [])
     pub is_of : IsOf new to.disk.files (history ++ batch ∷ []) durable_now
+    pub shows : KeepsShown cmp meaning old from.disk.files history new to.disk.files
+        (history ++ batch ∷ [])
     pub moments : SparesBatches new (history ++ batch ∷ []) durable None from to
 
-  -- all batches are durable
-  pub record MakesDurable (from : Observed) (history : History) (durable : ℕ)
-      (new : OpenStoreValue C) (to : Observed) : Type 0 where
+  -- all batches are durable, and what was shown is shown
+  pub record MakesDurable (old : OpenStoreValue C) (from : Observed) (history : History)
+      (durable : ℕ) (new : OpenStoreValue C) (to : Observed) : Type 0 where
     pub is_of : IsOf new to.disk.files history (length history)
+    pub shows : KeepsShown cmp meaning old from.disk.files history new to.disk.files history
     pub moments : SparesBatches new history durable None from to
 
   -- What a call leaves that adds no batch to the history, though one may be pending. The store is
-  -- written on, unless the call broke it, and shows the history in either case.
+  -- written on, unless the call broke it, and shows in either case what it showed.
   pub record LeavesHistory (old : OpenStoreValue C) (from : Observed) (history : History)
       (durable : ℕ) (pending : Option (List Entry)) (new : OpenStoreValue C) (to : Observed)
       : Type 0 where
     pub written : IsUnbroken new → (pending ≡ None) × IsWritten cmp meaning new to.disk.files
-    pub shows : Shows cmp meaning new to.disk.files history
+    pub shows : KeepsShown cmp meaning old from.disk.files history new to.disk.files history
     pub holds : HoldsBatches new to.disk.files history durable pending
     pub moments : SparesBatches old history durable pending from to
 
@@ -86,7 +90,7 @@ module _ {E F C : Type 0} (env : Ghosts E F) (cmp : List ℕ → List ℕ → Or
   pub record SyncsBatches (result : Result (Unit {0}) Status) (new : OpenStoreValue C) (to : E)
       : Type 0 where
     pub ok : OnOk result (OfEachHistory (λ meaning allowed history durable.
-        MakesDurable cmp meaning allowed (env.observed from) history durable new
+        MakesDurable cmp meaning allowed old (env.observed from) history durable new
         (env.observed to)))
     pub err : OnErr result (OfEachHistory (λ meaning allowed history durable.
         LeavesHistory cmp meaning allowed old (env.observed from) history durable None new
@@ -106,7 +110,7 @@ module _ {E F C : Type 0} (env : Ghosts E F) (cmp : List ℕ → List ℕ → Or
     pub record WritesBatch (sync : Bool) (result : Result (Unit {0}) Status)
         (new : OpenStoreValue C) (to : E) : Type 0 where
       pub adds : OnOk result (OfEachHistory (λ meaning allowed history durable.
-          AddsBatch cmp meaning allowed (env.observed from) history durable
+          AddsBatch cmp meaning allowed old (env.observed from) history durable
           (next_batch old items) sync new (env.observed to)))
       -- or it is not, and may be pending
       pub leaves : OnErr result (OfEachHistory (λ meaning allowed history durable.

@@ -1,7 +1,7 @@
 -- What an open store's memory has to do with the files, and what a call keeps of that.
 use Rattle.std.specs.Prelude.{◌≡◌, ◌≤◌, ◌<◌, ◌%◌, ◌^◌, ℕ, Bool, List, [], Option, None, Some, All, Contains, IsTrue, length, map}
 use Rattle.std.specs.declared.cmp.Ordering.{Ordering}
-use Rattle.leveldb_base.specs.History.{Entry, History, entries_of, greatest}
+use Rattle.leveldb_base.specs.History.{Entry, History}
 use Rattle.leveldb_base.specs.declared.types.FileType.{FileType}
 use Rattle.leveldb_base.specs.declared.types.FileType.TheVariants.{Log, Table, Descriptor, Temp}
 use Rattle.leveldb_env.specs.Env.{Files, Observed, Run, SameLocks, bytes_of}
@@ -66,12 +66,18 @@ module _ {C : Type 0} (cmp : List ℕ → List ℕ → Ordering) (meaning : Mean
     pub files_are : map (λ (table : LiveTable). table.file) tables ≡ value.set.full.added
     pub each : All (HasTable value.set.store cmp (IsTableOf cmp meaning) files) tables
 
-  -- the entries in memory and in the live tables show the history
-  pub record Shows (value : OpenStoreValue C) (files : Files) (history : History)
+  -- the entries in memory and in the live tables show the history, from this number on
+  pub record Shows (value : OpenStoreValue C) (files : Files) (history : History) (since : ℕ)
       : Type 0 where
     pub tables : List LiveTable
     pub has : HasLiveTables value files tables
-    pub shows : ShowsHistory cmp (memory_of value) tables history (greatest (entries_of history))
+    pub shows : ShowsHistory cmp (memory_of value) tables history since
+
+  -- after a call the store shows a history from each number on from which it showed one before it
+  abbrev pub KeepsShown : OpenStoreValue C → Files → History → OpenStoreValue C → Files → History
+      → Type 0
+  KeepsShown old before shown new after history =
+      (since : ℕ) → Shows old before shown since → Shows new after history since
 
   -- ---- calls
 
@@ -85,8 +91,8 @@ module _ {C : Type 0} (cmp : List ℕ → List ℕ → Ordering) (meaning : Mean
     -- the store is written on, unless the call broke it
     pub written : IsUnbroken new → IsWritten new to.disk.files
     -- what it showed it shows
-    pub shows : (history : History) → Shows old from.disk.files history
-        → Shows new to.disk.files history
+    pub shows : (history : History)
+        → KeepsShown old from.disk.files history new to.disk.files history
 
   -- the same, if the store was written before the call, whichever stores may be there: those that
   -- pass a test

@@ -24,62 +24,65 @@ use leveldb_version::version::GetStats;
 use std::alloc::Global;
 
 impl<E: Env, C: UserCmp + Copy + Drop> OpenStore<E, C> {
-    /// The key's value, or none if it has none. A table that can't be read is an error. Where the
-    /// look-up goes through two tables or more, the first has one seek less before it is compacted.
+    /// The key's value at a sequence number, or none if it has none. A table that can't be read is
+    /// an error. Where the look-up goes through two tables or more, the first has one seek less
+    /// before it is compacted.
     pub fn get<FP: FilterPolicy + Copy + Drop>(
         &mut self,
         env: &mut E,
         options: &Options<C, FP>,
         tables: &mut TableCache<E, C, FP>,
+        sequence: SequenceNumber,
         key: &[u8],
     ) -> Result<Option<Bytes>>
         requires { C.cmp options.now.cmp ≡ C.cmp self.old.cmp }
         ensures { let by = table_options (format_of C.Cmp FP.FilterPolicy
             ⟦<CompressorList as Compressors>⟧.codings options.now) options.now in
-            LooksUpKey E.Env by self.old env.old tables.old key.now result self.new env.new
-            tables.new }
+            LooksUpKey E.Env by self.old env.old tables.old sequence key.now result self.new
+            env.new tables.new }
     {
-        if let Some(value) = self.newest_in_memory(key) {
+        if let Some(value) = self.newest_in_memory(sequence, key) {
             return copied(self.alloc, value);
         }
-        let (found, stats) = self.newest_in_tables(env, options, tables, key)?;
+        let (found, stats) = self.newest_in_tables(env, options, tables, sequence, key)?;
         self.current.update_stats(stats);
         Ok(found.unwrap_or(None))
     }
 
-    // What the memtables have of the key: a value, a deletion, or nothing.
-    fn newest_in_memory(&self, key: &[u8]) -> Option<Option<&[u8]>>
-        ensures { FindsInMemory self.now key.now (option_map option_copied result) }
+    // What the memtables have of the key at a number: a value, a deletion, or nothing.
+    fn newest_in_memory(&self, sequence: SequenceNumber, key: &[u8]) -> Option<Option<&[u8]>>
+        ensures { FindsInMemory self.now sequence key.now (option_map option_copied result) }
     {
-        let last = self.versions.last_seq();
-        if let Some(value) = newest_up_to(&self.recent, key, last) {
+        if let Some(value) = newest_up_to(&self.recent, key, sequence) {
             return Some(value);
         }
         match &self.waiting {
-            Some(waiting) => newest_up_to(waiting, key, last),
+            Some(waiting) => newest_up_to(waiting, key, sequence),
             None => None,
         }
     }
 
-    // What the version's tables have of the key, and the file that the search charges with a seek.
-    // The version has the live files, whose numbers were given, and the levels are apart.
+    // What the version's tables have of the key at a number, and the file that the search charges
+    // with a seek. The version has the live files, whose numbers were given, and the levels are
+    // apart.
     fn newest_in_tables<FP: FilterPolicy + Copy + Drop>(
         &self,
         env: &mut E,
         options: &Options<C, FP>,
         tables: &mut TableCache<E, C, FP>,
+        sequence: SequenceNumber,
         key: &[u8],
     ) -> Result<(Option<Option<Bytes>>, GetStats)>
         requires { C.cmp options.now.cmp ≡ C.cmp self.now.cmp }
         ensures searches { let by = table_options (format_of C.Cmp FP.FilterPolicy
             ⟦<CompressorList as Compressors>⟧.codings options.now) options.now in
-            LooksUpNewest E.Env by (sought_key self.now key.now) env.old tables.old self.now.current
+            LooksUpNewest E.Env by (sought_key sequence key.now) env.old tables.old self.now.current
             result env.new tables.new }
         ensures current { IsCurrent self.now.cmp self.now.set self.now.current }
         ensures given { AreNumbersGiven self.now.set self.now.set.full.added }
         ensures apart { AreDisjointLevels (C.cmp self.now.cmp) self.now.set.full.added }
     {
-        let last = self.versions.last_seq().min(MAX_SEQUENCE_NUMBER);
+        let last = sequence.min(MAX_SEQUENCE_NUMBER);
         let sought = LookupKey::new(self.alloc, key, last)?;
         self.current.get(self.alloc, env, options, tables, &sought)
     }

@@ -9,11 +9,10 @@ use Rattle.leveldb_store.proofs.open_store.OpenStore.newest_in_tables.Goals as g
 pub returns-in_err-sought-clause-searches : goal.returns-in_err-sought-clause-searches
 returns-in_err-sought-clause-searches g c =
     let failed = err_from_is_err_and c.from_residual.result c.from_residual.ensures.1 in
-    rw failed.1 (not_searched g.E.Env _ c.args.self.now c.args.env.now c.args.tables.now c.args.key.now _ (rw failed.2 c.in_err-sought.ensures.cause))
+    rw failed.1 (not_searched g.E.Env _ c.args.self.now c.args.env.now c.args.tables.now c.args.sequence c.args.key.now _ (rw failed.2 c.in_err-sought.ensures.cause))
 
 pub returns-clause-searches : goal.returns-clause-searches
 returns-clause-searches g c =
-    let number : c.min-last.result ≡ min c.args.self.now.set.last_sequence greatest_sequence =
-    c.min-last.ensures ∙ ap (λ n. min n greatest_sequence) (c.last_seq.ensures ∙ ap (λ v. v.set.last_sequence) c.self.view_is) in
-    let sought : c.in_ok-sought.sought ≡ sought_key c.args.self.now c.args.key.now = c.in_ok-sought.ensures.ok ∙ ap (λ n. internal_key c.args.key.now n TypeValue) number in
+    let number : c.min-last.result ≡ min c.args.sequence greatest_sequence = c.min-last.ensures in
+    let sought : c.in_ok-sought.sought ≡ sought_key c.args.sequence c.args.key.now = c.in_ok-sought.ensures.ok ∙ ap (λ n. internal_key c.args.key.now n TypeValue) number in
     rw (← sought, ← c.self.view_is) c.get.ensures

@@ -1,0 +1,105 @@
+-- What memory and tables show of a history, they show of it with the batch that was added.
+use Rattle.std.specs.Prelude.{Contains, max}
+use Rattle.std.proofs.Common.{◌≡◌, ◌∙◌, ◌≤◌, ◌∷◌, ◌++◌, ⊎_elim, ℕ, List, [], ap, arith, subst, sym}
+use Rattle.std.proofs.lemmas.List.Elements.{Contains-append_cases, Contains-append_left, Contains-append_right}
+use Rattle.std.specs.declared.cmp.Ordering.{Ordering}
+use Rattle.leveldb_base.proofs.HistoryLemmas.{same_with_more}
+use Rattle.leveldb_base.specs.History.{AreAbove, Entry, History, SameView, entries_of, greatest}
+use Rattle.leveldb_mem.specs.MemTable.{IsUnion}
+use Rattle.leveldb_version.proofs.NumbersLemmas.{entries_more, greatest_append, up_to, up_to_greatest}
+use Rattle.leveldb_version.proofs.ViewsLemmas.{same_sets, view_trans}
+use Rattle.leveldb_version.specs.Levels.{LiveTable, table_entries}
+use Rattle.leveldb_version.specs.Store.{SameEntries}
+use Rattle.leveldb_version.specs.Writing.{EngineMemory, ShowsHistory}
+
+module _ (cmp : List ℕ → List ℕ → Ordering) (memory other : EngineMemory)
+    (tables : List LiveTable) (history : History) (batch : List Entry) (since last : ℕ)
+    (reached : greatest (entries_of history) ≤ last) (above : AreAbove last batch)
+    (union : IsUnion memory.recent batch other.recent) (waits : other.waiting ≡ memory.waiting)
+    (s : ShowsHistory cmp memory tables history since) where
+  abbrev older : List Entry
+  older = memory.waiting ++ table_entries tables
+
+  abbrev front : List Entry
+  front = memory.recent ++ older
+
+  abbrev whole : List Entry
+  whole = other.recent ++ (other.waiting ++ table_entries tables)
+
+  waiting_is : (entry : Entry) → Contains other.waiting entry → Contains memory.waiting entry
+  waiting_is entry = subst (λ (es : List Entry). Contains es entry) waits
+
+  -- the entries are those from before and the batch's
+  to : (entry : Entry) → Contains whole entry → Contains (front ++ batch) entry
+  to entry c = ⊎_elim
+      (λ (new : Contains other.recent entry). ⊎_elim
+      (λ (r : Contains memory.recent entry). Contains-append_left front batch entry
+      (Contains-append_left memory.recent older entry r))
+      (λ (b : Contains batch entry). Contains-append_right front batch entry b)
+      (Contains-append_cases memory.recent batch entry ((union entry).0 new)))
+      (λ (rest : Contains (other.waiting ++ table_entries tables) entry).
+      Contains-append_left front batch entry (Contains-append_right memory.recent older entry
+      (subst (λ (es : List Entry). Contains (es ++ table_entries tables) entry) waits rest)))
+      (Contains-append_cases other.recent (other.waiting ++ table_entries tables) entry c)
+
+  back : (entry : Entry) → Contains (front ++ batch) entry → Contains whole entry
+  back entry c = ⊎_elim
+      (λ (f : Contains front entry). ⊎_elim
+      (λ (r : Contains memory.recent entry). new (Contains-append_left memory.recent batch entry r))
+      (λ (rest : Contains older entry).
+      Contains-append_right other.recent (other.waiting ++ table_entries tables) entry
+      (subst (λ (es : List Entry). Contains (es ++ table_entries tables) entry) (sym waits) rest))
+      (Contains-append_cases memory.recent older entry f))
+      (λ (b : Contains batch entry). new (Contains-append_right memory.recent batch entry b))
+      (Contains-append_cases front batch entry c)
+    where
+      new : Contains (memory.recent ++ batch) entry → Contains whole entry
+      new c = Contains-append_left other.recent (other.waiting ++ table_entries tables) entry
+          ((union entry).1 c)
+
+  same_entries : SameEntries whole (front ++ batch)
+  same_entries entry = (to entry, back entry)
+
+  -- no number before the batch is past the last one
+  in_front_up_to : (entry : Entry) → Contains front entry → entry.sequence ≤ last
+  in_front_up_to entry c = let low = s.up_to entry c in omega (arith, low, reached)
+
+  greatest_is : greatest (entries_of (history ++ batch ∷ []))
+      ≡ max (greatest (entries_of history)) (greatest batch)
+  greatest_is = ap greatest (entries_more history batch)
+      ∙ greatest_append (entries_of history) batch
+
+  pub batch_is_shown : ShowsHistory cmp other tables (history ++ batch ∷ []) since
+  batch_is_shown = record {
+    same = λ t late. view_trans whole (front ++ batch) (entries_of (history ++ batch ∷ [])) t
+        (same_sets whole (front ++ batch) same_entries t)
+        (subst (λ es. SameView (front ++ batch) es t) (sym (entries_more history batch))
+        (same_with_more front (entries_of history) batch last t in_front_up_to
+        (up_to last (entries_of history) reached) above (s.same t late)));
+    up_to = λ entry c. ⊎_elim
+        (λ (f : Contains front entry). let low = s.up_to entry f in omega (arith, low, greatest_is))
+        (λ (b : Contains batch entry).
+        let low = up_to_greatest batch entry b in omega (arith, low, greatest_is))
+        (Contains-append_cases front batch entry (to entry c));
+    waiting_older = λ a b in_a in_b same_key. ⊎_elim
+        (λ (r : Contains memory.recent b).
+        s.waiting_older a b (waiting_is a in_a) r same_key)
+        (λ (new : Contains batch b).
+        let low = in_front_up_to a (Contains-append_right memory.recent older a
+        (Contains-append_left memory.waiting (table_entries tables) a (waiting_is a in_a))) in
+        let high = above b new in omega (arith, low, high))
+        (Contains-append_cases memory.recent batch b ((union b).0 in_b));
+    tables_older = λ a b in_a in_b same_key. ⊎_elim
+        (λ (recent : Contains other.recent b). ⊎_elim
+        (λ (r : Contains memory.recent b). s.tables_older a b in_a
+        (Contains-append_left memory.recent memory.waiting b r) same_key)
+        (λ (new : Contains batch b).
+        let low = in_front_up_to a (Contains-append_right memory.recent older a
+        (Contains-append_right memory.waiting (table_entries tables) a in_a)) in
+        let high = above b new in omega (arith, low, high))
+        (Contains-append_cases memory.recent batch b ((union b).0 recent)))
+        (λ (w : Contains other.waiting b). s.tables_older a b in_a
+        (Contains-append_right memory.recent memory.waiting b (waiting_is b w)) same_key)
+        (Contains-append_cases other.recent other.waiting b in_b);
+    levels = s.levels;
+  }
