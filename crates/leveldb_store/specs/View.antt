@@ -41,34 +41,37 @@ module _ {E F T W : Type 0} (env : Ghosts E F) (walk : WalkGhosts W E T) where
     pub counts : (from to : E × T) (it : W) (status : Status) → walk.fails from it to status
         → FailsBetween from to (λ e. (other : E × T) → walk.fails from it other e) status
 
--- `by` says what tables are opened with, of a store.
-module _ {E F C FP W : Type 0} {keys : CmpGhosts (InternalKeyCmp C)} (env : Ghosts E F)
-    (walk : WalkGhosts W E (TableCache E C FP F keys)) (by : TableOptions C FP)
-    (value : OpenStoreValue C) where
-  -- the open tables are the store's in a world
-  abbrev pub HasOpenIn : E × TableCache E C FP F keys → Type 0
-  HasOpenIn world = HasOpenTables env by value world.0 world.1
+-- `by_in` and `cache_in` say with what tables are opened in a world, and which are open; `by` is with
+-- what those of the store are.
+module _ {E F C FP T W : Type 0} {keys : CmpGhosts (InternalKeyCmp C)} (env : Ghosts E F)
+    (by_in : T → TableOptions C FP) (cache_in : T → TableCache E C FP F keys)
+    (walk : WalkGhosts W E T) (by : TableOptions C FP) (value : OpenStoreValue C) where
+  -- a world with the store's tables
+  pub record IsWorldOf (world : E × T) : Type 0 where
+    -- the tables are opened as the store's are
+    pub by_is : by_in world.1 ≡ by
+    -- those that are open are the store's
+    pub has_open : HasOpenTables env by value world.0 (cache_in world.1)
 
-  -- A walk over the view of the store at a sequence number, in the order of users' keys.
+  -- A walk over the view of the store at a sequence number, in this order of users' keys.
   pub record ViewsStore (order : KeyOrder) (sequence : ℕ) (it : W) : Type 0 where
     -- it is over the view at that number of each history that memory and tables show from there on,
     -- or from a number before it, and at no position
-    pub over : (world : E × TableCache E C FP F keys) → HasOpenIn world
-        → (meaning : Meaning) → Agrees by.format meaning
+    pub over : (world : E × T) → IsWorldOf world → (meaning : Meaning) → Agrees by.format meaning
         → (history : History) (since : ℕ) → since ≤ sequence
         → Shows by.format.order meaning value (files_at env world.0) history since
         → (pairs : List Pair) × IsView by.format.order (entries_of history) sequence pairs
         × walk.is_at world it order pairs None
-    -- an error that no failure explains is the fault of a table
-    pub fault : (from to : E × TableCache E C FP F keys) (status : Status)
+    -- an error that memory and failures don't explain is the fault of a table
+    pub fault : (from to : E × T) (status : Status) → by_in from.1 ≡ by
         → walk.fails from it to status
         → FailsBetween env walk from to (λ e. IsTableFault by.format e.code) status
     -- and where the live tables are there, it comes since the format lacks a compressor
-    pub lacks : (from : E × TableCache E C FP F keys) (meaning : Meaning) (live : List LiveTable)
-        → HasTablesToRead env by value from.0 from.1 meaning live
-        → (to : E × TableCache E C FP F keys) (status : Status) → walk.fails from it to status
+    pub lacks : (from : E × T) (meaning : Meaning) (live : List LiveTable) → by_in from.1 ≡ by
+        → HasTablesToRead env by value from.0 (cache_in from.1) meaning live
+        → (to : E × T) (status : Status) → walk.fails from it to status
         → FailsBetween env walk from to (λ e. (e.code ≡ NotSupported)
         × LacksCompressor by.format meaning) status
-    -- no move opens a table of another store, or with other options
-    pub still_open : (from to : E × TableCache E C FP F keys) → walk.keeps from to
-        → HasOpenIn from → AreOpenTablesOf env by value.set (files_at env to.0) to.1
+    -- the open tables stay those of the store
+    pub still_open : (from to : E × T) → walk.keeps from to → IsWorldOf from
+        → AreOpenTablesOf env by value.set (files_at env to.0) (cache_in to.1)
