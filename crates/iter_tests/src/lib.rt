@@ -1,7 +1,6 @@
 //! The tests of walks and their merge.
 #![tactic(auto)]
 
-#[cfg(test)]
 mod children;
 #[cfg(test)]
 mod merges;

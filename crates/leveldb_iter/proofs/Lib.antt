@@ -8,3 +8,7 @@ pub mod MovesLemmas
 mod ChoiceLemmas
 mod MergingIterLemmas
 mod SnapshotLemmas
+pub mod DbIterLemmas
+pub mod DbIterBackLemmas
+pub mod DbIterTurnLemmas
+pub mod DbIterMoveLemmas

@@ -9,3 +9,6 @@ pub mod Children
 pub mod MergingIter
 pub mod MergingIterLaws
 pub mod Snapshot
+pub mod DbIter
+pub mod DbIterSteps
+pub mod DbIterLaws

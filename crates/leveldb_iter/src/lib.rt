@@ -3,6 +3,8 @@
 #![tactic(auto)]
 
 mod children;
+pub mod db_iter;
+mod entry;
 pub mod laws;
 pub mod merging_iter;
 pub mod moves;
