@@ -1,6 +1,6 @@
 -- What each call on an engine does, put together: its step, what becomes of the engine, and why it
 -- fails.
-use Rattle.std.specs.Prelude.{IfErr, IsErrAnd, Result, codes, IfSome, string_bytes, String}
+use Rattle.std.specs.Prelude.{IfErr, Result, codes, IfSome, string_bytes, String}
 use Rattle.std.specs.declared.alloc.Global.{Global}
 use Rattle.std.proofs.Common.{◌≡◌, ◌⊎◌, ◌∙◌, ⊎_elim, inl, inr, ℕ, true, false, List, [], refl, sym, ap, subst, arith, Option, Some, None, Ok, Err}
 use Rattle.leveldb_base.specs.Error.{IsOutOfMemory, text_of}
@@ -25,18 +25,18 @@ use Rattle.rusty_leveldb.specs.declared.db_impl.engine.Mode.{Mode}
 use Rattle.rusty_leveldb.specs.declared.db_impl.engine.Mode.TheVariants.{Broken, Closed}
 use Rattle.rusty_leveldb.specs.Boxes.{EngineOf, InternalOrder}
 use Rattle.rusty_leveldb.specs.Calls.{BecomesOf, EngineServes, HasReason}
-use Rattle.rusty_leveldb.specs.Causes.{IsClosedRefusal, IsBrokenRefusal, IsLongKey, Setting}
-use Rattle.rusty_leveldb.specs.Engine.{AnswersStill, GetExcused, GetFails, IsClosedOrBroken, RefusedAsBroken, RefusedAsClosed, RefusedByMode, SyncExcused, is_store_broken, mode_in, mode_with, options_in, formats_of, tables_by}
+use Rattle.rusty_leveldb.specs.Causes.{IsClosedRefusal, IsBrokenRefusal, IsLongKey, IsNotHeld, Setting}
+use Rattle.rusty_leveldb.specs.Engine.{AnswersStill, GetExcused, GetFails, IsClosedOrBroken, RefusedAsBroken, RefusedAsClosed, RefusedByMode, SyncExcused, held_in, is_store_broken, mode_in, mode_with, options_in, formats_of, tables_by}
 use Rattle.rusty_leveldb.specs.Frame.{MayTouch}
 use Rattle.rusty_leveldb.specs.Machine.{Step}
 use Rattle.rusty_leveldb.specs.Serves.{done_or, found_or, refusal_of, setting_between}
 use Rattle.rusty_leveldb.specs.State as machine
-use Rattle.rusty_leveldb.specs.State.{Refusal, Request, State, close, flush, get, refused, write}
+use Rattle.rusty_leveldb.specs.State.{Refusal, Request, Snapshot, State, close, flush, get, refused, write}
 use Rattle.rusty_leveldb.proofs.ClosingLemmas.{close_locked, close_unsynced, closed_now, counted_error, flush_goes}
 use Rattle.rusty_leveldb.proofs.EngineLemmas.{open_mode_is, open_or_broken}
 use Rattle.rusty_leveldb.proofs.Moments.{moments_none}
 use Rattle.rusty_leveldb.proofs.Others.{spares_still}
-use Rattle.rusty_leveldb.proofs.ReadingLemmas.{get_cause, get_closed, get_goes, get_long, read_store}
+use Rattle.rusty_leveldb.proofs.ReadingLemmas.{ReadsAt, get_cause, get_closed, get_goes, get_misfit, read_store}
 use Rattle.rusty_leveldb.proofs.RestLemmas.{rest_given, rest_read, rest_still, rest_synced}
 use Rattle.rusty_leveldb.proofs.SyncLemmas.{log_is_data}
 
@@ -332,11 +332,11 @@ module _ {E C FP F P : Type 0} {B : Boxed} {keys : InternalOrder C} {key_filters
 
   -- ---- look-ups
 
-  module _ (key : List ℕ) (from : E) where
+  module _ (snapshot : Option Snapshot) (key : List ℕ) (from : E) where
     -- a look-up that reads nothing fails for this
     unread_fails : (result : Result (Option (List ℕ)) Status)
-        → ((Why : Status → Type 0) → IfErr result (GetExcused before key Why))
-        → GetFails env formats before from key result from
+        → ((Why : Status → Type 0) → IfErr result (GetExcused before snapshot key Why))
+        → GetFails env formats before from snapshot key result from
     unread_fails result why = record {
       cause = fails (λ e. IsTableFault (formats (options_in before)) e.code);
       lacks = λ meaning live there. fails (λ e. (e.code ≡ NotSupported)
@@ -344,56 +344,54 @@ module _ {E C FP F P : Type 0} {B : Boxed} {keys : InternalOrder C} {key_filters
     }
       where
         fails : (Why : Status → Type 0)
-            → FailsFor (GetExcused before key Why) (env.failures from) (env.failures from) result
+            → FailsFor (GetExcused before snapshot key Why) (env.failures from) (env.failures from)
+            result
         fails Why = record { later = omega arith; cause = by result (why Why) }
           where
-            by : (r : Result (Option (List ℕ)) Status) → IfErr r (GetExcused before key Why)
-                → IfErr r (λ e. GetExcused before key Why e
+            by : (r : Result (Option (List ℕ)) Status)
+                → IfErr r (GetExcused before snapshot key Why)
+                → IfErr r (λ e. GetExcused before snapshot key Why e
                 ⊎ HasFailed (env.failures from) (env.failures from))
             by (Ok value) excused = tt
             by (Err status) excused = inl excused
 
     pub get_closed_serves : (status : Status) → RefusedAsClosed (mode_in before) status
-        → EngineServes env choices found_or before from (get None key) (Err status) before from
+        → EngineServes env choices found_or before from (get snapshot key) (Err status) before from
     get_closed_serves status why = record {
       options = record { rest = refl; sink = refl };
       halted = λ halted. (refl, refl, inl why);
       becomes = (refl, refl);
-      step = get_closed env formats before key status why from;
-      rest = rest_still env before from (get None key) (Err status) (inr (status, refl));
+      step = get_closed env formats before snapshot key status why from;
+      rest = rest_still env before from (get snapshot key) (Err status) (inr (status, refl));
       time = λ modelled. omega arith;
       cause = unread_fails (Err status) (λ Why. inl why);
     }
 
     module _ (usable : mode_in before ≡ machine.closed → ⊥) where
-      pub get_long_serves : (result : Result (Option (List ℕ)) Status)
-          → IsErrAnd result (λ status. status.code ≡ InvalidArgument) → IsLongKey key
-          → EngineServes env choices found_or before from (get None key) result before from
-      get_long_serves result fails long = record {
+      pub get_misfit_serves : (status : Status) → status.code ≡ InvalidArgument
+          → IsNotHeld (held_in before) snapshot ⊎ IsLongKey key
+          → EngineServes env choices found_or before from (get snapshot key) (Err status) before
+          from
+      get_misfit_serves status code misfits = record {
         options = record { rest = refl; sink = refl };
         halted = λ halted. absurd (usable halted);
         becomes = (refl, refl);
-        step = get_long env formats before key usable result fails long from;
-        rest = rest_still env before from (get None key) result (inl (λ held. refl));
+        step = get_misfit env formats before snapshot key usable status code misfits from;
+        rest = rest_still env before from (get snapshot key) (Err status) (inr (status, refl));
         time = λ modelled. omega arith;
-        cause = unread_fails result (λ Why. by Why result fails);
+        cause = unread_fails (Err status) (λ Why. inr (inl (code, misfits)));
       }
-        where
-          by : (Why : Status → Type 0) (r : Result (Option (List ℕ)) Status)
-              → IsErrAnd r (λ status. status.code ≡ InvalidArgument)
-              → IfErr r (GetExcused before key Why)
-          by Why (Ok value) fails = absurd fails
-          by Why (Err status) code = inr (inl (code, long))
 
-      pub get_serves : (IsLongKey key → ⊥) → (to : E) (result : Result (Option (List ℕ)) Status)
+      pub get_serves : (sequence : ℕ) → ReadsAt before snapshot sequence → (IsLongKey key → ⊥)
+          → (to : E) (result : Result (Option (List ℕ)) Status)
           (value : OpenStoreValue C) (cache : TableCache E C FP F keys)
-          → LooksUpKey env (tables_by formats before) before.store from before.tables key result
-          value to cache
-          → EngineServes env choices found_or before from (get None key) result
+          → LooksUpKey env (tables_by formats before) before.store from before.tables sequence key
+          result value to cache
+          → EngineServes env choices found_or before from (get snapshot key) result
           (record before { options = options_in before; store = value; tables = cache }) to
-      get_serves short to result value cache looks =
-          let same = read_store env formats before key usable short from to result value cache looks
-          in
+      get_serves sequence reads short to result value cache looks =
+          let same = read_store env formats before snapshot key usable sequence reads short from to
+          result value cache looks in
           record {
             options = record {
               rest = ap (λ (v : OpenStoreValue C). record before.options { cmp = v.cmp }) same;
@@ -404,34 +402,37 @@ module _ {E C FP F P : Type 0} {B : Boxed} {keys : InternalOrder C} {key_filters
               ap (λ (v : OpenStoreValue C). mode_with before.mode (is_store_broken v)) same,
               same,
             );
-            step = get_goes env formats before key usable short from to result value cache looks;
-            rest = rest_read env before from key result to (options_in before) value cache same
+            step = get_goes env formats before snapshot key usable sequence reads short from to result
+                value cache looks;
+            rest = rest_read env before from snapshot key result to (options_in before) value cache same
                 looks.reads.kept_disk;
             time = λ modelled. (looks.reads.kept_disk.disk modelled).time.later;
-            cause = get_cause env formats before key usable short from to result value cache looks;
+            cause = get_cause env formats before snapshot key usable sequence reads short from to result
+                value cache looks;
           }
 
       -- the same where the options were given the store's order
-      pub get_serves_in : (cmp : C) → cmp ≡ before.store.cmp → (IsLongKey key → ⊥) → (to : E)
+      pub get_serves_in : (cmp : C) → cmp ≡ before.store.cmp → (sequence : ℕ)
+          → ReadsAt before snapshot sequence → (IsLongKey key → ⊥) → (to : E)
           (result : Result (Option (List ℕ)) Status) (value : OpenStoreValue C)
           (cache : TableCache E C FP F keys)
           → (let options : OptionsOf C FP B = record before.options { cmp = cmp } in
           LooksUpKey env (table_options (formats options) options) before.store from before.tables
-          key result value to cache)
-          → EngineServes env choices found_or before from (get None key) result
+          sequence key result value to cache)
+          → EngineServes env choices found_or before from (get snapshot key) result
           (record before {
             options = record before.options { cmp = cmp };
             store = value;
             tables = cache;
           }) to
-      get_serves_in cmp same short to result value cache looks =
-          subst (λ (c : C). EngineServes env choices found_or before from (get None key) result
+      get_serves_in cmp same sequence reads short to result value cache looks =
+          subst (λ (c : C). EngineServes env choices found_or before from (get snapshot key) result
           (record before {
             options = record before.options { cmp = c };
             store = value;
             tables = cache;
           }) to) (sym same)
-          (get_serves short to result value cache (subst (λ (c : C).
+          (get_serves sequence reads short to result value cache (subst (λ (c : C).
           let options : OptionsOf C FP B = record before.options { cmp = c } in
           LooksUpKey env (table_options (formats options) options) before.store from before.tables
-          key result value to cache) same looks))
+          sequence key result value to cache) same looks))

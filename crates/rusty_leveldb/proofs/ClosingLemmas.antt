@@ -102,7 +102,8 @@ module _ {E C FP F : Type 0} {B : Boxed} {keys : InternalOrder C} (env : Ghosts 
             (ends_durable env formats store meaning before from old was opened value before.mode mid
             mid new modelled syncs
             (durable env formats store meaning before from old was opened value mid modelled syncs
-            batches) refl (sound.bytes modelled was.disk_is.bytes) refl refl refl refl refl
+            batches) refl (sound.bytes modelled was.disk_is.bytes) (λ in_use. (refl, refl)) refl refl refl
+            refl refl
             (none env formats store meaning before from old was opened)
             (unbroken_opens after (open_mode_is before opened)
             (subst (λ (v : OpenStoreValue C). IsUnbroken v) (sym syncs.ok)
@@ -222,7 +223,7 @@ module _ {E C FP F : Type 0} {B : Boxed} {keys : InternalOrder C} (env : Ghosts 
             (old : State) (was : Represents store meaning (Recalls env formats store meaning)
             (Some before) (env.observed from).disk old)
             (still : (env.observed to).disk.files ≡ (env.observed mid).disk.files) where
-          all_durable : MakesDurable old.format.order meaning (Stays old) (env.observed from)
+          all_durable : MakesDurable old.format.order meaning (Stays old) before.store (env.observed from)
               old.history old.durable value (env.observed mid)
           all_durable = durable env formats store meaning before from old was opened value mid modelled
               syncs batches
@@ -278,7 +279,8 @@ module _ {E C FP F : Type 0} {B : Boxed} {keys : InternalOrder C} (env : Ghosts 
             (record before { store = value; mode = Broken }) to new
             (ends_durable env formats store meaning before from old was opened value Broken mid to new
             modelled syncs (all_durable store meaning modelled old was still) still
-            (bytes_now store meaning modelled old was still) refl refl refl refl refl refl refl
+            (bytes_now store meaning modelled old was still) (λ in_use. (refl, refl)) refl refl refl refl
+            refl refl refl
             (ap (λ (l : List ℕ → Bool). l (lock_path store)) (relocks modelled ∙ syncs.locks modelled)
             ∙ was.disk_is.locked))
             close (refused (refusal_of status)) (omega (arith, caused.later, counted))
@@ -314,7 +316,8 @@ module _ {E C FP F : Type 0} {B : Boxed} {keys : InternalOrder C} (env : Ghosts 
             (record before { store = value; mode = Closed }) to new
             (ends_durable env formats store meaning before from old was opened value Closed mid to new
             modelled syncs (all_durable store meaning modelled old was still) still
-            (bytes_now store meaning modelled old was still) refl refl refl refl refl
+            (bytes_now store meaning modelled old was still) (λ in_use. absurd (in_use refl)) refl refl refl
+            refl refl
             (none env formats store meaning before from old was opened) refl
             (ap (λ (l : List ℕ → Bool). l (lock_path store)) (relocks modelled)
             ∙ ap (λ l. lock_set l false (env.observed mid).disk.locked (lock_path store))

@@ -1,6 +1,6 @@
 -- An opening that is done.
 use Rattle.std.specs.Prelude.{IsSome, string_bytes}
-use Rattle.std.proofs.Common.{◌≡◌, ◌≢◌, ◌≤◌, ◌∙◌, ⊎_elim, inl, inr, ℕ, Bool, true, false, List, Ordering, sym, ap, subst, arith, Some, None, Ok, IsTrue}
+use Rattle.std.proofs.Common.{◌≡◌, ◌≢◌, ◌≤◌, ◌∙◌, ⊎_elim, inl, inr, ℕ, Bool, true, false, List, [], Ordering, sym, ap, subst, arith, Some, None, Ok, IsTrue}
 use Rattle.leveldb_base.specs.declared.types.FileType.{FileType}
 use Rattle.leveldb_base.specs.declared.types.FileType.TheVariants.{Descriptor, Log, Table, Temp}
 use Rattle.leveldb_env.specs.Env.{Files, Run, in_folder}
@@ -110,6 +110,7 @@ module _ {E C FP F P : Type 0} {B : Boxed} {keys : InternalOrder C} {key_filters
     (bytes_go : BytesAreAppended env taken opened)
     (tidies : TidiesUp env asked.format.order engine.store opened to)
     (tidy_time : TimeGoesOn env opened to) (mode : engine.mode ≡ Open)
+    (unheld : engine.snapshots ≡ record { held = []; given = 0 })
     (lock : string_bytes engine.lock ≡ lock_path store)
     (tells : TellsOnly options engine.options) (cmp : engine.store.cmp ≡ options.cmp)
     (ignores : (a b : OptionsOf C FP B) → TellsOnly a b → formats_of choices b ≡ formats_of choices a)
@@ -210,7 +211,7 @@ module _ {E C FP F P : Type 0} {B : Boxed} {keys : InternalOrder C} {key_filters
         same_but bytes_taken engine (env.observed opened) to opens.path opens.unbroken
         (opens_so.keeps modelled meaning agrees found sound)
         (opens_so.opens modelled meaning agrees found sound) tidied (took modelled).was_free allowed
-        mode lock (format ∙ sym same_format) (tables modelled) (is.fits.1 (well.0, well.1))
+        mode unheld lock (format ∙ sym same_format) (tables modelled) (is.fits.1 (well.0, well.1))
         (subst IsTrue (sym (ap (λ (o : Opening). o.compresses) is.same)) well.2) later early_run
         bytes_end (lock_held modelled) (spares modelled)
 

@@ -1,14 +1,15 @@
 -- What an engine's memory has to do with the disk and the state: its mode, and how what the calls on
 -- its store leave is a step of the machine.
-use Rattle.std.specs.Prelude.{◌||◌}
-use Rattle.std.proofs.Common.{◌≡◌, ◌≢◌, ◌≤◌, ◌+◌, ◌⊎◌, ◌∙◌, ⊎_elim, inl, inr, ℕ, Bool, true, false, List, refl, sym, ap, subst, Option, Some, None, IsTrue}
+use Rattle.std.specs.Prelude.{◌||◌, Contains}
+use Rattle.std.proofs.Common.{◌≡◌, ◌≢◌, ◌≤◌, ◌+◌, ◌⊎◌, ◌∙◌, ⊎_elim, inl, inr, ℕ, Bool, true, false, List, length, refl, sym, ap, subst, arith, Option, Some, None, IsTrue}
 use Rattle.std.specs.Prelude.{string_bytes}
 use Rattle.std.specs.declared.cmp.Ordering.{Ordering}
-use Rattle.leveldb_base.specs.History.{Entry, History, count_of, with_batch}
+use Rattle.leveldb_base.specs.History.{Entry, History, count_of, entries_of, greatest, with_batch}
 use Rattle.leveldb_env.specs.Env.{Files, Observed, Run}
 use Rattle.leveldb_env.specs.Options.{Boxed, OptionsOf}
 use Rattle.leveldb_env.specs.declared.env.Env.{Ghosts}
 use Rattle.leveldb_env.proofs.EnvLemmas.{Run-mono}
+use Rattle.leveldb_iter.specs.Snapshot.{HeldSnapshots}
 use Rattle.leveldb_version.specs.Contents.{Contents, Store, made}
 use Rattle.leveldb_version.specs.Holds.{Carries, Holds, IsSafe}
 use Rattle.leveldb_version.specs.Paths.{lock_path}
@@ -18,11 +19,11 @@ use Rattle.leveldb_version.specs.VersionSetValue.{ManifestState, broken, in_use,
 use Rattle.leveldb_version.specs.Format.{Agrees, Format, IsTableOf, Meaning}
 use Rattle.leveldb_store.specs.OpenStore.{IsUnbroken, OpenStoreValue}
 use Rattle.leveldb_store.specs.WriteBatch.{HoldsBatches, IsOf, SparesBatches}
-use Rattle.leveldb_store.specs.Written.{IsWritten, Shows}
+use Rattle.leveldb_store.specs.Written.{IsWritten, KeepsShown, Shows}
 use Rattle.rusty_leveldb.specs.declared.db_impl.engine.Mode.{Mode}
 use Rattle.rusty_leveldb.specs.declared.db_impl.engine.Mode.TheVariants.{Open, Broken, Closed}
 use Rattle.rusty_leveldb.specs.Boxes.{EngineOf, InternalOrder}
-use Rattle.rusty_leveldb.specs.Engine.{HasOwnTables, Recalls, is_manifest_broken, is_store_broken, mode_in, mode_with, options_in, scene}
+use Rattle.rusty_leveldb.specs.Engine.{HasOwnTables, HasSnapshots, Recalls, ShowsViews, is_manifest_broken, is_store_broken, mode_in, mode_with, options_in, scene}
 use Rattle.rusty_leveldb.specs.Frame.{IsSyncing, MayTouch, SameBytes, Spares}
 use Rattle.rusty_leveldb.specs.Machine.{Step, risk_of}
 use Rattle.rusty_leveldb.specs.Serves.{Goes, IsSpared, Reads, Represents, StandsFor, setting_between}
@@ -252,8 +253,13 @@ module _ {E C FP F : Type 0} {B : Boxed} {keys : InternalOrder C} (env : Ghosts 
         (subst (λ l. IsSafe value.set.store (IsStore value.set.store order (IsTableOf order meaning))
         (Stays old) (l + count_of pending) old.durable all files) last_is safe))) run
 
+  -- the state has the snapshots of the state before, unless it is closed
+  abbrev pub SameSnapshots : State → Type 0
+  SameSnapshots new = (new.mode ≡ machine.closed → ⊥)
+      → (new.held ≡ old.held) × (new.given ≡ old.given)
+
   -- What the engine and the environment are in the end, for this state of the machine. It has the
-  -- store and the format of the state before.
+  -- store and the format of the state before, and its snapshots.
   pub record Ends (after : EngineOf E C FP F B keys) (to : E) (new : State) : Type 0 where
     pub lock : string_bytes after.lock ≡ string_bytes before.lock
     pub options : formats (options_in after) ≡ formats (options_in before)
@@ -262,7 +268,11 @@ module _ {E C FP F : Type 0} {B : Boxed} {keys : InternalOrder C} (env : Ghosts 
     pub format_is : new.format ≡ old.format
     pub mode : mode_in after ≡ new.mode
     pub last : after.store.set.last_sequence ≡ new.last
-    pub shows : Shows order meaning after.store (env.observed to).disk.files new.history
+    pub grows : greatest (entries_of old.history) ≤ greatest (entries_of new.history)
+    pub shows : KeepsShown order meaning before.store (env.observed from).disk.files old.history
+        after.store (env.observed to).disk.files new.history
+    pub snapshots : after.snapshots ≡ before.snapshots
+    pub same_snapshots : SameSnapshots new
     pub tables : HasOwnTables env formats after (env.observed to).disk.files
     pub writes : new.mode ≡ open_mode
         → IsWritten order meaning after.store (env.observed to).disk.files
@@ -273,6 +283,31 @@ module _ {E C FP F : Type 0} {B : Boxed} {keys : InternalOrder C} (env : Ghosts 
 
   module _ (after : EngineOf E C FP F B keys) (to : E) (new : State)
       (ends : Ends after to new) where
+    views_then : (new.mode ≡ machine.closed → ⊥)
+        → ShowsViews meaning after.store (env.observed to).disk.files new
+    views_then used =
+        let views = was.memory_is.shows not_closed in record {
+          since = views.since;
+          shows = subst (λ (f : Format). Shows f.order meaning after.store
+              (env.observed to).disk.files new.history views.since) (sym ends.format_is)
+              (ends.shows views.since views.shows);
+          now = let least = views.now in let more = ends.grows in omega (arith, least, more);
+          held = λ one there. views.held one
+              (subst (λ held. Contains held one) (ends.same_snapshots used).0 there);
+        }
+
+    snapshots_then : (new.mode ≡ machine.closed → ⊥) → HasSnapshots after.snapshots new
+    snapshots_then used =
+        let has : HasSnapshots after.snapshots old =
+        subst (λ (s : HeldSnapshots). HasSnapshots s old) (sym ends.snapshots)
+        (was.memory_is.snapshots not_closed) in
+        let same = ends.same_snapshots used in record {
+          held = has.held ∙ sym same.0;
+          count = ap (λ (given : List ℕ). length given) same.1 ∙ has.count;
+          given = λ number there. has.given number
+              (subst (λ given. Contains given number) same.1 there);
+        }
+
     recalled : Recalls env formats store meaning after (env.observed to).disk new
     recalled = record {
       mode = ends.mode;
@@ -282,8 +317,8 @@ module _ {E C FP F : Type 0} {B : Boxed} {keys : InternalOrder C} (env : Ghosts 
       named = λ in_use. ends.store_is ∙ name_is
           ∙ ap (λ (f : Format). made (Some f.order_name)) (sym ends.format_is);
       last = λ in_use. ends.last;
-      shows = λ in_use. subst (λ (f : Format). Shows f.order meaning after.store
-          (env.observed to).disk.files new.history) (sym ends.format_is) ends.shows;
+      shows = views_then;
+      snapshots = snapshots_then;
       tables = λ in_use. ends.tables;
       writes = λ is. subst (λ (f : Format). IsWritten f.order meaning after.store
           (env.observed to).disk.files) (sym ends.format_is) (ends.writes is);

@@ -2,6 +2,7 @@ pub mod Histories
 pub mod MachineLemmas
 pub mod RunsLemmas
 pub mod LawsLemmas
+mod ViewsLemmas
 pub mod ReadsLemmas
 pub mod UnopenedLemmas
 pub mod Bounds
@@ -32,7 +33,10 @@ pub mod SyncLemmas
 pub mod ClosingLemmas
 pub mod ReadingLemmas
 pub mod WalkLemmas
+pub mod WalkingLemmas
 pub mod WritingLemmas
 pub mod RestLemmas
+pub mod SnapshotLemmas
 pub mod CallsLemmas
+pub mod WalkCallLemmas
 pub mod WriteCallLemmas

@@ -14,7 +14,8 @@ use Rattle.rusty_leveldb.proofs.Histories.{entries_more, greatest_append, placed
 
 pub data Change (old : State) (request : Request) (new : State) : Type 0 where
   same : new ≡ old → Change old request new
-  opens : (opening : Opening) → Opens old opening new → Change old request new
+  opens : (opening : Opening) → request ≡ open_store opening → Opens old opening new
+      → Change old request new
   stays : (opening : Opening) (setting : Setting) (refusal : Refusal) (cause : Cause)
       → old.mode ≡ closed → StaysClosed setting old opening refusal cause new
       → Change old request new
@@ -45,7 +46,7 @@ NeedsMode request old = Unit {0}
 module _ (setting : Setting) (old new : State) where
   succeeded : (request : Request) (answer : Answer) → NeedsMode request old
       → Succeeds setting old request answer new → Change old request new
-  succeeded (open_store opening) done m s = opens opening s
+  succeeded (open_store opening) done m s = opens opening refl s
   succeeded (write items sync) done m s = writes items sync refl m s
   succeeded (get at key) (found value) m s = same s.1
   succeeded (walk at moves) (walked landings) m s = same s.1
@@ -410,7 +411,7 @@ module _ (old : State) (is : IsState old) where
 
   change_fits : (request : Request) (new : State) → Change old request new → IsState new
   change_fits request new (same e) = subst IsState (sym e) is
-  change_fits request new (opens opening o) = opens_fits opening new o
+  change_fits request new (opens opening asked o) = opens_fits opening new o
   change_fits request new (stays opening setting refusal cause m s) =
       stays_fits opening setting refusal cause new m s
   change_fits request new (keeps k) = keeps_fits new k

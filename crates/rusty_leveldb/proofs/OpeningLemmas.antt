@@ -1,15 +1,17 @@
 -- The step of the machine in which a store is opened: its lock is taken, its files are read, and
 -- obsolete ones are deleted.
-use Rattle.std.specs.Prelude.{string_bytes}
+use Rattle.std.specs.Prelude.{map, string_bytes}
 use Rattle.std.specs.Str.{bytes_eq}
 use Rattle.std.specs.Cmp.Lexicographic.{bytes_decides}
 use Rattle.std.specs.declared.cmp.Ordering.{Ordering}
 use Rattle.std.proofs.Common.{◌≡◌, ◌≢◌, ◌≤◌, ◌+◌, ◌⊎◌, ◌∙◌, ⊎_elim, inl, inr, ℕ, Bool, true, false, List, [], length, refl, sym, ap, subst, arith, Option, Some, None, IsTrue}
-use Rattle.leveldb_base.specs.History.{History, count_of, with_batch}
+use Rattle.leveldb_base.proofs.HistoryLemmas.{in_none}
+use Rattle.leveldb_base.specs.History.{History, count_of, entries_of, greatest, with_batch}
 use Rattle.leveldb_env.specs.Env.{Files, Observed, Run, SameBut}
 use Rattle.leveldb_env.specs.Options.{Boxed, OptionsOf}
 use Rattle.leveldb_env.specs.declared.env.Env.{Ghosts}
 use Rattle.leveldb_env.proofs.EnvLemmas.{Run-mono, Run-trans}
+use Rattle.leveldb_iter.specs.Snapshot.{HeldSnapshots}
 use Rattle.leveldb_version.proofs.SafeLemmas.{some_is}
 use Rattle.leveldb_version.specs.Contents.{Contents, Store, made, missing}
 use Rattle.leveldb_version.specs.Holds.{Carries, Holds, MatchesHistory}
@@ -27,7 +29,7 @@ use Rattle.rusty_leveldb.specs.Causes.{Disagrees, Misfits, Setting}
 use Rattle.rusty_leveldb.specs.Engine.{HasOwnTables, Recalls, no_engine, options_in, scene}
 use Rattle.rusty_leveldb.specs.Frame.{IsOwn, Spares}
 use Rattle.rusty_leveldb.specs.Machine.{MayOpen, Opens, StaysOr, Step}
-use Rattle.rusty_leveldb.specs.Serves.{Goes, IsSpared, Reads, Represents, StandsFor, setting_between}
+use Rattle.rusty_leveldb.specs.Serves.{Goes, IsSpared, Reads, Represents, StandsFor, setting_between, snapshot_of}
 use Rattle.rusty_leveldb.specs.State as machine
 use Rattle.rusty_leveldb.specs.State.{IsState, Opening, State, done, open_mode, open_store}
 use Rattle.rusty_leveldb.proofs.Bounds.{safe_allow}
@@ -309,7 +311,7 @@ module _ (store : List ℕ) (meaning : Meaning) (opening : Opening)
             to.disk.files part contents.last (length part) None) (sym path) end_holds);
       }
 
-      pub end_shows : Shows order meaning value to.disk.files part
+      pub end_shows : Shows order meaning value to.disk.files part (greatest (entries_of part))
       end_shows = written_shows order meaning (Stays now) value to.disk.files part (length part)
           end_of.written end_of.holds
 
@@ -442,25 +444,37 @@ module _ {E C FP F : Type 0} {B : Boxed} {keys : InternalOrder C} (env : Ghosts 
   new = now store meaning opening agrees (env.observed from) old was.disk_is fits taken but bytes
       engine.store opened (env.observed to) path unbroken keeps is_opened tidied
 
-  recalled : engine.mode ≡ Open → string_bytes engine.lock ≡ lock_path store
+  recalled : engine.mode ≡ Open → engine.snapshots ≡ record { held = []; given = 0 }
+      → string_bytes engine.lock ≡ lock_path store
       → formats (options_in engine) ≡ opening.format
       → HasOwnTables env formats engine (env.observed to).disk.files
       → Recalls env formats store meaning engine (env.observed to).disk new
-  recalled mode lock same tables = record {
+  recalled mode unheld lock same tables = record {
     mode = unbroken_opens engine mode unbroken;
     lock = lock;
     path = path;
     format = λ in_use. same;
     named = λ in_use. refl;
     last = λ in_use. is_opened.last;
-    shows = λ in_use. end_shows store meaning opening agrees (env.observed from) old was.disk_is fits
-        taken but bytes engine.store opened (env.observed to) path unbroken keeps is_opened tidied;
+    shows = λ in_use. record {
+      since = greatest (entries_of new.history);
+      shows = end_shows store meaning opening agrees (env.observed from) old was.disk_is fits
+          taken but bytes engine.store opened (env.observed to) path unbroken keeps is_opened tidied;
+      now = omega arith;
+      held = λ one there. absurd (in_none one there);
+    };
+    snapshots = λ in_use. record {
+      held = ap (λ (s : HeldSnapshots). map snapshot_of s.held) unheld;
+      count = sym (ap (λ (s : HeldSnapshots). s.given) unheld);
+      given = λ number there. absurd (in_none number there);
+    };
     tables = λ in_use. tables;
     writes = λ is. (end_of store meaning opening agrees (env.observed from) old was.disk_is fits taken
         but bytes engine.store opened (env.observed to) path unbroken keeps is_opened tidied).written;
   }
 
-  pub opened_goes : engine.mode ≡ Open → string_bytes engine.lock ≡ lock_path store
+  pub opened_goes : engine.mode ≡ Open → engine.snapshots ≡ record { held = []; given = 0 }
+      → string_bytes engine.lock ≡ lock_path store
       → formats (options_in engine) ≡ opening.format
       → HasOwnTables env formats engine (env.observed to).disk.files
       → IsTrue opening.fits → IsTrue opening.compresses
@@ -473,7 +487,7 @@ module _ {E C FP F : Type 0} {B : Boxed} {keys : InternalOrder C} (env : Ghosts 
       (scene env (no_engine {E = E} {C = C} {FP = FP} {F = F} {B = B}
       {keys = keys} engine.options) from)
       (open_store opening) done (scene env (Some engine) to) old
-  opened_goes mode lock same tables well set later early bytes_now locked spares =
+  opened_goes mode unheld lock same tables well set later early bytes_now locked spares =
       let setting = setting_between meaning (env.failures from) (env.failures to) in
       let step : Step old.mode setting old (open_store opening) done new =
       subst (λ m. Step m setting old (open_store opening) done new) (sym was.memory_is)
@@ -487,7 +501,7 @@ module _ {E C FP F : Type 0} {B : Boxed} {keys : InternalOrder C} (env : Ghosts 
               taken but bytes engine.store opened (env.observed to) path unbroken keeps is_opened tidied
               (step_fits setting old new (open_store opening) done was.disk_is.is_state step) bytes_now
               locked;
-          memory_is = recalled mode lock same tables;
+          memory_is = recalled mode unheld lock same tables;
         };
         later = later;
         step = step;

@@ -1,16 +1,15 @@
 -- The step of the machine in which a key is looked up.
-use Rattle.std.specs.Prelude.{IfErr, IfOk, IsErrAnd, Result}
-use Rattle.std.proofs.Common.{◌≡◌, ◌≤◌, ◌+◌, ◌-◌, ◌^◌, ◌⊎◌, ◌∙◌, ⊎_elim, inl, inr, ℕ, Bool, List, length, refl, sym, ap, subst, arith, Option, Some, None, Ok, Err, IsTrue}
+use Rattle.std.specs.Prelude.{Contains, IfErr, IfOk, Result}
+use Rattle.std.proofs.Common.{◌≡◌, ◌≤◌, ◌+◌, ◌-◌, ◌^◌, ◌⊎◌, ◌∙◌, ⊎_elim, inl, inr, ℕ, Bool, List, refl, sym, ap, subst, arith, Option, Some, None, Ok, Err, IsTrue}
 use Rattle.std.specs.declared.cmp.Ordering.{Ordering}
 use Rattle.leveldb_base.specs.Error.{IsOutOfMemory, text_of}
-use Rattle.leveldb_base.specs.History.{History, IsValueAt, entries_of, greatest}
+use Rattle.leveldb_base.specs.History.{History, IsValueAt, entries_of}
 use Rattle.leveldb_base.specs.declared.error.Status.{Status}
 use Rattle.leveldb_base.specs.declared.error.StatusCode.TheVariants.{InvalidArgument, NotSupported}
 use Rattle.leveldb_env.specs.Env.{Disk, Files}
 use Rattle.leveldb_env.specs.Options.{Boxed, OptionsOf}
 use Rattle.leveldb_env.specs.declared.env.Env.{Ghosts}
 use Rattle.leveldb_env.proofs.EnvLemmas.{Run-mono}
-use Rattle.leveldb_mem.specs.WriteBatch.{max_length}
 use Rattle.leveldb_table.specs.TableBlock.{FailsFor as FailsForWhy}
 use Rattle.leveldb_version.specs.Holds.{Holds}
 use Rattle.leveldb_version.specs.Paths.{lock_path}
@@ -25,34 +24,31 @@ use Rattle.leveldb_store.specs.Read.{GetsFromMemory, GetsFromTables, HasOpenTabl
 use Rattle.leveldb_store.specs.Room.{FailsFor, HasFailed}
 use Rattle.leveldb_store.specs.Written.{IsWritten, Shows}
 use Rattle.rusty_leveldb.specs.Boxes.{EngineOf, InternalOrder}
-use Rattle.rusty_leveldb.specs.Causes.{Cause, Comes, IsLongKey, Misfits, Setting, bad_operand, device_failed, lacks_compressor, out_of_memory}
-use Rattle.rusty_leveldb.specs.Engine.{Answers, AnswersStill, GetExcused, GetFails, Recalls, RefusedAsClosed, is_store_broken, mode_in, mode_with, options_in, scene, tables_by}
+use Rattle.rusty_leveldb.specs.Causes.{Cause, Comes, IsLongKey, IsNotHeld, Misfits, Setting, bad_operand, device_failed, lacks_compressor, out_of_memory}
+use Rattle.rusty_leveldb.specs.Engine.{Answers, AnswersStill, GetExcused, GetFails, Recalls, RefusedAsClosed, ShowsViews, held_in, is_store_broken, mode_in, mode_with, options_in, scene, tables_by}
 use Rattle.rusty_leveldb.specs.Frame.{MayTouch}
-use Rattle.rusty_leveldb.specs.Machine.{Responds, Step, risk_between}
+use Rattle.rusty_leveldb.specs.Machine.{IsSequenceOf, Responds, Step, risk_between}
 use Rattle.rusty_leveldb.specs.Serves.{Goes, IsSpared, Reads, Represents, found_or, refusal_of, setting_between}
 use Rattle.rusty_leveldb.specs.State as machine
-use Rattle.rusty_leveldb.specs.State.{Answer, State, get, refused}
+use Rattle.rusty_leveldb.specs.State.{Answer, Snapshot, State, get, refused}
 use Rattle.rusty_leveldb.proofs.Moments.{moments_none}
 use Rattle.rusty_leveldb.proofs.Others.{spares_same, spares_still}
 
--- a key up to the limit
-pub within : (key : List ℕ) → length key ≤ max_length → IsLongKey key → ⊥
-within key short long = omega arith
-
 -- a store that isn't closed responds in either mode
-responds_in : (mode : machine.Mode) (setting : Setting) (old : State) (key : List ℕ) (answer : Answer)
-    → (mode ≡ machine.closed → ⊥) → Responds setting old (get None key) answer old
-    → Step mode setting old (get None key) answer old
-responds_in machine.open_mode setting old key answer usable responds = responds
-responds_in machine.broken setting old key answer usable responds = responds
-responds_in machine.closed setting old key answer usable responds = absurd (usable refl)
+responds_in : (mode : machine.Mode) (setting : Setting) (old : State) (snapshot : Option Snapshot)
+    (key : List ℕ) (answer : Answer) → (mode ≡ machine.closed → ⊥)
+    → Responds setting old (get snapshot key) answer old
+    → Step mode setting old (get snapshot key) answer old
+responds_in machine.open_mode setting old snapshot key answer usable responds = responds
+responds_in machine.broken setting old snapshot key answer usable responds = responds
+responds_in machine.closed setting old snapshot key answer usable responds = absurd (usable refl)
 
 -- a store of which the seeks of its files have changed shows what it showed, and is written on
 module _ {C : Type 0} (cmp : List ℕ → List ℕ → Ordering) (meaning : Meaning)
     (value : OpenStoreValue C) (current : VersionValue C) (files : Files) where
-  shows_read : (history : History) → Shows cmp meaning value files history
-      → Shows cmp meaning (record value { current = current }) files history
-  shows_read history shown = record {
+  shows_read : (history : History) (since : ℕ) → Shows cmp meaning value files history since
+      → Shows cmp meaning (record value { current = current }) files history since
+  shows_read history since shown = record {
     tables = shown.tables;
     has = record { files_are = shown.has.files_are; each = shown.has.each };
     shows = shown.shows;
@@ -63,56 +59,68 @@ module _ {C : Type 0} (cmp : List ℕ → List ℕ → Ordering) (meaning : Mean
   written_read written =
       record { edits = written.edits; by = written.by; writer = written.writer }
 
+-- the number at which an engine reads: its last one, or that of a snapshot that it holds
+abbrev pub ReadsAt : {E C FP F : Type 0} {B : Boxed} {keys : InternalOrder C}
+    → EngineOf E C FP F B keys → Option Snapshot → ℕ → Type 0
+ReadsAt engine None n = n ≡ engine.store.set.last_sequence
+ReadsAt engine (Some one) n = Contains (held_in engine) one × (n ≡ one.sequence)
+
 module _ {E C FP F : Type 0} {B : Boxed} {keys : InternalOrder C} (env : Ghosts E F)
-    (formats : OptionsOf C FP B → Format) (before : EngineOf E C FP F B keys) (key : List ℕ) where
+    (formats : OptionsOf C FP B → Format) (before : EngineOf E C FP F B keys)
+    (snapshot : Option Snapshot) (key : List ℕ) where
   -- ---- where nothing is read
 
   -- nothing has changed, and the machine responds so
   still : (answer : Answer) → ((store : List ℕ) (meaning : Meaning) (disk : Disk) (old : State)
       → Recalls env formats store meaning before disk old → (setting : Setting)
-      → Step old.mode setting old (get None key) answer old)
-      → AnswersStill env formats before (get None key) answer
+      → Step old.mode setting old (get snapshot key) answer old)
+      → AnswersStill env formats before (get snapshot key) answer
   still answer steps at store meaning modelled old was = record {
     new = old;
     represents = was;
     later = omega arith;
     step = steps store meaning (env.observed at).disk old was.memory_is
         (setting_between meaning (env.failures at) (env.failures at));
-    moments = moments_none store meaning (get None key) old (env.observed at) was.disk_is;
-    spares = spares_still store (MayTouch store old.mode (get None key)) (env.observed at).disk;
+    moments = moments_none store meaning (get snapshot key) old (env.observed at) was.disk_is;
+    spares = spares_still store (MayTouch store old.mode (get snapshot key)) (env.observed at).disk;
     bytes = λ never. absurd never;
   }
 
   -- a closed store
   pub get_closed : (status : Status) → RefusedAsClosed (mode_in before) status
-      → AnswersStill env formats before (get None key) (refused (refusal_of status))
+      → AnswersStill env formats before (get snapshot key) (refused (refusal_of status))
   get_closed status out = still (refused (refusal_of status))
       (λ store meaning disk old recalls setting.
-      subst (λ m. Step m setting old (get None key) (refused (refusal_of status)) old)
+      subst (λ m. Step m setting old (get snapshot key) (refused (refusal_of status)) old)
       (sym out.0 ∙ recalls.mode) (out.1, refl))
 
   module _ (usable : mode_in before ≡ machine.closed → ⊥) where
-    -- a key that is too long
-    long_error : (status : Status) → status.code ≡ InvalidArgument → IsLongKey key
-        → AnswersStill env formats before (get None key) (refused (refusal_of status))
-    long_error status code long = still (refused (refusal_of status))
+    -- a snapshot that isn't held, or a key that is too long
+    pub get_misfit : (status : Status) → status.code ≡ InvalidArgument
+        → IsNotHeld (held_in before) snapshot ⊎ IsLongKey key
+        → AnswersStill env formats before (get snapshot key) (refused (refusal_of status))
+    get_misfit status code misfits = still (refused (refusal_of status))
         (λ store meaning disk old recalls setting.
-        responds_in old.mode setting old key (refused (refusal_of status))
-        (λ is. usable (recalls.mode ∙ is))
-        (record { cause = bad_operand; comes = (code, inr long); leaves = refl }))
-
-    pub get_long : (result : Result (Option (List ℕ)) Status)
-        → IsErrAnd result (λ status. status.code ≡ InvalidArgument) → IsLongKey key
-        → AnswersStill env formats before (get None key) (found_or result)
-    get_long (Ok value) fails long = absurd fails
-    get_long (Err status) code long = long_error status code long
+        let in_use : old.mode ≡ machine.closed → ⊥ = λ is. usable (recalls.mode ∙ is) in
+        responds_in old.mode setting old snapshot key (refused (refusal_of status)) in_use
+        (record {
+          cause = bad_operand;
+          comes = (
+            code,
+            ⊎_elim (λ (unheld : IsNotHeld (held_in before) snapshot).
+                inl (subst (λ held. IsNotHeld held snapshot) (recalls.snapshots in_use).held unheld))
+                (λ (long : IsLongKey key). inr long) misfits,
+          );
+          leaves = refl;
+        }))
 
     -- ---- a look-up
 
-    module _ (short : IsLongKey key → ⊥) (from to : E) (result : Result (Option (List ℕ)) Status)
+    module _ (sequence : ℕ) (reads : ReadsAt before snapshot sequence) (short : IsLongKey key → ⊥)
+        (from to : E) (result : Result (Option (List ℕ)) Status)
         (value : OpenStoreValue C) (cache : TableCache E C FP F keys)
-        (looks : LooksUpKey env (tables_by formats before) before.store from before.tables key result
-        value to cache) where
+        (looks : LooksUpKey env (tables_by formats before) before.store from before.tables sequence
+        key result value to cache) where
       -- the engine in the end
       abbrev after : EngineOf E C FP F B keys
       after = record before { options = options_in before; store = value; tables = cache }
@@ -121,10 +129,10 @@ module _ {E C FP F : Type 0} {B : Boxed} {keys : InternalOrder C} (env : Ghosts 
       pub read_store : value ≡ record before.store { current = value.current }
       read_store = ⊎_elim
           (λ (memory : GetsFromMemory env (tables_by formats before) before.store from before.tables
-          key result value to cache). seeks_only value before.store.current
+          sequence key result value to cache). seeks_only value before.store.current
           memory.nothing_changes.0)
           (λ (tables : GetsFromTables env (tables_by formats before) before.store from before.tables
-          key result value to cache). seeks_only value
+          sequence key result value to cache). seeks_only value
           (charged before.store.current (charge_of tables.searched)).0 tables.charges) looks.way
         where
           seeks_only : (new : OpenStoreValue C) (current : VersionValue C)
@@ -155,11 +163,13 @@ module _ {E C FP F : Type 0} {B : Boxed} {keys : InternalOrder C} (env : Ghosts 
         agrees = subst (λ (f : Format). Agrees f meaning) (sym same_format)
             (was.disk_is.agrees not_closed)
 
+        views : ShowsViews meaning before.store (env.observed from).disk.files old
+        views = was.memory_is.shows not_closed
+
         shows : Shows (formats (options_in before)).order meaning before.store
-            (env.observed from).disk.files old.history
+            (env.observed from).disk.files old.history views.since
         shows = subst (λ (f : Format). Shows f.order meaning before.store
-            (env.observed from).disk.files old.history) (sym same_format)
-            (was.memory_is.shows not_closed)
+            (env.observed from).disk.files old.history views.since) (sym same_format) views.shows
 
         has_open : HasOpenTables env (tables_by formats before) before.store from before.tables
         has_open = record { modelled = modelled; are = was.memory_is.tables not_closed }
@@ -176,24 +186,41 @@ module _ {E C FP F : Type 0} {B : Boxed} {keys : InternalOrder C} (env : Ghosts 
         last_is : before.store.set.last_sequence ≡ old.last
         last_is = was.memory_is.last not_closed
 
-        reached : greatest (entries_of old.history) ≤ before.store.set.last_sequence
-        reached = subst (λ n. greatest (entries_of old.history) ≤ n) (sym last_is)
-            was.disk_is.is_state.reached
+        held_is : held_in before ≡ old.held
+        held_is = (was.memory_is.snapshots not_closed).held
 
-        fits : Misfits old (get None key) → ⊥
-        fits (inl held) = held
+        -- it is the number of the request, from which on the history is shown
+        reads_in : (at : Option Snapshot) → ReadsAt before at sequence
+            → IsSequenceOf old at sequence × (IsNotHeld old.held at → ⊥) × (views.since ≤ sequence)
+        reads_in None is = (
+          is ∙ last_is,
+          λ never. never,
+          let least = views.now in let reached = was.disk_is.is_state.reached in
+              omega (arith, least, reached, is, last_is),
+        )
+        reads_in (Some one) is =
+            let held : Contains old.held one = subst (λ held. Contains held one) held_is is.0 in (
+              (held, is.1),
+              λ unheld. unheld held,
+              let least = views.held one held in omega (arith, least, is.1),
+            )
+
+        reached : views.since ≤ sequence
+        reached = (reads_in snapshot reads).2
+
+        fits : Misfits old (get snapshot key) → ⊥
+        fits (inl unheld) = (reads_in snapshot reads).1 unheld
         fits (inr long) = short long
 
-        found : (value : Option (List ℕ))
-            → IsValueAt (entries_of old.history) before.store.set.last_sequence key value
-            → Responds setting old (get None key) (machine.found value) old
+        found : (value : Option (List ℕ)) → IsValueAt (entries_of old.history) sequence key value
+            → Responds setting old (get snapshot key) (machine.found value) old
         found value looks_up = (
           record { operands = fits; numbers = λ never. never },
           (
             record {
-              sequence = old.last;
-              at_is = refl;
-              looks = subst (λ n. IsValueAt (entries_of old.history) n key value) last_is looks_up;
+              sequence = sequence;
+              at_is = (reads_in snapshot reads).0;
+              looks = looks_up;
             },
             refl,
           ),
@@ -214,7 +241,7 @@ module _ {E C FP F : Type 0} {B : Boxed} {keys : InternalOrder C} (env : Ghosts 
             × LacksCompressor (formats (options_in before)) meaning)))
             ⊎ ((env.failures to ≡ env.failures from + 1)
             ⊎ ((env.failures from ≡ 2 ^ 64 - 1) × (env.failures to ≡ env.failures from)))
-            → (cause : Cause) × Comes setting old (get None key) (refusal_of status) cause
+            → (cause : Cause) × Comes setting old (get snapshot key) (refusal_of status) cause
         cause_of status (inl (inl memory)) = (out_of_memory, (tt, memory.0, ap text_of memory.1))
         cause_of status (inl (inr table)) = (
           lacks_compressor,
@@ -228,9 +255,9 @@ module _ {E C FP F : Type 0} {B : Boxed} {keys : InternalOrder C} (env : Ghosts 
         cause_of status (inr (inr full)) = (device_failed, (tt, inr full.0))
 
         -- the machine stays in its state
-        went : (answer : Answer) → Responds setting old (get None key) answer old
+        went : (answer : Answer) → Responds setting old (get snapshot key) answer old
             → Goes store meaning (Recalls env formats store meaning) (scene env (Some before) from)
-            (get None key) answer (scene env (Some after) to) old
+            (get snapshot key) answer (scene env (Some after) to) old
         went answer responds = record {
           new = old;
           represents = record {
@@ -253,12 +280,19 @@ module _ {E C FP F : Type 0} {B : Boxed} {keys : InternalOrder C} (env : Ghosts 
               named = was.memory_is.named;
               last = λ in_use. ap (λ (v : OpenStoreValue C). v.set.last_sequence) read_store
                   ∙ was.memory_is.last in_use;
-              shows = λ in_use. subst (λ (v : OpenStoreValue C).
-                  Shows old.format.order meaning v (env.observed to).disk.files old.history)
-                  (sym read_store) (subst (λ (files : Files). Shows old.format.order meaning
-                  (record before.store { current = value.current }) files old.history)
-                  (sym same_files) (shows_read old.format.order meaning before.store value.current
-                  (env.observed from).disk.files old.history (was.memory_is.shows in_use)));
+              shows = λ in_use. record {
+                since = views.since;
+                shows = subst (λ (v : OpenStoreValue C).
+                    Shows old.format.order meaning v (env.observed to).disk.files old.history
+                    views.since) (sym read_store) (subst (λ (files : Files).
+                    Shows old.format.order meaning (record before.store { current = value.current })
+                    files old.history views.since) (sym same_files)
+                    (shows_read old.format.order meaning before.store value.current
+                    (env.observed from).disk.files old.history views.since views.shows));
+                now = views.now;
+                held = views.held;
+              };
+              snapshots = was.memory_is.snapshots;
               tables = λ in_use. subst (λ (by : TableOptions C FP).
                   AreOpenTablesOf env by value.set (env.observed to).disk.files cache)
                   (sym same_by) (looks.still_open has_open);
@@ -271,29 +305,29 @@ module _ {E C FP F : Type 0} {B : Boxed} {keys : InternalOrder C} (env : Ghosts 
             };
           };
           later = looks.reads.cause.later;
-          step = responds_in old.mode setting old key answer not_closed responds;
+          step = responds_in old.mode setting old snapshot key answer not_closed responds;
           moments = Run-mono (λ files is. subst (IsSpared store meaning old (risk_between old))
               (sym is) was.disk_is.holds.crash) (looks.reads.kept_disk.disk modelled);
           spares = spares_same store (env.observed from).disk (env.observed to).disk
-              (MayTouch store old.mode (get None key)) same_files
+              (MayTouch store old.mode (get snapshot key)) same_files
               (λ path apart. ap (λ (l : List ℕ → Bool). l path) same_locks);
           bytes = λ never. absurd never;
         }
 
-      pub get_goes : Answers env formats (Some before) from (get None key) (found_or result)
+      pub get_goes : Answers env formats (Some before) from (get snapshot key) (found_or result)
           (Some after) to
       get_goes store meaning modelled old was = by result refl
         where
           by : (r : Result (Option (List ℕ)) Status) → result ≡ r
               → Goes store meaning (Recalls env formats store meaning)
-              (scene env (Some before) from) (get None key) (found_or r)
+              (scene env (Some before) from) (get snapshot key) (found_or r)
               (scene env (Some after) to) old
           by (Ok value) e = went store meaning modelled old was (machine.found value)
               (found store meaning modelled old was value
-              (subst (λ r. IfOk r (IsValueAt (entries_of old.history)
-              before.store.set.last_sequence key)) e (looks.finds
+              (subst (λ r. IfOk r (IsValueAt (entries_of old.history) sequence key)) e (looks.finds
               (has_open store meaning modelled old was) meaning
               (agrees store meaning modelled old was) old.history
+              (views store meaning modelled old was).since
               (reached store meaning modelled old was) (shows store meaning modelled old was))))
           by (Err status) e =
               let why = cause_of store meaning modelled old was status
@@ -308,14 +342,15 @@ module _ {E C FP F : Type 0} {B : Boxed} {keys : InternalOrder C} (env : Ghosts 
 
       -- why it failed, for a cause of its own
       fails_by : (Why : Status → Type 0) → FailsForWhy env Why from to result
-          → FailsFor (GetExcused before key Why) (env.failures from) (env.failures to) result
+          → FailsFor (GetExcused before snapshot key Why) (env.failures from) (env.failures to)
+          result
       fails_by Why fails = record { later = fails.later; cause = by result fails.cause }
         where
           by : (r : Result (Option (List ℕ)) Status)
               → IfErr r (λ e. (IsOutOfMemory e ⊎ ((env.failures to ≡ env.failures from) × Why e))
               ⊎ ((env.failures to ≡ env.failures from + 1)
               ⊎ ((env.failures from ≡ 2 ^ 64 - 1) × (env.failures to ≡ env.failures from))))
-              → IfErr r (λ e. GetExcused before key Why e
+              → IfErr r (λ e. GetExcused before snapshot key Why e
               ⊎ HasFailed (env.failures from) (env.failures to))
           by (Ok value) why = tt
           by (Err status) (inl (inl memory)) = inl (inr (inr (inl memory)))
@@ -323,7 +358,7 @@ module _ {E C FP F : Type 0} {B : Boxed} {keys : InternalOrder C} (env : Ghosts 
           by (Err status) (inr (inl more)) = inr (inl (omega (arith, more)))
           by (Err status) (inr (inr full)) = inr (inr full.0)
 
-      pub get_cause : GetFails env formats before from key result to
+      pub get_cause : GetFails env formats before from snapshot key result to
       get_cause = record {
         cause = fails_by (λ e. IsTableFault (formats (options_in before)) e.code) looks.reads.cause;
         lacks = λ meaning live there. fails_by (λ e. (e.code ≡ NotSupported)

@@ -1,7 +1,7 @@
 -- What a call leaves alone, whatever the files are.
 use Rattle.std.specs.Prelude.{Result, codes, if◌then◌else◌, is_ok, replicate, string_bytes}
 use Rattle.std.specs.Fmt.{decimal}
-use Rattle.std.proofs.Common.{◌≡◌, ◌≢◌, ◌-◌, ◌++◌, ◌⊎◌, ◌∙◌, ⊎_elim, inl, inr, ℕ, Bool, false, List, length, length-append, refl, sym, ap, subst, arith, None, Ok, Err, IsTrue}
+use Rattle.std.proofs.Common.{◌≡◌, ◌≢◌, ◌-◌, ◌++◌, ◌⊎◌, ◌∙◌, ⊎_elim, inl, inr, ℕ, Bool, false, List, length, length-append, refl, sym, ap, subst, arith, Option, Ok, Err, IsTrue}
 use Rattle.std.proofs.lemmas.List.{length-replicate}
 use Rattle.leveldb_base.specs.Error.{IsOutOfMemory}
 use Rattle.leveldb_base.specs.History.{Item}
@@ -29,7 +29,7 @@ use Rattle.rusty_leveldb.specs.Calls.{IsLockLeft, LeavesRest, SparesBut, held_af
 use Rattle.rusty_leveldb.specs.Engine.{holds_lock, mode_in, options_in}
 use Rattle.rusty_leveldb.specs.Frame.{MayTouchOrLog, Spares, Touches}
 use Rattle.rusty_leveldb.specs.State as machine
-use Rattle.rusty_leveldb.specs.State.{Request, abandon, close, flush, get, open_mode, write}
+use Rattle.rusty_leveldb.specs.State.{Request, Snapshot, abandon, close, flush, get, open_mode, write}
 use Rattle.rusty_leveldb.proofs.ClosingLemmas.{freed, freed_other}
 use Rattle.rusty_leveldb.proofs.Others.{spares_same, spares_still}
 use Rattle.rusty_leveldb.proofs.SyncLemmas.{lock_is_no_data, log_is_data}
@@ -99,17 +99,18 @@ module _ {E C FP F : Type 0} {B : Boxed} {keys : InternalOrder C} (env : Ghosts 
   }
 
   -- the disk has stayed, and the engine's options may have changed
-  pub rest_read : {T : Type 0} (key : List ℕ) (result : Result T Status) (to : E)
+  pub rest_read : {T : Type 0} (snapshot : Option Snapshot) (key : List ℕ) (result : Result T Status)
+      (to : E)
       (options : OptionsOf C FP B) (value : OpenStoreValue C) (cache : TableCache E C FP F keys)
       → value ≡ record before.store { current = value.current } → KeepsDisk env from to
-      → LeavesRest env before from (get None key) result
+      → LeavesRest env before from (get snapshot key) result
       (record before { options = options; store = value; tables = cache }) to
-  rest_read key result to options value cache same keeps = record {
+  rest_read snapshot key result to options value cache same keeps = record {
     place = (refl, ap (λ (v : OpenStoreValue C). v.set.store) same);
     others = λ modelled own. spares_same store (env.observed from).disk (env.observed to).disk _
         (keeps.disk modelled).has
         (λ path differs. ap (λ (l : List ℕ → Bool). l path) (keeps.locks modelled));
-    lock = λ modelled. lock_stays (get None key) result (holds_lock env before from)
+    lock = λ modelled. lock_stays (get snapshot key) result (holds_lock env before from)
         (holds_lock env before to)
         (ap (λ (l : List ℕ → Bool). l (string_bytes before.lock)) (keeps.locks modelled)) refl;
   }

@@ -183,7 +183,7 @@ module _ (part : History) (asked : List (List Item)) (old : State)
   changes request new is (same e) = as_before new (asked_by request) is (ap
       (λ (s : State). s.history) e) (ap (λ (s : State). s.pending) e) (let c =
       ap (λ (s : State). s.durable) e in let d = since.durable in omega arith)
-  changes request new is (opens opening o) =
+  changes request new is (opens opening asks o) =
       opened (asked_by request) new is (ap (λ (s : State). s.pending) o.state)
       (⊎_elim (λ (e : new.durable ≡ old.durable). let d =
       since.durable in omega arith) (λ (e : new.durable ≡ length new.history). let l =

@@ -5,7 +5,7 @@ use Rattle.std.specs.Cmp.Lexicographic.{bytes_decides}
 use Rattle.std.proofs.Common.{◌≡◌, ◌≢◌, ◌≤◌, ◌+◌, ◌-◌, ◌^◌, ◌⊎◌, ◌∙◌, ⊎_elim, inl, inr, ℕ, Bool, true, false, List, length, refl, sym, ap, subst, arith, Some, None, Ok, Err, IsTrue}
 use Rattle.std.specs.declared.cmp.Ordering.{Ordering}
 use Rattle.leveldb_base.specs.Error.{IsOutOfMemory, text_of}
-use Rattle.leveldb_base.specs.History.{count_of, with_batch}
+use Rattle.leveldb_base.specs.History.{History, count_of, entries_of, greatest, with_batch}
 use Rattle.leveldb_base.specs.declared.error.Status.{Status}
 use Rattle.leveldb_base.specs.declared.types.FileType.{FileType}
 use Rattle.leveldb_base.specs.declared.types.FileType.TheVariants.{DBLock, Descriptor, Log, Table, Temp}
@@ -38,9 +38,8 @@ use Rattle.rusty_leveldb.specs.Machine.{Breaks, LeavesRefused, MayBreak, Refuses
 use Rattle.rusty_leveldb.specs.Serves.{Goes, IsSpared, Represents, refusal_of, setting_between}
 use Rattle.rusty_leveldb.specs.State as machine
 use Rattle.rusty_leveldb.specs.State.{Answer, Request, State, open_mode, refused}
-use Rattle.rusty_leveldb.proofs.EngineLemmas.{Ends, Stays, goes, is_of, machine_spares, none, not_closed, open_unbroken, same_format, state_open}
+use Rattle.rusty_leveldb.proofs.EngineLemmas.{Ends, SameSnapshots, Stays, goes, is_of, machine_spares, none, not_closed, open_unbroken, same_format, state_open}
 use Rattle.rusty_leveldb.proofs.Others.{bytes_same, bytes_synced}
-use Rattle.leveldb_store.proofs.HistoryLemmas.{written_shows}
 use Rattle.rusty_leveldb.proofs.ReadsLemmas.{may_stay}
 
 -- ---- files
@@ -187,8 +186,8 @@ module _ {E C FP F : Type 0} {B : Boxed} {keys : InternalOrder C} (env : Ghosts 
       (batches : SyncsBatches env (formats (options_in before)).order before.store from (Ok tt) value
       mid) where
     -- all is durable
-    pub durable : MakesDurable old.format.order meaning (Stays old) (env.observed from) old.history
-        old.durable value (env.observed mid)
+    pub durable : MakesDurable old.format.order meaning (Stays old) before.store (env.observed from)
+        old.history old.durable value (env.observed mid)
     durable =
         let in_order = subst (λ (f : Format).
         SyncsBatches env f.order before.store from (Ok tt) value mid)
@@ -222,10 +221,11 @@ module _ {E C FP F : Type 0} {B : Boxed} {keys : InternalOrder C} (env : Ghosts 
   pub ends_durable : (value : OpenStoreValue C) (m : Mode) (mid to : E) (new : State)
       → IsTrue env.models_disk
       → (syncs : SyncsLog env before.store from (Ok tt) value mid)
-      → MakesDurable old.format.order meaning (Stays old) (env.observed from) old.history old.durable
-      value (env.observed mid)
+      → MakesDurable old.format.order meaning (Stays old) before.store (env.observed from) old.history
+      old.durable value (env.observed mid)
       → (env.observed to).disk.files ≡ (env.observed mid).disk.files
       → AppendedAreBytes (env.observed mid).disk.files
+      → SameSnapshots env formats store meaning before from old was opened new
       → new.store ≡ old.store → new.format ≡ old.format → new.history ≡ old.history
       → new.last ≡ old.last → new.durable ≡ length old.history → new.pending ≡ None
       → mode_in {E = E} {C = C} {FP = FP} {F = F} {B = B}
@@ -234,13 +234,10 @@ module _ {E C FP F : Type 0} {B : Boxed} {keys : InternalOrder C} (env : Ghosts 
       → (env.observed to).disk.locked (lock_path store) ≡ new.locked
       → Ends env formats store meaning before from old was opened
       (record before { store = value; mode = m }) to new
-  ends_durable value m mid to new modelled syncs durable same bytes store_is format_is history_is
-      last_is durable_is pending_is mode_is locked_is =
+  ends_durable value m mid to new modelled syncs durable same bytes snapshots store_is format_is
+      history_is last_is durable_is pending_is mode_is locked_is =
       let there = subst (λ (files : Files). IsOf old.format.order meaning (Stays old) value files
       old.history (length old.history)) (sym same) durable.is_of in
-      let shown = written_shows old.format.order meaning (Stays old) value
-      (env.observed to).disk.files old.history (length old.history)
-      there.written there.holds in
       record {
         lock = refl;
         options = ap (λ (v : OpenStoreValue C).
@@ -252,8 +249,14 @@ module _ {E C FP F : Type 0} {B : Boxed} {keys : InternalOrder C} (env : Ghosts 
         last = ap (λ (v : OpenStoreValue C). v.set.last_sequence) syncs.ok
             ∙ was.memory_is.last (not_closed env formats store meaning before from old was opened)
             ∙ sym last_is;
-        shows = subst (λ h. Shows old.format.order meaning value (env.observed to).disk.files h)
-            (sym history_is) shown;
+        grows = let same_end = ap (λ (h : History). greatest (entries_of h)) history_is in
+            omega (arith, same_end);
+        shows = λ since s. subst (λ h. Shows old.format.order meaning value
+            (env.observed to).disk.files h since) (sym history_is)
+            (subst (λ (files : Files). Shows old.format.order meaning value files old.history since)
+            (sym same) (durable.shows since s));
+        snapshots = refl;
+        same_snapshots = snapshots;
         tables = tables_logged value m (env.observed to).disk.files
             (ap (λ (v : OpenStoreValue C). v.set) syncs.ok)
             (ap (λ (v : OpenStoreValue C). v.cmp) syncs.ok)
@@ -355,7 +358,10 @@ module _ {E C FP F : Type 0} {B : Boxed} {keys : InternalOrder C} (env : Ghosts 
       mode = mode_is;
       last = ap (λ (v : VersionSetValue). v.last_sequence) (sync_set value mid status syncs).0
           ∙ was.memory_is.last (not_closed env formats store meaning before from old was opened);
+      grows = omega arith;
       shows = left.shows;
+      snapshots = refl;
+      same_snapshots = λ in_use. (refl, refl);
       tables = tables_logged value m (env.observed mid).disk.files
           (sync_set value mid status syncs).0 (sync_set value mid status syncs).1
           (λ path differs. ap (λ (f : Files). f path) (syncs.undone modelled));

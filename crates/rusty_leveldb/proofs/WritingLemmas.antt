@@ -4,7 +4,7 @@ use Rattle.std.specs.Prelude.{Result, is_some, map, string_bytes}
 use Rattle.std.proofs.Common.{◌≡◌, ◌≤◌, ◌<◌, ◌+◌, ◌-◌, ◌^◌, ◌⊎◌, ◌∙◌, ⊎_elim, inl, inr, ℕ, zero, suc, Bool, List, [], ◌∷◌, ◌++◌, length, max, refl, sym, ap, subst, arith, Option, Some, None, Ok, Err, IsTrue}
 use Rattle.std.specs.declared.cmp.Ordering.{Ordering}
 use Rattle.leveldb_base.specs.Error.{IsOutOfMemory, text_of}
-use Rattle.leveldb_base.specs.History.{Entry, Item, count_of, placed, with_batch}
+use Rattle.leveldb_base.specs.History.{Entry, History, Item, count_of, entries_of, greatest, placed, with_batch}
 use Rattle.leveldb_base.specs.KeyTypes.{greatest_sequence}
 use Rattle.leveldb_base.specs.declared.error.Status.{Status}
 use Rattle.leveldb_base.specs.declared.types.FileType.TheVariants.{Log}
@@ -14,6 +14,7 @@ use Rattle.leveldb_env.specs.declared.env.Env.{Ghosts}
 use Rattle.leveldb_env.specs.declared.filter.FilterPolicy.{Ghosts as FilterGhosts}
 use Rattle.leveldb_env.proofs.EnvLemmas.{Run-mono, Run-trans, bytes_eq-apart}
 use Rattle.leveldb_mem.specs.WriteBatch.{batch_bytes, max_length}
+use Rattle.leveldb_version.proofs.NumbersLemmas.{entries_more, greatest_append}
 use Rattle.leveldb_version.specs.Holds.{Holds}
 use Rattle.leveldb_version.specs.Paths.{IsFilePath, lock_path}
 use Rattle.leveldb_version.specs.Store.{IsStore}
@@ -31,7 +32,7 @@ use Rattle.leveldb_store.specs.Room.{AreEntriesNotTabled, FailsToMakeRoom, HasFa
 use Rattle.leveldb_store.specs.SoundCall.{IsSoundCall, any_meaning}
 use Rattle.leveldb_store.specs.Write.{open_log_path}
 use Rattle.leveldb_store.specs.WriteBatch.{AddsBatch, FailsToWrite, HoldsBatches, IsOf, LeavesHistory, WritesBatch, next_batch}
-use Rattle.leveldb_store.specs.Written.{IsDataPath, IsWritten, KeepsStore, KeepsWritten, Shows, SparesRest}
+use Rattle.leveldb_store.specs.Written.{IsDataPath, IsWritten, KeepsShown, KeepsStore, KeepsWritten, SparesRest}
 use Rattle.rusty_leveldb.specs.declared.db_impl.engine.Mode.TheVariants.{Open}
 use Rattle.rusty_leveldb.specs.Boxes.{EngineOf, InternalOrder}
 use Rattle.rusty_leveldb.specs.Causes.{Cause, Comes, Fits, Setting, compressor_failed, device_failed, out_of_memory, too_large, used_up}
@@ -41,9 +42,8 @@ use Rattle.rusty_leveldb.specs.Machine.{Breaks, Refuses, Risk, Step, Writes, add
 use Rattle.rusty_leveldb.specs.Serves.{Goes, IsSpared, Represents, refusal_of, setting_between}
 use Rattle.rusty_leveldb.specs.State as machine
 use Rattle.rusty_leveldb.specs.State.{State, done, open_mode, refused, write}
-use Rattle.rusty_leveldb.proofs.EngineLemmas.{Stays, agreeing, goes, is_of, machine_spares, name_is, none, not_closed, open_mode_is, open_or_broken, same_format, state_open, store_named, unbroken_opens}
+use Rattle.rusty_leveldb.proofs.EngineLemmas.{SameSnapshots, Stays, agreeing, goes, is_of, machine_spares, name_is, none, not_closed, open_mode_is, open_or_broken, same_format, state_open, store_named, unbroken_opens}
 use Rattle.rusty_leveldb.proofs.Moments.{grows_by, spared_more}
-use Rattle.leveldb_store.proofs.HistoryLemmas.{written_shows}
 use Rattle.rusty_leveldb.proofs.ReadsLemmas.{keeps_holds, may_stay, spared_keeps}
 use Rattle.rusty_leveldb.proofs.SyncLemmas.{log_is_own, log_is_there, risk_now, spares_data}
 
@@ -368,9 +368,12 @@ module _ {E C FP F P : Type 0} {B : Boxed} {keys : InternalOrder C} {key_filters
     room_locked = ap (λ (l : List ℕ → Bool). l (lock_path store))
         (made.makes.rest.locks modelled) ∙ was.disk_is.locked
 
-    room_shows : Shows order meaning roomy.store (env.observed mid).disk.files old.history
-    room_shows = room_keeps.shows old.history (was.memory_is.shows
-        (not_closed env formats store meaning before from old was opened))
+    room_shows : KeepsShown order meaning before.store files old.history roomy.store
+        (env.observed mid).disk.files old.history
+    room_shows = room_keeps.shows old.history
+
+    room_snapshots : roomy.snapshots ≡ before.snapshots
+    room_snapshots = ap (λ (e : EngineOf E C FP F B keys). e.snapshots) made.rest
 
   -- no room was made
   module _ (ignores : (a b : OptionsOf C FP B) → TellsOnly a b → formats b ≡ formats a)
@@ -389,15 +392,16 @@ module _ {E C FP F P : Type 0} {B : Boxed} {keys : InternalOrder C} {key_filters
         (agreeing env formats store meaning before from old was opened))
         (subst (λ (g : Format). IsWritten g.order meaning before.store files) (sym f) held.written)
 
-    went : (new : State) → mode_in after ≡ new.mode → new.store ≡ old.store
+    went : (new : State) → SameSnapshots env formats store meaning before from old was opened new
+        → mode_in after ≡ new.mode → new.store ≡ old.store
         → new.format ≡ old.format → new.history ≡ old.history → new.last ≡ old.last
         → new.durable ≡ old.durable → new.pending ≡ None → new.locked ≡ old.locked
         → (new.mode ≡ open_mode → IsUnbroken after.store)
         → Refuses (setting items sync status to) old (write items sync) (refusal_of status) new
         → Goes store meaning (Recalls env formats store meaning) (scene env (Some before) from)
         (write items sync) (refused (refusal_of status)) (scene env (Some after) to) old
-    went new mode_is store_is format_is history_is last_is durable_is pending_is locked_is unbroken
-        refuses =
+    went new snapshots mode_is store_is format_is history_is last_is durable_is pending_is locked_is
+        unbroken refuses =
         goes env formats store meaning before from old was opened after to new (record {
           lock = ap (λ (e : EngineOf E C FP F B keys). string_bytes e.lock) made.rest;
           options = room_options ignores after to (Err status) made;
@@ -406,8 +410,13 @@ module _ {E C FP F P : Type 0} {B : Boxed} {keys : InternalOrder C} {key_filters
           format_is = format_is;
           mode = mode_is;
           last = kept_last after.store to keeps made.makes.rest ∙ sym last_is;
-          shows = subst (λ h. Shows order meaning after.store (env.observed to).disk.files h)
-              (sym history_is) (room_shows ignores after to (Err status) made);
+          grows = let same_end = ap (λ (h : History). greatest (entries_of h)) history_is in
+              omega (arith, same_end);
+          shows = subst (KeepsShown order meaning before.store files old.history after.store
+              (env.observed to).disk.files) (sym history_is)
+              (room_shows ignores after to (Err status) made);
+          snapshots = room_snapshots ignores after to (Err status) made;
+          same_snapshots = snapshots;
           tables = room_tables env choices before from (Err status) after to ignores made modelled
               held_tables;
           writes = λ is. keeps.written (unbroken is);
@@ -442,11 +451,11 @@ module _ {E C FP F P : Type 0} {B : Boxed} {keys : InternalOrder C} {key_filters
         (write items sync) (refused (refusal_of status)) (scene env (Some after) to) old
     room_fails = ⊎_elim
         (λ (sound : (mode_in after ≡ machine.open_mode) × IsUnbroken after.store).
-        went old (sound.0 ∙ sym mode) refl refl refl refl refl
+        went old (λ in_use. (refl, refl)) (sound.0 ∙ sym mode) refl refl refl refl refl
         (none env formats store meaning before from old was opened) refl (λ is. sound.1)
         (refuses_still items sync status to (room_cause items sync status to made.makes.cause.cause)))
         (λ (is : (mode_in after ≡ machine.broken) × (IsUnbroken after.store → ⊥)).
-        went (broke None) is.0 refl refl refl refl refl refl refl
+        went (broke None) (λ in_use. (refl, refl)) is.0 refl refl refl refl refl refl refl
         (λ opens. absurd (let never : machine.broken ≡ open_mode = opens in cc))
         (refuses_broken items sync status to None (inl refl) (⊎_elim
         (λ (sound : IsUnbroken after.store). absurd (is.1 sound)) (λ why. why) breaks_by)))
@@ -566,8 +575,8 @@ module _ {E C FP F P : Type 0} {B : Boxed} {keys : InternalOrder C} {key_filters
         value to)
         (sound : IsSoundCall {T = Unit {0}} env (formats (options_in before)).order any_meaning
         roomy.store mid (Ok tt) value to) where
-      adds : AddsBatch order meaning (Stays old) (env.observed mid) old.history old.durable its_batch
-          sync value (env.observed to)
+      adds : AddsBatch order meaning (Stays old) roomy.store (env.observed mid) old.history old.durable
+          its_batch sync value (env.observed to)
       adds = (in_order (Ok tt) writes).adds modelled meaning (may_stay None old.store) old.history
           old.durable room_held
 
@@ -634,10 +643,14 @@ module _ {E C FP F P : Type 0} {B : Boxed} {keys : InternalOrder C} {key_filters
             mode = unbroken_opens after (room_mode ignores roomy mid (Ok tt) made)
                 writes.usable ∙ sym mode;
             last = end_last;
-            shows = subst (λ h. Shows order meaning value (env.observed to).disk.files h) longer
-                (written_shows order meaning (Stays old) value (env.observed to).disk.files
-                (old.history ++ its_batch ∷ []) adds.durable_now
-                adds.is_of.written adds.is_of.holds);
+            grows = let more = ap greatest (entries_more old.history (added_batch old items))
+                ∙ greatest_append (entries_of old.history) (added_batch old items) in
+                omega (arith, more);
+            shows = subst (KeepsShown order meaning before.store files old.history value
+                (env.observed to).disk.files) longer
+                (λ since s. adds.shows since (room_shows ignores roomy mid (Ok tt) made since s));
+            snapshots = room_snapshots ignores roomy mid (Ok tt) made;
+            same_snapshots = λ in_use. (refl, refl);
             tables = end_tables (Ok tt) writes sound;
             writes = λ is. adds.is_of.written;
             holds = subst (λ h. HoldsBatches order meaning (Stays old) value
@@ -720,6 +733,7 @@ module _ {E C FP F P : Type 0} {B : Boxed} {keys : InternalOrder C} {key_filters
           (device_failed, by_device items sync status to (failed (inr full.0)))
 
       unwritten : (new : State)
+          → SameSnapshots env formats store meaning before from old was opened new
           → mode_in {E = E} {C = C} {FP = FP} {F = F} {B = B} {keys = keys} after ≡ new.mode
           → new.store ≡ old.store → new.format ≡ old.format → new.history ≡ old.history
           → new.last ≡ old.last → new.durable ≡ old.durable → new.pending ≡ leaves.0
@@ -728,8 +742,8 @@ module _ {E C FP F P : Type 0} {B : Boxed} {keys : InternalOrder C} {key_filters
           → Refuses (setting items sync status to) old (write items sync) (refusal_of status) new
           → Goes store meaning (Recalls env formats store meaning) (scene env (Some before) from)
           (write items sync) (refused (refusal_of status)) (scene env (Some after) to) old
-      unwritten new mode_is store_is format_is history_is last_is durable_is pending_is locked_is
-          unbroken refuses =
+      unwritten new snapshots mode_is store_is format_is history_is last_is durable_is pending_is
+          locked_is unbroken refuses =
           goes env formats store meaning before from old was opened after to new (record {
             lock = ap (λ (e : EngineOf E C FP F B keys). string_bytes e.lock) made.rest;
             options = end_options (Err status) writes sound;
@@ -738,8 +752,13 @@ module _ {E C FP F P : Type 0} {B : Boxed} {keys : InternalOrder C} {key_filters
             format_is = format_is;
             mode = mode_is;
             last = writes.err.1 ∙ room_last ∙ sym last_is;
-            shows = subst (λ h. Shows order meaning value (env.observed to).disk.files h)
-                (sym history_is) leaves.2.shows;
+            grows = let same_end = ap (λ (h : History). greatest (entries_of h)) history_is in
+                omega (arith, same_end);
+            shows = subst (KeepsShown order meaning before.store files old.history value
+                (env.observed to).disk.files) (sym history_is)
+                (λ since s. leaves.2.shows since (room_shows ignores roomy mid (Ok tt) made since s));
+            snapshots = room_snapshots ignores roomy mid (Ok tt) made;
+            same_snapshots = snapshots;
             tables = end_tables (Err status) writes sound;
             writes = λ is. (leaves.2.written (unbroken is)).1;
             holds = subst (λ h. HoldsBatches order meaning (Stays old) value
@@ -795,14 +814,14 @@ module _ {E C FP F P : Type 0} {B : Boxed} {keys : InternalOrder C} {key_filters
           (λ (whole : (mode_in {E = E} {C = C} {FP = FP} {F = F} {B = B}
           {keys = keys} after ≡ machine.open_mode)
           × IsUnbroken value).
-          unwritten old (whole.0 ∙ sym mode) refl refl refl refl refl
+          unwritten old (λ in_use. (refl, refl)) (whole.0 ∙ sym mode) refl refl refl refl refl
           (none env formats store meaning before from old was opened
           ∙ sym (leaves.2.written whole.1).0) refl (λ is. whole.1)
           (refuses_still items sync status to (batch_cause writes.cause.cause)))
           (λ (is : (mode_in {E = E} {C = C} {FP = FP} {F = F} {B = B}
           {keys = keys} after ≡ machine.broken)
           × (IsUnbroken value → ⊥)).
-          unwritten (broke leaves.0) is.0 refl refl refl refl refl refl refl
+          unwritten (broke leaves.0) (λ in_use. (refl, refl)) is.0 refl refl refl refl refl refl refl
           (λ opens. absurd (let never : machine.broken ≡ open_mode = opens in cc))
           (refuses_broken items sync status to leaves.0 which (⊎_elim
           (λ (whole : IsUnbroken value). absurd (is.1 whole)) (λ why. why) breaks_by_batch)))

@@ -39,10 +39,10 @@ IsLongBatch items = max_length < length (batch_bytes 0 items)
 abbrev pub IsLongKey : List ℕ → Type 0
 IsLongKey key = max_length < length key
 
--- a snapshot is named that isn't held
-abbrev pub IsNotHeld : State → Option Snapshot → Type 0
-IsNotHeld old None = ⊥
-IsNotHeld old (Some named) = Contains old.held named → ⊥
+-- a snapshot is named that isn't one of those that are held
+abbrev pub IsNotHeld : List Snapshot → Option Snapshot → Type 0
+IsNotHeld held None = ⊥
+IsNotHeld held (Some named) = Contains held named → ⊥
 
 -- the store may not be opened so: it is missing and isn't to be made, or its comparator has another
 -- name
@@ -54,9 +54,9 @@ Disagrees opening (made name) = name ≢ Some opening.format.order_name
 abbrev pub Misfits : State → Request → Type 0
 Misfits old (open_store opening) = (opening.fits ≡ false) ⊎ Disagrees opening old.store
 Misfits old (write items sync) = IsLongBatch items
-Misfits old (get at key) = IsNotHeld old at ⊎ IsLongKey key
-Misfits old (walk at moves) = IsNotHeld old at
-Misfits old (release_snapshot one) = IsNotHeld old (Some one)
+Misfits old (get at key) = IsNotHeld old.held at ⊎ IsLongKey key
+Misfits old (walk at moves) = IsNotHeld old.held at
+Misfits old (release_snapshot one) = IsNotHeld old.held (Some one)
 Misfits old (compact_range from to) = IsLongKey from ⊎ IsLongKey to
 Misfits old _ = ⊥
 
@@ -70,6 +70,10 @@ abbrev pub Exists : State → Request → Type 0
 Exists old (open_store opening) = IsTrue opening.error_if_exists × (old.store ≢ missing)
 Exists old _ = ⊥
 
+-- so many numbers of snapshots were given out, which is all of 64 bits
+abbrev pub AreSnapshotsUsedUp : ℕ → Type 0
+AreSnapshotsUsedUp given = 2 ^ 64 - 1 ≤ given
+
 -- after this last number there are none for so many entries, or not even one for an empty batch
 abbrev pub AreUsedUp : ℕ → ℕ → Type 0
 AreUsedUp last count = greatest_sequence < last + max 1 count
@@ -78,7 +82,7 @@ AreUsedUp last count = greatest_sequence < last + max 1 count
 abbrev pub IsUsedUp : State → Request → Type 0
 IsUsedUp old (open_store opening) = opening.compresses ≡ false
 IsUsedUp old (write items sync) = AreUsedUp old.last (length items)
-IsUsedUp old get_snapshot = 2 ^ 64 - 1 ≤ length old.given
+IsUsedUp old get_snapshot = AreSnapshotsUsedUp (length old.given)
 IsUsedUp old _ = ⊥
 
 -- the request's operands fit, and there are numbers for it

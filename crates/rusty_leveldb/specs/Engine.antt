@@ -1,16 +1,17 @@
 -- What an engine has in memory, what that has to do with the disk, and what its calls return.
-use Rattle.std.specs.Prelude.{◌≡◌, ◌≢◌, ◌⊎◌, ◌↔◌, ℕ, Bool, true, false, List, [], ◌∷◌, ◌++◌, length, Option, Some, None, IsTrue, string_bytes, ◌&&◌, ◌||◌, nat_le, ◌^◌, Result, is_some}
+use Rattle.std.specs.Prelude.{◌≡◌, ◌≢◌, ◌≤◌, ◌⊎◌, ◌↔◌, ℕ, Bool, true, false, List, [], ◌∷◌, ◌++◌, length, map, Contains, Option, Some, None, IsTrue, string_bytes, ◌&&◌, ◌||◌, nat_le, ◌^◌, Result, is_some}
 use Rattle.leveldb_base.specs.declared.cmp.Cmp.{Ghosts as CmpGhosts}
 use Rattle.leveldb_base.specs.declared.error.Status.{Status}
 use Rattle.leveldb_base.specs.declared.error.StatusCode.TheVariants.{InvalidArgument, NotSupported}
 use Rattle.leveldb_base.specs.Error.{IsOutOfMemory}
-use Rattle.leveldb_base.specs.History.{Item}
+use Rattle.leveldb_base.specs.History.{Item, entries_of, greatest}
 use Rattle.leveldb_env.specs.declared.env.Env.{Ghosts}
 use Rattle.leveldb_env.specs.declared.filter.FilterPolicy.{Ghosts as FilterGhosts}
 use Rattle.leveldb_env.specs.declared.compressor.CompressorList.{CompressorList}
 use Rattle.leveldb_env.specs.Compressor.{Codings}
 use Rattle.leveldb_env.specs.Env.{Disk, Files}
 use Rattle.leveldb_env.specs.Options.{Boxed, OptionsOf}
+use Rattle.leveldb_iter.specs.Snapshot.{HeldSnapshots}
 use Rattle.leveldb_mem.specs.Log.Writer.{IsWriterBroken}
 use Rattle.leveldb_mem.specs.MemTable.{FailsToPrepare, IsUnion, Kept, bytes_in}
 use Rattle.leveldb_version.specs.Paths.{lock_path}
@@ -31,9 +32,9 @@ use Rattle.leveldb_store.specs.Written.{IsWritten, Shows}
 use Rattle.rusty_leveldb.specs.declared.db_impl.engine.Mode.{Mode}
 use Rattle.rusty_leveldb.specs.declared.db_impl.engine.Mode.TheVariants.{Open, Broken, Closed}
 use Rattle.rusty_leveldb.specs.State as machine
-use Rattle.rusty_leveldb.specs.State.{State, Opening, Request, Answer}
-use Rattle.rusty_leveldb.specs.Causes.{AreUsedUp, IsLongBatch, IsLongKey}
-use Rattle.rusty_leveldb.specs.Serves.{Serves, Scene}
+use Rattle.rusty_leveldb.specs.State.{State, Opening, Request, Answer, Snapshot}
+use Rattle.rusty_leveldb.specs.Causes.{AreSnapshotsUsedUp, AreUsedUp, IsLongBatch, IsLongKey, IsNotHeld}
+use Rattle.rusty_leveldb.specs.Serves.{Serves, Scene, snapshot_of}
 use Rattle.rusty_leveldb.specs.Boxes.{EngineOf, InternalOrder}
 
 -- ---- the mode
@@ -95,6 +96,29 @@ abbrev pub holds_lock : {E C FP F : Type 0} {B : Boxed} {keys : InternalOrder C}
     → EngineOf E C FP F B keys → E → Bool
 holds_lock env engine at = (env.observed at).disk.locked (string_bytes engine.lock)
 
+-- ---- snapshots
+
+-- the snapshots that an engine holds
+abbrev pub held_in : {E C FP F : Type 0} {B : Boxed} {keys : InternalOrder C}
+    → EngineOf E C FP F B keys → List Snapshot
+held_in engine = map snapshot_of engine.snapshots.held
+
+-- The snapshots of a list are those that a state holds, in the order in which they were given out.
+pub record HasSnapshots (snapshots : HeldSnapshots) (state : State) : Type 0 where
+  pub held : map snapshot_of snapshots.held ≡ state.held
+  -- as many numbers were given out, and none is past the last one
+  pub count : length state.given ≡ snapshots.given
+  pub given : (number : ℕ) → Contains state.given number → number ≤ snapshots.given
+
+-- Memory and live tables show a state's history from some number on, which is past neither its
+-- greatest one nor that of a snapshot that is held: so as it is now, and as it was at each of them.
+pub record ShowsViews {C : Type 0} (meaning : Meaning) (value : OpenStoreValue C) (files : Files)
+    (state : State) : Type 0 where
+  pub since : ℕ
+  pub shows : Shows state.format.order meaning value files state.history since
+  pub now : since ≤ greatest (entries_of state.history)
+  pub held : (one : Snapshot) → Contains state.held one → since ≤ one.sequence
+
 -- ---- memory and disk
 
 -- the open tables of an engine are those of its store in these files
@@ -106,9 +130,9 @@ HasOwnTables env formats engine files =
 module _ {E C FP F : Type 0} {B : Boxed} {keys : InternalOrder C} (env : Ghosts E F)
     (formats : OptionsOf C FP B → Format) (store : List ℕ) (meaning : Meaning) where
   -- What the engine's memory has to do with the disk and the state, where names and ids in the
-  -- files have this meaning. Where it isn't closed, its options are those of the last opening,
-  -- memory and tables show the history, and the open tables are those of the files; where it is
-  -- open, the files are written with what is in memory.
+  -- files have this meaning. Where it isn't closed, its options are those of the last opening, it
+  -- holds the state's snapshots, memory and tables show the history at each of them, and the open
+  -- tables are those of the files; where it is open, the files are written with what is in memory.
   pub record Recalls (engine : EngineOf E C FP F B keys) (disk : Disk) (state : State)
       : Type 0 where
     pub mode : mode_in engine ≡ state.mode
@@ -119,7 +143,8 @@ module _ {E C FP F : Type 0} {B : Boxed} {keys : InternalOrder C} (env : Ghosts 
         → state.store ≡ made (Some state.format.order_name)
     pub last : (state.mode ≡ machine.closed → ⊥) → engine.store.set.last_sequence ≡ state.last
     pub shows : (state.mode ≡ machine.closed → ⊥)
-        → Shows state.format.order meaning engine.store disk.files state.history
+        → ShowsViews meaning engine.store disk.files state
+    pub snapshots : (state.mode ≡ machine.closed → ⊥) → HasSnapshots engine.snapshots state
     pub tables : (state.mode ≡ machine.closed → ⊥) → HasOwnTables env formats engine disk.files
     pub writes : state.mode ≡ machine.open_mode
         → IsWritten state.format.order meaning engine.store disk.files
@@ -181,12 +206,31 @@ RefusedAsBroken mode e = IsBroken mode × IsWriterBroken e
 abbrev pub RefusedByMode : machine.Mode → Status → Type 0
 RefusedByMode mode e = RefusedAsClosed mode e ⊎ RefusedAsBroken mode e
 
--- Why a look-up may fail: the store is closed, the key is too long, memory ran out, or a table can't
--- be read, for this cause.
+-- Why a look-up may fail: the store is closed, the snapshot isn't held, the key is too long, memory
+-- ran out, or a table can't be read, for this cause.
 abbrev pub GetExcused : {E C FP F : Type 0} {B : Boxed} {keys : InternalOrder C}
-    → EngineOf E C FP F B keys → List ℕ → (Status → Type 0) → Status → Type 0
-GetExcused engine key Unreadable e = RefusedAsClosed (mode_in engine) e
-    ⊎ ((e.code ≡ InvalidArgument) × IsLongKey key) ⊎ IsOutOfMemory e ⊎ Unreadable e
+    → EngineOf E C FP F B keys → Option Snapshot → List ℕ → (Status → Type 0) → Status → Type 0
+GetExcused engine at key Unreadable e = RefusedAsClosed (mode_in engine) e
+    ⊎ ((e.code ≡ InvalidArgument) × (IsNotHeld (held_in engine) at ⊎ IsLongKey key))
+    ⊎ IsOutOfMemory e ⊎ Unreadable e
+
+-- why no walk may be made: the store is closed, the snapshot isn't held, or memory ran out
+abbrev pub WalkExcused : {E C FP F : Type 0} {B : Boxed} {keys : InternalOrder C}
+    → EngineOf E C FP F B keys → Option Snapshot → Status → Type 0
+WalkExcused engine at e = RefusedAsClosed (mode_in engine) e
+    ⊎ ((e.code ≡ InvalidArgument) × IsNotHeld (held_in engine) at) ⊎ IsOutOfMemory e
+
+-- why no snapshot may be given out: the store is closed, memory ran out, or the numbers are used up
+abbrev pub SnapshotExcused : {E C FP F : Type 0} {B : Boxed} {keys : InternalOrder C}
+    → EngineOf E C FP F B keys → Status → Type 0
+SnapshotExcused engine e = RefusedAsClosed (mode_in engine) e ⊎ IsOutOfMemory e
+    ⊎ ((e.code ≡ NotSupported) × AreSnapshotsUsedUp engine.snapshots.given)
+
+-- why a snapshot may not be released: the store is closed, or the snapshot isn't held
+abbrev pub ReleaseExcused : {E C FP F : Type 0} {B : Boxed} {keys : InternalOrder C}
+    → EngineOf E C FP F B keys → Snapshot → Status → Type 0
+ReleaseExcused engine one e = RefusedAsClosed (mode_in engine) e
+    ⊎ ((e.code ≡ InvalidArgument) × IsNotHeld (held_in engine) (Some one))
 
 -- a memtable without entries
 abbrev pub empty_memtable : Kept
@@ -234,18 +278,18 @@ module _ {E C FP F : Type 0} {B : Boxed} {keys : InternalOrder C} (env : Ghosts 
   abbrev pub CloseExcused : E → Status → Type 0
   CloseExcused now e = SyncExcused now e × (env.failures now ≡ env.failures at)
 
-  -- why a look-up fails
-  pub record GetFails {T : Type 0} (key : List ℕ) (result : Result T Status) (to : E) : Type 0
-    where
-      -- a table that can't be read is damaged or missing, or lacks its compressor, or that fails
-      pub cause : FailsFor (GetExcused engine key (λ e. IsTableFault format_in e.code))
-          (env.failures at) (env.failures to) result
-      -- where the live tables are there, and the open ones are the store's, only since the format
-      -- lacks a compressor
-      pub lacks : (meaning : Meaning) (live : List LiveTable)
-          → HasTablesToRead env (tables_by formats engine) engine.store at engine.tables meaning live
-          → FailsFor (GetExcused engine key (λ e. (e.code ≡ NotSupported)
-          × LacksCompressor format_in meaning)) (env.failures at) (env.failures to) result
+  -- why a look-up fails, now or at a snapshot
+  pub record GetFails {T : Type 0} (snapshot : Option Snapshot) (key : List ℕ)
+      (result : Result T Status) (to : E) : Type 0 where
+    -- a table that can't be read is damaged or missing, or lacks its compressor, or that fails
+    pub cause : FailsFor (GetExcused engine snapshot key (λ e. IsTableFault format_in e.code))
+        (env.failures at) (env.failures to) result
+    -- where the live tables are there, and the open ones are the store's, only since the format
+    -- lacks a compressor
+    pub lacks : (meaning : Meaning) (live : List LiveTable)
+        → HasTablesToRead env (tables_by formats engine) engine.store at engine.tables meaning live
+        → FailsFor (GetExcused engine snapshot key (λ e. (e.code ≡ NotSupported)
+        × LacksCompressor format_in meaning)) (env.failures at) (env.failures to) result
 
 -- ---- room in memory
 

@@ -1,6 +1,6 @@
 -- What holds of the machine and of disks that hold its history, whatever names in files mean.
-use Rattle.std.specs.Prelude.{◌≡◌, ◌≢◌, ◌≤◌, ◌⊎◌, ℕ, List, [], ◌∷◌, ◌++◌, map, flat_map, take, Option, Some, None, Contains, true, false, IsTrue, nat_le, if◌then◌else◌}
-use Rattle.leveldb_base.specs.History.{Item, Entry, History}
+use Rattle.std.specs.Prelude.{◌≡◌, ◌≢◌, ◌≤◌, ◌⊎◌, ℕ, List, [], ◌∷◌, ◌++◌, map, flat_map, take, Option, Some, None, All, Contains, true, false, IsTrue, nat_le, if◌then◌else◌}
+use Rattle.leveldb_base.specs.History.{Item, Entry, History, SameView, entries_of}
 use Rattle.leveldb_env.specs.declared.env.Env.{Ghosts}
 use Rattle.leveldb_env.specs.Env.{Files, Disk, FilesCrashTo, DiskCrashesTo, Since}
 use Rattle.leveldb_version.specs.Paths.{lock_path}
@@ -9,10 +9,10 @@ use Rattle.leveldb_version.specs.Format.{Format, Meaning}
 use Rattle.leveldb_version.specs.Store.{HasNoStore, SameContents}
 use Rattle.leveldb_version.specs.StoreSteps.{AppendedAreBytes}
 use Rattle.leveldb_version.specs.Holds.{IsHonest, CarriesPrefix}
-use Rattle.rusty_leveldb.specs.State.{State, IsState, broken, closed, Opening, Request, open_store, write, get, flush, close, Answer, done, found, Refusal, refused}
-use Rattle.rusty_leveldb.specs.Causes.{Setting, Cause, IsLongKey, IsLongBatch, Comes, IsClosedRefusal, IsBrokenRefusal}
+use Rattle.rusty_leveldb.specs.State.{State, IsState, broken, closed, Opening, Snapshot, Request, open_store, write, get, get_snapshot, flush, close, Answer, done, found, snapshot, Refusal, refused}
+use Rattle.rusty_leveldb.specs.Causes.{Setting, Cause, TakesLock, IsLongKey, IsLongBatch, Comes, IsClosedRefusal, IsBrokenRefusal}
 use Rattle.rusty_leveldb.specs.Machine.{Step, StaysOr, risk_between, risk_of, Crashes}
-use Rattle.rusty_leveldb.specs.Runs.{Event, setting_of, Ending, goes_on, crashes, Life, Lives, new_state}
+use Rattle.rusty_leveldb.specs.Runs.{Event, Run, setting_of, Ending, goes_on, crashes, Life, Lives, new_state}
 use Rattle.rusty_leveldb.specs.Serves.{Reads, StandsFor, IsSpared, AtEachMoment}
 
 -- ---- disks
@@ -215,6 +215,29 @@ SyncedIsRead = (meaning : Meaning) (setting later : Setting)
     written
     → NoneHasKey key (asked_in lives) → Lives meaning before written lives after last
     → Step last.mode later last (get None key) (found looked) new → looked ≡ Some value
+
+-- ---- what a snapshot reads
+
+-- none of these events opens the store
+abbrev pub NoneOpens : List Event → Type 0
+NoneOpens events = All (λ event. TakesLock event.request → ⊥) events
+
+-- Until the store is opened again, the view at each number up to the last one stays as it is.
+abbrev pub ViewsStay : Type 0
+ViewsStay = (meaning : Meaning) (events : List Event) (before after : ℕ) (old last : State)
+    → IsState old → NoneOpens events → Run meaning before old events after last
+    → (s : ℕ) → s ≤ old.last → SameView (entries_of old.history) (entries_of last.history) s
+
+-- A snapshot is given out after a look-up of a key. Whatever requests but an opening come then, a
+-- look-up of the key at the snapshot finds what that one found, if it isn't refused.
+abbrev pub SnapshotIsRead : Type 0
+SnapshotIsRead = (meaning : Meaning) (first second later : Setting) (old taken last new : State)
+    (one : Snapshot) (key : List ℕ) (earlier now : Option (List ℕ)) (events : List Event)
+    (before after : ℕ)
+    → IsState old → Step old.mode first old (get None key) (found earlier) old
+    → Step old.mode second old get_snapshot (snapshot one) taken
+    → NoneOpens events → Run meaning before taken events after last
+    → Step last.mode later last (get (Some one) key) (found now) new → now ≡ earlier
 
 -- ---- an example
 

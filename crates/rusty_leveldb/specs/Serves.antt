@@ -9,6 +9,7 @@ use Rattle.leveldb_base.specs.Cmp.{bytewise}
 use Rattle.leveldb_base.specs.declared.error.Status.{Status}
 use Rattle.leveldb_base.specs.Error.{text_of}
 use Rattle.leveldb_env.specs.Env.{Files, Disk, FilesCrashTo, Observed}
+use Rattle.leveldb_iter.specs.declared.snapshot.Snapshot.{Snapshot as HeldSnapshot}
 use Rattle.leveldb_env.specs.Env as calls
 use Rattle.leveldb_version.specs.Paths.{lock_path}
 use Rattle.leveldb_version.specs.Contents.{Contents, Store, made}
@@ -17,7 +18,7 @@ use Rattle.rusty_leveldb.specs.Frame.{IsOwn, MayTouch, Spares, IsSyncing, SameBy
 use Rattle.leveldb_version.specs.Holds.{IsHonest, IsSafe, Holds}
 use Rattle.leveldb_version.specs.Store.{IsStore}
 use Rattle.leveldb_version.specs.StoreSteps.{AppendedAreBytes}
-use Rattle.rusty_leveldb.specs.State.{State, IsState, closed, Request, Refusal, Answer, done, found, refused}
+use Rattle.rusty_leveldb.specs.State.{State, IsState, closed, Request, Refusal, Answer, Snapshot, done, found, refused, snapshot}
 use Rattle.rusty_leveldb.specs.Causes.{Setting}
 use Rattle.rusty_leveldb.specs.Machine.{Step, StaysOr, Risk, risk_of}
 use Rattle.rusty_leveldb.specs.Runs.{Event, Run, last_moment, StopsAt}
@@ -35,6 +36,10 @@ Reads store meaning files contents =
 
 -- ---- results as answers
 
+-- a snapshot as the machine has it
+abbrev pub snapshot_of : HeldSnapshot → Snapshot
+snapshot_of one = record { number = one.number; sequence = one.sequence }
+
 -- a refusal as a call answers it; no text is the empty text
 abbrev pub refusal_of : Status → Refusal
 refusal_of status = record { code = status.code; text = text_of status.err }
@@ -48,6 +53,11 @@ done_or (Err status) = refused (refusal_of status)
 abbrev pub found_or : Result (Option (List ℕ)) Status → Answer
 found_or (Ok value) = found value
 found_or (Err status) = refused (refusal_of status)
+
+-- the snapshot that was given out, or refused
+abbrev pub snapshot_or : Result HeldSnapshot Status → Answer
+snapshot_or (Ok one) = snapshot (snapshot_of one)
+snapshot_or (Err status) = refused (refusal_of status)
 
 -- the engine that an opening gave, or none
 abbrev pub given_engine : {M : Type 0} → Result M Status → Option M

@@ -6,6 +6,7 @@ mod info_log;
 mod names;
 mod open;
 mod read;
+mod snapshots;
 mod store;
 mod write;
 

@@ -1,6 +1,6 @@
 //! The laws of the store's machine, as contracts of functions that do nothing.
 
-ghost use Rattle.rusty_leveldb.specs.Laws.{OneReading, NothingStands, CrashBetween, CrashInside, CrashSince, RefusalHasCause, StepFits, CrashFits, CrashInsideFits, LivesFit, DurableStays, SyncedStays, EachAnswerParts, HistoryIsAsked, MoreIsAsked, SyncedIsRead, SyncedCanBeFound};
+ghost use Rattle.rusty_leveldb.specs.Laws.{OneReading, NothingStands, CrashBetween, CrashInside, CrashSince, RefusalHasCause, StepFits, CrashFits, CrashInsideFits, LivesFit, DurableStays, SyncedStays, EachAnswerParts, HistoryIsAsked, MoreIsAsked, SyncedIsRead, ViewsStay, SnapshotIsRead, SyncedCanBeFound};
 
 use leveldb_env::env::Env;
 
@@ -62,6 +62,13 @@ pub fn histories_are_made_of_writes()
 /// the key, in this life or after any crashes, finds anything but that value.
 pub fn synced_value_is_found()
     ensures { SyncedIsRead }
+{}
+
+/// Until the store is opened again, whatever is written: the view at each number up to the last one
+/// stays, and a look-up at a snapshot finds what a look-up found when it was given out.
+pub fn snapshots_keep_their_view()
+    ensures views { ViewsStay }
+    ensures reads { SnapshotIsRead }
 {}
 
 /// The machine's rows can be met: there are lives in which a value that was written with a sync

@@ -34,6 +34,8 @@ mod rooms;
 #[cfg(test)]
 mod rows;
 #[cfg(test)]
+mod snapshots;
+#[cfg(test)]
 mod steps;
 #[cfg(test)]
 mod stores;

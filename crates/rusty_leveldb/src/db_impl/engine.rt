@@ -12,6 +12,7 @@ use leveldb_env::compressor::{CompressorList, Compressors};
 use leveldb_env::env::Env;
 use leveldb_env::filter::FilterPolicy;
 use leveldb_env::options::Options;
+use leveldb_iter::snapshot::SnapshotList;
 use leveldb_store::open_store::OpenStore;
 use leveldb_version::table_cache::TableCache;
 use std::alloc::Global;
@@ -39,6 +40,7 @@ pub struct Engine<E: Env, C: Cmp, FP, T = TableCache<E, C, FP>> {
     pub(crate) store: OpenStore<E, C>,
     // A parameter, since no contract may name a type that has tables beside the options' boxes.
     pub(crate) tables: T,
+    pub(crate) snapshots: SnapshotList,
     pub(crate) mode: Mode,
 }
 

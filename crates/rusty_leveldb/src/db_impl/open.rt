@@ -19,6 +19,7 @@ use leveldb_env::env::Env;
 use leveldb_env::filter::{FilterPolicy, InternalFilterPolicy};
 use leveldb_env::infolog::Logger;
 use leveldb_env::options::Options;
+use leveldb_iter::snapshot::SnapshotList;
 use leveldb_store::open_store::OpenStore;
 use leveldb_version::table_cache::TableCache;
 use std::alloc::Global;
@@ -59,6 +60,7 @@ impl<E: Env, C: UserCmp + Copy, FP: FilterPolicy + Copy> Engine<E, C, FP> {
                     lock,
                     store,
                     tables,
+                    snapshots: SnapshotList::new(alloc),
                     mode: Mode::Open,
                 })
             }

@@ -1,7 +1,9 @@
 //! Reading from a store.
-ghost use Rattle.std.specs.Prelude.{None};
+ghost use Rattle.std.specs.Prelude.{◌≡◌, None, Some, OnOk, IfErr};
+ghost use Rattle.leveldb_base.specs.declared.error.StatusCode.TheVariants.{InvalidArgument};
 ghost use Rattle.rusty_leveldb.specs.State.{get};
-ghost use Rattle.rusty_leveldb.specs.Serves.{found_or};
+ghost use Rattle.rusty_leveldb.specs.Causes.{IsLongKey};
+ghost use Rattle.rusty_leveldb.specs.Serves.{found_or, snapshot_of};
 ghost use Rattle.leveldb_store.specs.BuildTable.{choices_of};
 ghost use Rattle.rusty_leveldb.specs.Calls.{EngineServes};
 
@@ -12,6 +14,7 @@ use leveldb_base::error::{Result, StatusCode, err};
 use leveldb_env::compressor::{CompressorList, Compressors};
 use leveldb_env::env::Env;
 use leveldb_env::filter::{FilterPolicy, InternalFilterPolicy};
+use leveldb_iter::snapshot::Snapshot;
 
 /// The greatest length of a key, in bytes.
 const MAX_KEY_SIZE: usize = 1 << 30;
@@ -26,6 +29,37 @@ impl<E: Env, C: UserCmp + Copy, FP: FilterPolicy + Copy> Engine<E, C, FP> {
             self.new env.new }
     {
         self.check_not_closed()?;
+        self.check_key(key)?;
+        let last = self.store.last_sequence();
+        self.options.cmp = self.store.cmp();
+        self.store
+            .get(env, &self.options, &mut self.tables, last, key)
+    }
+
+    /// The key's value at a snapshot, or none if it had none. A snapshot that isn't held is
+    /// `InvalidArgument`.
+    pub fn get_at(&mut self, env: &mut E, snapshot: Snapshot, key: &[u8]) -> Result<Option<Bytes>>
+        ensures { let choices = choices_of C.Cmp FP.FilterPolicy
+            ⟦<InternalKeyCmp<C> as Cmp>⟧ ⟦<InternalFilterPolicy<FP> as FilterPolicy>⟧
+            ⟦<CompressorList as Compressors>⟧.codings in
+            EngineServes E.Env choices found_or self.old env.old
+            (get (Some (snapshot_of snapshot)) key.now) result self.new env.new }
+    {
+        self.check_not_closed()?;
+        self.check_held(snapshot)?;
+        self.check_key(key)?;
+        self.options.cmp = self.store.cmp();
+        let sequence = snapshot.sequence();
+        self.store
+            .get(env, &self.options, &mut self.tables, sequence, key)
+    }
+
+    // A key that is too long is refused.
+    fn check_key(&self, key: &[u8]) -> Result<()>
+        ensures ok { OnOk result (IsLongKey key.now → ⊥) }
+        ensures cause { IfErr result
+            (λ status. (status.code ≡ InvalidArgument) × IsLongKey key.now) }
+    {
         if key.len() > MAX_KEY_SIZE {
             return err(
                 self.alloc,
@@ -33,7 +67,6 @@ impl<E: Env, C: UserCmp + Copy, FP: FilterPolicy + Copy> Engine<E, C, FP> {
                 "a key has at most 2^30 bytes",
             );
         }
-        self.options.cmp = self.store.cmp();
-        self.store.get(env, &self.options, &mut self.tables, key)
+        Ok(())
     }
 }

@@ -1,8 +1,8 @@
 //! The public store: an engine beside a borrow of its environment, which each call gives to it.
 ghost use Rattle.std.specs.Prelude.{◌≡◌, ◌∷◌, [], Some, None, false, IfOk};
 ghost use Rattle.leveldb_mem.specs.WriteBatch.{item_of};
-ghost use Rattle.rusty_leveldb.specs.State.{write, get, flush, close};
-ghost use Rattle.rusty_leveldb.specs.Serves.{done_or, found_or};
+ghost use Rattle.rusty_leveldb.specs.State.{write, get, get_snapshot, release_snapshot, flush, close};
+ghost use Rattle.rusty_leveldb.specs.Serves.{done_or, found_or, snapshot_or, snapshot_of};
 ghost use Rattle.rusty_leveldb.specs.Engine.{opening_of};
 ghost use Rattle.leveldb_store.specs.BuildTable.{choices_of};
 ghost use Rattle.leveldb_version.specs.Format.{format_of};
@@ -16,6 +16,7 @@ use leveldb_env::compressor::{CompressorList, Compressors};
 use leveldb_env::env::Env;
 use leveldb_env::filter::{FilterPolicy, InternalFilterPolicy};
 use leveldb_env::options::Options;
+use leveldb_iter::snapshot::Snapshot;
 use leveldb_mem::write_batch::WriteBatch;
 use std::alloc::Global;
 
@@ -142,6 +143,46 @@ impl<'e, E: Env, C: UserCmp + Copy, FP: FilterPolicy + Copy> Store<'e, E, Engine
             (get None key.now) result self.new.state self.new.env.now }
     {
         self.state.get(&mut *self.env, key)
+    }
+
+    /// The key's value at a snapshot, or none if it had none. A snapshot that isn't held is
+    /// `InvalidArgument`.
+    pub fn get_at(&mut self, snapshot: &Snapshot, key: &[u8]) -> Result<Option<Bytes>>
+        ensures same_reference { self.new.env.ghost_name ≡ self.old.env.ghost_name }
+        ensures serves { let choices = choices_of C.Cmp FP.FilterPolicy
+            ⟦<InternalKeyCmp<C> as Cmp>⟧ ⟦<InternalFilterPolicy<FP> as FilterPolicy>⟧
+            ⟦<CompressorList as Compressors>⟧.codings in
+            EngineServes E.Env choices found_or self.old.state self.old.env.now
+            (get (Some (snapshot_of snapshot.now)) key.now) result self.new.state
+            self.new.env.now }
+    {
+        self.state.get_at(&mut *self.env, *snapshot, key)
+    }
+
+    /// Holds the store as it is now: look-ups at the snapshot find what look-ups find now, until it
+    /// is released or the store is closed.
+    pub fn get_snapshot(&mut self) -> Result<Snapshot>
+        ensures same_reference { self.new.env.ghost_name ≡ self.old.env.ghost_name }
+        ensures serves { let choices = choices_of C.Cmp FP.FilterPolicy
+            ⟦<InternalKeyCmp<C> as Cmp>⟧ ⟦<InternalFilterPolicy<FP> as FilterPolicy>⟧
+            ⟦<CompressorList as Compressors>⟧.codings in
+            EngineServes E.Env choices snapshot_or self.old.state self.old.env.now
+            get_snapshot result self.new.state self.new.env.now }
+    {
+        self.state.get_snapshot()
+    }
+
+    /// Releases a snapshot. One that isn't held is `InvalidArgument`; one that is held is released,
+    /// whatever memory there is.
+    pub fn release_snapshot(&mut self, snapshot: Snapshot) -> Result<()>
+        ensures same_reference { self.new.env.ghost_name ≡ self.old.env.ghost_name }
+        ensures serves { let choices = choices_of C.Cmp FP.FilterPolicy
+            ⟦<InternalKeyCmp<C> as Cmp>⟧ ⟦<InternalFilterPolicy<FP> as FilterPolicy>⟧
+            ⟦<CompressorList as Compressors>⟧.codings in
+            EngineServes E.Env choices done_or self.old.state self.old.env.now
+            (release_snapshot (snapshot_of snapshot)) result self.new.state self.new.env.now }
+    {
+        self.state.release_snapshot(snapshot)
     }
 
     /// Makes a crash keep all batches and gives back the lock. An open store that fails to do so is

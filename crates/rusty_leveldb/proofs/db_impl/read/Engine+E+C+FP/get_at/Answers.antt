@@ -1,0 +1,39 @@
+-- A closed store, a snapshot that isn't held, a key that is too long, or what the store's look-up
+-- returned.
+use Rattle.std.proofs.Common.{Some, inl, inr}
+use Rattle.std.proofs.lemmas.Result.{err_from_is_err_and}
+use Rattle.rusty_leveldb.specs.Serves.{snapshot_of}
+use Rattle.rusty_leveldb.proofs.CallsLemmas.{get_closed_serves, get_misfit_serves, get_serves_in}
+use Rattle.rusty_leveldb.proofs.db_impl.read.Engine+E+C+FP.get_at.Goals as goal
+
+pub returns-in_err-check_not_closed : goal.returns-in_err-check_not_closed
+returns-in_err-check_not_closed g c =
+    let p = err_from_is_err_and c.from_residual.result c.from_residual.ensures.1 in
+    rw (p.1, p.2) (get_closed_serves g.E.Env _ c.args.self.now (Some (snapshot_of c.args.snapshot))
+    c.args.key.now c.args.env.now c.in_err-check_not_closed.field-0.0
+    c.in_err-check_not_closed.ensures.cause)
+
+pub returns-in_err-check_held : goal.returns-in_err-check_held
+returns-in_err-check_held g c =
+    let p = err_from_is_err_and c.from_residual-in_err-check_held.result
+    c.from_residual-in_err-check_held.ensures.1 in
+    let unheld = c.in_err-check_held.ensures.cause in
+    rw (p.1, p.2) (get_misfit_serves g.E.Env _ c.args.self.now (Some (snapshot_of c.args.snapshot))
+    c.args.key.now c.args.env.now c.in_ok-check_not_closed.ensures.ok
+    c.in_err-check_held.field-0.0 unheld.0 (inl unheld.1))
+
+pub returns-in_err-check_key : goal.returns-in_err-check_key
+returns-in_err-check_key g c =
+    let p = err_from_is_err_and c.from_residual-in_err-check_key.result
+    c.from_residual-in_err-check_key.ensures.1 in
+    let long = c.in_err-check_key.ensures.cause in
+    rw (p.1, p.2) (get_misfit_serves g.E.Env _ c.args.self.now (Some (snapshot_of c.args.snapshot))
+    c.args.key.now c.args.env.now c.in_ok-check_not_closed.ensures.ok
+    c.in_err-check_key.field-0.0 long.0 (inr long.1))
+
+pub returns : goal.returns
+returns g c = get_serves_in g.E.Env _ c.args.self.now (Some (snapshot_of c.args.snapshot))
+    c.args.key.now c.args.env.now c.in_ok-check_not_closed.ensures.ok c.cmp-self.result
+    c.cmp-self.ensures c.sequence-sequence.result (c.in_ok-check_held.ensures.ok, c.sequence-sequence.ensures)
+    c.in_ok-check_key.ensures.ok c.get.new.env c.get.result c.get.new.self c.get.new.tables
+    c.get.ensures
