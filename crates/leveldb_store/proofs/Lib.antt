@@ -17,6 +17,7 @@ pub mod NotTabledLemmas
 pub mod SoundLemmas
 pub mod RoomLemmas
 mod ReadLemmas
+pub mod ViewLemmas
 pub mod GivenNumbersLemmas
 mod ReplayFilesLemmas
 mod ReplayLogLemmas

@@ -1,24 +1,28 @@
 -- A walk over the view of an open store at a sequence number: which pairs it is over, why its moves
 -- fail, and what they leave.
-use Rattle.std.specs.Prelude.{◌≡◌, ◌≤◌, ◌⊎◌, ℕ, List, None}
+use Rattle.std.specs.Prelude.{◌≡◌, ◌≤◌, ◌⊎◌, ℕ, true, List, [], ◌∷◌, Option, None, Result, IfErr, OnOk}
+use Rattle.std.specs.declared.cmp.Ordering.{Ordering}
 use Rattle.leveldb_base.specs.Error.{IsOutOfMemory}
 use Rattle.leveldb_base.specs.History.{History, IsView, entries_of}
 use Rattle.leveldb_base.specs.Types.{Pair}
 use Rattle.leveldb_base.specs.declared.cmp.Cmp.{Ghosts as CmpGhosts}
 use Rattle.leveldb_base.specs.declared.cmp.internal.InternalKeyCmp.{InternalKeyCmp}
 use Rattle.leveldb_base.specs.declared.error.Status.{Status}
-use Rattle.leveldb_base.specs.declared.error.StatusCode.TheVariants.{NotSupported}
+use Rattle.leveldb_base.specs.declared.error.StatusCode.TheVariants.{InvalidArgument, NotSupported}
 use Rattle.leveldb_env.specs.declared.env.Env.{Ghosts}
+use Rattle.leveldb_iter.specs.Moves.{IsRefusedFor, LandsAt, SeeksLongKey}
 use Rattle.leveldb_iter.specs.Walk.{KeyOrder}
+use Rattle.leveldb_iter.specs.declared.moves.Move.{Move}
+use Rattle.leveldb_iter.specs.declared.moves.Step.{Step}
 use Rattle.leveldb_iter.specs.declared.walk.Walk.{Ghosts as WalkGhosts}
 use Rattle.leveldb_table.specs.TableBlock.{KeepsDisk}
+use Rattle.leveldb_version.specs.Batches.{Each}
 use Rattle.leveldb_version.specs.Format.{Agrees, IsTableFault, LacksCompressor, Meaning}
-use Rattle.leveldb_version.specs.Levels.{LiveTable}
 use Rattle.leveldb_version.specs.TableCache.{TableOptions, files_at}
 use Rattle.leveldb_version.specs.declared.table_cache.TableCache.{TableCache}
 use Rattle.leveldb_store.specs.OpenStore.{OpenStoreValue}
 use Rattle.leveldb_store.specs.OpenTables.{AreOpenTablesOf}
-use Rattle.leveldb_store.specs.Read.{HasOpenTables, HasTablesToRead}
+use Rattle.leveldb_store.specs.Read.{HasOpenTables}
 use Rattle.leveldb_store.specs.Room.{HasFailed}
 use Rattle.leveldb_store.specs.Written.{Shows}
 
@@ -66,12 +70,66 @@ module _ {E F C FP T W : Type 0} {keys : CmpGhosts (InternalKeyCmp C)} (env : Gh
     pub fault : (from to : E × T) (status : Status) → by_in from.1 ≡ by
         → walk.fails from it to status
         → FailsBetween env walk from to (λ e. IsTableFault by.format e.code) status
-    -- and where the live tables are there, it comes since the format lacks a compressor
-    pub lacks : (from : E × T) (meaning : Meaning) (live : List LiveTable) → by_in from.1 ≡ by
-        → HasTablesToRead env by value from.0 (cache_in from.1) meaning live
+    -- and where memory and tables show a history, it comes since the format lacks a compressor
+    pub lacks : (from : E × T) → IsWorldOf from → (meaning : Meaning) → Agrees by.format meaning
+        → (history : History) (since : ℕ)
+        → Shows by.format.order meaning value (files_at env from.0) history since
         → (to : E × T) (status : Status) → walk.fails from it to status
         → FailsBetween env walk from to (λ e. (e.code ≡ NotSupported)
         × LacksCompressor by.format meaning) status
     -- the open tables stay those of the store
     pub still_open : (from to : E × T) → walk.keeps from to → IsWorldOf from
         → AreOpenTablesOf env by value.set (files_at env to.0) (cache_in to.1)
+
+-- ---- moves in the view
+
+-- any key, in this order of keys
+abbrev pub any_in_order : (List ℕ → List ℕ → Ordering) → KeyOrder
+any_in_order cmp = record { accepts = λ key. true; cmp = cmp }
+
+-- why a move fails between two counts of failed calls: out of memory, at a failure that was counted,
+-- for this cause, or since its key is too long
+abbrev pub MoveFails : (Status → Type 0) → ℕ → ℕ → Move → Status → Type 0
+MoveFails Why from to one status = IsOutOfMemory status ⊎ HasFailed from to ⊎ Why status
+    ⊎ ((status.code ≡ InvalidArgument) × SeeksLongKey one)
+
+-- moves in a list of pairs, one after another, with the steps that say where they lead, each between
+-- the count of failed calls at the end of the one before and its own
+abbrev pub MakesMoves : (List ℕ → List ℕ → Ordering) → (Status → Type 0) → List Pair → Option ℕ → ℕ
+    → List Move → List Step → ℕ → Type 0
+MakesMoves cmp Why pairs position from [] [] to = to ≡ from
+MakesMoves cmp Why pairs position from (one ∷ moves) (step ∷ steps) to =
+    (mid : ℕ) × (from ≤ mid) × (next : Option ℕ)
+    × LandsAt (any_in_order cmp) pairs position one step next
+    × IsRefusedFor step one (MoveFails Why from mid one)
+    × MakesMoves cmp Why pairs next mid moves steps to
+MakesMoves cmp Why pairs position from moves steps to = ⊥
+
+-- What a call does that makes moves of a walk over the view of a store at a sequence number, from no
+-- position on: `given` are the steps that it adds, `by` says what tables are opened with.
+pub record WalksStore {E F C FP : Type 0} {keys : CmpGhosts (InternalKeyCmp C)} (env : Ghosts E F)
+    (by : TableOptions C FP) (value : OpenStoreValue C) (from : E)
+    (tables : TableCache E C FP F keys) (sequence : ℕ) (moves : List Move) (given : List Step)
+    (result : Result (Unit {0}) Status) (to : E) (left : TableCache E C FP F keys) : Type 0 where
+  -- the moves are made in the view at that number of each history that memory and tables show from
+  -- there on, or from a number before it; one fails for no fault of a table but that the format
+  -- lacks a compressor
+  pub walks : HasOpenTables env by value from tables → (meaning : Meaning)
+      → Agrees by.format meaning → (history : History) (since : ℕ) → since ≤ sequence
+      → Shows by.format.order meaning value (files_at env from) history since
+      → OnOk result ((pairs : List Pair)
+      × IsView by.format.order (entries_of history) sequence pairs
+      × MakesMoves by.format.order (λ e. (e.code ≡ NotSupported) × LacksCompressor by.format meaning)
+      pairs None (env.failures from) moves given (env.failures to))
+  -- over whatever files, each move has a step, and one that failed a cause
+  pub refused : OnOk result (Each (λ one step. IsRefusedFor step one
+      (MoveFails (λ e. IsTableFault by.format e.code) (env.failures from) (env.failures to) one))
+      moves given)
+  -- no walk is made where there is no memory for it
+  pub none : IfErr result (λ e. IsOutOfMemory e × (given ≡ []) × (to ≡ from) × (left ≡ tables))
+  -- no file changes, nor does a lock, and no failure is forgotten
+  pub kept : KeepsDisk env from to
+  pub later : env.failures from ≤ env.failures to
+  -- the open tables stay those of the store
+  pub still_open : HasOpenTables env by value from tables
+      → AreOpenTablesOf env by value.set (files_at env to) left

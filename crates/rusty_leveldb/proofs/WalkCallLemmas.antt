@@ -7,16 +7,13 @@ use Rattle.leveldb_base.specs.declared.error.StatusCode.TheVariants.{InvalidArgu
 use Rattle.leveldb_env.specs.Options.{Boxed, OptionsOf}
 use Rattle.leveldb_env.specs.declared.env.Env.{Ghosts}
 use Rattle.leveldb_env.specs.declared.filter.FilterPolicy.{Ghosts as FilterGhosts}
-use Rattle.leveldb_iter.specs.Moves.{MovesAll}
-use Rattle.leveldb_iter.specs.Walk.{KeyOrder, WalkLaws}
 use Rattle.leveldb_iter.specs.declared.moves.Move.{Move}
 use Rattle.leveldb_iter.specs.declared.moves.Step.{Step}
-use Rattle.leveldb_iter.specs.declared.walk.Walk.{Ghosts as WalkGhosts}
 use Rattle.leveldb_version.specs.TableCache.{TableOptions, table_options}
 use Rattle.leveldb_version.specs.declared.table_cache.TableCache.{TableCache}
 use Rattle.leveldb_store.specs.BuildTable.{TableChoices}
 use Rattle.leveldb_store.specs.Room.{FailsFor, HasFailed}
-use Rattle.leveldb_store.specs.View.{ReadsAlone, ViewsStore}
+use Rattle.leveldb_store.specs.View.{WalksStore}
 use Rattle.rusty_leveldb.specs.Boxes.{EngineOf, InternalOrder}
 use Rattle.rusty_leveldb.specs.Calls.{EngineServes, LeavesRest}
 use Rattle.rusty_leveldb.specs.Causes.{IsNotHeld}
@@ -27,8 +24,7 @@ use Rattle.rusty_leveldb.specs.Walks.{EngineWalks, walk_of, walked_or}
 use Rattle.rusty_leveldb.proofs.ReadingLemmas.{ReadsAt}
 use Rattle.rusty_leveldb.proofs.Others.{spares_same}
 use Rattle.rusty_leveldb.proofs.RestLemmas.{rest_still}
-use Rattle.rusty_leveldb.proofs.WalkLemmas.{refused_are}
-use Rattle.rusty_leveldb.proofs.WalkingLemmas.{kept_disk, later_failures, walk_closed, walk_goes, walk_starved, walk_unheld}
+use Rattle.rusty_leveldb.proofs.WalkingLemmas.{walk_closed, walk_goes, walk_starved, walk_unheld}
 
 module _ {E C FP F P : Type 0} {B : Boxed} {keys : InternalOrder C} {key_filters : FilterGhosts P}
     (env : Ghosts E F) (choices : OptionsOf C FP B → TableChoices keys key_filters)
@@ -87,42 +83,35 @@ module _ {E C FP F P : Type 0} {B : Boxed} {keys : InternalOrder C} {key_filters
       none = refl;
     }
 
-    module _ {T W : Type 0} (by_in : T → TableOptions C FP) (cache_in : T → TableCache E C FP F keys) (counts : (e : E) → env.failures e < 2 ^ 64)
-        (ghosts : WalkGhosts W E T) (laws : WalkLaws ghosts.over ghosts.is_at ghosts.here ghosts.fails ghosts.keeps) (reads : ReadsAlone env ghosts)
-        (order : KeyOrder) (accepts : (key : List ℕ) → order.accepts key ≡ true) (order_is : (formats_of choices (options_in before)).order ≡ order.cmp)
-        (sequence : ℕ) (reads_at : ReadsAt before at sequence) (it : W)
-        (views : ViewsStore env by_in cache_in ghosts (tables_by (formats_of choices) before) before.store order sequence it)
-        (to : E) (tables left : T) (new : W) (cache_is : cache_in tables ≡ before.tables) (by_is : by_in tables ≡ tables_by (formats_of choices) before)
-        (given : List Step) (made : MovesAll ghosts (from, tables) it moves given (to, left) new) where
+    module _ (sequence : ℕ) (reads_at : ReadsAt before at sequence) (to : E) (left : TableCache E C FP F keys) (given : List Step) where
       -- the engine in the end
       abbrev walked_engine : EngineOf E C FP F B keys
-      walked_engine = record before { options = options_in before; tables = cache_in left }
+      walked_engine = record before { options = options_in before; tables = left }
 
-      pub walk_serves : EngineWalks env choices before from at moves given (Ok tt) walked_engine to
-      walk_serves =
-          let formats = formats_of choices in
-          let kept = kept_disk env formats before at moves usable by_in cache_in counts ghosts laws reads order accepts order_is sequence reads_at it views from to
-          tables left new cache_is by_is given made in
-          let later = later_failures env formats before at moves usable by_in cache_in counts ghosts laws reads order accepts order_is sequence reads_at it views from to
-          tables left new cache_is by_is given made in
-          record {
-            serves = record {
-              options = record { rest = refl; sink = refl };
-              halted = λ halted. absurd (usable halted);
-              becomes = (refl, refl);
-              step = walk_goes env formats before at moves usable by_in cache_in counts ghosts laws reads order accepts order_is sequence reads_at it views from to
-                  tables left new cache_is by_is given made;
-              rest = record {
-                place = (refl, refl);
-                others = λ modelled own. spares_same before.store.set.store (env.observed from).disk (env.observed to).disk _ (kept.disk modelled).has
-                    (λ path differs. ap (λ (l : List ℕ → Bool). l path) (kept.locks modelled));
-                lock = λ modelled. (ap (λ (l : List ℕ → Bool). l (string_bytes before.lock)) (kept.locks modelled), tt);
-              };
-              time = λ modelled. (kept.disk modelled).time.later;
-              cause = record { later = later; cause = tt };
-            };
-            refused = refused_are env counts ghosts reads laws (formats (options_in before)) (from, tables) it
-                (λ status ever. views.fault (from, tables) (from, tables) status by_is (ever (from, tables)))
-                moves given (from, tables) it (to, left) new (omega arith) (λ later status fails. fails) made;
-            none = tt;
-          }
+      walk_made_serves : WalksStore env (tables_by (formats_of choices) before) before.store from before.tables sequence moves given (Ok tt) to left
+          → EngineWalks env choices before from at moves given (Ok tt) walked_engine to
+      walk_made_serves walks = record {
+        serves = record {
+          options = record { rest = refl; sink = refl };
+          halted = λ halted. absurd (usable halted);
+          becomes = (refl, refl);
+          step = walk_goes env (formats_of choices) before at moves usable sequence reads_at from to left given walks;
+          rest = record {
+            place = (refl, refl);
+            others = λ modelled own. spares_same before.store.set.store (env.observed from).disk (env.observed to).disk _ (walks.kept.disk modelled).has
+                (λ path differs. ap (λ (l : List ℕ → Bool). l path) (walks.kept.locks modelled));
+            lock = λ modelled. (ap (λ (l : List ℕ → Bool). l (string_bytes before.lock)) (walks.kept.locks modelled), tt);
+          };
+          time = λ modelled. (walks.kept.disk modelled).time.later;
+          cause = record { later = walks.later; cause = tt };
+        };
+        refused = walks.refused;
+        none = tt;
+      }
+
+      -- the options were given the store's order before the walk
+      pub walk_serves : (result : Result (Unit {0}) Status)
+          → WalksStore env (tables_by (formats_of choices) before) before.store from before.tables sequence moves given result to left
+          → EngineWalks env choices before from at moves given result walked_engine to
+      walk_serves (Ok tt) walks = walk_made_serves walks
+      walk_serves (Err status) walks = ?

@@ -1,7 +1,6 @@
 -- The step of the machine in which moves of a walk are made.
 use Rattle.std.specs.Prelude.{Contains, IfErr, Result, map}
 use Rattle.std.proofs.Common.{◌≡◌, ◌≤◌, ◌<◌, ◌+◌, ◌-◌, ◌^◌, ◌⊎◌, ◌∙◌, ⊎_elim, inl, inr, ℕ, Bool, true, List, length, refl, sym, ap, subst, arith, Option, Some, None, Ok, Err, IsTrue}
-use Rattle.std.specs.declared.cmp.Ordering.{Ordering}
 use Rattle.leveldb_base.specs.Error.{IsOutOfMemory, text_of}
 use Rattle.leveldb_base.specs.History.{History, IsView, entries_of, greatest}
 use Rattle.leveldb_base.specs.Types.{Pair}
@@ -11,23 +10,16 @@ use Rattle.leveldb_env.specs.Env.{Disk, Files}
 use Rattle.leveldb_env.specs.Options.{Boxed, OptionsOf}
 use Rattle.leveldb_env.specs.declared.env.Env.{Ghosts}
 use Rattle.leveldb_env.proofs.EnvLemmas.{Run-mono}
-use Rattle.leveldb_iter.specs.Moves.{MovesAll}
-use Rattle.leveldb_iter.specs.Walk.{KeyOrder, WalkLaws}
 use Rattle.leveldb_iter.specs.declared.moves.Move.{Move}
 use Rattle.leveldb_iter.specs.declared.moves.Step.{Step as Landed}
-use Rattle.leveldb_iter.specs.declared.walk.Walk.{Ghosts as WalkGhosts}
-use Rattle.leveldb_iter.proofs.MovesLemmas.{moves_kept}
-use Rattle.leveldb_table.specs.TableBlock.{KeepsDisk}
 use Rattle.leveldb_version.specs.Holds.{Holds}
 use Rattle.leveldb_version.specs.Paths.{lock_path}
 use Rattle.leveldb_version.specs.StoreSteps.{AppendedAreBytes}
 use Rattle.leveldb_version.specs.Format.{Agrees, Format, LacksCompressor, Meaning}
-use Rattle.leveldb_version.specs.TableCache.{TableOptions}
 use Rattle.leveldb_version.specs.declared.table_cache.TableCache.{TableCache}
 use Rattle.leveldb_store.specs.OpenStore.{OpenStoreValue}
-use Rattle.leveldb_store.specs.OpenTables.{AreOpenTablesOf}
-use Rattle.leveldb_store.specs.Read.{HasOpenTables, HasTablesToRead}
-use Rattle.leveldb_store.specs.View.{FailsBetween, IsWorldOf, ReadsAlone, ViewsStore}
+use Rattle.leveldb_store.specs.Read.{HasOpenTables}
+use Rattle.leveldb_store.specs.View.{MakesMoves, WalksStore}
 use Rattle.leveldb_store.specs.Written.{IsWritten, Shows}
 use Rattle.rusty_leveldb.specs.Boxes.{EngineOf, InternalOrder}
 use Rattle.rusty_leveldb.specs.Causes.{IsNotHeld, Misfits, Setting, bad_operand, out_of_memory}
@@ -103,25 +95,11 @@ module _ {E C FP F : Type 0} {B : Boxed} {keys : InternalOrder C} (env : Ghosts 
 
     -- ---- moves of a walk
 
-    module _ {T W : Type 0} (by_in : T → TableOptions C FP) (cache_in : T → TableCache E C FP F keys) (counts : (e : E) → env.failures e < 2 ^ 64)
-        (ghosts : WalkGhosts W E T) (laws : WalkLaws ghosts.over ghosts.is_at ghosts.here ghosts.fails ghosts.keeps) (reads : ReadsAlone env ghosts)
-        (order : KeyOrder) (accepts : (key : List ℕ) → order.accepts key ≡ true) (order_is : (formats (options_in before)).order ≡ order.cmp)
-        (sequence : ℕ) (reads_at : ReadsAt before at sequence) (it : W)
-        (views : ViewsStore env by_in cache_in ghosts (tables_by formats before) before.store order sequence it)
-        (from to : E) (tables left : T) (new : W) (cache_is : cache_in tables ≡ before.tables) (by_is : by_in tables ≡ tables_by formats before)
-        (given : List Landed) (made : MovesAll ghosts (from, tables) it moves given (to, left) new) where
+    module _ (sequence : ℕ) (reads_at : ReadsAt before at sequence) (from to : E) (left : TableCache E C FP F keys) (given : List Landed)
+        (walks : WalksStore env (tables_by formats before) before.store from before.tables sequence moves given (Ok tt) to left) where
       -- the engine in the end
       abbrev after : EngineOf E C FP F B keys
-      after = record before { options = options_in before; tables = cache_in left }
-
-      kept : ghosts.keeps (from, tables) (to, left)
-      kept = moves_kept ghosts laws moves given (from, tables) it (to, left) new made
-
-      pub kept_disk : KeepsDisk env from to
-      kept_disk = reads.kept (from, tables) (to, left) kept
-
-      pub later_failures : env.failures from ≤ env.failures to
-      later_failures = reads.later (from, tables) (to, left) kept
+      after = record before { options = options_in before; tables = left }
 
       module _ (store : List ℕ) (meaning : Meaning) (modelled : IsTrue env.models_disk) (old : State)
           (was : Represents store meaning (Recalls env formats store meaning) (Some before) (env.observed from).disk old) where
@@ -140,24 +118,14 @@ module _ {E C FP F : Type 0} {B : Boxed} {keys : InternalOrder C} (env : Ghosts 
         shows : Shows (formats (options_in before)).order meaning before.store (env.observed from).disk.files old.history shown.since
         shows = subst (λ (f : Format). Shows f.order meaning before.store (env.observed from).disk.files old.history shown.since) (sym same_format) shown.shows
 
-        has_open : HasOpenTables env (tables_by formats before) before.store from (cache_in tables)
-        has_open = record {
-          modelled = modelled;
-          are = subst (λ (c : TableCache E C FP F keys). AreOpenTablesOf env (tables_by formats before) before.store.set (env.observed from).disk.files c)
-              (sym cache_is) (was.memory_is.tables not_closed);
-        }
-
-        world : IsWorldOf env by_in cache_in ghosts (tables_by formats before) before.store (from, tables)
-        world = record { by_is = by_is; has_open = has_open }
-
-        to_read : HasTablesToRead env (tables_by formats before) before.store from (cache_in tables) meaning shows.tables
-        to_read = record { agrees = agrees; has_open = has_open; has_live = shows.has; levels = shows.shows.levels }
+        has_open : HasOpenTables env (tables_by formats before) before.store from before.tables
+        has_open = record { modelled = modelled; are = was.memory_is.tables not_closed }
 
         same_files : (env.observed to).disk.files ≡ (env.observed from).disk.files
-        same_files = (kept_disk.disk modelled).has
+        same_files = (walks.kept.disk modelled).has
 
         same_locks : (env.observed to).disk.locked ≡ (env.observed from).disk.locked
-        same_locks = kept_disk.locks modelled
+        same_locks = walks.kept.locks modelled
 
         last_is : before.store.set.last_sequence ≡ old.last
         last_is = was.memory_is.last not_closed
@@ -177,17 +145,14 @@ module _ {E C FP F : Type 0} {B : Boxed} {keys : InternalOrder C} (env : Ghosts 
               let least = shown.held one held in omega (arith, least, is.1),
             )
 
-        lacks : (status : Status) → ((other : E × T) → ghosts.fails (from, tables) it other status)
-            → FailsBetween env ghosts (from, tables) (from, tables) (λ e. (e.code ≡ NotSupported) × LacksCompressor old.format meaning) status
-        lacks status ever = subst (λ (f : Format). FailsBetween env ghosts (from, tables) (from, tables) (λ e. (e.code ≡ NotSupported) × LacksCompressor f meaning) status)
-            same_format (views.lacks (from, tables) meaning shows.tables by_is to_read (from, tables) status (ever (from, tables)))
-
         -- the moves of the machine, over its view
         responds : Responds (setting_between meaning (env.failures from) (env.failures to)) old request (walked (map landing_of given)) old
         responds =
             let read = reads_in at reads_at in
-            let over = views.over (from, tables) world meaning agrees old.history shown.since read.2 shows in
-            let cmp_is : old.format.order ≡ order.cmp = sym (ap (λ (f : Format). f.order) same_format) ∙ order_is in (
+            let over = walks.walks has_open meaning agrees old.history shown.since read.2 shows in
+            let order_is : old.format.order ≡ (formats (options_in before)).order = sym (ap (λ (f : Format). f.order) same_format) in
+            let moves_in = subst (λ (f : Format). MakesMoves (formats (options_in before)).order (λ e. (e.code ≡ NotSupported) × LacksCompressor f meaning) over.0 None
+                (env.failures from) moves given (env.failures to)) same_format over.2 in (
               record { operands = read.1; numbers = λ never. never },
               (
                 record {
@@ -195,8 +160,7 @@ module _ {E C FP F : Type 0} {B : Boxed} {keys : InternalOrder C} (env : Ghosts 
                   at_is = read.0;
                   pairs = over.0;
                   view = subst (λ (f : Format). IsView f.order (entries_of old.history) sequence over.0) same_format over.1;
-                  moves_are = moves_are env counts ghosts reads order accepts over.0 old cmp_is meaning at (map move_of moves) (from, tables) it lacks
-                      moves given (from, tables) it (to, left) new None (omega arith) (λ later status fails. fails) over.2 made;
+                  moves_are = moves_are (formats (options_in before)).order over.0 old order_is meaning at (map move_of moves) moves given None (env.failures from) (env.failures to) moves_in;
                 },
                 refl,
               ),
@@ -229,13 +193,13 @@ module _ {E C FP F : Type 0} {B : Boxed} {keys : InternalOrder C} (env : Ghosts 
                 held = shown.held;
               };
               snapshots = was.memory_is.snapshots;
-              tables = λ in_use. views.still_open (from, tables) (to, left) kept world;
+              tables = λ in_use. walks.still_open has_open;
               writes = λ is. subst (λ (files : Files). IsWritten old.format.order meaning before.store files) (sym same_files) (was.memory_is.writes is);
             };
           };
-          later = later_failures;
+          later = walks.later;
           step = walk_responds old.mode (setting_between meaning (env.failures from) (env.failures to)) old at (map move_of moves) (walked (map landing_of given)) not_closed responds;
-          moments = Run-mono (λ files is. subst (IsSpared store meaning old (risk_between old)) (sym is) was.disk_is.holds.crash) (kept_disk.disk modelled);
+          moments = Run-mono (λ files is. subst (IsSpared store meaning old (risk_between old)) (sym is) was.disk_is.holds.crash) (walks.kept.disk modelled);
           spares = spares_same store (env.observed from).disk (env.observed to).disk (MayTouch store old.mode request) same_files
               (λ path apart. ap (λ (l : List ℕ → Bool). l path) same_locks);
           bytes = λ never. absurd never;

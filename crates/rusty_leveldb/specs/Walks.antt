@@ -1,20 +1,18 @@
 -- Walks of the store as walks of the machine: their moves, and where these lead.
-use Rattle.std.specs.Prelude.{◌≡◌, ◌⊎◌, List, [], Option, map, Result, Ok, Err, OnOk, OnErr}
-use Rattle.leveldb_base.specs.Error.{IsOutOfMemory}
+use Rattle.std.specs.Prelude.{◌≡◌, List, [], Option, map, Result, Ok, Err, OnOk, OnErr}
 use Rattle.leveldb_base.specs.declared.error.Status.{Status}
-use Rattle.leveldb_base.specs.declared.error.StatusCode.TheVariants.{InvalidArgument}
 use Rattle.leveldb_env.specs.Options.{Boxed, OptionsOf}
 use Rattle.leveldb_env.specs.declared.env.Env.{Ghosts}
 use Rattle.leveldb_env.specs.declared.filter.FilterPolicy.{Ghosts as FilterGhosts}
-use Rattle.leveldb_iter.specs.Moves.{IsRefusedFor, SeeksLongKey}
+use Rattle.leveldb_iter.specs.Moves.{IsRefusedFor}
 use Rattle.leveldb_iter.specs.declared.moves.Move.{Move}
 use Rattle.leveldb_iter.specs.declared.moves.Move.TheVariants.{First, Next, Prev, Seek}
 use Rattle.leveldb_iter.specs.declared.moves.Step.{Step}
 use Rattle.leveldb_iter.specs.declared.moves.Step.TheVariants.{At, Invalid, Refused}
 use Rattle.leveldb_store.specs.BuildTable.{TableChoices}
-use Rattle.leveldb_store.specs.Room.{HasFailed}
+use Rattle.leveldb_store.specs.View.{MoveFails}
 use Rattle.leveldb_version.specs.Batches.{Each}
-use Rattle.leveldb_version.specs.Format.{Format, IsTableFault}
+use Rattle.leveldb_version.specs.Format.{IsTableFault}
 use Rattle.rusty_leveldb.specs.Boxes.{EngineOf, InternalOrder}
 use Rattle.rusty_leveldb.specs.Calls.{EngineServes}
 use Rattle.rusty_leveldb.specs.Engine.{formats_of, options_in}
@@ -44,13 +42,6 @@ abbrev pub walked_or : List Step → {T : Type 0} → Result T Status → Answer
 walked_or steps (Ok value) = walked (map landing_of steps)
 walked_or steps (Err status) = refused (refusal_of status)
 
--- why a move may be refused in a call with this format: out of memory, at a failure of the device
--- that was counted, for the fault of a table, or since its key is too long
-abbrev pub MoveExcused : {E F : Type 0} → Ghosts E F → Format → E → E → Move → Status → Type 0
-MoveExcused env format from to one e = IsOutOfMemory e
-    ⊎ HasFailed (env.failures from) (env.failures to) ⊎ IsTableFault format e.code
-    ⊎ ((e.code ≡ InvalidArgument) × SeeksLongKey one)
-
 -- A call that makes moves of a walk over the store's view, now or at a snapshot, with the steps that
 -- say where they led.
 pub record EngineWalks {E C FP F P : Type 0} {B : Boxed} {keys : InternalOrder C}
@@ -62,8 +53,9 @@ pub record EngineWalks {E C FP F P : Type 0} {B : Boxed} {keys : InternalOrder C
   -- it is served, as each call
   pub serves : EngineServes env choices (walked_or given) before from (walk_of at moves) result
       after to
-  -- there is a step for each move, and why one was refused, over whatever files
+  -- over whatever files, each move has a step, and one that failed a cause
   pub refused : OnOk result (Each (λ one step. IsRefusedFor step one
-      (MoveExcused env (formats_of choices (options_in before)) from to one)) moves given)
-  -- or none, where no walk is made
+      (MoveFails (λ e. IsTableFault (formats_of choices (options_in before)) e.code)
+      (env.failures from) (env.failures to) one)) moves given)
+  -- without a walk there are no steps
   pub none : OnErr result (given ≡ [])
