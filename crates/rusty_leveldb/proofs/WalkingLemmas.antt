@@ -1,5 +1,5 @@
 -- The step of the machine in which moves of a walk are made.
-use Rattle.std.specs.Prelude.{Contains, IfErr, Result, map}
+use Rattle.std.specs.Prelude.{[], Contains, IfErr, OnOk, Result, map}
 use Rattle.std.proofs.Common.{◌≡◌, ◌≤◌, ◌<◌, ◌+◌, ◌-◌, ◌^◌, ◌⊎◌, ◌∙◌, ⊎_elim, inl, inr, ℕ, Bool, true, List, length, refl, sym, ap, subst, arith, Option, Some, None, Ok, Err, IsTrue}
 use Rattle.leveldb_base.specs.Error.{IsOutOfMemory, text_of}
 use Rattle.leveldb_base.specs.History.{History, IsView, entries_of, greatest}
@@ -23,16 +23,15 @@ use Rattle.leveldb_store.specs.View.{MakesMoves, WalksStore}
 use Rattle.leveldb_store.specs.Written.{IsWritten, Shows}
 use Rattle.rusty_leveldb.specs.Boxes.{EngineOf, InternalOrder}
 use Rattle.rusty_leveldb.specs.Causes.{IsNotHeld, Misfits, Setting, bad_operand, out_of_memory}
-use Rattle.rusty_leveldb.specs.Engine.{Answers, AnswersStill, Recalls, RefusedAsClosed, ShowsViews, held_in, mode_in, options_in, scene, tables_by}
+use Rattle.rusty_leveldb.specs.Engine.{Answers, AnswersStill, Recalls, RefusedAsClosed, ShowsViews, held_in, mode_in, options_in, scene, tables_by, ReadsAt}
 use Rattle.rusty_leveldb.specs.Frame.{MayTouch}
 use Rattle.rusty_leveldb.specs.Machine.{IsSequenceOf, Moves, Responds, Step, risk_between}
 use Rattle.rusty_leveldb.specs.Serves.{Goes, IsSpared, Reads, Represents, refusal_of, setting_between}
 use Rattle.rusty_leveldb.specs.State as machine
 use Rattle.rusty_leveldb.specs.State.{Answer, Request, Snapshot, State, refused, walk, walked}
-use Rattle.rusty_leveldb.specs.Walks.{landing_of, move_of, walk_of}
+use Rattle.rusty_leveldb.specs.Walks.{landing_of, move_of, walk_of, walked_or}
 use Rattle.rusty_leveldb.proofs.Moments.{moments_none}
 use Rattle.rusty_leveldb.proofs.Others.{spares_same, spares_still}
-use Rattle.rusty_leveldb.proofs.ReadingLemmas.{ReadsAt}
 use Rattle.rusty_leveldb.proofs.WalkLemmas.{moves_are}
 
 -- a store that isn't closed responds in either mode
@@ -95,8 +94,8 @@ module _ {E C FP F : Type 0} {B : Boxed} {keys : InternalOrder C} (env : Ghosts 
 
     -- ---- moves of a walk
 
-    module _ (sequence : ℕ) (reads_at : ReadsAt before at sequence) (from to : E) (left : TableCache E C FP F keys) (given : List Landed)
-        (walks : WalksStore env (tables_by formats before) before.store from before.tables sequence moves given (Ok tt) to left) where
+    module _ (sequence : ℕ) (reads_at : ReadsAt before at sequence) (from to : E) (left : TableCache E C FP F keys) (given : List Landed) (result : Result (Unit {0}) Status)
+        (walks : WalksStore env (tables_by formats before) before.store from before.tables sequence moves given result to left) where
       -- the engine in the end
       abbrev after : EngineOf E C FP F B keys
       after = record before { options = options_in before; tables = left }
@@ -145,28 +144,48 @@ module _ {E C FP F : Type 0} {B : Boxed} {keys : InternalOrder C} (env : Ghosts 
               let least = shown.held one held in omega (arith, least, is.1),
             )
 
+        abbrev setting : Setting
+        setting = setting_between meaning (env.failures from) (env.failures to)
+
         -- the moves of the machine, over its view
-        responds : Responds (setting_between meaning (env.failures from) (env.failures to)) old request (walked (map landing_of given)) old
-        responds =
+        walked_in : (pairs : List Pair) → IsView (formats (options_in before)).order (entries_of old.history) sequence pairs
+            → MakesMoves (formats (options_in before)).order (λ e. (e.code ≡ NotSupported) × LacksCompressor (formats (options_in before)) meaning) pairs None
+            (env.failures from) moves given (env.failures to)
+            → Responds setting old request (walked (map landing_of given)) old
+        walked_in pairs view made =
             let read = reads_in at reads_at in
-            let over = walks.walks has_open meaning agrees old.history shown.since read.2 shows in
             let order_is : old.format.order ≡ (formats (options_in before)).order = sym (ap (λ (f : Format). f.order) same_format) in
-            let moves_in = subst (λ (f : Format). MakesMoves (formats (options_in before)).order (λ e. (e.code ≡ NotSupported) × LacksCompressor f meaning) over.0 None
-                (env.failures from) moves given (env.failures to)) same_format over.2 in (
+            let moves_in = subst (λ (f : Format). MakesMoves (formats (options_in before)).order (λ e. (e.code ≡ NotSupported) × LacksCompressor f meaning) pairs None
+            (env.failures from) moves given (env.failures to)) same_format made in (
               record { operands = read.1; numbers = λ never. never },
               (
                 record {
                   sequence = sequence;
                   at_is = read.0;
-                  pairs = over.0;
-                  view = subst (λ (f : Format). IsView f.order (entries_of old.history) sequence over.0) same_format over.1;
-                  moves_are = moves_are (formats (options_in before)).order over.0 old order_is meaning at (map move_of moves) moves given None (env.failures from) (env.failures to) moves_in;
+                  pairs = pairs;
+                  view = subst (λ (f : Format). IsView f.order (entries_of old.history) sequence pairs) same_format view;
+                  moves_are = moves_are (formats (options_in before)).order pairs old order_is meaning at (map move_of moves) moves given None (env.failures from) (env.failures to) moves_in;
                 },
                 refl,
               ),
             )
 
-        walk_went : Goes store meaning (Recalls env formats store meaning) (scene env (Some before) from) request (walked (map landing_of given))
+        responds_with : (r : Result (Unit {0}) Status)
+            → OnOk r ((pairs : List Pair) × IsView (formats (options_in before)).order (entries_of old.history) sequence pairs
+            × MakesMoves (formats (options_in before)).order (λ e. (e.code ≡ NotSupported) × LacksCompressor (formats (options_in before)) meaning) pairs None
+            (env.failures from) moves given (env.failures to))
+            → IfErr r IsOutOfMemory → Responds setting old request (walked_or given r) old
+        responds_with (Ok done) over out = walked_in over.0 over.1 over.2
+        responds_with (Err status) over out = record { cause = out_of_memory; comes = (tt, out.0, ap text_of out.1); leaves = refl }
+
+        memory_only : (r : Result (Unit {0}) Status) → IfErr r (λ e. IsOutOfMemory e × (given ≡ []) × (to ≡ from) × (left ≡ before.tables)) → IfErr r IsOutOfMemory
+        memory_only (Ok done) none = tt
+        memory_only (Err status) none = none.0
+
+        responds : Responds setting old request (walked_or given result) old
+        responds = responds_with result (walks.walks has_open meaning agrees old.history shown.since (reads_in at reads_at).2 shows) (memory_only result walks.none)
+
+        walk_went : Goes store meaning (Recalls env formats store meaning) (scene env (Some before) from) request (walked_or given result)
             (scene env (Some after) to) old
         walk_went = record {
           new = old;
@@ -198,12 +217,12 @@ module _ {E C FP F : Type 0} {B : Boxed} {keys : InternalOrder C} (env : Ghosts 
             };
           };
           later = walks.later;
-          step = walk_responds old.mode (setting_between meaning (env.failures from) (env.failures to)) old at (map move_of moves) (walked (map landing_of given)) not_closed responds;
+          step = walk_responds old.mode (setting_between meaning (env.failures from) (env.failures to)) old at (map move_of moves) (walked_or given result) not_closed responds;
           moments = Run-mono (λ files is. subst (IsSpared store meaning old (risk_between old)) (sym is) was.disk_is.holds.crash) (walks.kept.disk modelled);
           spares = spares_same store (env.observed from).disk (env.observed to).disk (MayTouch store old.mode request) same_files
               (λ path apart. ap (λ (l : List ℕ → Bool). l path) same_locks);
           bytes = λ never. absurd never;
         }
 
-      pub walk_goes : Answers env formats (Some before) from request (walked (map landing_of given)) (Some after) to
+      pub walk_goes : Answers env formats (Some before) from request (walked_or given result) (Some after) to
       walk_goes = walk_went
