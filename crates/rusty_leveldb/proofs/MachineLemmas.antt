@@ -27,10 +27,10 @@ pub data Change (old : State) (request : Request) (new : State) : Type 0 where
   breaks_with : (items : List Item) → asked_by request ≡ items ∷ [] → old.mode ≡ open_mode
       → Breaks old (Some (added_batch old items)) new → Change old request new
   gives : (one : Snapshot) → (old.mode ≡ closed → ⊥) → Gives old one new → Change old request new
-  releases : (one : Snapshot) → (old.mode ≡ closed → ⊥) → Releases old one new
-      → Change old request new
-  closes : Closes old new → Change old request new
-  abandons : (locked : Bool) → Abandons old locked new → Change old request new
+  releases : (one : Snapshot) → request ≡ release_snapshot one → (old.mode ≡ closed → ⊥)
+      → Releases old one new → Change old request new
+  closes : request ≡ close → Closes old new → Change old request new
+  abandons : (locked : Bool) → request ≡ abandon → Abandons old locked new → Change old request new
 
 -- the mode in which a request is looked at, where there is but one
 abbrev NeedsMode : Request → State → Type 0
@@ -51,11 +51,11 @@ module _ (setting : Setting) (old new : State) where
   succeeded (get at key) (found value) m s = same s.1
   succeeded (walk at moves) (walked landings) m s = same s.1
   succeeded get_snapshot (snapshot one) m s = gives one m s
-  succeeded (release_snapshot one) done m s = releases one m s
+  succeeded (release_snapshot one) done m s = releases one refl m s
   succeeded flush done m s = covers s
   succeeded (compact_range from to) done m s = keeps s
-  succeeded close done m s = closes s
-  succeeded abandon done m s = abandons _ s
+  succeeded close done m s = closes refl s
+  succeeded abandon done m s = abandons _ refl s
   succeeded request answer m s = absurd s
 
   kept_or_broken : (request : Request) (cause : Cause) → old.mode ≡ open_mode
@@ -78,7 +78,7 @@ module _ (setting : Setting) (old new : State) where
   refused_for (compact_range from to) refusal cause m s =
       kept_or_broken (compact_range from to) cause m s
   refused_for close refusal cause m s = breaks m s
-  refused_for abandon refusal cause m s = abandons _ s
+  refused_for abandon refusal cause m s = abandons _ refl s
   refused_for request refusal cause m s = same s
 
   responded : (request : Request) (answer : Answer) → NeedsMode request old
@@ -420,10 +420,10 @@ module _ (old : State) (is : IsState old) where
   change_fits request new (breaks m b) = breaks_none_fits new m b
   change_fits request new (breaks_with items asked m b) = breaks_with_fits items new m b
   change_fits request new (gives one m g) = gives_fits one new m g
-  change_fits request new (releases one m r) = releases_fits one new m r
-  change_fits request new (closes c) =
+  change_fits request new (releases one asked m r) = releases_fits one new m r
+  change_fits request new (closes asked c) =
       subst IsState (sym c.state) (closed_fits (length old.history) false (omega arith))
-  change_fits request new (abandons locked a) =
+  change_fits request new (abandons locked asked a) =
       subst IsState (sym a.state) (closed_fits old.durable locked is.durable)
 
   crash_fits : (risk : Risk) (new : State) → IsHistory risk.history

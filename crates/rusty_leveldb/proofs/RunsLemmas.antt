@@ -215,15 +215,15 @@ module _ (part : History) (asked : List (List Item)) (old : State)
       as_before new (asked_by request) is (ap (λ (s : State). s.history) g.state) (ap
       (λ (s : State). s.pending) g.state) (let c =
       ap (λ (s : State). s.durable) g.state in let d = since.durable in omega arith)
-  changes request new is (releases one m r) =
+  changes request new is (releases one asks m r) =
       as_before new (asked_by request) is (ap (λ (s : State). s.history) r.state) (ap
       (λ (s : State). s.pending) r.state) (let c =
       ap (λ (s : State). s.durable) r.state in let d = since.durable in omega arith)
-  changes request new is (closes c) =
+  changes request new is (closes asks c) =
       as_before new (asked_by request) is (ap (λ (s : State). s.history) c.state) (ap
       (λ (s : State). s.pending) c.state) (covers_part new.durable (inr (ap
       (λ (s : State). s.durable) c.state)))
-  changes request new is (abandons locked a) =
+  changes request new is (abandons locked asks a) =
       as_before new (asked_by request) is (ap (λ (s : State). s.history) a.state) (ap
       (λ (s : State). s.pending) a.state) (let c =
       ap (λ (s : State). s.durable) a.state in let d = since.durable in omega arith)

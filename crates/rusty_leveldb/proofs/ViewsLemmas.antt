@@ -1,13 +1,13 @@
 -- What a snapshot reads stays as it is until the store is opened again.
 use Rattle.std.proofs.Common.{◌≡◌, ◌≤◌, ◌<◌, ◌+◌, ◌∙◌, ⊎_elim, inl, inr, ℕ, List, [], ◌∷◌, ◌++◌, refl, sym, ap, subst, arith, Option, Some, None, Contains}
 use Rattle.std.specs.Prelude.{length}
-use Rattle.std.proofs.lemmas.List.Elements.{All-head, All-tail, Contains-append_cases, Contains-append_left}
+use Rattle.std.proofs.lemmas.List.Elements.{All-head, All-tail, Contains-append_cases, Contains-append_left, Contains-append_right}
 use Rattle.leveldb_base.proofs.HistoryLemmas.{in_cases, in_none}
 use Rattle.leveldb_base.specs.History.{AreAbove, Entry, HasValueAt, IsValueAt, Item, RiseAbove, SameView, entries_of}
 use Rattle.leveldb_version.proofs.ViewsLemmas.{view_trans}
 use Rattle.leveldb_version.specs.Format.{Meaning}
 use Rattle.rusty_leveldb.specs.Causes.{Setting, TakesLock}
-use Rattle.rusty_leveldb.specs.Laws.{NoneOpens, SnapshotIsRead, ViewsStay}
+use Rattle.rusty_leveldb.specs.Laws.{HeldStays, MayRelease, NoneOpens, SnapshotIsRead, ViewsStay}
 use Rattle.rusty_leveldb.specs.Machine.{Gets, Gives, Step, added_batch}
 use Rattle.rusty_leveldb.specs.Runs.{Event, Run, setting_of}
 use Rattle.rusty_leveldb.specs.State.{IsState, Mode, Request, Snapshot, State, broken, closed, found, get, get_snapshot, open_mode, snapshot}
@@ -106,11 +106,11 @@ module _ (old new : State) (request : Request) (no_opening : TakesLock request �
       same_shown old new (ap (λ (s : State). s.history) b.state) (ap (λ (s : State). s.last) b.state)
   changed_shown (gives one m g) =
       same_shown old new (ap (λ (s : State). s.history) g.state) (ap (λ (s : State). s.last) g.state)
-  changed_shown (releases one m r) =
+  changed_shown (releases one asked m r) =
       same_shown old new (ap (λ (s : State). s.history) r.state) (ap (λ (s : State). s.last) r.state)
-  changed_shown (closes c) =
+  changed_shown (closes asked c) =
       same_shown old new (ap (λ (s : State). s.history) c.state) (ap (λ (s : State). s.last) c.state)
-  changed_shown (abandons locked a) =
+  changed_shown (abandons locked asked a) =
       same_shown old new (ap (λ (s : State). s.history) a.state) (ap (λ (s : State). s.last) a.state)
 
 run_shown : (meaning : Meaning) (events : List Event) (before after : ℕ) (old last : State)
@@ -129,6 +129,55 @@ run_shown meaning (event ∷ events) before after old last none run =
 pub views_stay : ViewsStay
 views_stay meaning events before after old last is none run s below =
     (run_shown meaning events before after old last none run).views s below
+
+-- ---- what stays held
+
+-- a snapshot that is held before is held after
+abbrev pub StaysHeld : Snapshot → State → State → Type 0
+StaysHeld one old new = Contains old.held one → Contains new.held one
+
+same_held : (one : Snapshot) (old new : State) → new.held ≡ old.held → StaysHeld one old new
+same_held one old new is = subst (λ held. Contains held one) (sym is)
+
+module _ (one : Snapshot) (old new : State) (request : Request)
+    (kept : MayRelease one request → ⊥) where
+  changed_held : Change old request new → StaysHeld one old new
+  changed_held (same e) = same_held one old new (ap (λ (s : State). s.held) e)
+  changed_held (opens opening asked o) = absurd (kept (subst (MayRelease one) (sym asked) tt))
+  changed_held (stays opening setting refusal cause m s) =
+      same_held one old new (ap (λ (t : State). t.held) s.state)
+  changed_held (keeps k) = same_held one old new (ap (λ (s : State). s.held) k.state)
+  changed_held (writes items sync asked m w) =
+      same_held one old new (ap (λ (s : State). s.held) w.state)
+  changed_held (covers c) = same_held one old new (ap (λ (s : State). s.held) c.state)
+  changed_held (breaks m b) = same_held one old new (ap (λ (s : State). s.held) b.state)
+  changed_held (breaks_with items asked m b) =
+      same_held one old new (ap (λ (s : State). s.held) b.state)
+  changed_held (gives other m g) = λ there. subst (λ held. Contains held one)
+      (sym (ap (λ (s : State). s.held) g.state))
+      (Contains-append_left old.held (other ∷ []) one there)
+  changed_held (releases other asked m r) = λ there. subst (λ held. Contains held one)
+      (sym (ap (λ (s : State). s.held) r.state)) (⊎_elim
+      (λ (front : Contains r.before one). Contains-append_left r.before r.after one front)
+      (λ (rest : Contains (other ∷ r.after) one). ⊎_elim
+      (λ (is : other ≡ one). absurd (kept (subst (MayRelease one) (sym asked) is)))
+      (λ (back : Contains r.after one). Contains-append_right r.before r.after one back)
+      (in_cases other one r.after rest))
+      (Contains-append_cases r.before (other ∷ r.after) one
+      (subst (λ held. Contains held one) r.was there)))
+  changed_held (closes asked c) = absurd (kept (subst (MayRelease one) (sym asked) tt))
+  changed_held (abandons locked asked a) = absurd (kept (subst (MayRelease one) (sym asked) tt))
+
+pub held_stays : HeldStays
+held_stays meaning [] before after old last one none run there =
+    subst (λ (s : State). Contains s.held one) (sym run.1) there
+held_stays meaning (event ∷ events) before after old last one none run there =
+    let next = run.1 in
+    held_stays meaning events event.failures after next last one
+    (All-tail (λ (e : Event). MayRelease one e.request → ⊥) event events none) run.3
+    (changed_held one old next event.request
+    (All-head (λ (e : Event). MayRelease one e.request → ⊥) event events none)
+    (change (setting_of meaning before event) old next event.request event.answer run.2) there)
 
 -- ---- one value
 

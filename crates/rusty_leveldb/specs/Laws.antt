@@ -9,7 +9,7 @@ use Rattle.leveldb_version.specs.Format.{Format, Meaning}
 use Rattle.leveldb_version.specs.Store.{HasNoStore, SameContents}
 use Rattle.leveldb_version.specs.StoreSteps.{AppendedAreBytes}
 use Rattle.leveldb_version.specs.Holds.{IsHonest, CarriesPrefix}
-use Rattle.rusty_leveldb.specs.State.{State, IsState, broken, closed, Opening, Snapshot, Request, open_store, write, get, get_snapshot, flush, close, Answer, done, found, snapshot, Refusal, refused}
+use Rattle.rusty_leveldb.specs.State.{State, IsState, broken, closed, Opening, Snapshot, Request, open_store, write, get, get_snapshot, release_snapshot, flush, close, abandon, Answer, done, found, snapshot, Refusal, refused}
 use Rattle.rusty_leveldb.specs.Causes.{Setting, Cause, TakesLock, IsLongKey, IsLongBatch, Comes, IsClosedRefusal, IsBrokenRefusal}
 use Rattle.rusty_leveldb.specs.Machine.{Step, StaysOr, risk_between, risk_of, Crashes}
 use Rattle.rusty_leveldb.specs.Runs.{Event, Run, setting_of, Ending, goes_on, crashes, Life, Lives, new_state}
@@ -227,6 +227,20 @@ abbrev pub ViewsStay : Type 0
 ViewsStay = (meaning : Meaning) (events : List Event) (before after : ℕ) (old last : State)
     → IsState old → NoneOpens events → Run meaning before old events after last
     → (s : ℕ) → s ≤ old.last → SameView (entries_of old.history) (entries_of last.history) s
+
+-- requests after which a snapshot may not be held any more
+abbrev pub MayRelease : Snapshot → Request → Type 0
+MayRelease one (open_store opening) = Unit {0}
+MayRelease one (release_snapshot other) = other ≡ one
+MayRelease one close = Unit {0}
+MayRelease one abandon = Unit {0}
+MayRelease one request = ⊥
+
+-- A snapshot stays held until it is released, or the store is closed or opened again.
+abbrev pub HeldStays : Type 0
+HeldStays = (meaning : Meaning) (events : List Event) (before after : ℕ) (old last : State)
+    (one : Snapshot) → All (λ event. MayRelease one event.request → ⊥) events
+    → Run meaning before old events after last → Contains old.held one → Contains last.held one
 
 -- A snapshot is given out after a look-up of a key. Whatever requests but an opening come then, a
 -- look-up of the key at the snapshot finds what that one found, if it isn't refused.

@@ -1,6 +1,6 @@
 //! The laws of the store's machine, as contracts of functions that do nothing.
 
-ghost use Rattle.rusty_leveldb.specs.Laws.{OneReading, NothingStands, CrashBetween, CrashInside, CrashSince, RefusalHasCause, StepFits, CrashFits, CrashInsideFits, LivesFit, DurableStays, SyncedStays, EachAnswerParts, HistoryIsAsked, MoreIsAsked, SyncedIsRead, ViewsStay, SnapshotIsRead, SyncedCanBeFound};
+ghost use Rattle.rusty_leveldb.specs.Laws.{OneReading, NothingStands, CrashBetween, CrashInside, CrashSince, RefusalHasCause, StepFits, CrashFits, CrashInsideFits, LivesFit, DurableStays, SyncedStays, EachAnswerParts, HistoryIsAsked, MoreIsAsked, SyncedIsRead, ViewsStay, HeldStays, SnapshotIsRead, SyncedCanBeFound};
 
 use leveldb_env::env::Env;
 
@@ -65,9 +65,11 @@ pub fn synced_value_is_found()
 {}
 
 /// Until the store is opened again, whatever is written: the view at each number up to the last one
-/// stays, and a look-up at a snapshot finds what a look-up found when it was given out.
+/// stays, and a look-up at a snapshot finds what a look-up found when it was given out. A snapshot
+/// stays held until it is released, or the store is closed.
 pub fn snapshots_keep_their_view()
     ensures views { ViewsStay }
+    ensures held { HeldStays }
     ensures reads { SnapshotIsRead }
 {}
 
