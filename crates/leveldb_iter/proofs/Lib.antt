@@ -3,6 +3,7 @@ mod CutLemmas
 mod MergeLemmas
 mod MergedLemmas
 mod MergedEntriesLemmas
+pub mod MergeCountLemmas
 mod ChildrenLemmas
 pub mod MovesLemmas
 mod ChoiceLemmas

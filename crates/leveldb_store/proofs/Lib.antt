@@ -18,6 +18,7 @@ pub mod SoundLemmas
 pub mod RoomLemmas
 mod ReadLemmas
 pub mod ViewLemmas
+pub mod ViewHistoryLemmas
 pub mod GivenNumbersLemmas
 mod ReplayFilesLemmas
 mod ReplayLogLemmas

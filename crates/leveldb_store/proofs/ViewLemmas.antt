@@ -64,7 +64,7 @@ wider a b c d low risen high (inr full) = ⊎_elim (λ (same : a ≡ b). inr (sa
 -- `Why` is the cause of an error that may come at any time.
 module _ {E F T W : Type 0} (env : Ghosts E F) (counts : (e : E) → env.failures e < 2 ^ 64) (walk : WalkGhosts W E T) (reads : ReadsAlone env walk)
     (laws : WalkLaws walk.over walk.is_at walk.here walk.fails walk.keeps) (first : E × T) (start : W) (Why : Status → Type 0)
-    (ever : (status : Status) → ((other : E × T) → walk.fails first start other status) → FailsBetween env walk first first Why status) where
+    (ever : (status : Status) → ((other : E × T) → walk.fails first start other status) → FailsBetween env first first Why status) where
   -- what the walk had no reason for in the beginning it has none for later
   abbrev IsExcusing : E × T → W → Type 0
   IsExcusing world it = (later : E × T) (status : Status) → walk.fails world it later status → walk.fails first start later status

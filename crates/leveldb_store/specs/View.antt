@@ -26,24 +26,29 @@ use Rattle.leveldb_store.specs.Read.{HasOpenTables}
 use Rattle.leveldb_store.specs.Room.{HasFailed}
 use Rattle.leveldb_store.specs.Written.{Shows}
 
--- Of walks that read from an environment and tables.
-module _ {E F T W : Type 0} (env : Ghosts E F) (walk : WalkGhosts W E T) where
+module _ {E F T : Type 0} (env : Ghosts E F) where
   -- why a move fails between two worlds: out of memory, at a failure of the device that was counted,
   -- or for this cause
   abbrev pub FailsBetween : E × T → E × T → (Status → Type 0) → Status → Type 0
   FailsBetween from to Why status = IsOutOfMemory status
       ⊎ HasFailed (env.failures from.0) (env.failures to.0) ⊎ Why status
 
+  -- an error that isn't out of memory, and was counted in no call of the very move, may come at any
+  -- time
+  abbrev pub CountsErrors : {W : Type 0} → (E × T → W → E × T → Status → Type 0) → Type 0
+  CountsErrors {W} fails = (from to : E × T) (it : W) (status : Status) → fails from it to status
+      → FailsBetween from to (λ e. (other : E × T) → fails from it other e) status
+
+-- Of walks that read from an environment and tables.
+module _ {E F T W : Type 0} (env : Ghosts E F) (walk : WalkGhosts W E T) where
   -- What any walk of this type leaves, and how failures are counted.
   pub record ReadsAlone : Type 0 where
     -- no file changes, nor does a lock
     pub kept : (from to : E × T) → walk.keeps from to → KeepsDisk env from.0 to.0
     -- no failure is forgotten
     pub later : (from to : E × T) → walk.keeps from to → env.failures from.0 ≤ env.failures to.0
-    -- an error that isn't out of memory, and was counted in no call of the very move, may come at any
-    -- time
-    pub counts : (from to : E × T) (it : W) (status : Status) → walk.fails from it to status
-        → FailsBetween from to (λ e. (other : E × T) → walk.fails from it other e) status
+    -- errors are counted, or may come at any time
+    pub counts : CountsErrors env walk.fails
 
 -- `by_in` and `cache_in` say with what tables are opened in a world, and which are open; `by` is with
 -- what those of the store are.
@@ -69,13 +74,13 @@ module _ {E F C FP T W : Type 0} {keys : CmpGhosts (InternalKeyCmp C)} (env : Gh
     -- an error that memory and failures don't explain is the fault of a table
     pub fault : (from to : E × T) (status : Status) → by_in from.1 ≡ by
         → walk.fails from it to status
-        → FailsBetween env walk from to (λ e. IsTableFault by.format e.code) status
+        → FailsBetween env from to (λ e. IsTableFault by.format e.code) status
     -- and where memory and tables show a history, it comes since the format lacks a compressor
     pub lacks : (from : E × T) → IsWorldOf from → (meaning : Meaning) → Agrees by.format meaning
         → (history : History) (since : ℕ)
         → Shows by.format.order meaning value (files_at env from.0) history since
         → (to : E × T) (status : Status) → walk.fails from it to status
-        → FailsBetween env walk from to (λ e. (e.code ≡ NotSupported)
+        → FailsBetween env from to (λ e. (e.code ≡ NotSupported)
         × LacksCompressor by.format meaning) status
     -- the open tables stay those of the store
     pub still_open : (from to : E × T) → walk.keeps from to → IsWorldOf from
