@@ -2,6 +2,7 @@ use Rattle.std.proofs.Common.{rules, [], arith, refl, sym, append-nil}
 use Rattle.std.proofs.lemmas.Result.{err_from_is_err_and}
 use Rattle.leveldb_table.proofs.TableBlockLemmas.{KeepsDisk-refl}
 use Rattle.leveldb_store.proofs.ViewLemmas.{view_walked}
+use Rattle.leveldb_store.proofs.ViewHistoryLemmas.{view_of_history, merged_counts, view_counts}
 use Rattle.leveldb_store.proofs.open_store.OpenStore.walk.Goals as goal
 
 pub returns-in_err : goal.returns-in_err
