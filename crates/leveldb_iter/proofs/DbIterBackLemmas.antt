@@ -291,7 +291,7 @@ module _ {E T M : Type 0} (walk : WalkGhosts M E T) (laws : WalkLaws walk.over w
     back_steps {number} same {new_world} {new} direction saved {next} {result} step = joined walk laws so_far
         (subst (λ n. MovesBelow walk (IsOnScanBack walk world now n found passed) (IsStepBack walk new_world new n direction saved next) world now result new_world new) same step)
 
-    pub back_endless : (number : ℕ) (direction : Option Direction) (saved : Pair) (result : Result (Unit {0}) Status) → 2 ^ 64 ≤ passed + 1 → IsErrAnd result (λ status. status.code ≡ Corruption)
+    pub back_endless : (number : ℕ) (direction : Option Direction) (saved : Pair) (result : Result (Unit {0}) Status) → 2 ^ 128 ≤ passed + 1 → IsErrAnd result (λ status. status.code ≡ Corruption)
         → MovesBelow walk (IsOnScanBack walk start old s None 0) (λ u. IsFoundPrevious walk world now number direction saved) start old result world now
     back_endless number direction saved result many is = corrupt walk laws (λ u. IsFoundPrevious walk world now number direction saved) result so_far.keeps
         (λ order below pairs n from.

@@ -124,7 +124,7 @@ module _ {E T M : Type 0} (walk : WalkGhosts M E T) (laws : WalkLaws walk.over w
     pub parted : below ≡ front ++ pair ∷ back
     pub at : walk.is_at world inner (internal_order order) below (Some (length front))
     pub scanning : IsScanning s pairs n skip (entries_of_pairs back)
-    pub countable : length below < 2 ^ 64
+    pub countable : length below < 2 ^ 128
     pub counted : passed ≤ length front
 
   -- the entry at the front of those to come, with all that the situation says
@@ -318,7 +318,7 @@ module _ {E T M : Type 0} (walk : WalkGhosts M E T) (laws : WalkLaws walk.over w
       scan_steps = joined so_far
           (subst (λ n. MovesBelow walk (IsOnScan walk world now n skip passed) (IsNextStep walk new_world new n direction saved next) world now result new_world new) same step)
 
-    pub scan_endless : (number : ℕ) (direction : Option Direction) (saved : Pair) (result : Result (Unit {0}) Status) → 2 ^ 64 ≤ passed + 1 → IsErrAnd result (λ status. status.code ≡ Corruption)
+    pub scan_endless : (number : ℕ) (direction : Option Direction) (saved : Pair) (result : Result (Unit {0}) Status) → 2 ^ 128 ≤ passed + 1 → IsErrAnd result (λ status. status.code ≡ Corruption)
         → MovesBelow walk (IsOnScan walk start old s first 0) (λ u. IsFoundNext walk world now number direction saved) start old result world now
     scan_endless number direction saved result many is = corrupt (λ u. IsFoundNext walk world now number direction saved) result so_far.keeps
         (λ order below pairs n from.

@@ -173,7 +173,7 @@ module _ {E T M : Type 0} (walk : WalkGhosts M E T) (laws : WalkLaws walk.over w
 
   module _ {start world : E × T} {old now : M} {s : ℕ} {key : List ℕ} {passed : ℕ}
       (so_far : MovesBelow walk (IsTurning walk start old s key 0) (λ (u : Unit {0}). IsTurning walk world now s key passed) start old (Ok (tt {0})) world now) where
-    pub turn_endless : (result : Result (Unit {0}) Status) → 2 ^ 64 ≤ passed + 1 → IsErrAnd result (λ status. status.code ≡ Corruption)
+    pub turn_endless : (result : Result (Unit {0}) Status) → 2 ^ 128 ≤ passed + 1 → IsErrAnd result (λ status. status.code ≡ Corruption)
         → MovesBelow walk (IsTurning walk start old s key 0) (λ u. IsOnScanBack walk world now s None 0) start old result world now
     turn_endless result many is = corrupt walk laws (λ u. IsOnScanBack walk world now s None 0) result so_far.keeps
         (λ order below pairs n from.

@@ -3,7 +3,9 @@ mod CutLemmas
 mod MergeLemmas
 mod MergedLemmas
 mod MergedEntriesLemmas
+pub mod MergeCountLemmas
 mod ChildrenLemmas
+pub mod MovesLemmas
 mod ChoiceLemmas
 mod MergingIterLemmas
 mod SnapshotLemmas

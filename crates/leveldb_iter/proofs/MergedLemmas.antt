@@ -10,7 +10,8 @@ use Rattle.leveldb_base.specs.Types.{Pair}
 use Rattle.leveldb_base.proofs.HistoryLemmas.{in_none, in_front, in_rest, in_cases, each_after, all_after, one_rising_list}
 use Rattle.leveldb_base.proofs.OrderLemmas.{lt_less, is_true, lt_turn, lt_le, tied}
 use Rattle.std.proofs.lemmas.List.Elements.{All-contains, Contains-get_or}
-use Rattle.leveldb_iter.specs.Merge.{ShareNoKey, EachHasMerge, OneMerge}
+use Rattle.leveldb_iter.specs.Merge.{IsMerge, ShareNoKey, EachHasMerge, OneMerge}
+use Rattle.leveldb_iter.specs.Walk.{IsSortedIn, KeyOrder}
 
 -- ---- some element of a list by its first
 
@@ -139,24 +140,26 @@ module _ (cmp : List ℕ → List ℕ → Ordering) where
         let h : suc k < length (list ∷ lists) = let lt = any.2 in omega arith in
         apart 0 (suc k) any.1 (omega arith) h p q c (subst (λ l. Contains l q) (sym any.3) any.4))
 
+-- the pairs of sorted lists that share no keys, put into one another, are their merge
+pub merge_of_is : (order : KeyOrder) → IsTotalOrder order.cmp → (lists : List (List Pair)) → All (IsSortedIn order) lists
+    → AllPairs (ShareNoKey order.cmp) lists → IsMerge order lists (merge_of order.cmp lists)
+merge_of_is order total lists each apart = record {
+  each = each;
+  apart = apart;
+  sorted = record {
+    rising = merge_of_rises order.cmp total lists (λ k d h. (each k d h).rising) apart;
+    accepted = λ k d h.
+        let merged = merge_of order.cmp lists in
+        let pair = get_or merged k d in
+        let any = (in_merge_of order.cmp lists pair).0 (Contains-get_or merged k d h) in
+        let list = each any.0 any.1 any.2 in
+        All-contains (λ (x : Pair). order.accepts x.0 ≡ true) any.1 pair (subst (All (λ (x : Pair). order.accepts x.0 ≡ true)) any.3 list.accepted) any.4;
+  };
+  exactly = in_merge_of order.cmp lists;
+}
+
 pub each_has_merge : EachHasMerge
-each_has_merge order total lists each apart = (
-  merge_of order.cmp lists,
-  record {
-    each = each;
-    apart = apart;
-    sorted = record {
-      rising = merge_of_rises order.cmp total lists (λ k d h. (each k d h).rising) apart;
-      accepted = λ k d h.
-          let merged = merge_of order.cmp lists in
-          let pair = get_or merged k d in
-          let any = (in_merge_of order.cmp lists pair).0 (Contains-get_or merged k d h) in
-          let list = each any.0 any.1 any.2 in
-          All-contains (λ (x : Pair). order.accepts x.0 ≡ true) any.1 pair (subst (All (λ (x : Pair). order.accepts x.0 ≡ true)) any.3 list.accepted) any.4;
-    };
-    exactly = in_merge_of order.cmp lists;
-  },
-)
+each_has_merge order total lists each apart = (merge_of order.cmp lists, merge_of_is order total lists each apart)
 
 pub one_merge : OneMerge
 one_merge order total lists these those a b = one_rising_list order.cmp total these those ((a.sorted).rising) ((b.sorted).rising)

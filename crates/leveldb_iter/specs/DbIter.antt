@@ -37,7 +37,7 @@ module _ {E T M : Type 0} (walk : WalkGhosts M E T) (world : E × T) (inner : M)
     -- the walk below is over these, each an internal key and a value
     pub over : walk.over world inner (internal_order order) below
     -- they can be counted
-    pub countable : length below < 2 ^ 64
+    pub countable : length below < 2 ^ 128
     -- different keys of users are never equal
     pub exact : IsExactOrder order.cmp
     -- and each is accepted

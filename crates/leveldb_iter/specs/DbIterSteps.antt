@@ -103,7 +103,7 @@ module _ {E T M : Type 0} (walk : WalkGhosts M E T) (world : E × T) (inner : M)
     -- they show the rest of the view
     pub scanning : IsScanning s pairs n skip (entries_of_pairs back)
     -- they can be counted
-    pub countable : length below < 2 ^ 64
+    pub countable : length below < 2 ^ 128
     -- so many entries were passed
     pub counted : passed ≤ length front
     -- it is at an entry once one was passed
@@ -136,7 +136,7 @@ module _ {E T M : Type 0} (walk : WalkGhosts M E T) (world : E × T) (inner : M)
         → Contains (entries_of_pairs (over ++ rest)) entry → entry.sequence ≤ s
         → order.cmp entry.key own.0 ≢ Less
     -- they can be counted
-    pub countable : length below < 2 ^ 64
+    pub countable : length below < 2 ^ 128
     -- so many entries were passed
     pub counted : passed + length front ≤ length below
     -- it is at an entry once one was passed
@@ -165,7 +165,7 @@ module _ {E T M : Type 0} (walk : WalkGhosts M E T) (world : E × T) (inner : M)
     -- and the pair of the number is
     pub shown : (pair : Pair) × (pair_at pairs (Some n) ≡ Some pair) × (pair.0 ≡ key)
     -- they can be counted
-    pub countable : length below < 2 ^ 64
+    pub countable : length below < 2 ^ 128
     -- so many entries were passed
     pub counted : passed + length front < length below
 

@@ -1,5 +1,6 @@
 pub mod Walk
 pub mod WalkIter
+pub mod Moves
 pub mod Unlent
 pub mod UnlentLaws
 pub mod Merge

@@ -7,6 +7,7 @@ pub mod db_iter;
 mod entry;
 pub mod laws;
 pub mod merging_iter;
+pub mod moves;
 pub mod snapshot;
 pub mod unlent;
 pub mod walk;

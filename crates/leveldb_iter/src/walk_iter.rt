@@ -117,7 +117,10 @@ impl<'a, E, T, W: Walk<E, T>> WalkIter<'a, E, T, W> {
     }
 }
 
-fn copy_pair(alloc: Global, pair: Option<(&[u8], &[u8])>) -> Result<Option<(Vec<u8>, Vec<u8>)>>
+pub(crate) fn copy_pair(
+    alloc: Global,
+    pair: Option<(&[u8], &[u8])>,
+) -> Result<Option<(Vec<u8>, Vec<u8>)>>
     ensures ok { IfOk result (λ copied. copied_pair copied ≡ pair_of pair.entry) }
     ensures cause { IfErr result IsOutOfMemory }
 {

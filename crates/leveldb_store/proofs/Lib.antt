@@ -17,6 +17,8 @@ pub mod NotTabledLemmas
 pub mod SoundLemmas
 pub mod RoomLemmas
 mod ReadLemmas
+pub mod ViewLemmas
+pub mod ViewHistoryLemmas
 pub mod GivenNumbersLemmas
 mod ReplayFilesLemmas
 mod ReplayLogLemmas

@@ -7,6 +7,7 @@ mod read;
 mod room;
 mod switch;
 mod table;
+mod view;
 mod write;
 mod write_batch;
 

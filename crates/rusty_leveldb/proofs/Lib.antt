@@ -32,8 +32,11 @@ pub mod EngineLemmas
 pub mod SyncLemmas
 pub mod ClosingLemmas
 pub mod ReadingLemmas
+pub mod WalkLemmas
+pub mod WalkingLemmas
 pub mod WritingLemmas
 pub mod RestLemmas
 pub mod SnapshotLemmas
 pub mod CallsLemmas
+pub mod WalkCallLemmas
 pub mod WriteCallLemmas

@@ -12,8 +12,8 @@ use Rattle.rusty_leveldb.specs.declared.shell.commands.Command.{Command}
 use Rattle.rusty_leveldb.specs.declared.shell.commands.Command.TheVariants as command
 use Rattle.rusty_leveldb.specs.declared.shell.commands.Item.{Item}
 use Rattle.rusty_leveldb.specs.declared.shell.commands.Item.TheVariants as item
-use Rattle.rusty_leveldb.specs.declared.shell.commands.Move.{Move}
-use Rattle.rusty_leveldb.specs.declared.shell.commands.Move.TheVariants as move
+use Rattle.leveldb_iter.specs.declared.moves.Move.{Move}
+use Rattle.leveldb_iter.specs.declared.moves.Move.TheVariants as move
 use Rattle.leveldb_base.specs.Names.{IsNumber}
 use Rattle.rusty_leveldb.specs.Language.{hex_word, item_word, sync_word, move_word, words_text, IsViewWord, IsLine, AreLines, HasBytes, ItemHasBytes, MoveHasBytes, IsNoLine, IsScript, IsBadLine}
 use Rattle.rusty_leveldb.specs.Spelling.{IsWordReading, IsPair, IsPairReading, IsItemReading, IsItems, IsItemsReading, IsNumberReading, IsViewReading, IsMoveReading, rest_text, IsMoves, IsMovesReading}

@@ -15,7 +15,7 @@ use Rattle.leveldb_store.specs.SoundCall.{TimeGoesOn}
 use Rattle.leveldb_store.specs.Write.{open_log_path}
 use Rattle.rusty_leveldb.specs.State.{Opening, Request, Answer, open_mode, open_store, write, get, walk, get_snapshot, release_snapshot, flush, close, abandon}
 use Rattle.rusty_leveldb.specs.Serves.{done_or, given_engine}
-use Rattle.rusty_leveldb.specs.Engine.{IsClosed, IsBroken, IsClosedOrBroken, RefusedByMode, AnswersAs, Answers, WriteExcused, SyncExcused, CloseExcused, GetFails, SnapshotExcused, ReleaseExcused, IsStoreName, IsOpening, HasOwnLock, WritesIntoRoom, formats_of, holds_lock, mode_in, options_in}
+use Rattle.rusty_leveldb.specs.Engine.{IsClosed, IsBroken, IsClosedOrBroken, RefusedByMode, AnswersAs, Answers, WriteExcused, SyncExcused, CloseExcused, GetFails, SnapshotExcused, ReleaseExcused, WalkExcused, IsStoreName, IsOpening, HasOwnLock, WritesIntoRoom, formats_of, holds_lock, mode_in, options_in}
 use Rattle.rusty_leveldb.specs.Frame.{IsOwn, MayTouchOrLog, Spares}
 use Rattle.rusty_leveldb.specs.Unopened.{IsLockGivenBack, IsLockHeld, MakesLockAlone, NeverOpens, OpenExcused}
 use Rattle.rusty_leveldb.specs.Boxes.{EngineOf, InternalOrder}
@@ -30,6 +30,8 @@ module _ {E C FP F P : Type 0} {B : Boxed} {keys : InternalOrder C} {key_filters
       → Type 0
   HasReason before from (get at key) result to =
       GetFails env (formats_of choices) before from at key result to
+  HasReason before from (walk at moves) result to =
+      FailsFor (WalkExcused before at) (env.failures from) (env.failures to) result
   HasReason before from get_snapshot result to = IfErr result (SnapshotExcused before)
   HasReason before from (release_snapshot one) result to = IfErr result (ReleaseExcused before one)
   HasReason before from (write items sync) result to =

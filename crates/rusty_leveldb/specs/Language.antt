@@ -10,10 +10,10 @@ use Rattle.rusty_leveldb.specs.declared.shell.commands.Command.{Command}
 use Rattle.rusty_leveldb.specs.declared.shell.commands.Command.TheVariants as command
 use Rattle.rusty_leveldb.specs.declared.shell.commands.Item.{Item}
 use Rattle.rusty_leveldb.specs.declared.shell.commands.Item.TheVariants as item
-use Rattle.rusty_leveldb.specs.declared.shell.commands.Move.{Move}
-use Rattle.rusty_leveldb.specs.declared.shell.commands.Move.TheVariants as move
-use Rattle.rusty_leveldb.specs.declared.shell.commands.Step.{Step}
-use Rattle.rusty_leveldb.specs.declared.shell.commands.Step.TheVariants as step
+use Rattle.leveldb_iter.specs.declared.moves.Move.{Move}
+use Rattle.leveldb_iter.specs.declared.moves.Move.TheVariants as move
+use Rattle.leveldb_iter.specs.declared.moves.Step.{Step}
+use Rattle.leveldb_iter.specs.declared.moves.Step.TheVariants as step
 use Rattle.rusty_leveldb.specs.declared.shell.language.Script.{Script}
 use Rattle.rusty_leveldb.specs.declared.shell.language.Script.TheVariants as script
 use Rattle.rusty_leveldb.specs.declared.shell.commands.Reply.{Reply}

@@ -5,7 +5,7 @@ use Rattle.std.specs.declared.alloc.Global.{Global}
 use Rattle.hex.specs.Hex.{IsBytes}
 use Rattle.rusty_leveldb.specs.declared.shell.commands.Command.{Command}
 use Rattle.rusty_leveldb.specs.declared.shell.commands.Item.{Item}
-use Rattle.rusty_leveldb.specs.declared.shell.commands.Move.{Move}
+use Rattle.leveldb_iter.specs.declared.moves.Move.{Move}
 use Rattle.leveldb_base.specs.Names.{IsNumber}
 use Rattle.rusty_leveldb.specs.Language.{hex_word, item_word, move_word, words_text, IsViewWord, IsLine, HasBytes, ItemHasBytes, MoveHasBytes, IsNoLine}
 

@@ -8,6 +8,7 @@ mod open;
 mod read;
 mod snapshots;
 mod store;
+mod walk;
 mod write;
 
 pub use engine::{Engine, Mode};

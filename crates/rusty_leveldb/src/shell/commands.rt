@@ -2,6 +2,7 @@
 
 use bytes::Bytes;
 use leveldb_base::error::Status;
+pub use leveldb_iter::moves::{Move, Step};
 
 /// What is asked of a store.
 #[derive(Debug, Drop)]
@@ -34,30 +35,6 @@ pub enum Command {
 pub enum Item {
     Put(Vec<u8>, Vec<u8>),
     Delete(Vec<u8>),
-}
-
-/// A move of an iterator.
-#[derive(Debug, Drop)]
-pub enum Move {
-    /// To the first pair.
-    First,
-    /// To the pair after the position, or from no position to the first pair.
-    Next,
-    /// To the pair before the position.
-    Prev,
-    /// To the first pair whose key is this one or comes after it.
-    Seek(Vec<u8>),
-}
-
-/// Where a move led.
-#[derive(Debug, Drop)]
-pub enum Step {
-    /// To this key, with its value.
-    At(Vec<u8>, Vec<u8>),
-    /// To no position.
-    Invalid,
-    /// The move failed, and left no position.
-    Refused(Status),
 }
 
 /// What a command is answered.

@@ -1,4 +1,4 @@
-use Rattle.std.proofs.Common.{◌≡◌, None, Ok}
+use Rattle.std.proofs.Common.{◌^◌, ◌-◌, ◌≡◌, None, Ok}
 use Rattle.std.specs.Bool.{then_some}
 use Rattle.leveldb_iter.specs.DbIterSteps.{MovesBelow, IsOnScanBack}
 use Rattle.leveldb_iter.proofs.db_iter.DbIterCore.find_previous.Given as goal
@@ -12,3 +12,6 @@ invariant-loop-passed g l = record {
       (λ (u : Unit {0}). IsOnScanBack g.M.Walk (l.env, l.tables) l.self.walk l.initial.self.sequence (then_some l.taken (l.self.saved_key.items, l.self.saved_value.items)) l.passed)
       (l.initial.env, l.initial.tables) l.initial.self.walk (Ok (tt {0})) (l.env, l.tables) l.self.walk;
 }
+
+abbrev pub decreases-loop-passed : goal.decreases-loop-passed
+decreases-loop-passed g l = 2 ^ 128 - l.passed

@@ -1,4 +1,4 @@
-use Rattle.std.proofs.Common.{◌≡◌, Ok}
+use Rattle.std.proofs.Common.{◌^◌, ◌-◌, ◌≡◌, Ok}
 use Rattle.leveldb_iter.specs.DbIterSteps.{MovesBelow, IsTurning}
 use Rattle.leveldb_iter.proofs.db_iter.DbIterCore.turn_back.Given as goal
 
@@ -12,3 +12,6 @@ invariant-loop-passed g l = record {
       (λ (u : Unit {0}). IsTurning g.M.Walk (l.env, l.tables) l.self.walk l.initial.self.sequence l.initial.self.saved_key.items l.passed)
       (l.initial.env, l.initial.tables) l.initial.self.walk (Ok (tt {0})) (l.env, l.tables) l.self.walk;
 }
+
+abbrev pub decreases-loop-passed : goal.decreases-loop-passed
+decreases-loop-passed g l = 2 ^ 128 - l.passed

@@ -1,7 +1,7 @@
 use Rattle.std.proofs.Common.{rules, ◌≡◌, ◌∷◌, ◌++◌, [], ℕ, List, Option, Bor, sym, subst}
 use Rattle.std.specs.Prelude.{All}
 use Rattle.std.proofs.lemmas.List.Elements.{All-nil, All-cons, All-append}
-use Rattle.rusty_leveldb.specs.declared.shell.commands.Move.{Move}
+use Rattle.leveldb_iter.specs.declared.moves.Move.{Move}
 use Rattle.rusty_leveldb.specs.Language.{move_word, words_text, MoveHasBytes}
 use Rattle.rusty_leveldb.specs.Spelling.{IsMoves, IsMoveReading, rest_text}
 use Rattle.rusty_leveldb.proofs.Lines.{words_more, first_move}

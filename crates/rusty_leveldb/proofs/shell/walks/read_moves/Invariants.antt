@@ -1,6 +1,6 @@
 use Rattle.std.proofs.Common.{◌≡◌, ◌++◌, List, length}
 use Rattle.std.specs.Prelude.{All}
-use Rattle.rusty_leveldb.specs.declared.shell.commands.Move.{Move}
+use Rattle.leveldb_iter.specs.declared.moves.Move.{Move}
 use Rattle.rusty_leveldb.specs.Language.{move_word, words_text, MoveHasBytes}
 use Rattle.rusty_leveldb.specs.Spelling.{IsMoves, rest_text}
 use Rattle.rusty_leveldb.proofs.shell.walks.read_moves.Given as goal

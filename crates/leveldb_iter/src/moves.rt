@@ -1,0 +1,122 @@
+//! Lists of moves of a walk, and where each of them leads.
+ghost use Rattle.std.specs.Prelude.{◌≡◌, ◌≤◌, ◌+◌, ◌++◌, ◌↔◌, IsTrue, List, length, vec_len, vec_capacity};
+ghost use Rattle.leveldb_iter.specs.Moves.{SeeksLongKey, AcceptsKeyOf, position_moved, MovesTo, MovesAll};
+ghost use Rattle.leveldb_iter.specs.Walk.{MovesWalk};
+
+use crate::walk::Walk;
+use crate::walk_iter::copy_pair;
+use leveldb_base::error::{Result, Status, StatusCode};
+use std::alloc::Global;
+
+/// The greatest length of a key that is sought, in bytes.
+const MAX_KEY_SIZE: usize = 1 << 30;
+
+/// A move of a walk.
+#[derive(Debug, Drop)]
+pub enum Move {
+    /// To the first pair.
+    First,
+    /// To the next pair, from no position to the first, and from the last to no position.
+    Next,
+    /// To the pair before, and from the first or from no position to no position.
+    Prev,
+    /// To the first pair whose key is at or after this one.
+    Seek(Vec<u8>),
+}
+
+/// Where a move led.
+#[derive(Debug, Drop)]
+pub enum Step {
+    /// To this key, with its value.
+    At(Vec<u8>, Vec<u8>),
+    /// To no position.
+    Invalid,
+    /// The move failed, and left no position.
+    Refused(Status),
+}
+
+impl Move {
+    // Whether it seeks a key that is longer than the greatest length.
+    fn seeks_long_key(&self) -> bool
+        ensures { IsTrue result ↔ SeeksLongKey self.now }
+    {
+        match self {
+            Move::Seek(key) => key.len() > MAX_KEY_SIZE,
+            _ => false,
+        }
+    }
+}
+
+/// Makes these moves one after another. `steps`, which has room for them, gains where each led.
+pub fn make_moves<E, T, W: Walk<E, T>>(
+    alloc: Global,
+    walk: &mut W,
+    env: &mut E,
+    tables: &mut T,
+    moves: &[Move],
+    steps: &mut Vec<Step>,
+)
+    requires { vec_len steps.old + length moves.now ≤ vec_capacity steps.old }
+    ensures { (given : List Step) × (steps.new.items ≡ steps.old.items ++ given)
+        × MovesAll W.Walk (env.old, tables.old) walk.old moves.now given (env.new, tables.new)
+        walk.new }
+{
+    for one in moves {
+        let step = make_move(alloc, walk, env, tables, one);
+        steps.push(step).unwrap();
+    }
+}
+
+/// Makes a move, and copies the pair that it leads to. Without memory for the copy the move is
+/// refused and leaves no position, and so it is where the key that it seeks is too long.
+pub fn make_move<E, T, W: Walk<E, T>>(
+    alloc: Global,
+    walk: &mut W,
+    env: &mut E,
+    tables: &mut T,
+    one: &Move,
+) -> Step
+    ensures { MovesTo W.Walk one.now (env.old, tables.old) walk.old result (env.new, tables.new)
+        walk.new }
+{
+    if one.seeks_long_key() {
+        walk.reset();
+        return Step::Refused(Status::new(
+            alloc,
+            StatusCode::InvalidArgument,
+            "a key has at most 2^30 bytes",
+        ));
+    }
+    if let Err(status) = lead(walk, env, tables, one) {
+        return Step::Refused(status);
+    }
+    match copy_pair(alloc, walk.current()) {
+        Ok(Some((key, value))) => Step::At(key, value),
+        Ok(None) => Step::Invalid,
+        Err(status) => {
+            walk.reset();
+            Step::Refused(status)
+        }
+    }
+}
+
+// Makes a move.
+fn lead<E, T, W: Walk<E, T>>(walk: &mut W, env: &mut E, tables: &mut T, one: &Move) -> Result<()>
+    ensures { MovesWalk W.over W.is_at W.here W.fails W.keeps
+        (λ world it order pairs position. W.is_at world it order pairs position
+        × AcceptsKeyOf order one.now) (position_moved one.now) (env.old, tables.old) walk.old
+        result (env.new, tables.new) walk.new }
+{
+    match one {
+        Move::First => walk.seek_to_first(env, tables),
+        Move::Next => {
+            walk.advance(env, tables)?;
+            Ok(())
+        }
+        Move::Prev => {
+            walk.prev(env, tables)?;
+            Ok(())
+        }
+        Move::Seek(key) => walk.seek(env, tables, key),
+    }
+}
