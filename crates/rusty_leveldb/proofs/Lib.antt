@@ -12,6 +12,8 @@ pub mod Moments
 pub mod Causes
 pub mod Example
 pub mod Others
+pub mod Turns
+pub mod TurnLemmas
 pub mod Playing
 pub mod Living
 pub mod Lives
@@ -40,3 +42,4 @@ pub mod SnapshotLemmas
 pub mod CallsLemmas
 pub mod WalkCallLemmas
 pub mod WriteCallLemmas
+pub mod UnknownLemmas

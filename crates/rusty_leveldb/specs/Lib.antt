@@ -9,6 +9,7 @@ pub mod Laws
 pub mod Engine
 pub mod Unopened
 pub mod Calls
+pub mod Views
 pub mod Walks
 pub mod Shell
 pub mod Lives

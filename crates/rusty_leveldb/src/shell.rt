@@ -7,6 +7,7 @@ mod lines;
 mod program;
 mod replies;
 mod runs;
+mod views;
 mod walks;
 mod words;
 
