@@ -1,5 +1,5 @@
 //! The commands that name snapshots. A snapshot is named by how many were given out before it.
-ghost use Rattle.std.specs.Prelude.{◌≡◌, ◌≤◌, ◌++◌, ◌∷◌, [], Some, length, map, IfErr, IfOk};
+ghost use Rattle.std.specs.Prelude.{◌≡◌, ◌≤◌, ◌++◌, ◌∷◌, [], Some, length, map, slice_get, IfErr, IfOk};
 ghost use Rattle.std.specs.Option.{option_map};
 ghost use Rattle.leveldb_store.specs.SoundCall.{TimeGoesOn};
 ghost use Rattle.leveldb_version.specs.Format.{format_of};
@@ -46,6 +46,13 @@ pub(super) fn take<E: Env, C: UserCmp + Copy, FP: FilterPolicy + Copy>(
     Ok(number)
 }
 
+// The snapshot of this number, if one was taken.
+fn named(taken: &[Snapshot], number: usize) -> Option<Snapshot>
+    ensures { result ≡ slice_get taken.now number }
+{
+    taken.get(number).copied()
+}
+
 // The key's value at the snapshot that is named.
 pub(super) fn get_at<E: Env, C: UserCmp + Copy, FP: FilterPolicy + Copy>(
     engine: &mut Engine<E, C, FP>,
@@ -62,8 +69,8 @@ pub(super) fn get_at<E: Env, C: UserCmp + Copy, FP: FilterPolicy + Copy>(
     ensures later { E.failures env.old ≤ E.failures env.new }
     ensures time { TimeGoesOn E.Env env.old env.new }
 {
-    match taken.get(number) {
-        Some(snapshot) => engine.get_at(env, *snapshot, key),
+    match named(taken, number) {
+        Some(snapshot) => engine.get_at(env, snapshot, key),
         None => Err(engine.refuse_unknown()),
     }
 }
@@ -80,8 +87,8 @@ pub(super) fn release<E: Env, C: UserCmp + Copy, FP: FilterPolicy + Copy>(
         (machine.release_snapshot (snapshot_named (map snapshot_of taken.now) number))
         (done_or result) (Some engine.new) at }
 {
-    match taken.get(number) {
-        Some(snapshot) => engine.release_snapshot(*snapshot),
+    match named(taken, number) {
+        Some(snapshot) => engine.release_snapshot(snapshot),
         None => Err(engine.refuse_unknown()),
     }
 }
@@ -106,8 +113,8 @@ pub(super) fn walk<E: Env, C: UserCmp + Copy, FP: FilterPolicy + Copy>(
     let Some(number) = at else {
         return walk_over(alloc, engine, env, None, moves);
     };
-    match taken.get(number) {
-        Some(snapshot) => walk_over(alloc, engine, env, Some(*snapshot), moves),
+    match named(taken, number) {
+        Some(snapshot) => walk_over(alloc, engine, env, Some(snapshot), moves),
         None => Err(engine.refuse_unknown()),
     }
 }

@@ -40,3 +40,13 @@ pub returns-in-Close-clause-step : goal.returns-in-Close-clause-step
 returns-in-Close-clause-step g c =
     answered g.E.Env c.args.env.now c.close.new.env c.args.taken.now.items c.args.taken.now.items c.args.command.now close (done_or c.close.result) c.reply_of-in-Close.result
     refl (done_gives_none c.close.result) (rw c.in-Close.is refl) (c.reply_of-in-Close.ensures _) c.close.ensures.step
+
+pub returns-in-GetAt-clause-step : goal.returns-in-GetAt-clause-step
+returns-in-GetAt-clause-step g c =
+    answered g.E.Env c.args.env.now c.get_at.new.env c.args.taken.now.items c.args.taken.now.items c.args.command.now (get (Some (snapshot_named (map snapshot_of c.deref-in-GetAt.result.now) c.in-GetAt.number)) c.deref-in-GetAt-2.result.now) (found_or c.get_at.result) c.looked_up-in-GetAt.result
+    refl (found_gives_none c.get_at.result) (rw (c.in-GetAt.is, c.deref-in-GetAt.ensures.value, c.deref-in-GetAt-2.ensures.value) refl) (c.looked_up-in-GetAt.ensures _) c.get_at.ensures.step
+
+pub returns-in-Release-clause-step : goal.returns-in-Release-clause-step
+returns-in-Release-clause-step g c =
+    answered g.E.Env c.args.env.now c.args.env.now c.args.taken.now.items c.args.taken.now.items c.args.command.now (release_snapshot (snapshot_named (map snapshot_of c.deref-in-Release.result.now) c.in-Release.number)) (done_or c.release.result) c.reply_of-in-Release.result
+    refl (done_gives_none c.release.result) (rw (c.in-Release.is, c.deref-in-Release.ensures.value) refl) (c.reply_of-in-Release.ensures _) (c.release.ensures c.args.env.now)

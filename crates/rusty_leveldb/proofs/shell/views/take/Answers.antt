@@ -1,5 +1,5 @@
 -- A closed store, no memory, or the snapshot that was given out.
-use Rattle.std.proofs.Common.{◌∷◌, [], map, inl, refl, sym, ◌∙◌, ap}
+use Rattle.std.proofs.Common.{rules, ◌≡◌, ◌++◌, ◌∷◌, [], map, inl, refl, ◌∙◌, ap}
 use Rattle.std.proofs.lemmas.List.{map-append}
 use Rattle.std.proofs.lemmas.Result.{err_from_is_err_and}
 use Rattle.leveldb_base.specs.contracts.cmp.internal.InternalKeyCmpCmp.TheImpl.{ghosts as key_order}
@@ -34,4 +34,11 @@ returns-in_err-snapshot-clause-err g c =
     rw (p.1, p.2) (c.reserve.ensures.items, λ at. (c.in_err-snapshot.ensures at).step)
 
 pub returns-clause-ok : goal.returns-clause-ok
-returns-clause-ok g c = ?
+returns-clause-ok g c =
+    let one = c.in_ok-snapshot.snapshot in
+    let pushed : c.push.new.self.items ≡ c.args.taken.now.items ++ one ∷ [] = search rules in (
+      search rules,
+      snapshot_of one,
+      ap (map snapshot_of) pushed ∙ map-append snapshot_of c.args.taken.now.items (one ∷ []),
+      λ at. (c.in_ok-snapshot.ensures at).step,
+    )
