@@ -8,7 +8,7 @@ use Rattle.rusty_leveldb.specs.State.{Answer, Request, Snapshot}
 use Rattle.rusty_leveldb.specs.Shell.{request_of, Tells, given_by, Turn, IsTurn, AreTurns, AreAsked}
 
 -- the snapshots that turns gave out
-pub given_out : List Turn → List Snapshot
+abbrev pub given_out : List Turn → List Snapshot
 given_out [] = []
 given_out (turn ∷ turns) = given_by turn.answer ++ given_out turns
 

@@ -50,3 +50,25 @@ pub returns-in-Release-clause-step : goal.returns-in-Release-clause-step
 returns-in-Release-clause-step g c =
     answered g.E.Env c.args.env.now c.args.env.now c.args.taken.now.items c.args.taken.now.items c.args.command.now (release_snapshot (snapshot_named (map snapshot_of c.deref-in-Release.result.now) c.in-Release.number)) (done_or c.release.result) c.reply_of-in-Release.result
     refl (done_gives_none c.release.result) (rw (c.in-Release.is, c.deref-in-Release.ensures.value) refl) (c.reply_of-in-Release.ensures _) (c.release.ensures c.args.env.now)
+
+pub returns-in-Ok-clause-step : goal.returns-in-Ok-clause-step
+returns-in-Ok-clause-step g c =
+    let ok = c.in-Ok.ensures.ok in
+    answered_snap g.E.Env c.args.env.now c.args.env.now c.args.taken.now.items c.take.new.taken.items c.args.command.now c.in-Ok.number ok.1
+    c.in-Snap.is ok.0 ok.2 (ok.3 c.args.env.now)
+
+pub returns-in-Err-clause-step : goal.returns-in-Err-clause-step
+returns-in-Err-clause-step g c =
+    let err = c.in-Err.ensures.err in
+    answered g.E.Env c.args.env.now c.args.env.now c.args.taken.now.items c.take.new.taken.items c.args.command.now get_snapshot (refused (refusal_of c.in-Err.status)) (Refused c.in-Err.status)
+    err.0 refl (rw c.in-Snap.is refl) refl (err.1 c.args.env.now)
+
+pub returns-in-Ok-walk-clause-step : goal.returns-in-Ok-walk-clause-step
+returns-in-Ok-walk-clause-step g c =
+    answered g.E.Env c.args.env.now c.walk.new.env c.args.taken.now.items c.args.taken.now.items c.args.command.now (walk_of (option_map (snapshot_named (map snapshot_of c.deref-in-Walk.result.now)) c.in-Walk.at) c.deref-in-Walk-2.result.now) (steps_or (Ok c.in-Ok-walk.steps)) (Walk c.in-Ok-walk.steps)
+    refl refl (rw (c.in-Walk.is, c.deref-in-Walk.ensures.value, c.deref-in-Walk-2.ensures.value) refl) refl c.in-Ok-walk.ensures.step
+
+pub returns-in-Err-walk-clause-step : goal.returns-in-Err-walk-clause-step
+returns-in-Err-walk-clause-step g c =
+    answered g.E.Env c.args.env.now c.walk.new.env c.args.taken.now.items c.args.taken.now.items c.args.command.now (walk_of (option_map (snapshot_named (map snapshot_of c.deref-in-Walk.result.now)) c.in-Walk.at) c.deref-in-Walk-2.result.now) (steps_or (Err c.in-Err-walk.status)) (Refused c.in-Err-walk.status)
+    refl refl (rw (c.in-Walk.is, c.deref-in-Walk.ensures.value, c.deref-in-Walk-2.ensures.value) refl) refl c.in-Err-walk.ensures.step
