@@ -16,8 +16,8 @@ fn seen_at(engine: &mut DefaultEngine<MemEnv>, env: &mut MemEnv, snapshot: Snaps
 }
 
 /// Whether this is `InvalidArgument`.
-fn is_refused(result: Result<()>) -> bool {
-    match result {
+fn is_refused(answer: Result<()>) -> bool {
+    match answer {
         Ok(()) => false,
         Err(status) => status.code == StatusCode::InvalidArgument,
     }
@@ -75,6 +75,7 @@ fn opened_again(rt: HostRuntime) -> Result<()> {
     db.put(b"k", b"2")?;
     let seen = db.get_at(&snapshot, b"k")?;
     db.close()?;
+    drop(db);
     let mut db = DB::open(alloc, STORE, &mut env, Options::default())?;
     let lost = db.get_at(&snapshot, b"k");
     db.close()?;
