@@ -5,7 +5,7 @@ use Rattle.std.proofs.lemmas.List.{map-append}
 use Rattle.rusty_leveldb.specs.declared.shell.commands.Command.{Command}
 use Rattle.rusty_leveldb.specs.declared.shell.commands.Reply.{Reply}
 use Rattle.rusty_leveldb.specs.State.{Answer, Request, Snapshot}
-use Rattle.rusty_leveldb.specs.Shell.{request_of, Tells, given_by, Turn, IsTurn, AreTurns, AreAsked}
+use Rattle.rusty_leveldb.specs.Shell.{request_of, IsReplyOf, given_by, Turn, IsTurn, AreTurns, AreAsked}
 
 -- the snapshots that turns gave out
 abbrev pub given_out : List Turn → List Snapshot
@@ -59,7 +59,7 @@ turns_of_none = record { follow = tt; commands_are = refl; replies_are = refl; t
 
 pub turns_of_more : (turns : List Turn) (commands : List Command) (replies : List Reply)
     (taken left : List Snapshot) (command : Command) (answer : Answer) (reply : Reply)
-    → AreTurnsOf turns commands replies taken → Tells taken reply answer
+    → AreTurnsOf turns commands replies taken → IsReplyOf taken reply answer
     → left ≡ taken ++ given_by answer
     → AreTurnsOf (turns ++ turn_of taken command answer reply ∷ []) (commands ++ command ∷ [])
     (replies ++ reply ∷ []) left

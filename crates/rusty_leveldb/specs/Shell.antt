@@ -47,14 +47,14 @@ request_of taken command.Flush = flush
 request_of taken command.Close = close
 
 -- the reply tells the answer; a snapshot is told by how many were given out before
-abbrev pub Tells : List Snapshot → Reply → Answer → Type 0
-Tells taken reply.Done answer = answer ≡ done
-Tells taken (reply.Value value) answer = answer ≡ found (Some value)
-Tells taken reply.Nothing answer = answer ≡ found None
-Tells taken (reply.Snapshot number) answer =
+abbrev pub IsReplyOf : List Snapshot → Reply → Answer → Type 0
+IsReplyOf taken reply.Done answer = answer ≡ done
+IsReplyOf taken (reply.Value value) answer = answer ≡ found (Some value)
+IsReplyOf taken reply.Nothing answer = answer ≡ found None
+IsReplyOf taken (reply.Snapshot number) answer =
     (number ≡ length taken) × (one : Snapshot) × (answer ≡ snapshot one)
-Tells taken (reply.Walk steps) answer = answer ≡ walked (map landing_of steps.items)
-Tells taken (reply.Refused status) answer = answer ≡ refused (refusal_of status)
+IsReplyOf taken (reply.Walk steps) answer = answer ≡ walked (map landing_of steps.items)
+IsReplyOf taken (reply.Refused status) answer = answer ≡ refused (refusal_of status)
 
 -- the snapshot that an answer gives out, if it gives one out
 abbrev pub given_by : Answer → List Snapshot
@@ -71,7 +71,7 @@ pub record Turn : Type 0 where
 -- the turn of a command after these snapshots were given out
 abbrev pub IsTurn : List Snapshot → Turn → Type 0
 IsTurn taken turn = (turn.request ≡ request_of taken turn.command)
-    × Tells taken turn.reply turn.answer
+    × IsReplyOf taken turn.reply turn.answer
 
 -- each turn in its place, where those before it gave out these snapshots
 abbrev pub AreTurns : List Snapshot → List Turn → Type 0
@@ -95,7 +95,7 @@ pub record IsAnswered {E C FP F : Type 0} {B : Boxed} {keys : InternalOrder C} (
     (taken : List Snapshot) (command : Command) (reply : Reply) (after : EngineOf E C FP F B keys)
     (to : E) (left : List Snapshot) : Type 0 where
   pub answer : Answer
-  pub tells : Tells taken reply answer
+  pub tells : IsReplyOf taken reply answer
   pub left_is : left ≡ taken ++ given_by answer
   pub step : Answers env formats (Some before) from (request_of taken command) answer (Some after)
       to

@@ -11,7 +11,7 @@ ghost use Rattle.leveldb_store.specs.Room.{FailsFor};
 ghost use Rattle.leveldb_store.specs.SoundCall.{TimeGoesOn};
 ghost use Rattle.rusty_leveldb.specs.Serves.{done_or, found_or, snapshot_of};
 ghost use Rattle.rusty_leveldb.specs.State as machine;
-ghost use Rattle.rusty_leveldb.specs.Shell.{HasRun, IsAnswered, Tells, change_of};
+ghost use Rattle.rusty_leveldb.specs.Shell.{HasRun, IsAnswered, IsReplyOf, change_of};
 
 use super::commands::{Command, Item, Reply};
 use super::views::{get_at, release, take, walk};
@@ -101,7 +101,7 @@ pub(super) fn answer<E: Env, C: UserCmp + Copy, FP: FilterPolicy + Copy>(
 
 // Done, or refused.
 fn reply_of(answer: Result<()>) -> Reply
-    ensures { (taken : List machine.Snapshot) → Tells taken result (done_or answer) }
+    ensures { (taken : List machine.Snapshot) → IsReplyOf taken result (done_or answer) }
 {
     match answer {
         Ok(()) => Reply::Done,
@@ -111,7 +111,7 @@ fn reply_of(answer: Result<()>) -> Reply
 
 // What was found, or refused.
 fn looked_up(answer: Result<Option<Bytes>>) -> Reply
-    ensures { (taken : List machine.Snapshot) → Tells taken result (found_or answer) }
+    ensures { (taken : List machine.Snapshot) → IsReplyOf taken result (found_or answer) }
 {
     match answer {
         Ok(Some(value)) => Reply::Value(value),
