@@ -16,8 +16,11 @@ returns-in_err-check_not_closed-clause-err g c =
     let key_filters = key_policy g.row.FP g.FP.FilterPolicy g.FP.FilterPolicy-dict in
     let choices = choices_of g.C.Cmp g.FP.FilterPolicy keys key_filters (compressors g.dyn-2).codings in
     let p = err_from_is_err_and c.from_residual.result c.from_residual.ensures.1 in
-    rw (p.1, p.2) (refl, λ at. (closed_gives g.E.Env choices c.args.engine.now c.in_err-check_not_closed.field-0.0 at
-    c.in_err-check_not_closed.ensures.cause).step)
+    rw (p.1, p.2) (
+      refl,
+      λ at. (closed_gives g.E.Env choices c.args.engine.now c.in_err-check_not_closed.field-0.0 at
+          c.in_err-check_not_closed.ensures.cause).step,
+    )
 
 pub returns-in_err-reserve-clause-err : goal.returns-in_err-reserve-clause-err
 returns-in_err-reserve-clause-err g c =
@@ -25,8 +28,11 @@ returns-in_err-reserve-clause-err g c =
     let key_filters = key_policy g.row.FP g.FP.FilterPolicy g.FP.FilterPolicy-dict in
     let choices = choices_of g.C.Cmp g.FP.FilterPolicy keys key_filters (compressors g.dyn-2).codings in
     let p = err_from_is_err_and c.from_residual-in_err-reserve.result c.from_residual-in_err-reserve.ensures.1 in
-    rw p.1 (c.reserve.ensures.items, λ at. (gives_none g.E.Env choices c.args.engine.now c.in_ok-check_not_closed.ensures.ok p.0 at
-    (inl p.2)).step)
+    rw p.1 (
+      c.reserve.ensures.items,
+      λ at. (gives_none g.E.Env choices c.args.engine.now c.in_ok-check_not_closed.ensures.ok p.0 at
+          (inl p.2)).step,
+    )
 
 pub returns-in_err-snapshot-clause-err : goal.returns-in_err-snapshot-clause-err
 returns-in_err-snapshot-clause-err g c =

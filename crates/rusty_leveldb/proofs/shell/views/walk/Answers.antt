@@ -7,8 +7,11 @@ pub returns-in_default-clause-step : goal.returns-in_default-clause-step
 returns-in_default-clause-step g c = rw c.in_default.is c.walk_over.ensures.step
 
 pub returns-in-Some-named-clause-step : goal.returns-in-Some-named-clause-step
-returns-in-Some-named-clause-step g c = rw (c.in-Some.is, names_one c.args.taken.now c.in-Some.number
-    c.in-Some-named.snapshot (sym c.in-Some-named.ensures)) c.walk_over-in-Some-named.ensures.step
+returns-in-Some-named-clause-step g c = rw (
+  c.in-Some.is,
+  names_one c.args.taken.now c.in-Some.number
+      c.in-Some-named.snapshot (sym c.in-Some-named.ensures),
+) c.walk_over-in-Some-named.ensures.step
 
 pub returns-in-None-clause-step : goal.returns-in-None-clause-step
 returns-in-None-clause-step g c =
