@@ -10,7 +10,7 @@ use Rattle.rusty_leveldb.specs.declared.shell.crash_runs.Report.{Report}
 use Rattle.rusty_leveldb.specs.State.{State, Snapshot, Opening, open_store, abandon, Answer, done, refused}
 use Rattle.rusty_leveldb.specs.Serves.{Represents, refusal_of}
 use Rattle.rusty_leveldb.specs.Engine.{Recalls, Answers, IsOpening, no_engine}
-use Rattle.rusty_leveldb.specs.Shell.{AreAsked, IsAnswered, Turn}
+use Rattle.rusty_leveldb.specs.Shell.{AreAsked, AnswersCommand, Turn}
 use Rattle.rusty_leveldb.proofs.Turns.{AreTurnsOf, requests_in, answers_in, turn_of, turns_of_none, turns_of_more, turns_asked, requests_more, answers_more}
 use Rattle.rusty_leveldb.specs.Lives.{requests_of, answers_of, moments_of, IsAlwaysLife}
 use Rattle.rusty_leveldb.proofs.Playing.{LeadsAt, OnlyNow, OpensAs, no_other, first_at, next_one, at_none}
@@ -39,7 +39,7 @@ module _ {E F : Type 0} {B : Boxed} (C FP : Type 0) {keys : InternalOrder C} (en
   lives_first from to wanted engine opens opening is meaning agrees old represents = ((env.observed to).moment, [], turns_of_none, first_at env formats only_now store meaning modelled from to (Some engine) (open_store opening) done old represents (opens opening is meaning agrees))
 
   pub lives_more : (from mid to : E) (wanted : Opening) (commands : List Command) (replies : List (ℕ × Reply)) (taken left : List Snapshot) (given : List ℕ) (engine after : EngineOf E C FP F B keys) (command : Command) (told : ℕ) (reply : Reply)
-      → LivesSoFar C FP env formats store from wanted commands replies taken given engine mid → IsAnswered env formats engine mid taken command reply after to left
+      → LivesSoFar C FP env formats store from wanted commands replies taken given engine mid → AnswersCommand env formats engine mid taken command reply after to left
       → LivesSoFar C FP env formats store from wanted (commands ++ command ∷ []) (replies ++ (told, reply) ∷ []) left (given ++ (env.observed to).moment ∷ []) after to
   lives_more from mid to wanted commands replies taken left given engine after command told reply lives answered opening is meaning agrees old represents =
       let led = lives opening is meaning agrees old represents in

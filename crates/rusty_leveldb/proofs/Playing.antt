@@ -23,7 +23,7 @@ use Rattle.rusty_leveldb.proofs.Crashes.{crash_between, crash_inside}
 use Rattle.rusty_leveldb.proofs.Others.{spares_still, spares_own, others_then}
 use Rattle.rusty_leveldb.specs.Frame.{IsOwn}
 use Rattle.leveldb_base.specs.Error.{IsOutOfMemory}
-use Rattle.rusty_leveldb.specs.Shell.{Plays, HasRun, IsAnswered, Turn}
+use Rattle.rusty_leveldb.specs.Shell.{Plays, HasRun, AnswersCommand, Turn}
 use Rattle.rusty_leveldb.proofs.Turns.{AreTurnsOf, requests_in, answers_in, turn_of, turns_of_none, turns_of_more, turns_asked, requests_more, answers_more}
 use Rattle.leveldb_env.specs.Options.{Boxed, OptionsOf}
 use Rattle.rusty_leveldb.specs.Boxes.{EngineOf, InternalOrder}
@@ -407,7 +407,7 @@ module _ {E F : Type 0} {B : Boxed} (C FP : Type 0) {keys : InternalOrder C} (en
       ([], turns_of_none, first_one env formats only_now store meaning modelled from to (Some engine) (open_store opening) done old represents (opens opening is meaning agrees))
 
   pub play_more : (from mid to : E) (wanted : Opening) (commands : List Command) (given : List Reply) (taken left : List Snapshot) (engine after : EngineOf E C FP F B keys) (command : Command) (reply : Reply)
-      → PlaysSoFar C FP env formats store from wanted commands given taken engine mid → IsAnswered env formats engine mid taken command reply after to left
+      → PlaysSoFar C FP env formats store from wanted commands given taken engine mid → AnswersCommand env formats engine mid taken command reply after to left
       → PlaysSoFar C FP env formats store from wanted (commands ++ command ∷ []) (given ++ reply ∷ []) left after to
   play_more from mid to wanted commands given taken left engine after command reply plays answered modelled opening is meaning agrees old represents =
       let so_far = plays modelled opening is meaning agrees old represents in

@@ -18,7 +18,7 @@ use Rattle.rusty_leveldb.specs.declared.shell.commands.Reply.TheVariants as repl
 use Rattle.rusty_leveldb.specs.Boxes.{EngineOf, InternalOrder}
 use Rattle.rusty_leveldb.specs.Engine.{Answers}
 use Rattle.rusty_leveldb.specs.Serves.{done_or, found_or, snapshot_of}
-use Rattle.rusty_leveldb.specs.Shell.{IsAnswered, IsReplyOf, given_by, request_of, snapshot_named}
+use Rattle.rusty_leveldb.specs.Shell.{AnswersCommand, IsReplyOf, given_by, request_of, snapshot_named}
 use Rattle.rusty_leveldb.specs.State.{Answer, Request, Snapshot, get_snapshot, snapshot}
 use Rattle.rusty_leveldb.specs.Views.{no_snapshot, steps_or}
 
@@ -52,7 +52,7 @@ module _ {E F C FP : Type 0} {B : Boxed} {keys : InternalOrder C} (env : Ghosts 
   pub answered : (one : Command) (request : Request) (answer : Answer) (told : Reply)
       → left ≡ held → given_by answer ≡ [] → request_of (map snapshot_of held) one ≡ request
       → IsReplyOf (map snapshot_of held) told answer → Answers env formats (Some before) from request answer (Some after) to
-      → IsAnswered env formats before from (map snapshot_of held) one told after to (map snapshot_of left)
+      → AnswersCommand env formats before from (map snapshot_of held) one told after to (map snapshot_of left)
   answered one request answer told same none asks tells step = record {
     answer = answer;
     tells = tells;
@@ -65,7 +65,7 @@ module _ {E F C FP : Type 0} {B : Boxed} {keys : InternalOrder C} (env : Ghosts 
   pub answered_snap : (one : Command) (number : ℕ) (given : Snapshot) → one ≡ command.Snap
       → number ≡ length held → map snapshot_of left ≡ map snapshot_of held ++ given ∷ []
       → Answers env formats (Some before) from get_snapshot (snapshot given) (Some after) to
-      → IsAnswered env formats before from (map snapshot_of held) one (reply.Snapshot number) after to
+      → AnswersCommand env formats before from (map snapshot_of held) one (reply.Snapshot number) after to
       (map snapshot_of left)
   answered_snap one number given is count more step = record {
     answer = snapshot given;

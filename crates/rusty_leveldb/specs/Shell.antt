@@ -42,7 +42,8 @@ request_of taken (command.Get key) = get None key.items
 request_of taken command.Snap = get_snapshot
 request_of taken (command.GetAt number key) = get (Some (snapshot_named taken number)) key.items
 request_of taken (command.Release number) = release_snapshot (snapshot_named taken number)
-request_of taken (command.Walk at moves) = walk_of (option_map (snapshot_named taken) at) moves.items
+request_of taken (command.Walk at moves) =
+    walk_of (option_map (snapshot_named taken) at) moves.items
 request_of taken command.Flush = flush
 request_of taken command.Close = close
 
@@ -90,8 +91,9 @@ pub record AreAsked (commands : List Command) (replies : List Reply) (requests :
 
 -- One command over an engine, after these snapshots were given out: it becomes a request, whose
 -- answer the reply tells; and those that were given out then.
-pub record IsAnswered {E C FP F : Type 0} {B : Boxed} {keys : InternalOrder C} (env : Ghosts E F)
-    (formats : OptionsOf C FP B → Format) (before : EngineOf E C FP F B keys) (from : E)
+pub record AnswersCommand {E C FP F : Type 0} {B : Boxed} {keys : InternalOrder C}
+    (env : Ghosts E F) (formats : OptionsOf C FP B → Format) (before : EngineOf E C FP F B keys)
+    (from : E)
     (taken : List Snapshot) (command : Command) (reply : Reply) (after : EngineOf E C FP F B keys)
     (to : E) (left : List Snapshot) : Type 0 where
   pub answer : Answer

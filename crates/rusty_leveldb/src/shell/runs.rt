@@ -11,7 +11,7 @@ ghost use Rattle.leveldb_store.specs.Room.{FailsFor};
 ghost use Rattle.leveldb_store.specs.SoundCall.{TimeGoesOn};
 ghost use Rattle.rusty_leveldb.specs.Serves.{done_or, found_or, snapshot_of};
 ghost use Rattle.rusty_leveldb.specs.State as machine;
-ghost use Rattle.rusty_leveldb.specs.Shell.{HasRun, IsAnswered, IsReplyOf, change_of};
+ghost use Rattle.rusty_leveldb.specs.Shell.{HasRun, AnswersCommand, IsReplyOf, change_of};
 
 use super::commands::{Command, Item, Reply};
 use super::views::{get_at, release, take, walk};
@@ -74,7 +74,7 @@ pub(super) fn answer<E: Env, C: UserCmp + Copy, FP: FilterPolicy + Copy>(
 ) -> Reply
     ensures step { let formats = format_of C.Cmp FP.FilterPolicy
         ⟦<CompressorList as Compressors>⟧.codings in
-        IsAnswered E.Env formats engine.old env.old (map snapshot_of taken.old.items)
+        AnswersCommand E.Env formats engine.old env.old (map snapshot_of taken.old.items)
         command.now result engine.new env.new (map snapshot_of taken.new.items) }
     ensures later { E.failures env.old ≤ E.failures env.new }
     ensures time { TimeGoesOn E.Env env.old env.new }
