@@ -1,14 +1,12 @@
 -- One command over an engine: what it names, and how its reply tells the answer.
-use Rattle.std.specs.Prelude.{Result, Vec, slice_get}
+use Rattle.std.specs.Prelude.{Result, slice_get}
 use Rattle.std.specs.Option.{option_map}
-use Rattle.std.specs.declared.alloc.Global.{Global}
 use Rattle.std.proofs.Common.{◌≡◌, ℕ, List, [], ◌∷◌, ◌++◌, length, map, append-nil, refl, sym, ◌∙◌, ap, subst, Option, Some, None, Ok, Err, unwrap_or}
 use Rattle.std.proofs.lemmas.Option.{slice_get-map}
 use Rattle.std.proofs.lemmas.List.{length-map}
 use Rattle.leveldb_base.specs.declared.error.Status.{Status}
 use Rattle.leveldb_env.specs.Options.{Boxed, OptionsOf}
 use Rattle.leveldb_env.specs.declared.env.Env.{Ghosts}
-use Rattle.leveldb_iter.specs.declared.moves.Step.{Step}
 use Rattle.leveldb_iter.specs.declared.snapshot.Snapshot.{Snapshot as HeldSnapshot}
 use Rattle.leveldb_version.specs.Format.{Format}
 use Rattle.rusty_leveldb.specs.declared.shell.commands.Command.{Command}
@@ -20,7 +18,7 @@ use Rattle.rusty_leveldb.specs.Engine.{Answers}
 use Rattle.rusty_leveldb.specs.Serves.{done_or, found_or, snapshot_of}
 use Rattle.rusty_leveldb.specs.Shell.{AnswersCommand, IsReplyOf, given_by, request_of, snapshot_named}
 use Rattle.rusty_leveldb.specs.State.{Answer, Request, Snapshot, get_snapshot, snapshot}
-use Rattle.rusty_leveldb.specs.Views.{no_snapshot, steps_or}
+use Rattle.rusty_leveldb.specs.Views.{no_snapshot}
 
 -- ---- the snapshot of a number
 

@@ -1,6 +1,5 @@
 -- A snapshot that no store gives out is refused, as one that isn't held.
-use Rattle.std.specs.Prelude.{Contains}
-use Rattle.std.proofs.Common.{◌≡◌, ◌<◌, ◌≤◌, ◌^◌, ◌∙◌, ℕ, List, map, sym, ap, subst, arith, inl, Some}
+use Rattle.std.proofs.Common.{◌≡◌, ◌<◌, ◌^◌, ℕ, List, map, ap, arith, inl, Some}
 use Rattle.leveldb_base.proofs.EntriesLemmas.{in_map}
 use Rattle.leveldb_base.specs.declared.error.Status.{Status}
 use Rattle.leveldb_base.specs.declared.error.StatusCode.TheVariants.{InvalidArgument}

@@ -1,6 +1,6 @@
 -- What a call does that makes moves of a walk, put together.
 use Rattle.std.specs.Prelude.{IfErr, OnErr, Result, string_bytes}
-use Rattle.std.proofs.Common.{◌≡◌, ◌⊎◌, inl, inr, ℕ, Bool, true, List, [], refl, sym, ap, subst, arith, Option, None, Ok, Err}
+use Rattle.std.proofs.Common.{◌≡◌, ◌⊎◌, inl, inr, ℕ, Bool, List, [], refl, sym, ap, subst, arith, Option, Ok, Err}
 use Rattle.leveldb_base.specs.Error.{IsOutOfMemory}
 use Rattle.leveldb_base.specs.declared.error.Status.{Status}
 use Rattle.leveldb_base.specs.declared.error.StatusCode.TheVariants.{InvalidArgument}
@@ -9,7 +9,7 @@ use Rattle.leveldb_env.specs.declared.env.Env.{Ghosts}
 use Rattle.leveldb_env.specs.declared.filter.FilterPolicy.{Ghosts as FilterGhosts}
 use Rattle.leveldb_iter.specs.declared.moves.Move.{Move}
 use Rattle.leveldb_iter.specs.declared.moves.Step.{Step}
-use Rattle.leveldb_version.specs.TableCache.{TableOptions, table_options}
+use Rattle.leveldb_version.specs.TableCache.{table_options}
 use Rattle.leveldb_version.specs.declared.table_cache.TableCache.{TableCache}
 use Rattle.leveldb_store.specs.BuildTable.{TableChoices}
 use Rattle.leveldb_store.specs.Room.{FailsFor, HasFailed}
@@ -20,7 +20,7 @@ use Rattle.rusty_leveldb.specs.Causes.{IsNotHeld}
 use Rattle.rusty_leveldb.specs.Engine.{RefusedAsClosed, WalkExcused, formats_of, held_in, holds_lock, mode_in, options_in, tables_by, ReadsAt}
 use Rattle.rusty_leveldb.specs.State as machine
 use Rattle.rusty_leveldb.specs.State.{Request, Snapshot}
-use Rattle.rusty_leveldb.specs.Walks.{EngineWalks, walk_of, walked_or}
+use Rattle.rusty_leveldb.specs.Walks.{EngineWalks, walk_of}
 use Rattle.rusty_leveldb.proofs.Others.{spares_same}
 use Rattle.rusty_leveldb.proofs.RestLemmas.{rest_still}
 use Rattle.rusty_leveldb.proofs.WalkingLemmas.{walk_closed, walk_goes, walk_starved, walk_unheld}

@@ -1,5 +1,5 @@
 -- Each command's reply tells what the engine's call answered.
-use Rattle.std.proofs.Common.{◌∷◌, [], Some, None, Ok, Err, false, length, map, refl}
+use Rattle.std.proofs.Common.{◌∷◌, [], Some, None, Ok, Err, false, map, refl}
 use Rattle.std.specs.Option.{option_map}
 use Rattle.leveldb_mem.specs.WriteBatch.{item_of}
 use Rattle.rusty_leveldb.specs.declared.shell.commands.Reply.TheVariants.{Refused, Walk}
