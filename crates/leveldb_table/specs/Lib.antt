@@ -20,5 +20,6 @@ pub mod TableBlock
 pub mod TableReader
 pub mod TableReaderWalk
 pub mod TableReaderMoves
+pub mod TableReaderSteps
 pub mod TableReaderBlocks
 pub mod OpenTable

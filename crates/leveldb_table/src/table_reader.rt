@@ -38,7 +38,7 @@ mod walk;
 
 pub use finder::Finder;
 pub use iter::TableIterator;
-pub use walk::TableCore;
+pub use walk::{TableCore, TableStep};
 
 /// An open table: its file, its index, and its filters where it has some under the policy's name.
 #[derive(Drop)]

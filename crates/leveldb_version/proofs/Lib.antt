@@ -75,6 +75,11 @@ pub mod TableCacheLemmas
 pub mod TableCacheCallLemmas
 pub mod SearchLemmas
 pub mod ReadTableLemmas
+pub mod TableStepLemmas
+pub mod TableMoveLemmas
+pub mod VersionIterBackLemmas
+pub mod VersionIterForwardLemmas
+pub mod VersionIterLemmas
 pub mod NewestLemmas
 pub mod SearchTableLemmas
 pub mod NewestTablesLemmas

@@ -38,12 +38,12 @@ same_some : {T : Type 0} {x y : T} → Some x ≡ Some y → x ≡ y
 same_some e = cc
 
 -- what holds of a value that is there
-value_of : {T : Type 0} (P : T → Type 0) (o : Option T) → IsSomeAnd o P → (x : T) × (o ≡ Some x) × P x
+pub value_of : {T : Type 0} (P : T → Type 0) (o : Option T) → IsSomeAnd o P → (x : T) × (o ≡ Some x) × P x
 value_of P None some = absurd some
 value_of P (Some x) some = (x, refl, some)
 
 -- a step comes to one position
-same_outcome : {x y : TablePosition} (out : Outcome) → out ≡ Ok y → out ≡ Ok x → x ≡ y
+pub same_outcome : {x y : TablePosition} (out : Outcome) → out ≡ Ok y → out ≡ Ok x → x ≡ y
 same_outcome out p q = cc
 
 -- or fails
@@ -61,7 +61,7 @@ module _ {format : Format} {meaning : Meaning} (agrees : Agrees format meaning) 
       by None is none = absurd (decoded_some none)
       by (Some coding) is some = ap (λ o. decoded_under o stored) (agrees.codings id coding is) ∙ some
 
-  block_more : {bytes : List ℕ} {handle : Handle} {text : List ℕ} → HasBlockAt (Decodes format.codings) bytes handle text → HasBlockAt (Decodes meaning.codings) bytes handle text
+  pub block_more : {bytes : List ℕ} {handle : Handle} {text : List ℕ} → HasBlockAt (Decodes format.codings) bytes handle text → HasBlockAt (Decodes meaning.codings) bytes handle text
   block_more {text = text} has = record { id = has.id; stored = has.stored; is_there = has.is_there; decoded = decodes_more has.id has.stored text has.decoded }
 
   -- what is said where a compressor is wanting
@@ -75,7 +75,7 @@ module _ {format : Format} {meaning : Meaning} (agrees : Agrees format meaning) 
       absurd (decoded_some (sym why.0 ∙ sym (ap (λ o. decoded_under o stored) (agrees.codings id coding some)) ∙ means))
 
   -- nor is a block lacking that is there
-  lacks_block : {cmp : List ℕ → List ℕ → Ordering} {bytes : List ℕ} {handle : Handle} {status : Status} {text : List ℕ} {pairs : List Pair} → HasBlockAt (Decodes meaning.codings) bytes handle text → IsBlock cmp text pairs
+  pub lacks_block : {cmp : List ℕ → List ℕ → Ordering} {bytes : List ℕ} {handle : Handle} {status : Status} {text : List ℕ} {pairs : List Pair} → HasBlockAt (Decodes meaning.codings) bytes handle text → IsBlock cmp text pairs
       → LacksBlock format.codings cmp bytes handle status → Wants status
   lacks_block there block (unstored none code) = absurd (none there.id there.stored there.is_there)
   lacks_block {status = status} {text = text} there block (undecoded id stored is_there why) =

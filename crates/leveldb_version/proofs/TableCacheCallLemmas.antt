@@ -166,14 +166,14 @@ module _ {E C FP F : Type 0} {order : CmpGhosts (InternalKeyCmp C)} (env : EnvGh
   -- ---- blocks
 
   -- blocks that a table gains are its file's
-  own_blocks : {state : E} (table : StoreTable E C FP F order) {bytes : List ℕ} → IsOpenedWith by table bytes → FileHas env state (file_of table) bytes
+  pub own_blocks : {state : E} (table : StoreTable E C FP F order) {bytes : List ℕ} → IsOpenedWith by table bytes → FileHas env state (file_of table) bytes
       → (offset : ℕ) (held : CachedBlock (InternalKeyCmp C) order) → ForBytesOf env state (file_of table) (λ bytes. IsBlockOfFile by.format.codings (order.cmp table.cmp) bytes offset held)
       → IsBlockOfFile by.format.codings (key_order by.format) bytes offset held
   own_blocks table {bytes} opened has offset held right =
       subst (λ cmp. IsBlockOfFile by.format.codings cmp bytes offset held) (ap order.cmp opened.ordered.0 ∙ order_is) (right bytes has)
 
   -- what is held in the options' order is held in the table's
-  held_by : (table : StoreTable E C FP F order) {bytes : List ℕ} (blocks : Cached (CachedBlock (InternalKeyCmp C) order)) → IsOpenedWith by table bytes
+  pub held_by : (table : StoreTable E C FP F order) {bytes : List ℕ} (blocks : Cached (CachedBlock (InternalKeyCmp C) order)) → IsOpenedWith by table bytes
       → HoldsOnlyOf by.format.codings (key_order by.format) (id_of table) bytes blocks → HoldsOnlyOf by.format.codings (order.cmp table.cmp) (id_of table) bytes blocks
   held_by table {bytes} blocks opened holds =
       subst (λ cmp. HoldsOnlyOf by.format.codings cmp (id_of table) bytes blocks) (sym (ap order.cmp opened.ordered.0 ∙ order_is)) holds

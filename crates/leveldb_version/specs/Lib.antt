@@ -34,4 +34,10 @@ pub mod WritingLaws
 pub mod OpeningLaws
 pub mod Format
 pub mod TableCache
+pub mod TableMoves
+pub mod VersionIter
+pub mod VersionIterLaws
+pub mod VersionIters
+pub mod StoreWalk
+pub mod StoreWalkLaws
 pub mod Search

@@ -13,6 +13,7 @@ use Rattle.leveldb_env.specs.Compressor.{Codings}
 use Rattle.leveldb_env.specs.Env.{File, Files, bytes_of}
 use Rattle.leveldb_env.specs.Options.{Boxed, OptionsOf}
 use Rattle.leveldb_env.specs.declared.env.Env.{Ghosts as EnvGhosts}
+use Rattle.leveldb_env.specs.declared.filter.FilterPolicy.{Ghosts as FilterGhosts}
 use Rattle.leveldb_table.specs.BlockCache.{GainsBlocks, HoldsOnlyOf, IsNumbered, cache_key}
 use Rattle.leveldb_table.specs.Cache.{Cached, looked_for, others, put_first, value_of}
 use Rattle.leveldb_table.specs.OpenTable.{IsFilteredBy, IsOrderedBy, file_of, id_of}
@@ -38,6 +39,21 @@ abbrev pub table_options : {C FP : Type 0} {B : Boxed} → Format → OptionsOf 
     → TableOptions C FP
 table_options format options =
     record { format = format; cmp = options.cmp; policy = options.filter_policy }
+
+-- the same of a comparator, a filter policy and compressors
+abbrev pub options_by : {C FP : Type 0} → CmpGhosts C → FilterGhosts FP → Codings → C → FP
+    → TableOptions C FP
+options_by order filters codings cmp policy = record {
+  format = record {
+    order = order.cmp cmp;
+    order_name = order.name cmp;
+    codings = codings;
+    policy_name = filters.name policy;
+    matches = filters.matches policy;
+  };
+  cmp = cmp;
+  policy = policy;
+}
 
 -- the order of internal keys in a format
 abbrev pub key_order : Format → List ℕ → List ℕ → Ordering

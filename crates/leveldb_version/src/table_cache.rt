@@ -4,7 +4,7 @@ ghost use Rattle.leveldb_base.specs.Error.{IsOutOfMemory};
 ghost use Rattle.leveldb_env.specs.Env.{Files};
 ghost use Rattle.leveldb_table.specs.TableReaderMoves.{found_with};
 ghost use Rattle.leveldb_version.specs.Format.{format_of};
-ghost use Rattle.leveldb_version.specs.TableCache.{EvictsTable, GetsPair, IsNewTableCache, LooksUpInOpen, MatchesFiles, MayFail, OpensNumbered, OpensTableAt, OpensTableFile, TableOptions, UsesTable, files_at, found_key, renewed, table_at, table_key, table_options};
+ghost use Rattle.leveldb_version.specs.TableCache.{EvictsTable, GetsPair, IsNewTableCache, LooksUpInOpen, MatchesFiles, MayFail, OpensNumbered, OpensTableAt, OpensTableFile, TableOptions, UsesTable, files_at, found_key, options_by, renewed, table_at, table_key, table_options};
 
 use bytes::Bytes;
 use leveldb_base::cmp::{Cmp, InternalKeyCmp, UserCmp};
@@ -20,6 +20,10 @@ use leveldb_table::block_cache::{BlockCache, cache_key};
 use leveldb_table::cache::{Cache, CacheKey};
 use leveldb_table::table_reader::{Finder, Table};
 use std::alloc::Global;
+
+mod moves;
+
+pub use moves::{ReadTables, ReadsTables};
 
 // How many files a store has open that are no tables.
 const OTHER_FILES: usize = 10;
@@ -179,11 +183,28 @@ impl<E: Env, C: UserCmp + Copy + Drop, FP: FilterPolicy + Copy + Drop> TableCach
             ⟦<CompressorList as Compressors>⟧.codings options.now) options.now in
             OpensTableAt E.Env by number env.old self.old result env.new self.new }
     {
+        let compressors = &options.compressor_list;
+        self.open_table_by(env, options.cmp, options.filter_policy, compressors, number)
+    }
+
+    // `open_table`, by these parts of the options.
+    fn open_table_by(
+        &mut self,
+        env: &mut E,
+        cmp: C,
+        policy: FP,
+        compressors: &CompressorList,
+        number: FileNum,
+    ) -> Result<()>
+        ensures { let by = options_by C.Cmp FP.FilterPolicy
+            (⟦<CompressorList as Compressors>⟧.codings compressors.now) cmp policy in
+            OpensTableAt E.Env by number env.old self.old result env.new self.new }
+    {
         let name = table_key(number);
         if self.tables.get(&name).is_some() {
             return Ok(());
         }
-        let table = self.open(env, options, number)?;
+        let table = self.open_by(env, cmp, policy, compressors, number)?;
         self.tables.insert(&name, table)
     }
 
@@ -216,10 +237,36 @@ impl<E: Env, C: UserCmp + Copy + Drop, FP: FilterPolicy + Copy + Drop> TableCach
             ⟦<CompressorList as Compressors>⟧.codings options.now) options.now in
             OpensNumbered E.Env by number env.old self.old result env.new self.new }
     {
+        let compressors = &options.compressor_list;
+        self.open_by(env, options.cmp, options.filter_policy, compressors, number)
+    }
+
+    // `open`, by these parts of the options.
+    fn open_by(
+        &mut self,
+        env: &mut E,
+        cmp: C,
+        policy: FP,
+        compressors: &CompressorList,
+        number: FileNum,
+    ) -> Result<Table<E, InternalKeyCmp<C>, InternalFilterPolicy<FP>>>
+        ensures { let by = options_by C.Cmp FP.FilterPolicy
+            (⟦<CompressorList as Compressors>⟧.codings compressors.now) cmp policy in
+            OpensNumbered E.Env by number env.old self.old result env.new self.new }
+    {
         self.renew()?;
         let path = table_file_name(self.alloc, &self.store, number)?;
         let (file, size) = open_file(self.alloc, env, &path)?;
-        Table::new(self.alloc, options, env, &mut self.blocks, file, size)
+        Table::open(
+            self.alloc,
+            InternalKeyCmp(cmp),
+            InternalFilterPolicy::new(policy),
+            compressors,
+            env,
+            &mut self.blocks,
+            file,
+            size,
+        )
     }
 
     // Begins anew if the ids of tables are used up.

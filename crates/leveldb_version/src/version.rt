@@ -18,6 +18,7 @@ use std::marker::Model;
 
 mod find;
 mod get;
+mod iters;
 mod key_range;
 mod order;
 mod overlap;

@@ -41,6 +41,21 @@ pub struct TableCore<C: Cmp> {
     room: Vec<u8>,
 }
 
+/// A move that may leave the block where a walk over a table is.
+#[derive(Clone, Copy)]
+pub enum TableStep<'k> {
+    /// To the first pair.
+    First,
+    /// To the last pair.
+    Last,
+    /// To the first pair of the next block.
+    NextBlock,
+    /// To the last pair of the block before.
+    BlockBefore,
+    /// To the first pair at or after a key.
+    Seek(&'k [u8]),
+}
+
 // Leaves the block, and keeps its room for a key.
 fn leave<C: Cmp + Drop>(inner: &mut Option<BlockWalk<C>>, room: &mut Vec<u8>)
     ensures { inner.new ≡ None }
@@ -54,6 +69,7 @@ impl<C: Cmp + Copy + Drop> TableCore<C> {
     ghost use Rattle.leveldb_table.specs.TableReaderBlocks.{StartsOver, IsBlockAt, IsBlockOf, line_of, MovesOverFromLine};
     ghost use Rattle.leveldb_table.specs.TableReaderMoves.{Advances, StepsBack, SeeksKey, SeeksFirst, SeeksLast, ToLast, ToNextBlock, ToPreviousBlock, ToKey, ToKeyIfLet};
     ghost use Rattle.leveldb_table.specs.TableReader.{pairs_in, lines_of, lets, GainsBlocksOf};
+    ghost use Rattle.leveldb_table.specs.TableReaderSteps.{StepsInTable, step_to};
     ghost use Rattle.leveldb_table.specs.TableReaderWalk.{IsAtPosition, StepsInside, inner_block, inner_position, inner_pairs, current_of, pairs_over, position_over};
 
     /// At no position.
@@ -212,6 +228,37 @@ impl<C: Cmp + Copy + Drop> TableCore<C> {
         match &self.inner {
             Some(inner) => inner.valid(),
             None => false,
+        }
+    }
+
+    /// Makes one of these moves, by the lines of the index. Returns whether it is at a pair then.
+    pub fn step<E: Env, FP: FilterPolicy>(
+        &mut self,
+        table: &Table<E, C, FP>,
+        env: &mut E,
+        cache: &mut BlockCache<C>,
+        compressors: &CompressorList,
+        to: TableStep,
+    ) -> Result<bool>
+        ensures { let codings = ⟦<CompressorList as Compressors>⟧.codings compressors.now in
+            StepsInTable E.Env codings (C.cmp table.now.cmp) table.now.id table.now.file
+            (step_to to.entry) env.old cache.old self.old result env.new cache.new self.new }
+    {
+        match to {
+            TableStep::First => {
+                self.seek_to_first(table, env, cache, compressors)?;
+                Ok(self.valid())
+            }
+            TableStep::Last => {
+                self.seek_to_last(table, env, cache, compressors)?;
+                Ok(self.valid())
+            }
+            TableStep::NextBlock => self.to_next_block(table, env, cache, compressors),
+            TableStep::BlockBefore => self.to_block_before(table, env, cache, compressors),
+            TableStep::Seek(key) => {
+                self.seek(table, env, cache, compressors, key)?;
+                Ok(self.valid())
+            }
         }
     }
 
@@ -430,8 +477,9 @@ impl<C: Cmp + Copy + Drop> TableCore<C> {
         Ok(())
     }
 
-    // Moves to the next pair of the block, and after its last to no position.
-    fn step_forward(&mut self) -> Result<bool>
+    /// Moves to the next pair of the block where it is, and after its last to no position, from
+    /// where `TableStep::NextBlock` leads on. Returns whether it is at a pair.
+    pub fn step_forward(&mut self) -> Result<bool>
         ensures { StepsInside (inner_position self.new.inner
             ≡ next_position (inner_pairs self.old.inner) (inner_position self.old.inner))
             self.old result self.new }
@@ -442,8 +490,9 @@ impl<C: Cmp + Copy + Drop> TableCore<C> {
         }
     }
 
-    // Moves to the pair of the block before, and from its first to no position.
-    fn step_back(&mut self) -> Result<bool>
+    /// Moves to the pair before in the block where it is, and from its first to no position, from
+    /// where `TableStep::BlockBefore` leads on. Returns whether it is at a pair.
+    pub fn step_back(&mut self) -> Result<bool>
         ensures { StepsInside
             (inner_position self.new.inner ≡ previous_position (inner_position self.old.inner))
             self.old result self.new }

@@ -2,18 +2,16 @@ use Rattle.std.proofs.Common.{◌≡◌, ◌∙◌, None, ap, refl}
 use Rattle.std.specs.Prelude.{IsSome}
 use Rattle.leveldb_env.specs.contracts.compressor.CompressorListCompressors.TheImpl.{ghosts as compressors}
 use Rattle.leveldb_table.specs.Cache.{looked_for, value_of}
-use Rattle.leveldb_version.specs.Format.{format_of}
-use Rattle.leveldb_version.specs.TableCache.{table_at, table_options, tables_of}
+use Rattle.leveldb_version.specs.TableCache.{table_at, options_by, tables_of}
 use Rattle.leveldb_version.proofs.TableCacheLemmas.{some_of}
 use Rattle.leveldb_version.proofs.TableCacheCallLemmas.{borrowed_none, borrowed_there, opened_new, opens_before, opens_unopened, stays_open}
-use Rattle.leveldb_version.proofs.table_cache.TableCache.open_table.Goals as goal
+use Rattle.leveldb_version.proofs.table_cache.TableCache.open_table_by.Goals as goal
 
 pub returns-then-is_some : goal.returns-then-is_some
 returns-then-is_some g c =
     let old = c.args.self.now in
     let number = c.args.number in
-    let options = c.args.options.now in
-    let by = table_options (format_of g.C.Cmp g.FP.FilterPolicy (compressors g.dyn-2).codings options) options in
+    let by = options_by g.C.Cmp g.FP.FilterPolicy ((compressors g.dyn-1).codings c.args.compressors.now) c.args.cmp c.args.policy in
     let tables = tables_of old in
     let key = c.table_key-name.ensures in
     let found = c.get.ensures.value ∙ ap (λ k. value_of k tables.pairs) key in
@@ -27,8 +25,7 @@ returns-in_err-table g c =
     let old = c.args.self.now in
     let state = c.args.env.now in
     let number = c.args.number in
-    let options = c.args.options.now in
-    let by = table_options (format_of g.C.Cmp g.FP.FilterPolicy (compressors g.dyn-2).codings options) options in
+    let by = options_by g.C.Cmp g.FP.FilterPolicy ((compressors g.dyn-1).codings c.args.compressors.now) c.args.cmp c.args.policy in
     let tables = tables_of old in
     let key = c.table_key-name.ensures in
     let found = c.get.ensures.value ∙ ap (λ k. value_of k tables.pairs) key in
@@ -42,8 +39,7 @@ returns g c =
     let old = c.args.self.now in
     let state = c.args.env.now in
     let number = c.args.number in
-    let options = c.args.options.now in
-    let by = table_options (format_of g.C.Cmp g.FP.FilterPolicy (compressors g.dyn-2).codings options) options in
+    let by = options_by g.C.Cmp g.FP.FilterPolicy ((compressors g.dyn-1).codings c.args.compressors.now) c.args.cmp c.args.policy in
     let tables = tables_of old in
     let key = c.table_key-name.ensures in
     let found = c.get.ensures.value ∙ ap (λ k. value_of k tables.pairs) key in
@@ -51,4 +47,4 @@ returns g c =
     let none : table_at old number ≡ None = borrowed_none c.get.result found c.is_some.ensures c.if-is_some.false in
     let insert = rw key at c.insert.ensures in
     let opens = opens_before g.E.Env by refl old state number c.ranges.number.fits none tables_are c.in_ok-table.ensures in
-    opened_new g.E.Env by refl old state number c.ranges.number.fits none c.in_ok-table.table c.open.new.self opens c.insert.new.self c.insert.result insert.ok insert.err insert.memory
+    opened_new g.E.Env by refl old state number c.ranges.number.fits none c.in_ok-table.table c.open_by.new.self opens c.insert.new.self c.insert.result insert.ok insert.err insert.memory

@@ -1,0 +1,12 @@
+use Rattle.std.proofs.Common.{◌≡◌, None, Option, Some, refl, subst, sym}
+use Rattle.leveldb_version.specs.TableMoves.{IsWalkIn, stepped}
+use Rattle.leveldb_version.proofs.table_cache.moves.step_in.Goals as goal
+
+pub returns-in-Some : goal.returns-in-Some
+returns-in-Some g c = stepped c.in-Some.core c.step.new.self (subst (λ o. IsWalkIn c.args.table.now o c.in-Some.core) (sym c.in-Some.is) refl) refl c.step.ensures
+
+none_of : {T : Type 0} (o : Option T) → o ≡ None → o ≡ None
+none_of o is = is
+
+pub returns : goal.returns
+returns g c = stepped c.in_ok-fresh.fresh c.step-there.new.self (subst (λ o. IsWalkIn c.args.table.now o c.in_ok-fresh.fresh) (sym (none_of c.args.core.now c.in_default.is)) c.in_ok-fresh.ensures.ok) refl c.step-there.ensures

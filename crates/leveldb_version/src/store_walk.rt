@@ -1,0 +1,119 @@
+//! The children of a store's merge: walks over memory, and walks over tables.
+ghost use Rattle.std.specs.Prelude.{◌≡◌};
+
+use crate::table_cache::{ReadTables, ReadsTables};
+use crate::version_iter::VersionIter;
+use leveldb_base::cmp::{Cmp, InternalKeyCmp, UserCmp};
+use leveldb_base::error::Result;
+use leveldb_base::types::LdbIterator;
+use leveldb_env::env::Env;
+use leveldb_env::filter::FilterPolicy;
+use leveldb_iter::unlent::Unlent;
+use leveldb_iter::walk::Walk;
+
+/// A child of a store's merge. All children of a merge are of one type.
+#[derive(Drop)]
+pub enum StoreWalk<'a, C: UserCmp + Copy + Drop, M>
+where
+    InternalKeyCmp<C>: Cmp,
+{
+    /// Over a memtable.
+    Memory(Unlent<M>),
+    /// Over tables.
+    Tables(VersionIter<'a, C>),
+}
+
+impl<
+    'a,
+    'b,
+    E: Env,
+    C: UserCmp + Copy + Drop,
+    FP: FilterPolicy + Copy + Drop,
+    K: ReadsTables<E, C, FP>,
+    M: LdbIterator,
+> Walk<E, ReadTables<'b, E, C, FP, K>> for StoreWalk<'a, C, M> {
+    ghost use Rattle.leveldb_version.specs.StoreWalk.{IsStoreOver, IsStoreAt, FailsInStore, store_here};
+    ghost use Rattle.leveldb_version.specs.StoreWalkLaws.{store_laws};
+    ghost use Rattle.leveldb_version.specs.VersionIter.{KeepsReading};
+
+    ghost over = { IsStoreOver E.Env C.Cmp FP.FilterPolicy K.codings M.LdbIterator };
+
+    ghost is_at = { IsStoreAt E.Env C.Cmp FP.FilterPolicy K.codings M.LdbIterator };
+
+    ghost here = { store_here M.LdbIterator };
+
+    ghost fails = { FailsInStore E.Env C.Cmp FP.FilterPolicy K.codings M.LdbIterator };
+
+    ghost keeps = { KeepsReading E.Env C.Cmp FP.FilterPolicy K.codings };
+
+    fn advance(&mut self, env: &mut E, tables: &mut ReadTables<'b, E, C, FP, K>) -> Result<bool> {
+        match self {
+            StoreWalk::Memory(walk) => walk.advance(env, tables),
+            StoreWalk::Tables(walk) => walk.advance(env, tables),
+        }
+    }
+
+    fn prev(&mut self, env: &mut E, tables: &mut ReadTables<'b, E, C, FP, K>) -> Result<bool> {
+        match self {
+            StoreWalk::Memory(walk) => walk.prev(env, tables),
+            StoreWalk::Tables(walk) => walk.prev(env, tables),
+        }
+    }
+
+    fn seek(
+        &mut self,
+        env: &mut E,
+        tables: &mut ReadTables<'b, E, C, FP, K>,
+        key: &[u8],
+    ) -> Result<()> {
+        match self {
+            StoreWalk::Memory(walk) => walk.seek(env, tables, key),
+            StoreWalk::Tables(walk) => walk.seek(env, tables, key),
+        }
+    }
+
+    fn seek_to_first(
+        &mut self,
+        env: &mut E,
+        tables: &mut ReadTables<'b, E, C, FP, K>,
+    ) -> Result<()> {
+        match self {
+            StoreWalk::Memory(walk) => walk.seek_to_first(env, tables),
+            StoreWalk::Tables(walk) => walk.seek_to_first(env, tables),
+        }
+    }
+
+    fn seek_to_last(
+        &mut self,
+        env: &mut E,
+        tables: &mut ReadTables<'b, E, C, FP, K>,
+    ) -> Result<()> {
+        match self {
+            StoreWalk::Memory(walk) => walk.seek_to_last(env, tables),
+            StoreWalk::Tables(walk) => walk.seek_to_last(env, tables),
+        }
+    }
+
+    fn reset(&mut self) {
+        match self {
+            StoreWalk::Memory(walk) => walk.0.reset(),
+            StoreWalk::Tables(walk) => walk.leave(),
+        }
+    }
+
+    fn current(&self) -> Option<(&[u8], &[u8])> {
+        match self {
+            StoreWalk::Memory(walk) => walk.0.current(),
+            StoreWalk::Tables(walk) => walk.pair(),
+        }
+    }
+
+    fn valid(&self) -> bool {
+        match self {
+            StoreWalk::Memory(walk) => walk.0.valid(),
+            StoreWalk::Tables(walk) => walk.is_at_pair(),
+        }
+    }
+
+    ghost laws = { store_laws M.in_range };
+}
