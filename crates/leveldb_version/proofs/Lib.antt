@@ -71,6 +71,7 @@ pub mod ShownLemmas
 pub mod RecoveringLemmas
 pub mod OpeningEndLemmas
 pub mod StoreTablesLemmas
+pub mod StoreWalkLemmas
 pub mod TableCacheLemmas
 pub mod TableCacheCallLemmas
 pub mod SearchLemmas
@@ -80,6 +81,7 @@ pub mod TableMoveLemmas
 pub mod VersionIterBackLemmas
 pub mod VersionIterForwardLemmas
 pub mod VersionIterLemmas
+pub mod VersionIterSeekLemmas
 pub mod NewestLemmas
 pub mod SearchTableLemmas
 pub mod NewestTablesLemmas

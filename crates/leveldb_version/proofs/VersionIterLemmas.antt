@@ -101,7 +101,7 @@ end_led order BlockBefore ends cmp parts some = absurd ends
 end_led order (Seek key) ends cmp parts some = absurd ends
 
 -- a list with a last key has a pair
-last_key_some : {key : List ℕ} {pairs : List Pair} → IsLastKey key pairs → pairs ≢ []
+pub last_key_some : {key : List ℕ} {pairs : List Pair} → IsLastKey key pairs → pairs ≢ []
 last_key_some {key} {pairs} last none = by last.0 (sym last.2 ∙ none)
   where
     by : (front : List Pair) → front ++ (key, last.1) ∷ [] ≡ [] → ⊥
@@ -185,7 +185,7 @@ inside_err to (Some old) result None step = absurd step
 inside_err to (Some old) result (Some new) step = step.err
 
 -- the table of a file that is there
-each_in : (R : ℕ × FileMetaData → FileTable → Type 0) (files : List (ℕ × FileMetaData)) (tables : List FileTable) (i : ℕ) → i < length files → Each R files tables → (file : ℕ × FileMetaData) × R file (table_in tables i)
+pub each_in : (R : ℕ × FileMetaData → FileTable → Type 0) (files : List (ℕ × FileMetaData)) (tables : List FileTable) (i : ℕ) → i < length files → Each R files tables → (file : ℕ × FileMetaData) × R file (table_in tables i)
 each_in R [] tables i within each = absurd (omega (arith, within))
 each_in R (x ∷ files) [] i within each = absurd each
 each_in R (x ∷ files) (t ∷ tables) zero within each = (x, each.0)
@@ -277,7 +277,7 @@ module _ {E C FP K F : Type 0} {order : CmpGhosts (InternalKeyCmp C)} (env : Env
           ((landed meaning tables there).0 position (subst (λ (o : List ℕ → List ℕ → Ordering). IsLedTo to o (table_in tables old.at).parts old.core position) (order_is world.1.cmp) led));
     }
 
-  there_left : (world : E × ReadTables E C FP K F order) (old new : VersionIter C order) → LeavesPairs old.core new.core → new.at ≡ old.at → new.files.now ≡ old.files.now → (meaning : Meaning) (tables : List FileTable)
+  pub there_left : (world : E × ReadTables E C FP K F order) (old new : VersionIter C order) → LeavesPairs old.core new.core → new.at ≡ old.at → new.files.now ≡ old.files.now → (meaning : Meaning) (tables : List FileTable)
       → AreTablesThere env cmp filters codings meaning world old tables → AreTablesThere env cmp filters codings meaning world new tables
   there_left world old new left at files meaning tables there = record {
     matched = there.matched;
@@ -306,7 +306,7 @@ module _ {E C FP K F : Type 0} {order : CmpGhosts (InternalKeyCmp C)} (env : Env
   -- ---- a move to the end of a file's table
 
   module _ (world : E × ReadTables E C FP K F order) (old turned : VersionIter C order) (turns : TurnsTo old.at old.core turned.at turned.core) (files : turned.files.now ≡ old.files.now) where
-    there_turned : (meaning : Meaning) (tables : List FileTable) → AreTablesThere env cmp filters codings meaning world old tables → AreTablesThere env cmp filters codings meaning world turned tables
+    pub there_turned : (meaning : Meaning) (tables : List FileTable) → AreTablesThere env cmp filters codings meaning world old tables → AreTablesThere env cmp filters codings meaning world turned tables
     there_turned meaning tables there = record {
       matched = there.matched;
       agrees = there.agrees;
@@ -448,7 +448,7 @@ module _ {E C FP K F : Type 0} {order : CmpGhosts (InternalKeyCmp C)} (env : Env
       on_err_weaker (Ok x) f is = tt
       on_err_weaker (Err s) f is = f is
 
-  moves_made : {R S : Type 0} {x : R} {world later : E × ReadTables E C FP K F order} {old new : VersionIter C order} (y : S) → MovesThere env cmp filters codings world old (Ok x) later new → MovesThere env cmp filters codings world old (Ok y) later new
+  pub moves_made : {R S : Type 0} {x : R} {world later : E × ReadTables E C FP K F order} {old new : VersionIter C order} (y : S) → MovesThere env cmp filters codings world old (Ok x) later new → MovesThere env cmp filters codings world old (Ok y) later new
   moves_made y moves = record { stays = moves.stays; cause = tt; err = tt }
 
   moves_refused : {R S : Type 0} {status : Status} {world later : E × ReadTables E C FP K F order} {old new : VersionIter C order} (result : Result S Status) → IsErrAnd result (λ other. other ≡ status)
