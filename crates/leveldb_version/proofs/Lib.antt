@@ -87,3 +87,12 @@ pub mod SearchTableLemmas
 pub mod NewestTablesLemmas
 pub mod GetLemmas
 pub mod DisjointLemmas
+pub mod VersionItersLemmas
+pub mod TablesInTurnLemmas
+pub mod PairwiseLemmas
+pub mod TableRunLemmas
+pub mod WalkFilesLemmas
+pub mod WalkOrderLemmas
+pub mod WalkTablesLemmas
+pub mod VersionLayersLemmas
+pub mod TablesToWalkLemmas

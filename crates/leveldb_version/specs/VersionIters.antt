@@ -1,8 +1,10 @@
 -- The walks over a version's tables: one for each file of level 0, the newest first, and one for each
 -- deeper level that has files.
-use Rattle.std.specs.Prelude.{◌≡◌, ◌↔◌, ◌<◌, ◌^◌, ℕ, List, [], ◌∷◌, ◌++◌, All, Contains, IsPermutation, Option, None, filter, flat_map, length, map, reverse, slice_get, Some}
+use Rattle.std.specs.Prelude.{◌≡◌, ◌↔◌, ◌<◌, ◌^◌, ℕ, true, List, [], ◌∷◌, ◌++◌, All, Contains, IsPermutation, Option, None, filter, flat_map, length, map, reverse, slice_get, Some}
 use Rattle.std.specs.Borrow.{Bor}
-use Rattle.leveldb_base.specs.Cmp.{IsExactOrder}
+use Rattle.std.specs.List.{IsDistinct}
+use Rattle.std.specs.declared.cmp.Ordering.{Ordering}
+use Rattle.leveldb_base.specs.Cmp.{IsExactOrder, internal_accepts}
 use Rattle.leveldb_base.specs.Entries.{entries_of_pairs}
 use Rattle.leveldb_base.specs.History.{Entry, entries_of}
 use Rattle.leveldb_base.specs.KeyTypes.{internal_cmp}
@@ -17,10 +19,11 @@ use Rattle.leveldb_env.specs.declared.filter.FilterPolicy.{Ghosts as FilterGhost
 use Rattle.leveldb_iter.specs.Walk.{KeyOrder, key_order}
 use Rattle.leveldb_version.specs.Format.{Agrees, IsTableOf, Meaning}
 use Rattle.leveldb_version.specs.Levels.{IsBounded, LevelOrder, LiveTable, table_entries}
-use Rattle.leveldb_version.specs.Store.{HasTable}
+use Rattle.leveldb_version.specs.Store.{HasTable, any_user_key}
 use Rattle.leveldb_version.specs.TableCache.{files_at, store_of}
 use Rattle.leveldb_version.specs.TableMoves.{AreTablesMatched}
 use Rattle.leveldb_version.specs.Version.{AreInVersionOrder, VersionValue, at_level, new_files_of}
+use Rattle.leveldb_version.specs.VersionSet.{is_same_file, level_file}
 use Rattle.leveldb_version.specs.VersionIter.{IsOverTables, reading}
 use Rattle.leveldb_version.specs.declared.table_cache.moves.ReadTables.{ReadTables}
 use Rattle.leveldb_version.specs.declared.version_iter.VersionIter.{VersionIter}
@@ -67,6 +70,13 @@ pub record AreVersionIters {C : Type 0} {order : CmpGhosts (InternalKeyCmp C)}
 
 -- ---- a law
 
+-- a comparator orders internal keys by this order of user keys, and is meant for all of them
+pub record OrdersInternalKeys {C : Type 0} (order : CmpGhosts (InternalKeyCmp C))
+    (cmp : List ℕ → List ℕ → Ordering) (c : C) : Type 0 where
+  pub cmp_is : order.cmp (record { 0 = c }) ≡ internal_cmp cmp
+  pub accepts : (key : List ℕ) → internal_accepts any_user_key key ≡ true
+      → order.accepts (record { 0 = c }) key ≡ true
+
 module _ {E C FP K F : Type 0} {order : CmpGhosts (InternalKeyCmp C)} (env : EnvGhosts E F)
     (cmp : CmpGhosts C) (filters : FilterGhosts FP) (codings : K → Codings) where
   -- The tables of a version are there, by what names and ids mean, in a world whose open tables match
@@ -78,10 +88,13 @@ module _ {E C FP K F : Type 0} {order : CmpGhosts (InternalKeyCmp C)} (env : Env
     pub agrees : Agrees (reading env cmp filters codings world.1).format meaning
     pub order_is : cmp.cmp version.cmp ≡ cmp.cmp world.1.cmp
     pub files_are : IsPermutation (map (λ table. table.file) tables) (new_files_of version)
+    -- each level and number is there once
+    pub once : IsDistinct is_same_file (map level_file (map (λ table. table.file) tables))
     pub in_order : AreInVersionOrder (cmp.cmp version.cmp) (new_files_of version)
     pub each : All (HasTable (store_of world.1.cache.now) (cmp.cmp world.1.cmp)
         (IsTableOf (cmp.cmp world.1.cmp) meaning) (files_at env world.0)) tables
-    pub fit : All (λ table. (table.file.number < 2 ^ 64) × (table.file.size < 2 ^ 64)) tables
+    pub fit : All (λ table. (table.file.level < 7) × (table.file.number < 2 ^ 64)
+        × (table.file.size < 2 ^ 64)) tables
     pub levels : LevelOrder (cmp.cmp world.1.cmp) tables
 
   -- Walks are over lists whose entries are layers, the newer first, and together exactly the entries
@@ -104,7 +117,7 @@ abbrev pub VersionItersAreLayers : {E C FP K F : Type 0} → CmpGhosts (Internal
 VersionItersAreLayers {E} {C} {FP} {K} {F} order env cmp filters codings = (version : VersionValue C) (iters : List (VersionIter C order))
     → AreVersionIters version iters → (world : E × ReadTables E C FP K F order)
     → IsExactOrder (cmp.cmp world.1.cmp)
-    → order.cmp (record { 0 = world.1.cmp }) ≡ internal_cmp (cmp.cmp world.1.cmp)
+    → OrdersInternalKeys order (cmp.cmp world.1.cmp) world.1.cmp
     → (meaning : Meaning) (tables : List LiveTable)
     → AreTablesToWalk env cmp filters codings version meaning world tables
     → AreOverLayers env cmp filters codings world iters tables

@@ -1,0 +1,176 @@
+-- The tables of a version's walks, in a world where its files are tables in levels.
+use Rattle.std.specs.Prelude.{All, Contains}
+use Rattle.std.proofs.Common.{◌≡◌, ℕ, ◌<◌, ◌^◌, true, List, [], ◌∷◌, None, map, refl, sym, ◌∙◌, ap, subst}
+use Rattle.std.proofs.lemmas.List.Elements.{All-contains}
+use Rattle.std.specs.Cmp.{IsTotalOrder}
+use Rattle.std.specs.declared.cmp.Ordering.{Ordering}
+use Rattle.leveldb_base.proofs.EntriesLemmas.{in_map, map_in}
+use Rattle.leveldb_base.proofs.OrderLemmas.{exact_total}
+use Rattle.leveldb_base.specs.Cmp.{IsExactOrder}
+use Rattle.leveldb_base.specs.Entries.{entries_of_pairs, entry_of_pair}
+use Rattle.leveldb_base.specs.History.{AreRising, Entry}
+use Rattle.leveldb_base.specs.KeyTypes.{internal_cmp}
+use Rattle.leveldb_base.specs.Types.{Pair}
+use Rattle.leveldb_base.specs.declared.cmp.Cmp.{Ghosts as CmpGhosts}
+use Rattle.leveldb_base.specs.declared.cmp.internal.InternalKeyCmp.{InternalKeyCmp}
+use Rattle.leveldb_base.specs.declared.types.FileMetaData.{FileMetaData}
+use Rattle.leveldb_env.specs.Compressor.{Codings}
+use Rattle.leveldb_env.specs.Env.{Files}
+use Rattle.leveldb_env.specs.declared.env.Env.{Ghosts as EnvGhosts}
+use Rattle.leveldb_env.specs.declared.filter.FilterPolicy.{Ghosts as FilterGhosts}
+use Rattle.leveldb_iter.specs.Walk.{key_order}
+use Rattle.leveldb_table.specs.Table.{AreParted, Part}
+use Rattle.leveldb_table.specs.TableReader.{pairs_in}
+use Rattle.leveldb_table.specs.declared.table_reader.walk.TableCore.{TableCore}
+use Rattle.leveldb_version.proofs.NewestTablesLemmas.{one_number, table_of, there}
+use Rattle.leveldb_version.proofs.OneStoreLemmas.{flat_in, in_flat}
+use Rattle.leveldb_version.proofs.PairwiseLemmas.{choose, each_first, each_more_of, each_of_map, each_second}
+use Rattle.leveldb_version.proofs.SearchLemmas.{all_from_contains}
+use Rattle.leveldb_version.proofs.TableRunLemmas.{file_table, is_run, is_table_at, same_entries}
+use Rattle.leveldb_version.proofs.TablesInTurnLemmas.{AreInTurn, IsRun, of_all, turns_accepted, turns_parted, turns_rise}
+use Rattle.leveldb_version.proofs.VersionLemmas.{internal_total}
+use Rattle.leveldb_version.proofs.WalkFilesLemmas.{walk_turns, walk_within}
+use Rattle.leveldb_version.proofs.WalkOrderLemmas.{keys_apart}
+use Rattle.leveldb_version.specs.Batches.{Each}
+use Rattle.leveldb_version.specs.Format.{IsTableOf, Meaning}
+use Rattle.leveldb_version.specs.Levels.{LiveTable}
+use Rattle.leveldb_version.specs.Paths.{table_path}
+use Rattle.leveldb_version.specs.Store.{HasTable}
+use Rattle.leveldb_version.specs.TableCache.{files_at, path_at, store_of}
+use Rattle.leveldb_version.specs.TableMoves.{FileTable, IsIndexedFor, IsTableAt, table_pairs}
+use Rattle.leveldb_version.specs.Version.{AreInVersionOrder, VersionValue, new_files_of}
+use Rattle.leveldb_version.specs.VersionEdit.{NewFile, new_file_of}
+use Rattle.leveldb_version.specs.VersionIter.{IsOverTables, reading, table_in, table_part, table_parts}
+use Rattle.leveldb_version.specs.VersionIters.{AreTablesToWalk, OrdersInternalKeys, files_of_walks}
+use Rattle.leveldb_version.specs.declared.table_cache.moves.ReadTables.{ReadTables}
+use Rattle.leveldb_version.specs.declared.version_iter.VersionIter.{VersionIter}
+
+module _ {E C FP K F : Type 0} {order : CmpGhosts (InternalKeyCmp C)} (env : EnvGhosts E F) (cmp : CmpGhosts C) (filters : FilterGhosts FP) (codings : K → Codings)
+    (version : VersionValue C) (world : E × ReadTables E C FP K F order) (exact : IsExactOrder (cmp.cmp world.1.cmp)) (orders : OrdersInternalKeys order (cmp.cmp world.1.cmp) world.1.cmp)
+    (meaning : Meaning) (tables : List LiveTable) (are : AreTablesToWalk env cmp filters codings version meaning world tables) where
+  abbrev ucmp : List ℕ → List ℕ → Ordering
+  ucmp = cmp.cmp world.1.cmp
+
+  abbrev store : List ℕ
+  store = store_of world.1.cache.now
+
+  abbrev disk : Files
+  disk = files_at env world.0
+
+  pub in_order : AreInVersionOrder ucmp (new_files_of version)
+  in_order = subst (λ (o : List ℕ → List ℕ → Ordering). AreInVersionOrder o (new_files_of version)) are.order_is are.in_order
+
+  -- a file's table is this one, with the entries of its live table
+  pub record IsTableFor (file : ℕ × FileMetaData) (table : FileTable) : Type 0 where
+    pub live : LiveTable
+    pub is_live : Contains tables live
+    pub file_is : live.file ≡ new_file_of file
+    pub run : IsRun ucmp (new_file_of file) table
+    pub at : ((new_file_of file).number < 2 ^ 64) × ((new_file_of file).largest ≡ table.largest) × IsTableAt ucmp meaning disk (table_path store (new_file_of file).number) table
+    pub entries : entries_of_pairs (table_pairs table) ≡ live.entries
+
+  table_for : (file : ℕ × FileMetaData) → Contains version.files file → (table : FileTable) × IsTableFor file table
+  table_for file c =
+      let live = table_of exact meaning store disk tables are.each (new_files_of version) are.files_are (new_file_of file) (map_in new_file_of version.files file c) in
+      let has = there exact meaning store disk tables are.each live.0 live.1 in
+      let fits = All-contains (λ (table : LiveTable). (table.file.level < 7) × (table.file.number < 2 ^ 64) × (table.file.size < 2 ^ 64)) tables live.0 are.fit live.1 in
+      let total = exact_total exact in
+      let table = file_table total (internal_total total) meaning store disk live.0 has in (
+        table,
+        record {
+          live = live.0;
+          is_live = live.1;
+          file_is = live.2;
+          run = subst (λ f. IsRun ucmp f table) live.2 (is_run total (internal_total total) meaning store disk live.0 has);
+          at = (
+            subst (λ (f : NewFile). f.number < 2 ^ 64) live.2 fits.1,
+            sym (ap (λ (f : NewFile). f.largest) live.2),
+            subst (λ (f : NewFile). IsTableAt ucmp meaning disk (table_path store f.number) table) live.2 (is_table_at total (internal_total total) meaning store disk live.0 has fits.2),
+          );
+          entries = same_entries total (internal_total total) meaning store disk live.0 has;
+        },
+      )
+
+  -- a walk's files are tables with these pairs, one after the other
+  pub record HasPairs (part : List (ℕ × FileMetaData)) (pairs : List Pair) : Type 0 where
+    pub tabled : List FileTable
+    pub each : Each IsTableFor part tabled
+    pub turns : AreInTurn ucmp (map new_file_of part)
+    pub is : pairs ≡ pairs_in (table_parts tabled)
+
+  pub walk_pairs : (part : List (ℕ × FileMetaData)) → Contains (files_of_walks version.files) part → (pairs : List Pair) × HasPairs part pairs
+  walk_pairs part c =
+      let tabled = choose IsTableFor part (λ file d. table_for file (walk_within version.files part c file d)) in (
+        pairs_in (table_parts tabled.0),
+        record {
+          tabled = tabled.0;
+          each = tabled.1;
+          turns = walk_turns version.files ucmp (keys_apart exact meaning store disk tables are.each (new_files_of version) are.files_are are.once in_order are.levels) part c;
+          is = refl;
+        },
+      )
+
+  module _ (part : List (ℕ × FileMetaData)) (pairs : List Pair) (has : HasPairs part pairs) where
+    runs : Each (IsRun ucmp) (map new_file_of part) has.tabled
+    runs = each_of_map (IsRun ucmp) new_file_of part has.tabled (each_more_of IsTableFor (λ f t. IsRun ucmp (new_file_of f) t) part has.tabled (λ f t is. is.run) has.each)
+
+    indexed : (it : VersionIter C order) → it.core ≡ None → IsIndexedFor (order.cmp (record { 0 = world.1.cmp })) (table_in has.tabled it.at).parts it.core
+    indexed it none = subst (IsIndexedFor (order.cmp (record { 0 = world.1.cmp })) (table_in has.tabled it.at).parts) (sym none) tt
+
+    -- a walk over the files that has not begun is over the pairs
+    pub walk_over : (it : VersionIter C order) → it.files.now ≡ part → it.core ≡ None → IsOverTables env cmp filters codings world it (key_order order (record { 0 = world.1.cmp })) pairs
+    walk_over it files none =
+        let total = exact_total exact in
+        let accepted = turns_accepted ucmp (order.accepts (record { 0 = world.1.cmp })) orders.accepts (map new_file_of part) has.tabled runs in
+        record {
+          meaning = meaning;
+          tables = has.tabled;
+          there = record {
+            matched = are.matched;
+            agrees = are.agrees;
+            each = subst (λ fs. Each (λ file table. ((new_file_of file).number < 2 ^ 64) × ((new_file_of file).largest ≡ table.largest)
+                × IsTableAt ucmp meaning disk (table_path store (new_file_of file).number) table) fs has.tabled) (sym files)
+                (each_more_of IsTableFor (λ file table. ((new_file_of file).number < 2 ^ 64) × ((new_file_of file).largest ≡ table.largest)
+                × IsTableAt ucmp meaning disk (table_path store (new_file_of file).number) table) part has.tabled (λ f t is. is.at) has.each);
+            indexed = indexed it none;
+          };
+          keys_are = refl;
+          pairs_are = has.is;
+          sorted = record {
+            rising = subst (λ (o : List ℕ → List ℕ → Ordering). AreRising o pairs) (sym orders.cmp_is)
+                (subst (AreRising (internal_cmp ucmp)) (sym has.is) (turns_rise total (internal_total total) (map new_file_of part) has.tabled runs has.turns));
+            accepted = all_from_contains (λ (pair : Pair). order.accepts (record { 0 = world.1.cmp }) pair.0 ≡ true) pairs
+                (λ pair c. of_all (λ (p : Pair). order.accepts (record { 0 = world.1.cmp }) p.0 ≡ true) (pairs_in (table_parts has.tabled)) accepted.pairs pair (subst (λ ps. Contains ps pair) has.is c));
+          };
+          parted = subst (λ (o : List ℕ → List ℕ → Ordering). AreParted o (table_parts has.tabled)) (sym orders.cmp_is)
+              (turns_parted total (internal_total total) (map new_file_of part) has.tabled runs has.turns);
+          accepted = accepted;
+        }
+
+    -- an entry of the pairs is one of a file's live table
+    pub entry_from : (entry : Entry) → Contains (entries_of_pairs pairs) entry
+        → (file : ℕ × FileMetaData) × (live : LiveTable) × Contains part file × Contains tables live × (live.file ≡ new_file_of file) × Contains live.entries entry
+    entry_from entry c =
+        let pair = in_map entry_of_pair pairs entry c in
+        let block = in_flat (λ (p : Part). p.pairs) (table_parts has.tabled) pair.0 (subst (λ ps. Contains ps pair.0) has.is pair.1) in
+        let table = in_map table_part has.tabled block.0 block.1 in
+        let file = each_second IsTableFor part has.tabled table.0 has.each table.1 in
+        let there = subst (λ (p : Part). Contains p.pairs pair.0) (sym table.2) block.2 in (
+          file.0,
+          file.2.live,
+          file.1,
+          file.2.is_live,
+          file.2.file_is,
+          subst (λ es. Contains es entry) file.2.entries (subst (Contains (entries_of_pairs (table_pairs table.0))) pair.2 (map_in entry_of_pair (table_pairs table.0) pair.0 there)),
+        )
+
+    -- and the other way round
+    pub entry_to : (file : ℕ × FileMetaData) → Contains part file → (live : LiveTable) → Contains tables live → live.file ≡ new_file_of file
+        → (entry : Entry) → Contains live.entries entry → Contains (entries_of_pairs pairs) entry
+    entry_to file c live d is entry e =
+        let table = each_first IsTableFor part has.tabled file has.each c in
+        let one = one_number exact meaning store disk live table.2.live (there exact meaning store disk tables are.each live d) (there exact meaning store disk tables are.each table.2.live table.2.is_live)
+        (ap (λ (f : NewFile). f.number) (is ∙ sym table.2.file_is)) in
+        let pair = in_map entry_of_pair (table_pairs table.0) entry (subst (λ es. Contains es entry) (one ∙ sym table.2.entries) e) in
+        subst (Contains (entries_of_pairs pairs)) pair.2 (map_in entry_of_pair pairs pair.0 (subst (λ ps. Contains ps pair.0) (sym has.is)
+        (flat_in (λ (p : Part). p.pairs) (table_parts has.tabled) (table_part table.0) pair.0 (map_in table_part has.tabled table.0 table.1) pair.1)))
