@@ -65,7 +65,9 @@ module _ {C : Type 0} {order : CmpGhosts (InternalKeyCmp C)} where
 -- walks over a version's tables, which have not begun
 pub record AreVersionIters {C : Type 0} {order : CmpGhosts (InternalKeyCmp C)}
     (version : VersionValue C) (iters : List (VersionIter C order)) : Type 0 where
+  -- which files each walk goes over
   pub files : files_of_iters iters ≡ files_of_walks version.files
+  -- none is at a table yet
   pub not_begun : HaveNotBegun iters
 
 -- ---- a law
@@ -73,7 +75,9 @@ pub record AreVersionIters {C : Type 0} {order : CmpGhosts (InternalKeyCmp C)}
 -- a comparator orders internal keys by this order of user keys, and is meant for all of them
 pub record OrdersInternalKeys {C : Type 0} (order : CmpGhosts (InternalKeyCmp C))
     (cmp : List ℕ → List ℕ → Ordering) (c : C) : Type 0 where
+  -- it orders them so
   pub cmp_is : order.cmp (record { 0 = c }) ≡ internal_cmp cmp
+  -- each key that has its tag is accepted
   pub accepts : (key : List ℕ) → internal_accepts any_user_key key ≡ true
       → order.accepts (record { 0 = c }) key ≡ true
 
@@ -83,18 +87,26 @@ module _ {E C FP K F : Type 0} {order : CmpGhosts (InternalKeyCmp C)} (env : Env
   -- the files.
   pub record AreTablesToWalk (version : VersionValue C) (meaning : Meaning)
       (world : E × ReadTables E C FP K F order) (tables : List LiveTable) : Type 0 where
+    -- the open tables match the files
     pub matched : AreTablesMatched env (reading env cmp filters codings world.1) world.0
         world.1.cache.now
+    -- the tables are read by what names and ids mean
     pub agrees : Agrees (reading env cmp filters codings world.1).format meaning
+    -- in the version's order of user keys
     pub order_is : cmp.cmp version.cmp ≡ cmp.cmp world.1.cmp
+    -- they are the tables of the version's files
     pub files_are : IsPermutation (map (λ table. table.file) tables) (new_files_of version)
     -- each level and number is there once
     pub once : IsDistinct is_same_file (map level_file (map (λ table. table.file) tables))
+    -- the files are in a version's order
     pub in_order : AreInVersionOrder (cmp.cmp version.cmp) (new_files_of version)
+    -- each table is in its file
     pub each : All (HasTable (store_of world.1.cache.now) (cmp.cmp world.1.cmp)
         (IsTableOf (cmp.cmp world.1.cmp) meaning) (files_at env world.0)) tables
+    -- what an edit says of each fits
     pub fit : All (λ table. (table.file.level < 7) × (table.file.number < 2 ^ 64)
         × (table.file.size < 2 ^ 64)) tables
+    -- they are in levels
     pub levels : LevelOrder (cmp.cmp world.1.cmp) tables
 
   -- Walks are over lists whose entries are layers, the newer first, and together exactly the entries
@@ -102,19 +114,24 @@ module _ {E C FP K F : Type 0} {order : CmpGhosts (InternalKeyCmp C)} (env : Env
   pub record AreOverLayers (world : E × ReadTables E C FP K F order)
       (iters : List (VersionIter C order)) (tables : List LiveTable) : Type 0 where
     pub lists : List (List Pair)
+    -- one list for each walk
     pub counted : length lists ≡ length iters
+    -- which the walk is over
     pub over : (k : ℕ) (it : VersionIter C order) (pairs : List Pair)
         → slice_get iters k ≡ Some it → slice_get lists k ≡ Some pairs
         → IsOverTables env cmp filters codings world it
         (key_order order (record { 0 = world.1.cmp })) pairs
+    -- the newer entries of a key first
     pub layered : AreLayered (map entries_of_pairs lists)
+    -- all entries of the tables, and no others
     pub exactly : (entry : Entry) → Contains (entries_of (map entries_of_pairs lists)) entry
         ↔ Contains (table_entries tables) entry
 
 -- so are walks over a version's tables, in each such world
 abbrev pub VersionItersAreLayers : {E C FP K F : Type 0} → CmpGhosts (InternalKeyCmp C)
     → EnvGhosts E F → CmpGhosts C → FilterGhosts FP → (K → Codings) → Type 0
-VersionItersAreLayers {E} {C} {FP} {K} {F} order env cmp filters codings = (version : VersionValue C) (iters : List (VersionIter C order))
+VersionItersAreLayers {E} {C} {FP} {K} {F} order env cmp filters codings =
+    (version : VersionValue C) (iters : List (VersionIter C order))
     → AreVersionIters version iters → (world : E × ReadTables E C FP K F order)
     → IsExactOrder (cmp.cmp world.1.cmp)
     → OrdersInternalKeys order (cmp.cmp world.1.cmp) world.1.cmp
