@@ -2,11 +2,12 @@
 //! each move.
 ghost use Rattle.std.specs.Prelude.{◌≡◌, ◌<◌, length, IfErr, OnOk, OnErr, None};
 ghost use Rattle.std.specs.Option.{ForSome};
-ghost use Rattle.leveldb_base.specs.Cmp.{bytewise};
 ghost use Rattle.leveldb_base.specs.Types.{count_before};
 
 use bytes::Bytes;
+use leveldb_base::cmp::{Cmp, DefaultCmp, InternalKeyCmp};
 use leveldb_base::error::{Result, Status, StatusCode};
+use leveldb_base::key_types::{ValueType, tag_bytes};
 use leveldb_base::types::LdbIterator;
 use leveldb_iter::walk::Walk;
 use std::alloc::Global;
@@ -33,21 +34,22 @@ impl Device {
     }
 }
 
-/// A walk over a sorted list in memory.
+/// A walk over a list in memory that a comparator sorts.
 #[derive(Drop)]
-pub struct Listed {
+pub struct Listed<C> {
+    cmp: C,
     pairs: Vec<(Bytes, Bytes)>,
     at: Option<usize>,
     ghost within: { ForSome at (λ i. i < length pairs.items) },
 }
 
 /// How many keys at the front are before the key.
-fn keys_before(pairs: &Vec<(Bytes, Bytes)>, key: &[u8]) -> usize
-    ensures { result ≡ count_before bytewise key.now pairs.now.items }
+fn keys_before<C: Cmp>(cmp: &C, pairs: &Vec<(Bytes, Bytes)>, key: &[u8]) -> usize
+    ensures { result ≡ count_before (C.cmp cmp.now) key.now pairs.now.items }
 {
     let mut n = 0;
     for pair in pairs {
-        if pair.0.as_slice().cmp(key).is_ge() {
+        if cmp.cmp(pair.0.as_slice(), key).is_ge() {
             break;
         }
         n += 1;
@@ -55,9 +57,9 @@ fn keys_before(pairs: &Vec<(Bytes, Bytes)>, key: &[u8]) -> usize
     n
 }
 
-impl Listed {
+impl Listed<DefaultCmp> {
     /// A list of these keys, each of one letter, with the value of that letter.
-    pub fn of(alloc: Global, keys: &'static str) -> Result<Listed> {
+    pub fn of(alloc: Global, keys: &'static str) -> Result<Listed<DefaultCmp>> {
         let mut pairs = Vec::new(alloc);
         let bytes = keys.as_bytes();
         for i in 0..bytes.len() {
@@ -66,18 +68,48 @@ impl Listed {
                 Bytes::copy_from_slice(alloc, &bytes[i..=i])?,
             ))?;
         }
-        Ok(Listed { pairs, at: None })
+        Ok(Listed {
+            cmp: DefaultCmp,
+            pairs,
+            at: None,
+        })
     }
 }
 
-impl LdbIterator for Listed {
+impl Listed<InternalKeyCmp<DefaultCmp>> {
+    /// A list of these entries: each has the key of a letter, the sequence number of a digit and
+    /// that digit as its value, or is a deletion.
+    pub fn of_entries(
+        alloc: Global,
+        entries: &[(u8, u8, ValueType)],
+    ) -> Result<Listed<InternalKeyCmp<DefaultCmp>>> {
+        let mut pairs = Vec::new(alloc);
+        for (letter, digit, kind) in entries {
+            let mut key = Vec::new(alloc);
+            key.push(*letter)?;
+            key.extend_from_slice(&tag_bytes(u64::from(*digit), *kind))?;
+            let value = match kind {
+                ValueType::TypeDeletion => Bytes::new(),
+                ValueType::TypeValue => Bytes::copy_from_slice(alloc, &[*digit])?,
+            };
+            pairs.push((Bytes::copy_from_slice(alloc, key.as_slice())?, value))?;
+        }
+        Ok(Listed {
+            cmp: InternalKeyCmp(DefaultCmp),
+            pairs,
+            at: None,
+        })
+    }
+}
+
+impl<C: Cmp> LdbIterator for Listed<C> {
     ghost use Rattle.std.proofs.Common.{rules};
 
     ghost pairs = { λ it. it.pairs.items };
 
     ghost position = { λ it. it.at };
 
-    ghost order = { λ _. bytewise };
+    ghost order = { λ it. C.cmp it.cmp };
 
     ghost fails = { λ _ _ _. ⊥ };
 
@@ -100,7 +132,7 @@ impl LdbIterator for Listed {
     }
 
     fn seek(&mut self, key: &[u8]) -> Result<()> {
-        let n = keys_before(&self.pairs, key);
+        let n = keys_before(&self.cmp, &self.pairs, key);
         self.at = if n < self.pairs.len() { Some(n) } else { None };
         Ok(())
     }
@@ -133,14 +165,15 @@ impl LdbIterator for Listed {
 
 /// A list in memory whose moves each make a call of a device first.
 #[derive(Drop)]
-pub struct Source {
-    pub list: Listed,
+pub struct Source<C> {
+    pub list: Listed<C>,
 }
 
-impl Source {
+impl<C: Cmp> Source<C> {
     // Makes the call, and is at no position where that fails.
     fn call(&mut self, device: &mut Device) -> Result<()>
         ensures pairs { self.new.list.pairs.items ≡ self.old.list.pairs.items }
+        ensures order { C.cmp self.new.list.cmp ≡ C.cmp self.old.list.cmp }
         ensures ok { OnOk result (self.new.list.at ≡ self.old.list.at) }
         ensures err { OnErr result (self.new.list.at ≡ None) }
         ensures cause { IfErr result (λ status. status.code ≡ StatusCode.IOError) }
@@ -153,13 +186,13 @@ impl Source {
     }
 }
 
-impl<T> Walk<Device, T> for Source {
+impl<C: Cmp, T> Walk<Device, T> for Source<C> {
     ghost use Rattle.iter_tests.specs.Sources.{IsListOf, IsListAt, source_here, FailsAtDevice, source_laws};
     ghost use Rattle.std.proofs.Common.{rules};
 
-    ghost over = { IsListOf };
+    ghost over = { IsListOf C.Cmp };
 
-    ghost is_at = { IsListAt };
+    ghost is_at = { IsListAt C.Cmp };
 
     ghost here = { source_here };
 

@@ -4,3 +4,7 @@
 mod children;
 #[cfg(test)]
 mod merges;
+#[cfg(test)]
+mod moves;
+#[cfg(test)]
+mod views;

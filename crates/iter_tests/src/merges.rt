@@ -8,7 +8,7 @@ use leveldb_iter::walk::Walk;
 use leveldb_iter::walk_iter::WalkIter;
 use std::alloc::Global;
 
-type Merged = MergeCore<DefaultCmp, Source>;
+type Merged = MergeCore<DefaultCmp, Source<DefaultCmp>>;
 
 // Lists of keys, each of a letter, and all keys in order.
 const ROWS: [([&str; 3], &str); 8] = [
@@ -34,23 +34,23 @@ fn merge(alloc: Global, lists: &[&'static str; 3]) -> Result<Merged> {
 
 // The moves, each a letter: advance, prev, the first pair, the last, the first at or after "d", and
 // reset.
-const MOVES: [u8; 6] = *b"apflsr";
+pub const MOVES: [u8; 6] = *b"apflsr";
 
 // Makes the move of a letter.
-fn go(it: &mut Merged, device: &mut Device, letter: u8) -> Result<()> {
+pub fn go<W: Walk<Device, ()>>(it: &mut W, device: &mut Device, letter: u8) -> Result<()> {
     match letter {
         b'a' => drop(it.advance(device, &mut ())?),
         b'p' => drop(it.prev(device, &mut ())?),
         b'f' => it.seek_to_first(device, &mut ())?,
         b'l' => it.seek_to_last(device, &mut ())?,
         b's' => it.seek(device, &mut (), b"d")?,
-        _ => Walk::<Device, ()>::reset(it),
+        _ => it.reset(),
     }
     Ok(())
 }
 
 // Where the same move leads in a list of keys.
-fn gone(keys: &[u8], at: Option<usize>, letter: u8) -> Option<usize> {
+pub fn gone(keys: &[u8], at: Option<usize>, letter: u8) -> Option<usize> {
     let there = match letter {
         b'a' => match at {
             None => Some(0),
@@ -65,16 +65,22 @@ fn gone(keys: &[u8], at: Option<usize>, letter: u8) -> Option<usize> {
     there.filter(|i| *i < keys.len())
 }
 
-// Whether the merge is at the pair of this key, which has itself as its value.
-fn is_at(it: &Merged, key: Option<u8>) -> bool {
-    let valid = Walk::<Device, ()>::valid(it);
-    match (Walk::<Device, ()>::current(it), key) {
+// Whether the walk is at a pair of this key and this value, each of one byte.
+pub fn is_at<W: Walk<Device, ()>>(it: &W, pair: Option<(u8, u8)>) -> bool {
+    let valid = it.valid();
+    match (it.current(), pair) {
         (None, None) => !valid,
-        (Some((found, value)), Some(key)) => valid
+        (Some((found, own)), Some((key, value))) => valid
             && found == [key].as_slice()
-            && value == [key].as_slice(),
+            && own == [value].as_slice(),
         _ => false,
     }
+}
+
+// The pair of a key at an index, which has itself as its value.
+fn pair_at(keys: &[u8], at: Option<usize>) -> Option<(u8, u8)> {
+    let key = keys.get(at?).copied()?;
+    Some((key, key))
 }
 
 // Whether all moves of a number in base 6 lead where they lead in the sorted list.
@@ -90,11 +96,7 @@ fn leads_right(it: &mut Merged, keys: &[u8], moves: u32) -> Result<bool> {
         rest /= 6;
         go(it, &mut device, letter)?;
         at = gone(keys, at, letter);
-        let key = match at {
-            None => None,
-            Some(i) => keys.get(i).copied(),
-        };
-        if !is_at(it, key) {
+        if !is_at(it, pair_at(keys, at)) {
             return Ok(false);
         }
     }
@@ -131,11 +133,7 @@ fn goes_on(it: &mut Merged, device: &mut Device, keys: &[u8]) -> bool {
                 None
             }
         };
-        let key = match at {
-            None => None,
-            Some(i) => keys.get(i).copied(),
-        };
-        if !is_at(it, key) {
+        if !is_at(it, pair_at(keys, at)) {
             return false;
         }
     }
@@ -177,7 +175,7 @@ fn a_merge_beside_its_borrows(rt: HostRuntime) -> Result<()> {
     };
     let mut tables = ();
     let core = merge(rt.alloc(), &["bde", "ag", "cf"])?;
-    let mut it: MergingIter<Device, (), DefaultCmp, Source> = WalkIter::new(
+    let mut it: MergingIter<Device, (), DefaultCmp, Source<DefaultCmp>> = WalkIter::new(
         core,
         &mut device,
         &mut tables,

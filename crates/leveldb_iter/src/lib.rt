@@ -1,5 +1,5 @@
-//! Walks over sorted pairs of keys and values: their meaning, and their merge. The snapshots at which
-//! a store is read.
+//! Walks over sorted pairs of keys and values: their meaning, their merge, and the view of a store
+//! above it. The snapshots at which a store is read.
 #![tactic(auto)]
 
 mod children;

@@ -1,0 +1,156 @@
+//! Views of lists of entries beside a slow search for each key.
+use crate::children::{Device, Listed, Source};
+use crate::merges::{MOVES, go, gone, is_at};
+use leveldb_base::cmp::{DefaultCmp, InternalKeyCmp};
+use leveldb_base::error::{Result, StatusCode};
+use leveldb_base::key_types::ValueType;
+use leveldb_iter::db_iter::DbIterCore;
+use leveldb_iter::walk::Walk;
+use std::alloc::Global;
+
+type View = DbIterCore<Source<InternalKeyCmp<DefaultCmp>>>;
+
+// Lists of entries in order, each a letter, a digit for its sequence number, and '+' or '-'.
+const ROWS: [&str; 8] = [
+    "",
+    "d5+",
+    "d5-",
+    "a9+a5-a3+b4-b2+c7+c6+",
+    "a3-b5+b4+b1-d9+d8-d2+e7-",
+    "c5-c4+d6+d5+d4+d3-e4-f2+",
+    "a2+b9+c2-d9+e2+f9-f8+f1+",
+    "a4+b4+c4+d4+e4+f4+",
+];
+
+fn entries_of(alloc: Global, row: &[u8]) -> Result<Vec<(u8, u8, ValueType)>> {
+    let mut entries = Vec::new(alloc);
+    for part in row.chunks_exact(3) {
+        let kind = if part[2] == b'+' {
+            ValueType::TypeValue
+        } else {
+            ValueType::TypeDeletion
+        };
+        entries.push((part[0], part[1] & 15, kind))?;
+    }
+    Ok(entries)
+}
+
+// The value of a key at a sequence number, as a search of all entries finds it.
+fn value_of(entries: &[(u8, u8, ValueType)], key: u8, sequence: u8) -> Option<u8> {
+    let mut newest = 0;
+    let mut value = None;
+    for (letter, digit, kind) in entries {
+        if *letter == key && *digit <= sequence && newest < *digit {
+            newest = *digit;
+            value = match kind {
+                ValueType::TypeDeletion => None,
+                ValueType::TypeValue => Some(*digit),
+            };
+        }
+    }
+    value
+}
+
+// The pairs of the view, in order.
+#[derive(Drop)]
+struct Pairs {
+    keys: Vec<u8>,
+    values: Vec<u8>,
+}
+
+fn slow_view(alloc: Global, entries: &[(u8, u8, ValueType)], sequence: u8) -> Result<Pairs> {
+    let mut keys = Vec::new(alloc);
+    let mut values = Vec::new(alloc);
+    for key in b'a'..=b'g' {
+        if let Some(value) = value_of(entries, key, sequence) {
+            keys.push(key)?;
+            values.push(value)?;
+        }
+    }
+    Ok(Pairs { keys, values })
+}
+
+impl Pairs {
+    fn at(&self, at: Option<usize>) -> Option<(u8, u8)> {
+        let i = at?;
+        Some((self.keys.get(i).copied()?, self.values.get(i).copied()?))
+    }
+}
+
+fn view(alloc: Global, entries: &[(u8, u8, ValueType)], sequence: u8) -> Result<View> {
+    let list = Listed::of_entries(alloc, entries)?;
+    Ok(DbIterCore::new::<Device, ()>(alloc, Source { list }, u64::from(sequence)))
+}
+
+// Whether all moves of a number in base 6 lead where they lead in the list of these pairs.
+fn leads_right(it: &mut View, pairs: &Pairs, moves: u32) -> Result<bool> {
+    let mut device = Device {
+        calls_left: u64::MAX,
+    };
+    let mut rest = moves;
+    let mut at = None;
+    Walk::<Device, ()>::reset(it);
+    for _ in 0..5 {
+        let letter = MOVES[(rest % 6) as usize];
+        rest /= 6;
+        go(it, &mut device, letter)?;
+        at = gone(pairs.keys.as_slice(), at, letter);
+        if !is_at(it, pairs.at(at)) {
+            return Ok(false);
+        }
+    }
+    Ok(true)
+}
+
+#[test]
+fn all_moves_in_all_orders(rt: HostRuntime) -> Result<()> {
+    for row in &ROWS {
+        let entries = entries_of(rt.alloc(), row.as_bytes())?;
+        for sequence in [3, 5, 9] {
+            let pairs = slow_view(rt.alloc(), entries.as_slice(), sequence)?;
+            let mut it = view(rt.alloc(), entries.as_slice(), sequence)?;
+            for moves in 0..7776 {
+                assert!(rt;
+                    leads_right(&mut it, &pairs, moves)?,
+                    "{row} {sequence}: {moves}"
+                );
+            }
+        }
+    }
+    Ok(())
+}
+
+// The moves that are made with a device that fails.
+const WALK: &[u8] = b"aaapaplpppaasaflpspa";
+
+// Whether each move leads where it leads in the list, or fails and leaves no position.
+fn goes_on(it: &mut View, device: &mut Device, pairs: &Pairs) -> bool {
+    let mut at = None;
+    for letter in WALK {
+        at = match go(it, device, *letter) {
+            Ok(()) => gone(pairs.keys.as_slice(), at, *letter),
+            Err(status) => {
+                if status.code != StatusCode::IOError {
+                    return false;
+                }
+                None
+            }
+        };
+        if !is_at(it, pairs.at(at)) {
+            return false;
+        }
+    }
+    true
+}
+
+#[test]
+fn a_failed_move_leaves_no_position_and_the_view_goes_on(rt: HostRuntime) -> Result<()> {
+    let entries = entries_of(rt.alloc(), ROWS[5].as_bytes())?;
+    let pairs = slow_view(rt.alloc(), entries.as_slice(), 5)?;
+    for calls_left in 0..80 {
+        let mut it = view(rt.alloc(), entries.as_slice(), 5)?;
+        let mut device = Device { calls_left };
+        assert!(rt; goes_on(&mut it, &mut device, &pairs), "{calls_left}");
+    }
+    Ok(())
+}
