@@ -5,4 +5,6 @@ mod children;
 #[cfg(test)]
 mod merges;
 #[cfg(test)]
+mod moves;
+#[cfg(test)]
 mod views;
