@@ -5,16 +5,26 @@ ghost use Rattle.leveldb_version.specs.TableCache.{table_options};
 ghost use Rattle.leveldb_store.specs.View.{WalksStore};
 
 use super::OpenStore;
-use leveldb_base::cmp::{Cmp, UserCmp};
+use leveldb_base::cmp::{Cmp, InternalKeyCmp, UserCmp};
 use leveldb_base::error::Result;
-use leveldb_base::types::SequenceNumber;
+use leveldb_base::types::{MAX_SEQUENCE_NUMBER, SequenceNumber};
 use leveldb_env::compressor::{CompressorList, Compressors};
 use leveldb_env::env::Env;
 use leveldb_env::filter::FilterPolicy;
 use leveldb_env::options::Options;
-use leveldb_iter::moves::{Move, Step};
-use leveldb_version::table_cache::TableCache;
-use std::alloc::AllocError;
+use leveldb_iter::db_iter::DbIterCore;
+use leveldb_iter::merging_iter::MergeCore;
+use leveldb_iter::moves::{Move, Step, make_moves};
+use leveldb_iter::unlent::Unlent;
+use leveldb_mem::memtable::MemtableIterator;
+use leveldb_version::store_walk::StoreWalk;
+use leveldb_version::table_cache::{ReadTables, ReadsTables, TableCache};
+
+/// A walk over a memtable or over tables.
+type Child<'a, C> = StoreWalk<'a, C, MemtableIterator<'a, C>>;
+
+/// A walk over the view of a store.
+type View<'a, C> = DbIterCore<MergeCore<InternalKeyCmp<C>, Child<'a, C>>>;
 
 impl<E: Env, C: UserCmp + Copy + Drop> OpenStore<E, C> {
     /// Makes moves of a walk over the view at a sequence number, from no position on. `steps`, which
@@ -36,7 +46,53 @@ impl<E: Env, C: UserCmp + Copy + Drop> OpenStore<E, C> {
             × WalksStore E.Env by self.now env.old tables.old sequence moves.now given result
             env.new tables.new }
     {
-        Err(AllocError)?;
+        let compressors = &options.compressor_list;
+        let policy = options.filter_policy;
+        self.walk_by(env, options.cmp, policy, compressors, tables, sequence, moves, steps)
+    }
+
+    // `walk`, by these parts of the options.
+    fn walk_by<FP: FilterPolicy + Copy + Drop, K: ReadsTables<E, C, FP>>(
+        &self,
+        env: &mut E,
+        cmp: C,
+        policy: FP,
+        compressors: &K,
+        tables: &mut TableCache<E, C, FP>,
+        sequence: SequenceNumber,
+        moves: &[Move],
+        steps: &mut Vec<Step>,
+    ) -> Result<()>
+        requires room { vec_len steps.old + length moves.now ≤ vec_capacity steps.old }
+    {
+        let mut view = self.view::<FP, K>(cmp, sequence)?;
+        let mut reading = ReadTables { cache: tables, cmp, policy, compressors };
+        make_moves(self.alloc, &mut view, env, &mut reading, moves, steps);
         Ok(())
+    }
+
+    // The view at a sequence number, at no position.
+    fn view<FP: FilterPolicy + Copy + Drop, K: ReadsTables<E, C, FP>>(
+        &self,
+        cmp: C,
+        sequence: SequenceNumber,
+    ) -> Result<View<'_, C>> {
+        let children = self.children()?;
+        let merge = MergeCore::new::<E, ReadTables<'_, E, C, FP, K>>(InternalKeyCmp(cmp), children);
+        let last = sequence.min(MAX_SEQUENCE_NUMBER);
+        Ok(DbIterCore::new::<E, ReadTables<'_, E, C, FP, K>>(self.alloc, merge, last))
+    }
+
+    // Walks over what is in memory, and then over the tables of the version, the newer first.
+    fn children(&self) -> Result<Vec<Child<'_, C>>> {
+        let mut children = Vec::new(self.alloc);
+        children.push(StoreWalk::Memory(Unlent(self.recent.iter())))?;
+        if let Some(waiting) = &self.waiting {
+            children.push(StoreWalk::Memory(Unlent(waiting.iter())))?;
+        }
+        for walk in self.current.new_iters(self.alloc)? {
+            children.push(StoreWalk::Tables(walk))?;
+        }
+        Ok(children)
     }
 }
