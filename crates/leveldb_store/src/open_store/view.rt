@@ -52,35 +52,50 @@ impl<E: Env, C: UserCmp + Copy + Drop> OpenStore<E, C> {
     }
 
     // `walk`, by these parts of the options.
-    fn walk_by<FP: FilterPolicy + Copy + Drop, K: ReadsTables<E, C, FP>>(
+    fn walk_by<'b, FP: FilterPolicy + Copy + Drop, K: ReadsTables<E, C, FP>>(
         &self,
         env: &mut E,
         cmp: C,
         policy: FP,
-        compressors: &K,
-        tables: &mut TableCache<E, C, FP>,
+        compressors: &'b K,
+        tables: &'b mut TableCache<E, C, FP>,
         sequence: SequenceNumber,
         moves: &[Move],
         steps: &mut Vec<Step>,
     ) -> Result<()>
         requires room { vec_len steps.old + length moves.now ≤ vec_capacity steps.old }
     {
-        let mut view = self.view::<FP, K>(cmp, sequence)?;
         let mut reading = ReadTables { cache: tables, cmp, policy, compressors };
-        make_moves(self.alloc, &mut view, env, &mut reading, moves, steps);
+        self.walk_in(env, &mut reading, sequence, moves, steps)
+    }
+
+    // `walk`, in these tables.
+    fn walk_in<'b, FP: FilterPolicy + Copy + Drop, K: ReadsTables<E, C, FP>>(
+        &self,
+        env: &mut E,
+        reading: &mut ReadTables<'b, E, C, FP, K>,
+        sequence: SequenceNumber,
+        moves: &[Move],
+        steps: &mut Vec<Step>,
+    ) -> Result<()>
+        requires room { vec_len steps.old + length moves.now ≤ vec_capacity steps.old }
+    {
+        let mut view = self.view(reading, sequence)?;
+        make_moves(self.alloc, &mut view, env, reading, moves, steps);
         Ok(())
     }
 
-    // The view at a sequence number, at no position.
-    fn view<FP: FilterPolicy + Copy + Drop, K: ReadsTables<E, C, FP>>(
+    // The view at a sequence number, at no position. Its moves are to be made in these tables.
+    fn view<'b, FP: FilterPolicy + Copy + Drop, K: ReadsTables<E, C, FP>>(
         &self,
-        cmp: C,
+        reading: &ReadTables<'b, E, C, FP, K>,
         sequence: SequenceNumber,
     ) -> Result<View<'_, C>> {
         let children = self.children()?;
-        let merge = MergeCore::new::<E, ReadTables<'_, E, C, FP, K>>(InternalKeyCmp(cmp), children);
+        let cmp = InternalKeyCmp(reading.cmp);
+        let merge = MergeCore::new::<E, ReadTables<'b, E, C, FP, K>>(cmp, children);
         let last = sequence.min(MAX_SEQUENCE_NUMBER);
-        Ok(DbIterCore::new::<E, ReadTables<'_, E, C, FP, K>>(self.alloc, merge, last))
+        Ok(DbIterCore::new::<E, ReadTables<'b, E, C, FP, K>>(self.alloc, merge, last))
     }
 
     // Walks over what is in memory, and then over the tables of the version, the newer first.
