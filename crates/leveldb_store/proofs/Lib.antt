@@ -51,3 +51,5 @@ mod OpeningRecoverLemmas
 mod OpeningOpenLemmas
 mod OpeningBeginLemmas
 mod OpeningBytesLemmas
+mod ViewReadsLemmas
+mod ViewMergeLemmas

@@ -1,17 +1,25 @@
 -- A walk over the view of an open store at a sequence number: which pairs it is over, why its moves
 -- fail, and what they leave.
-use Rattle.std.specs.Prelude.{◌≡◌, ◌≤◌, ◌⊎◌, ℕ, true, List, [], ◌∷◌, Option, None, Result, IfErr, OnOk}
+use Rattle.std.specs.Prelude.{◌≡◌, ◌<◌, ◌≤◌, ◌⊎◌, ◌^◌, ℕ, length, true, List, [], ◌∷◌, Option, None, Result, IfErr, OnOk}
 use Rattle.std.specs.declared.cmp.Ordering.{Ordering}
+use Rattle.leveldb_base.specs.Cmp.{IsExactOrder}
+use Rattle.leveldb_base.specs.Entries.{entries_of_pairs}
 use Rattle.leveldb_base.specs.Error.{IsOutOfMemory}
 use Rattle.leveldb_base.specs.History.{History, IsView, entries_of}
 use Rattle.leveldb_base.specs.Types.{Pair}
+use Rattle.leveldb_base.specs.View.{view_of}
 use Rattle.leveldb_base.specs.declared.cmp.Cmp.{Ghosts as CmpGhosts}
 use Rattle.leveldb_base.specs.declared.cmp.internal.InternalKeyCmp.{InternalKeyCmp}
 use Rattle.leveldb_base.specs.declared.error.Status.{Status}
-use Rattle.leveldb_base.specs.declared.error.StatusCode.TheVariants.{InvalidArgument, NotSupported}
+use Rattle.leveldb_base.specs.declared.error.StatusCode.TheVariants.{Corruption, InvalidArgument, NotSupported}
 use Rattle.leveldb_env.specs.declared.env.Env.{Ghosts}
-use Rattle.leveldb_iter.specs.Moves.{IsRefusedFor, LandsAt, SeeksLongKey}
+use Rattle.leveldb_iter.specs.Children.{AnyFails}
+use Rattle.leveldb_iter.specs.MergedEntries.{internal_order}
+use Rattle.leveldb_iter.specs.MergingIter.{AreMerged}
+use Rattle.leveldb_iter.specs.Moves.{IsRefusedFor, LandsAt, MovesAll, SeeksLongKey}
 use Rattle.leveldb_iter.specs.Walk.{KeyOrder}
+use Rattle.leveldb_iter.specs.declared.db_iter.DbIterCore.{DbIterCore}
+use Rattle.leveldb_iter.specs.declared.merging_iter.MergeCore.{MergeCore}
 use Rattle.leveldb_iter.specs.declared.moves.Move.{Move}
 use Rattle.leveldb_iter.specs.declared.moves.Step.{Step}
 use Rattle.leveldb_iter.specs.declared.walk.Walk.{Ghosts as WalkGhosts}
@@ -138,3 +146,35 @@ pub record WalksStore {E F C FP : Type 0} {keys : CmpGhosts (InternalKeyCmp C)} 
   -- the open tables stay those of the store
   pub still_open : HasOpenTables env by value from tables
       → AreOpenTablesOf env by value.set (files_at env to) left
+
+-- ---- over the merge of walks
+
+-- children are merged to these pairs, which can be counted, in an exact order that accepts all keys
+pub record IsMergeToView {E T I C : Type 0} (child : WalkGhosts I E T) (cmp : CmpGhosts C)
+    (compares : C) (children : List I) (world : E × T) (order : KeyOrder) (below : List Pair)
+    : Type 0 where
+  pub merged : AreMerged child cmp world compares children (internal_order order) below
+  pub countable : length below < 2 ^ 128
+  pub exact : IsExactOrder order.cmp
+  pub accepts : (key : List ℕ) → order.accepts key ≡ true
+
+-- What a call does that makes moves of a walk over the view at a sequence number of what these
+-- children are over, from no position on.
+pub record WalksOver {E T I C : Type 0} (child : WalkGhosts I E T) (cmp : CmpGhosts C)
+    (walk : WalkGhosts (DbIterCore (MergeCore C I)) E T) (compares : C) (children : List I)
+    (sequence : ℕ) (from : E × T) (moves : List Move) (given : List Step) (to : E × T)
+    : Type 0 where
+  -- the walk before its first move
+  pub start : DbIterCore (MergeCore C I)
+  -- it is over the view of the entries of the merge, at no position
+  pub over : (world : E × T) (order : KeyOrder) (below : List Pair)
+      → IsMergeToView child cmp compares children world order below
+      → walk.is_at world start order (view_of sequence (entries_of_pairs below)) None
+  -- its errors are those of a child, of memory, and of entries that it can't be over
+  pub fails : (world later : E × T) (status : Status) → walk.fails world start later status
+      → AnyFails child world children later status ⊎ IsOutOfMemory status
+      ⊎ ((status.code ≡ Corruption) × ((order : KeyOrder) (below : List Pair)
+      → IsMergeToView child cmp compares children world order below → ⊥))
+  -- and after its last one
+  pub end : DbIterCore (MergeCore C I)
+  pub moves_made : MovesAll walk from start moves given to end

@@ -1,8 +1,8 @@
 //! Walks over the view of a store at a sequence number.
-ghost use Rattle.std.specs.Prelude.{◌≡◌, ◌≤◌, ◌+◌, ◌++◌, List, length, vec_len, vec_capacity};
+ghost use Rattle.std.specs.Prelude.{◌≡◌, ◌≤◌, ◌+◌, ◌++◌, ◌<◌, ◌^◌, List, length, vec_len, vec_capacity};
 ghost use Rattle.leveldb_version.specs.Format.{format_of};
 ghost use Rattle.leveldb_version.specs.TableCache.{table_options};
-ghost use Rattle.leveldb_store.specs.View.{WalksStore};
+ghost use Rattle.leveldb_store.specs.View.{WalksOver, WalksStore};
 
 use super::OpenStore;
 use leveldb_base::cmp::{Cmp, InternalKeyCmp, UserCmp};
@@ -16,15 +16,14 @@ use leveldb_iter::db_iter::DbIterCore;
 use leveldb_iter::merging_iter::MergeCore;
 use leveldb_iter::moves::{Move, Step, make_moves};
 use leveldb_iter::unlent::Unlent;
+use leveldb_iter::walk::Walk;
 use leveldb_mem::memtable::MemtableIterator;
 use leveldb_version::store_walk::StoreWalk;
 use leveldb_version::table_cache::{ReadTables, ReadsTables, TableCache};
+use std::alloc::Global;
 
 /// A walk over a memtable or over tables.
 type Child<'a, C> = StoreWalk<'a, C, MemtableIterator<'a, C>>;
-
-/// A walk over the view of a store.
-type View<'a, C> = DbIterCore<MergeCore<InternalKeyCmp<C>, Child<'a, C>>>;
 
 impl<E: Env, C: UserCmp + Copy + Drop> OpenStore<E, C> {
     /// Makes moves of a walk over the view at a sequence number, from no position on. `steps`, which
@@ -80,22 +79,11 @@ impl<E: Env, C: UserCmp + Copy + Drop> OpenStore<E, C> {
     ) -> Result<()>
         requires room { vec_len steps.old + length moves.now ≤ vec_capacity steps.old }
     {
-        let mut view = self.view(reading, sequence)?;
-        make_moves(self.alloc, &mut view, env, reading, moves, steps);
-        Ok(())
-    }
-
-    // The view at a sequence number, at no position. Its moves are to be made in these tables.
-    fn view<'b, FP: FilterPolicy + Copy + Drop, K: ReadsTables<E, C, FP>>(
-        &self,
-        reading: &ReadTables<'b, E, C, FP, K>,
-        sequence: SequenceNumber,
-    ) -> Result<View<'_, C>> {
         let children = self.children()?;
         let cmp = InternalKeyCmp(reading.cmp);
-        let merge = MergeCore::new::<E, ReadTables<'b, E, C, FP, K>>(cmp, children);
         let last = sequence.min(MAX_SEQUENCE_NUMBER);
-        Ok(DbIterCore::new::<E, ReadTables<'b, E, C, FP, K>>(self.alloc, merge, last))
+        walk_over(self.alloc, cmp, children, last, env, reading, moves, steps);
+        Ok(())
     }
 
     // Walks over what is in memory, and then over the tables of the version, the newer first.
@@ -110,4 +98,28 @@ impl<E: Env, C: UserCmp + Copy + Drop> OpenStore<E, C> {
         }
         Ok(children)
     }
+}
+
+// Makes moves of a walk over the view at a sequence number of what these walks are over, from no
+// position on.
+fn walk_over<E, T, C: Cmp + Drop, I: Walk<E, T> + Drop>(
+    alloc: Global,
+    cmp: C,
+    children: Vec<I>,
+    sequence: SequenceNumber,
+    env: &mut E,
+    tables: &mut T,
+    moves: &[Move],
+    steps: &mut Vec<Step>,
+)
+    requires small { sequence < 2 ^ 56 }
+    requires room { vec_len steps.old + length moves.now ≤ vec_capacity steps.old }
+    ensures { (given : List Step) × (steps.new.items ≡ steps.old.items ++ given)
+        × WalksOver I.Walk C.Cmp ⟦<DbIterCore<MergeCore<C, I>> as Walk<E, T>>⟧ cmp
+        children.items sequence (env.old, tables.old) moves.now given
+        (env.new, tables.new) }
+{
+    let merge = MergeCore::new::<E, T>(cmp, children);
+    let mut view = DbIterCore::new::<E, T>(alloc, merge, sequence);
+    make_moves(alloc, &mut view, env, tables, moves, steps);
 }

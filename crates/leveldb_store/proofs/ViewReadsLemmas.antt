@@ -1,0 +1,58 @@
+-- A walk over the view of a store only reads, and its errors are counted.
+use Rattle.std.proofs.Common.{◌≡◌, ◌≤◌, ◌<◌, ◌^◌, ◌-◌, ◌⊎◌, ⊎_elim, inl, inr, ℕ, arith}
+use Rattle.std.proofs.lemmas.Bool.{cases_lt, cases_order}
+use Rattle.leveldb_base.specs.Error.{IsOutOfMemory}
+use Rattle.leveldb_base.specs.declared.cmp.Cmp.{Ghosts as CmpGhosts}
+use Rattle.leveldb_base.specs.declared.cmp.internal.InternalKeyCmp.{InternalKeyCmp}
+use Rattle.leveldb_base.specs.declared.error.Status.{Status}
+use Rattle.leveldb_base.specs.declared.error.StatusCode.TheVariants.{NotSupported}
+use Rattle.leveldb_base.specs.declared.types.LdbIterator.{Ghosts as IteratorGhosts}
+use Rattle.leveldb_env.specs.Compressor.{Codings}
+use Rattle.leveldb_env.specs.declared.env.Env.{Ghosts as EnvGhosts}
+use Rattle.leveldb_env.specs.declared.filter.FilterPolicy.{Ghosts as FilterGhosts}
+use Rattle.leveldb_version.specs.Format.{IsTableFault, LacksCompressor, Meaning}
+use Rattle.leveldb_version.specs.StoreWalk.{FailsInStore}
+use Rattle.leveldb_version.specs.TableMoves.{FileTable}
+use Rattle.leveldb_version.specs.VersionIter.{AreTablesThere, FailsInTables, FailsOr, reading}
+use Rattle.leveldb_version.specs.declared.store_walk.StoreWalk.{StoreWalk}
+use Rattle.leveldb_version.specs.declared.store_walk.StoreWalk.TheVariants.{Memory, Tables}
+use Rattle.leveldb_version.specs.declared.table_cache.moves.ReadTables.{ReadTables}
+use Rattle.leveldb_version.specs.declared.version_iter.VersionIter.{VersionIter}
+use Rattle.leveldb_store.specs.Room.{HasFailed}
+use Rattle.leveldb_store.specs.View.{CountsErrors, FailsBetween}
+
+-- a count that isn't at its greatest rose, or a failure was counted
+counted_or_not : (from to : ℕ) → from < 2 ^ 64 → HasFailed from to ⊎ ((to ≡ 2 ^ 64 - 1 → ⊥) × (from < to → ⊥))
+counted_or_not from to fits = ⊎_elim
+    (λ (rose : from < to). inl (inl rose))
+    (λ (not : to ≤ from). ⊎_elim
+    (λ (less : to < 2 ^ 64 - 1). inr (λ full. absurd (omega (arith, less, full)), λ rose. absurd (omega (arith, not, rose))))
+    (λ (most : 2 ^ 64 - 1 ≤ to). inl (inr (omega (arith, fits, not, most))))
+    (cases_lt to (2 ^ 64 - 1)))
+    (cases_lt from to)
+
+module _ {E C FP K F M : Type 0} {order : CmpGhosts (InternalKeyCmp C)} (env : EnvGhosts E F) (counts : (e : E) → env.failures e < 2 ^ 64)
+    (cmp : CmpGhosts C) (filters : FilterGhosts FP) (codings : K → Codings) (iterator : IteratorGhosts M) where
+  -- where no failure was counted, the cause may be there at any time
+  at_any : {Why : Type 0} (from to other : E × ReadTables E C FP K F order) (status : Status)
+      → (env.failures to.0 ≡ 2 ^ 64 - 1 → ⊥) × (env.failures from.0 < env.failures to.0 → ⊥)
+      → FailsOr {order = order} env cmp filters codings Why from to status → FailsOr {order = order} env cmp filters codings Why from other status
+  at_any from to other status none fails = ⊎_elim
+      (λ (out : IsOutOfMemory status). inl out)
+      (⊎_elim
+      (λ (rose : env.failures from.0 < env.failures to.0). absurd (none.1 rose))
+      (⊎_elim
+      (λ (full : env.failures to.0 ≡ 2 ^ 64 - 1). absurd (none.0 full))
+      (λ why. inr (inr (inr why)))))
+      fails
+
+  -- the errors of a child of a store's merge are counted
+  pub child_counts : CountsErrors env (FailsInStore {order = order} env cmp filters codings iterator)
+  child_counts from to (Memory it) status fails = inr (inr (λ other. fails))
+  child_counts from to (Tables it) status fails = ⊎_elim
+      (λ (failed : HasFailed (env.failures from.0) (env.failures to.0)). inr (inl failed))
+      (λ none. inr (inr (λ other. record {
+        fault = at_any from to other status none fails.fault;
+        lacks = λ meaning tables there. at_any from to other status none (fails.lacks meaning tables there);
+      })))
+      (counted_or_not (env.failures from.0) (env.failures to.0) (counts from.0))

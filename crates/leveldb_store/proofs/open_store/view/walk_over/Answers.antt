@@ -1,0 +1,29 @@
+use Rattle.std.proofs.Common.{◌⊎◌, ⊎_elim, inl, inr, refl}
+use Rattle.leveldb_base.specs.Entries.{entries_of_pairs}
+use Rattle.leveldb_base.specs.View.{view_of}
+use Rattle.leveldb_store.proofs.ViewMergeLemmas.{view_over}
+use Rattle.leveldb_store.proofs.ViewReadsLemmas.{child_counts}
+use Rattle.leveldb_store.proofs.open_store.view.walk_over.Goals as goal
+
+pub returns : goal.returns
+returns g c =
+    let made = c.make_moves.ensures in
+    let at = c.new-merge.ensures.is_at in (
+      made.0,
+      made.1,
+      record {
+        start = c.new-view.result;
+        over = λ world order below is. c.new-view.ensures.is_at world order below (view_of c.args.sequence (entries_of_pairs below))
+            (view_over g.I.Walk g.C.Cmp world _ c.args.cmp c.args.children.items c.new-merge.result c.args.sequence (λ order pairs over. over) (at world) order below is);
+        fails = λ world later status fails. ⊎_elim
+            (λ own. inl (c.new-merge.ensures.fails world later status own))
+            (λ rest. inr (⊎_elim
+            (λ out. inl out)
+            (λ lost. inr (lost.0, λ order below is. lost.1 order (view_of c.args.sequence (entries_of_pairs below)) (below,
+            view_over g.I.Walk g.C.Cmp world _ c.args.cmp c.args.children.items c.new-merge.result c.args.sequence (λ order pairs over. over) (at world) order below is)))
+            rest))
+            (c.new-view.ensures.fails world later status fails);
+        end = c.make_moves.new.walk;
+        moves_made = made.2;
+      },
+    )
