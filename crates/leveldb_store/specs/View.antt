@@ -1,17 +1,19 @@
 -- A walk over the view of an open store at a sequence number: which pairs it is over, why its moves
 -- fail, and what they leave.
-use Rattle.std.specs.Prelude.{◌≡◌, ◌<◌, ◌≤◌, ◌⊎◌, ◌^◌, ℕ, length, true, List, [], ◌∷◌, Option, None, Result, IfErr, OnOk}
+use Rattle.std.specs.Prelude.{◌≡◌, ◌<◌, ◌≤◌, ◌⊎◌, ◌^◌, ◌++◌, ℕ, length, map, Some, true, List, [], ◌∷◌, Option, None, Result, IfErr, OnOk}
 use Rattle.std.specs.declared.cmp.Ordering.{Ordering}
 use Rattle.leveldb_base.specs.Cmp.{IsExactOrder}
-use Rattle.leveldb_base.specs.Entries.{entries_of_pairs}
+use Rattle.leveldb_base.specs.Entries.{entries_of_pairs, internal_pair}
 use Rattle.leveldb_base.specs.Error.{IsOutOfMemory}
-use Rattle.leveldb_base.specs.History.{History, IsView, entries_of}
+use Rattle.leveldb_base.specs.History.{AreRising, AreUpTo, Entry, History, IsView, entries_of}
+use Rattle.leveldb_base.specs.KeyTypes.{greatest_sequence, internal_cmp}
 use Rattle.leveldb_base.specs.Types.{Pair}
 use Rattle.leveldb_base.specs.View.{view_of}
 use Rattle.leveldb_base.specs.declared.cmp.Cmp.{Ghosts as CmpGhosts}
 use Rattle.leveldb_base.specs.declared.cmp.internal.InternalKeyCmp.{InternalKeyCmp}
 use Rattle.leveldb_base.specs.declared.error.Status.{Status}
 use Rattle.leveldb_base.specs.declared.error.StatusCode.TheVariants.{Corruption, InvalidArgument, NotSupported}
+use Rattle.leveldb_base.specs.declared.types.LdbIterator.{Ghosts as IteratorGhosts}
 use Rattle.leveldb_env.specs.declared.env.Env.{Ghosts}
 use Rattle.leveldb_iter.specs.Children.{AnyFails}
 use Rattle.leveldb_iter.specs.MergedEntries.{internal_order}
@@ -22,12 +24,18 @@ use Rattle.leveldb_iter.specs.declared.db_iter.DbIterCore.{DbIterCore}
 use Rattle.leveldb_iter.specs.declared.merging_iter.MergeCore.{MergeCore}
 use Rattle.leveldb_iter.specs.declared.moves.Move.{Move}
 use Rattle.leveldb_iter.specs.declared.moves.Step.{Step}
+use Rattle.leveldb_iter.specs.declared.unlent.Unlent.{Unlent}
 use Rattle.leveldb_iter.specs.declared.walk.Walk.{Ghosts as WalkGhosts}
+use Rattle.leveldb_mem.specs.MemTable.{Kept}
 use Rattle.leveldb_table.specs.TableBlock.{KeepsDisk}
 use Rattle.leveldb_version.specs.Batches.{Each}
 use Rattle.leveldb_version.specs.Format.{Agrees, IsTableFault, LacksCompressor, Meaning}
 use Rattle.leveldb_version.specs.TableCache.{TableOptions, files_at}
 use Rattle.leveldb_version.specs.declared.table_cache.TableCache.{TableCache}
+use Rattle.leveldb_version.specs.VersionIters.{AreVersionIters}
+use Rattle.leveldb_version.specs.declared.store_walk.StoreWalk.{StoreWalk}
+use Rattle.leveldb_version.specs.declared.store_walk.StoreWalk.TheVariants.{Memory, Tables}
+use Rattle.leveldb_version.specs.declared.version_iter.VersionIter.{VersionIter}
 use Rattle.leveldb_store.specs.OpenStore.{OpenStoreValue}
 use Rattle.leveldb_store.specs.OpenTables.{AreOpenTablesOf}
 use Rattle.leveldb_store.specs.Read.{HasOpenTables}
@@ -178,3 +186,31 @@ pub record WalksOver {E T I C : Type 0} (child : WalkGhosts I E T) (cmp : CmpGho
   -- and after its last one
   pub end : DbIterCore (MergeCore C I)
   pub moves_made : MovesAll walk from start moves given to end
+
+-- ---- its children
+
+-- a walk over the entries of a memtable, in the order of internal keys
+pub record IsOverMemory {M : Type 0} (iterator : IteratorGhosts M)
+    (cmp : List ℕ → List ℕ → Ordering) (it : Unlent M) (entries : List Entry) : Type 0 where
+  pub pairs_are : iterator.pairs it.0 ≡ map internal_pair entries
+  pub order_is : iterator.order it.0 ≡ internal_cmp cmp
+  pub sorted : AreRising (internal_cmp cmp) (map internal_pair entries)
+  pub numbered : AreUpTo greatest_sequence entries
+
+-- the entries of a memtable that waits as a layer, if one does
+abbrev pub waiting_layers : Option Kept → List (List Entry)
+waiting_layers None = []
+waiting_layers (Some waiting) = waiting.entries ∷ []
+
+-- walks over what is in memory of a store, and then over the tables of its version
+pub record AreChildrenOf {C M : Type 0} {keys : CmpGhosts (InternalKeyCmp C)}
+    (iterator : IteratorGhosts M) (cmp : List ℕ → List ℕ → Ordering) (value : OpenStoreValue C)
+    (children : List (StoreWalk C M keys)) : Type 0 where
+  -- over the log's memtable, and over the one that waits
+  pub memory : List (Unlent M)
+  pub over_memory : Each (IsOverMemory iterator cmp) memory
+      (value.recent.entries ∷ waiting_layers value.waiting)
+  -- over the tables
+  pub tables : List (VersionIter C keys)
+  pub over_tables : AreVersionIters value.current tables
+  pub are : children ≡ map Memory memory ++ map Tables tables

@@ -1,13 +1,16 @@
 //! Walks over the view of a store at a sequence number.
-ghost use Rattle.std.specs.Prelude.{◌≡◌, ◌≤◌, ◌+◌, ◌++◌, ◌<◌, ◌^◌, List, length, vec_len, vec_capacity};
+ghost use Rattle.std.specs.Prelude.{◌≡◌, ◌≤◌, ◌+◌, ◌++◌, ◌<◌, ◌^◌, IfErr, IfOk, List, OnOk, map, length, vec_len, vec_capacity};
 ghost use Rattle.leveldb_version.specs.Format.{format_of};
-ghost use Rattle.leveldb_version.specs.TableCache.{table_options};
-ghost use Rattle.leveldb_store.specs.View.{WalksOver, WalksStore};
+ghost use Rattle.leveldb_version.specs.TableCache.{options_by, table_options};
+ghost use Rattle.leveldb_version.specs.VersionIter.{reading as reading_by};
+ghost use Rattle.leveldb_version.specs.declared.store_walk.StoreWalk.TheVariants.{Tables};
+ghost use Rattle.leveldb_base.specs.Error.{IsOutOfMemory};
+ghost use Rattle.leveldb_store.specs.View.{AreChildrenOf, WalksOver, WalksStore};
 
 use super::OpenStore;
 use leveldb_base::cmp::{Cmp, InternalKeyCmp, UserCmp};
 use leveldb_base::error::Result;
-use leveldb_base::types::{MAX_SEQUENCE_NUMBER, SequenceNumber};
+use leveldb_base::types::{LdbIterator, MAX_SEQUENCE_NUMBER, SequenceNumber};
 use leveldb_env::compressor::{CompressorList, Compressors};
 use leveldb_env::env::Env;
 use leveldb_env::filter::FilterPolicy;
@@ -20,6 +23,7 @@ use leveldb_iter::walk::Walk;
 use leveldb_mem::memtable::MemtableIterator;
 use leveldb_version::store_walk::StoreWalk;
 use leveldb_version::table_cache::{ReadTables, ReadsTables, TableCache};
+use leveldb_version::version_iter::VersionIter;
 use std::alloc::Global;
 
 /// A walk over a memtable or over tables.
@@ -62,7 +66,12 @@ impl<E: Env, C: UserCmp + Copy + Drop> OpenStore<E, C> {
         moves: &[Move],
         steps: &mut Vec<Step>,
     ) -> Result<()>
+        requires order { C.cmp cmp ≡ C.cmp self.now.cmp }
         requires room { vec_len steps.old + length moves.now ≤ vec_capacity steps.old }
+        ensures { let by = options_by C.Cmp FP.FilterPolicy (K.codings compressors.now) cmp policy in
+            (given : List Step) × (steps.new.items ≡ steps.old.items ++ given)
+            × WalksStore E.Env by self.now env.old tables.old sequence moves.now given result
+            env.new tables.new }
     {
         let mut reading = ReadTables { cache: tables, cmp, policy, compressors };
         self.walk_in(env, &mut reading, sequence, moves, steps)
@@ -77,7 +86,13 @@ impl<E: Env, C: UserCmp + Copy + Drop> OpenStore<E, C> {
         moves: &[Move],
         steps: &mut Vec<Step>,
     ) -> Result<()>
+        requires order { C.cmp reading.old.cmp ≡ C.cmp self.now.cmp }
         requires room { vec_len steps.old + length moves.now ≤ vec_capacity steps.old }
+        ensures { let by = reading_by E.Env C.Cmp FP.FilterPolicy K.codings reading.old in
+            (given : List Step) × (steps.new.items ≡ steps.old.items ++ given)
+            × WalksStore E.Env by self.now env.old reading.old.cache.now sequence moves.now given
+            result env.new reading.new.cache.now
+            × (reading.new.cache.ghost_name ≡ reading.old.cache.ghost_name) }
     {
         let children = self.children()?;
         let cmp = InternalKeyCmp(reading.cmp);
@@ -87,17 +102,34 @@ impl<E: Env, C: UserCmp + Copy + Drop> OpenStore<E, C> {
     }
 
     // Walks over what is in memory, and then over the tables of the version, the newer first.
-    fn children(&self) -> Result<Vec<Child<'_, C>>> {
+    fn children<'s>(&'s self) -> Result<Vec<Child<'s, C>>>
+        ensures ok { IfOk result (λ children. AreChildrenOf
+            ⟦<MemtableIterator<'s, C> as LdbIterator>⟧ (C.cmp self.now.cmp) self.now
+            children.items) }
+        ensures memory { IfErr result IsOutOfMemory }
+    {
         let mut children = Vec::new(self.alloc);
         children.push(StoreWalk::Memory(Unlent(self.recent.iter())))?;
         if let Some(waiting) = &self.waiting {
             children.push(StoreWalk::Memory(Unlent(waiting.iter())))?;
         }
-        for walk in self.current.new_iters(self.alloc)? {
-            children.push(StoreWalk::Tables(walk))?;
-        }
+        push_tables(self.current.new_iters(self.alloc)?, &mut children)?;
         Ok(children)
     }
+}
+
+// Appends walks over tables.
+fn push_tables<'a, C: UserCmp + Copy + Drop>(
+    walks: Vec<VersionIter<'a, C>>,
+    children: &mut Vec<Child<'a, C>>,
+) -> Result<()>
+    ensures ok { OnOk result (children.new.items ≡ children.old.items ++ map Tables walks.entry.items) }
+    ensures memory { IfErr result IsOutOfMemory }
+{
+    for walk in walks {
+        children.push(StoreWalk::Tables(walk))?;
+    }
+    Ok(())
 }
 
 // Makes moves of a walk over the view at a sequence number of what these walks are over, from no
