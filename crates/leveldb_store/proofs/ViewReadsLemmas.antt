@@ -10,16 +10,19 @@ use Rattle.leveldb_base.specs.declared.types.LdbIterator.{Ghosts as IteratorGhos
 use Rattle.leveldb_env.specs.Compressor.{Codings}
 use Rattle.leveldb_env.specs.declared.env.Env.{Ghosts as EnvGhosts}
 use Rattle.leveldb_env.specs.declared.filter.FilterPolicy.{Ghosts as FilterGhosts}
+use Rattle.leveldb_iter.specs.declared.db_iter.DbIterCore.{DbIterCore}
+use Rattle.leveldb_iter.specs.declared.merging_iter.MergeCore.{MergeCore}
+use Rattle.leveldb_iter.specs.declared.walk.Walk.{Ghosts as WalkGhosts}
 use Rattle.leveldb_version.specs.Format.{IsTableFault, LacksCompressor, Meaning}
 use Rattle.leveldb_version.specs.StoreWalk.{FailsInStore}
 use Rattle.leveldb_version.specs.TableMoves.{FileTable}
-use Rattle.leveldb_version.specs.VersionIter.{AreTablesThere, FailsInTables, FailsOr, reading}
+use Rattle.leveldb_version.specs.VersionIter.{AreTablesThere, FailsInTables, FailsOr, KeepsReading, reading}
 use Rattle.leveldb_version.specs.declared.store_walk.StoreWalk.{StoreWalk}
 use Rattle.leveldb_version.specs.declared.store_walk.StoreWalk.TheVariants.{Memory, Tables}
 use Rattle.leveldb_version.specs.declared.table_cache.moves.ReadTables.{ReadTables}
 use Rattle.leveldb_version.specs.declared.version_iter.VersionIter.{VersionIter}
 use Rattle.leveldb_store.specs.Room.{HasFailed}
-use Rattle.leveldb_store.specs.View.{CountsErrors, FailsBetween}
+use Rattle.leveldb_store.specs.View.{CountsErrors, FailsBetween, ReadsAlone}
 
 -- a count that isn't at its greatest rose, or a failure was counted
 counted_or_not : (from to : ℕ) → from < 2 ^ 64 → HasFailed from to ⊎ ((to ≡ 2 ^ 64 - 1 → ⊥) × (from < to → ⊥))
@@ -56,3 +59,17 @@ module _ {E C FP K F M : Type 0} {order : CmpGhosts (InternalKeyCmp C)} (env : E
         lacks = λ meaning tables there. at_any from to other status none (fails.lacks meaning tables there);
       })))
       (counted_or_not (env.failures from.0) (env.failures to.0) (counts from.0))
+
+  -- the walk over the view of a merge of such children only reads
+  pub view_reads : {I : Type 0} (child : WalkGhosts I E (ReadTables E C FP K F order)) → CountsErrors env child.fails
+      → ((first second : E × ReadTables E C FP K F order) → child.keeps first second → KeepsReading env cmp filters codings first second)
+      → {B : Type 0} (merge : WalkGhosts (MergeCore B I) E (ReadTables E C FP K F order)) → CountsErrors env merge.fails
+      → ((first second : E × ReadTables E C FP K F order) → merge.keeps first second → child.keeps first second)
+      → (walk : WalkGhosts (DbIterCore (MergeCore B I)) E (ReadTables E C FP K F order)) → CountsErrors env walk.fails
+      → ((first second : E × ReadTables E C FP K F order) → walk.keeps first second → merge.keeps first second)
+      → ReadsAlone env walk
+  view_reads child child_counted child_keeps merge merge_counted merge_keeps walk walk_counted walk_keeps = record {
+    kept = λ from to keeps. (child_keeps from to (merge_keeps from to (walk_keeps from to keeps))).tables.disk;
+    later = λ from to keeps. (child_keeps from to (merge_keeps from to (walk_keeps from to keeps))).tables.later;
+    counts = walk_counted;
+  }
