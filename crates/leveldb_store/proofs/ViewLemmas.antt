@@ -164,9 +164,9 @@ module _ {E F C FP T W : Type 0} {keys : CmpGhosts (InternalKeyCmp C)} (env : Gh
           over.0,
           over.1,
           subst (λ cmp. MakesMoves cmp (λ e. (e.code ≡ NotSupported) × LacksCompressor by.format meaning) over.0 None (env.failures from) moves given (env.failures to)) order_is
-          (moves_made env counts walk reads laws (from, tables) it (λ e. (e.code ≡ NotSupported) × LacksCompressor by.format meaning)
-          (λ status ever. views.lacks (from, tables) world meaning agrees history since shows (from, tables) status (ever (from, tables)))
-          order accepts over.0 moves given (from, tables) it (to, left) new None (omega arith) (λ later status fails. fails) over.2 made),
+              (moves_made env counts walk reads laws (from, tables) it (λ e. (e.code ≡ NotSupported) × LacksCompressor by.format meaning)
+              (λ status ever. views.lacks (from, tables) world meaning agrees history since shows (from, tables) status (ever (from, tables)))
+              order accepts over.0 moves given (from, tables) it (to, left) new None (omega arith) (λ later status fails. fails) over.2 made),
         );
     refused = moves_refused env counts walk reads laws (from, tables) it (λ e. IsTableFault by.format e.code)
         (λ status ever. views.fault (from, tables) (from, tables) status by_is (ever (from, tables)))

@@ -51,7 +51,16 @@ impl<E: Env, C: UserCmp + Copy + Drop> OpenStore<E, C> {
     {
         let compressors = &options.compressor_list;
         let policy = options.filter_policy;
-        self.walk_by(env, options.cmp, policy, compressors, tables, sequence, moves, steps)
+        self.walk_by(
+            env,
+            options.cmp,
+            policy,
+            compressors,
+            tables,
+            sequence,
+            moves,
+            steps,
+        )
     }
 
     // `walk`, by these parts of the options.
@@ -73,7 +82,12 @@ impl<E: Env, C: UserCmp + Copy + Drop> OpenStore<E, C> {
             × WalksStore E.Env by self.now env.old tables.old sequence moves.now given result
             env.new tables.new }
     {
-        let mut reading = ReadTables { cache: tables, cmp, policy, compressors };
+        let mut reading = ReadTables {
+            cache: tables,
+            cmp,
+            policy,
+            compressors,
+        };
         self.walk_in(env, &mut reading, sequence, moves, steps)
     }
 

@@ -19,8 +19,13 @@ returns g c =
             (λ own. inl (c.new-merge.ensures.fails world later status own))
             (λ rest. inr (⊎_elim
             (λ out. inl out)
-            (λ lost. inr (lost.0, λ order below is. lost.1 order (view_of c.args.sequence (entries_of_pairs below)) (below,
-            view_over g.I.Walk g.C.Cmp world _ c.args.cmp c.args.children.items c.new-merge.result c.args.sequence (λ order pairs over. over) (at world) order below is)))
+            (λ lost. inr (
+              lost.0,
+              λ order below is. lost.1 order (view_of c.args.sequence (entries_of_pairs below)) (
+                below,
+                view_over g.I.Walk g.C.Cmp world _ c.args.cmp c.args.children.items c.new-merge.result c.args.sequence (λ order pairs over. over) (at world) order below is,
+              ),
+            ))
             rest))
             (c.new-view.ensures.fails world later status fails);
         end = c.make_moves.new.walk;
