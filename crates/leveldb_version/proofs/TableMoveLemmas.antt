@@ -33,12 +33,12 @@ use Rattle.leveldb_version.proofs.ReadTableLemmas.{Wants, opens_more}
 use Rattle.leveldb_version.proofs.SearchTableLemmas.{fault_of, unopened_wants}
 use Rattle.leveldb_version.proofs.SearchLemmas.{same_or_not}
 use Rattle.leveldb_version.proofs.TableCacheCallLemmas.{matches_opened, matches_unopened, own_blocks, uses_unopened}
-use Rattle.leveldb_version.proofs.TableCacheLemmas.{FileHas-at, matches_blocks, matches_later, matches_renewed, refused_ok, renewed_room, renewed_store}
+use Rattle.leveldb_version.proofs.TableCacheLemmas.{FileHas-at, matches_blocks, matches_later, matches_renewed, refused_ok, renewed_closes, renewed_room, renewed_store}
 use Rattle.leveldb_version.proofs.TableStepLemmas.{step_leads, step_wants}
 use Rattle.leveldb_version.specs.Format.{Agrees, Format, IsTableFault, IsTableOf, Meaning}
 use Rattle.leveldb_version.specs.Paths.{table_path}
 use Rattle.leveldb_version.specs.Store.{any_user_key}
-use Rattle.leveldb_version.specs.TableCache.{HasBytesAt, IsNotOpened, IsOpenedWith, IsTableUnopened, IsUnopened, MatchesFiles, OpensNumbered, OpensTableAt, StoreTable, TableOptions, UsesTable, blocks_of, files_at, found_key, key_order, missing, no_table, path_at, renewed, store_of, table_at, tables_of}
+use Rattle.leveldb_version.specs.TableCache.{HasBytesAt, IsNotOpened, IsOpenedWith, IsSameOrClosed, IsTableUnopened, IsUnopened, MatchesFiles, OpensNumbered, OpensTableAt, StoreTable, TableOptions, UsesTable, blocks_of, files_at, found_key, key_order, missing, no_table, path_at, renewed, store_of, table_at, tables_of}
 use Rattle.leveldb_version.specs.TableMoves.{AreTablesMatched, FileTable, IsAtInTable, IsIndexedFor, IsLedTo, IsTableAt, IsWalkIn, KeepsTables, LeavesPairs, MovesInNumbered, StepsInOpen, core_position, not_begun, stepped, table_pairs}
 use Rattle.leveldb_version.specs.declared.table_cache.TableCache.{TableCache}
 
@@ -146,6 +146,10 @@ module _ {E C FP F : Type 0} {order : CmpGhosts (InternalKeyCmp C)} (env : EnvGh
 
   -- ---- the cache
 
+  same_or_closed : (number : ℕ) (first second third : TableCache E C FP F order) → IsSameOrClosed number first second → IsSameOrClosed number second third → IsSameOrClosed number first third
+  same_or_closed number first second third one other =
+      ⊎_elim (λ (closed : table_at third number ≡ None). inl closed) (λ (same : table_at third number ≡ table_at second number). ⊎_elim (λ (gone : table_at second number ≡ None). inl (same ∙ gone)) (λ (was : table_at second number ≡ table_at first number). inr (same ∙ was)) one) other
+
   pub KeepsTables-trans : {first second third : E} {a b c : TableCache E C FP F order} → KeepsTables env by first a second b → KeepsTables env by second b third c → KeepsTables env by first a third c
   KeepsTables-trans one other = let counted = one.later in let later = other.later in record {
     disk = KeepsDisk-trans env one.disk other.disk;
@@ -184,6 +188,7 @@ module _ {E C FP F : Type 0} {order : CmpGhosts (InternalKeyCmp C)} (env : EnvGh
         room = uses.room;
         matches = λ matched. record { modelled = matched.modelled; matches = opens.matches matched.modelled matched.matches };
       };
+      others = uses.others;
     }
 
     -- it is opened, or was open
@@ -207,14 +212,15 @@ module _ {E C FP F : Type 0} {order : CmpGhosts (InternalKeyCmp C)} (env : EnvGh
         moves_from : (AreTablesMatched env by mid cache → (meaning : Meaning) (agrees : Agrees by.format meaning) (one : FileTable) → IsTableAt by.format.order meaning (files_at env mid) (path_at cache number) one
             → IsIndexedFor (key_order by.format) one.parts core → Lands agrees to one.parts mid core result after new_core)
             → IfOk result (λ there. there ≡ is_some (core_position new_core)) → OnErr result (core_position new_core ≡ None) → ReadsFile env (λ status. IsTableFault by.format status.code) mid after result
-            → KeepsTables env by mid cache after new → MovesInNumbered env by number to state old core result after new new_core
-        moves_from lands there err reads keeps = record {
+            → KeepsTables env by mid cache after new → ((other : ℕ) → other < 2 ^ 64 → other ≢ number → IsSameOrClosed other cache new) → MovesInNumbered env by number to state old core result after new new_core
+        moves_from lands there err reads keeps others = record {
           table = λ matched meaning agrees one it indexed. (let land = lands (keeps_mid.matches matched) meaning agrees one (at_mid matched.modelled it) indexed in
               (land.0, land.1, (reads_then env {Why = Wants agrees} result opens.uses.reads.kept_disk opens.uses.reads.cause.ok (λ status wants. wants) land.2).cause));
           there = there;
           err = err;
           reads = reads_then env result opens.uses.reads.kept_disk opens.uses.reads.cause.ok (λ status fault. fault) reads;
           keeps = KeepsTables-trans keeps_mid keeps;
+          others = λ other other_fits apart. same_or_closed other old cache new (opens.uses.others other other_fits apart) (others other other_fits apart);
         }
 
         -- a move in the open table
@@ -232,6 +238,7 @@ module _ {E C FP F : Type 0} {order : CmpGhosts (InternalKeyCmp C)} (env : EnvGh
               room = refl;
               matches = λ matched. record { modelled = matched.modelled; matches = matches_later env by (record cache { blocks = gained }) matched.modelled reads.kept_disk (gained_open matched) };
             }))
+            (λ other other_fits apart. inr (ap (λ (c : TableCache E C FP F order). table_at c other) new_is))
           where
             reads : ReadsFile env (λ status. IsTableFault by.format status.code) mid after result
             reads = step_reads table to mid (blocks_of cache) core result after gained new_core steps
@@ -278,6 +285,7 @@ module _ {E C FP F : Type 0} {order : CmpGhosts (InternalKeyCmp C)} (env : EnvGh
                   (λ bytes opened has. own_blocks env by order_is table opened has) reads.kept_disk;
             };
           })
+          (λ other other_fits apart. subst (λ (c : TableCache E C FP F order). IsSameOrClosed other cache c) (sym reopens.cache) (renewed_closes cache other))
         where
           reads : ReadsFile env (λ status. IsTableFault by.format status.code) mid after result
           reads = reads_then env result reopens.reads.kept_disk reopens.reads.cause.ok (λ status fault. fault) (step_reads table to then (blocks_of now) core result after gained new_core steps)
@@ -301,6 +309,7 @@ module _ {E C FP F : Type 0} {order : CmpGhosts (InternalKeyCmp C)} (env : EnvGh
             room = uses.room;
             matches = λ matched. record { modelled = matched.modelled; matches = matches_unopened env by order_is cache mid number fits none (let r : Result Bool Status = Err status in r) refl reopens matched.modelled matched.matches };
           })
+          uses.others
         where
           reads : ReadsFile env {T = Bool} (λ status. IsTableFault by.format status.code) mid after (Err status)
           reads = reads_refused env {T = StoreTable E C FP F order} (Err status) refl (reads_weaker env (Err status) (λ other why. fault_of env by.format other why.code) reopens.reads)

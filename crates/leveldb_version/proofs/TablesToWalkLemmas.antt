@@ -1,6 +1,6 @@
 -- What an open store's set says of its live tables, as walks over them ask for it.
 use Rattle.std.specs.Prelude.{All, Contains}
-use Rattle.std.proofs.Common.{◌≡◌, ◌<◌, ◌^◌, List, ◌++◌, map, subst, sym}
+use Rattle.std.proofs.Common.{◌≡◌, ℕ, ◌<◌, ◌^◌, List, ◌++◌, map, subst, sym}
 use Rattle.std.proofs.lemmas.List.Elements.{All-contains, Contains-append_right}
 use Rattle.std.specs.List.{IsDistinct}
 use Rattle.std.specs.Option.{option_to_list}
@@ -37,8 +37,11 @@ added_in full file c =
 added_fits : (full : Edit) → IsEncodable full → (file : NewFile) → Contains full.added file → FieldFits (adds file)
 added_fits full is file c = All-contains FieldFits (fields_of full) (adds file) is.fits (added_in full file c)
 
--- and where the edit can be written, their levels, numbers and sizes fit
+-- and where the edit can be written, their levels, numbers and sizes fit, and numbers below a bound
+-- are below it
 pub tables_fit : (full : Edit) → IsEncodable full → (tables : List LiveTable) → map (λ (table : LiveTable). table.file) tables ≡ full.added
-    → All (λ (table : LiveTable). (table.file.level < 7) × (table.file.number < 2 ^ 64) × (table.file.size < 2 ^ 64)) tables
-tables_fit full is tables files = all_from_contains (λ (table : LiveTable). (table.file.level < 7) × (table.file.number < 2 ^ 64) × (table.file.size < 2 ^ 64)) tables
-    (λ table c. added_fits full is table.file (subst (λ (added : List NewFile). Contains added table.file) files (map_in (λ (one : LiveTable). one.file) tables table c)))
+    → (below : ℕ) → ((file : NewFile) → Contains full.added file → file.number < below)
+    → All (λ (table : LiveTable). (table.file.level < 7) × (table.file.number < 2 ^ 64) × (table.file.size < 2 ^ 64) × (table.file.number < below)) tables
+tables_fit full is tables files below given = all_from_contains (λ (table : LiveTable). (table.file.level < 7) × (table.file.number < 2 ^ 64) × (table.file.size < 2 ^ 64) × (table.file.number < below)) tables
+    (λ table c. (let there = subst (λ (added : List NewFile). Contains added table.file) files (map_in (λ (one : LiveTable). one.file) tables table c) in
+    let fits = added_fits full is table.file there in (fits.0, fits.1, fits.2, given table.file there)))

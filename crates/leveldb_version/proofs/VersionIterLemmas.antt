@@ -1,5 +1,5 @@
 -- What the steps of a walk over the tables of files come to, and its moves.
-use Rattle.std.specs.Prelude.{IfErr, IfOk, IsErrAnd, OnErr, OnOk, is_some, slice_get, slice_index_or}
+use Rattle.std.specs.Prelude.{IfErr, IfOk, IsErrAnd, IsSome, OnErr, OnOk, is_some, slice_get, slice_index_or}
 use Rattle.std.proofs.Common.{◌≡◌, ◌≢◌, ◌⊎◌, inl, inr, ⊎_elim, ℕ, zero, suc, ◌+◌, ◌-◌, ◌<◌, ◌≤◌, ◌^◌, Bool, true, false, List, [], ◌∷◌, ◌++◌, length, map, Option, None, Some, Result, Ok, Err, refl, sym, ◌∙◌, ap, subst, arith}
 use Rattle.std.proofs.lemmas.Bool.{cases_lt}
 use Rattle.std.proofs.lemmas.List.{length-append, length-map}
@@ -27,15 +27,16 @@ use Rattle.leveldb_table.specs.TableReaderWalk.{IsAtPairOrNone, inner_pairs, inn
 use Rattle.leveldb_table.specs.declared.table_reader.walk.TableCore.{TableCore}
 use Rattle.leveldb_table.specs.declared.table_reader.walk.TableStep.{TableStep}
 use Rattle.leveldb_table.specs.declared.table_reader.walk.TableStep.TheVariants.{First, Last, NextBlock, BlockBefore, Seek}
+use Rattle.leveldb_version.proofs.SearchLemmas.{same_or_not}
 use Rattle.leveldb_version.proofs.TableCacheLemmas.{on_ok, refused_ok}
 use Rattle.leveldb_version.proofs.TableMoveLemmas.{left_indexed, left_position}
 use Rattle.leveldb_version.specs.Batches.{Each}
 use Rattle.leveldb_version.specs.Format.{IsTableFault, LacksCompressor, Meaning}
 use Rattle.leveldb_version.specs.Store.{IsLastKey}
-use Rattle.leveldb_version.specs.TableCache.{TableOptions, files_at, path_at}
+use Rattle.leveldb_version.specs.TableCache.{IsSameOrClosed, TableOptions, files_at, path_at, table_at}
 use Rattle.leveldb_version.specs.TableMoves.{FileTable, IsAtInTable, IsIndexedFor, IsLedTo, IsTableAt, IsToEnd, LeavesPairs, MovesInNumbered, StepsInBlock, core_here, core_position, table_pairs}
 use Rattle.leveldb_version.specs.VersionEdit.{new_file_of}
-use Rattle.leveldb_version.specs.VersionIter.{AreTablesThere, FailsInTables, FailsOr, IsAtInTables, IsOverTables, KeepsReading, MovesThere, MovesToFile, StaysThere, StepsInFile, TurnsTo, reading, table_in, table_part, table_parts, version_here}
+use Rattle.leveldb_version.specs.VersionIter.{AreOpenGiven, AreTablesThere, FailsInTables, FailsOr, IsAtInTables, IsOverTables, KeepsReading, MovesThere, MovesToFile, StaysThere, StepsInFile, TurnsTo, reading, table_in, table_part, table_parts, version_here}
 use Rattle.leveldb_version.specs.VersionIterLaws.{fails_before, reading_kept, there_stays}
 use Rattle.leveldb_version.specs.declared.table_cache.moves.ReadTables.{ReadTables}
 use Rattle.leveldb_version.specs.declared.version_iter.VersionIter.{VersionIter}
@@ -239,7 +240,7 @@ module _ {E C FP K F : Type 0} {order : CmpGhosts (InternalKeyCmp C)} (env : Env
         × FailsFor env (λ status. (status.code ≡ NotSupported) × LacksCompressor (reading env cmp filters codings world.1).format meaning) world.0 later.0 result
     landed meaning tables there =
         let one = each_at (λ file table. ((new_file_of file).number < 2 ^ 64) × ((new_file_of file).largest ≡ table.largest)
-        × IsTableAt (cmp.cmp world.1.cmp) meaning (files_at env world.0) (path_at world.1.cache.now (new_file_of file).number) table) old.files.now tables old.at file is there.each in
+        × IsTableAt (cmp.cmp world.1.cmp) meaning (files_at env world.0) (path_at world.1.cache.now (new_file_of file).number) table × ((new_file_of file).number < world.1.below)) old.files.now tables old.at file is there.each in
         moves.table there.matched meaning there.agrees (table_in tables old.at) one.2
         (subst (λ (o : List ℕ → List ℕ → Ordering). IsIndexedFor o (table_in tables old.at).parts old.core) (order_is world.1.cmp) there.indexed)
 
@@ -277,13 +278,38 @@ module _ {E C FP K F : Type 0} {order : CmpGhosts (InternalKeyCmp C)} (env : Env
           ((landed meaning tables there).0 position (subst (λ (o : List ℕ → List ℕ → Ordering). IsLedTo to o (table_in tables old.at).parts old.core position) (order_is world.1.cmp) led));
     }
 
+  -- no table is opened whose number wasn't given
+  given_still : (world later : E × ReadTables E C FP K F order) (number : ℕ) → number < world.1.below → later.1.below ≡ world.1.below
+      → ((other : ℕ) → other < 2 ^ 64 → other ≢ number → IsSameOrClosed other world.1.cache.now later.1.cache.now) → AreOpenGiven world → AreOpenGiven later
+  given_still world later number below same others given n fits is_open = subst (λ b. n < b) (sym same) (⊎_elim
+      (λ (one : n ≡ number). subst (λ m. m < world.1.below) (sym one) below)
+      (λ (apart : n ≢ number). given n fits (⊎_elim
+      (λ (closed : table_at later.1.cache.now n ≡ None). absurd (not_true (subst IsSome closed is_open)))
+      (λ (was : table_at later.1.cache.now n ≡ table_at world.1.cache.now n). subst IsSome was is_open)
+      (others n fits apart)))
+      (same_or_not n number))
+
+  -- what a move in the table of a number that was given leaves of the world
+  pub kept_given : (world later : E × ReadTables E C FP K F order) {number : ℕ} {to : TableStep} {core new_core : Option (TableCore (InternalKeyCmp C) order)} {result : Result Bool Status} → number < world.1.below
+      → later.1.cmp ≡ world.1.cmp → later.1.policy ≡ world.1.policy → later.1.compressors ≡ world.1.compressors → later.1.below ≡ world.1.below → later.1.cache.ghost_name ≡ world.1.cache.ghost_name
+      → MovesInNumbered env (reading env cmp filters codings world.1) number to world.0 world.1.cache.now core result later.0 later.1.cache.now new_core → KeepsReading env cmp filters codings world later
+  kept_given world later {number} below same_cmp same_policy same_compressors same_below same_reference moves = record {
+    cmp_stays = same_cmp;
+    policy_stays = same_policy;
+    compressors_stay = same_compressors;
+    below_stays = same_below;
+    reference = same_reference;
+    tables = moves.keeps;
+    given = given_still world later number below same_below moves.others;
+  }
+
   pub there_left : (world : E × ReadTables E C FP K F order) (old new : VersionIter C order) → LeavesPairs old.core new.core → new.at ≡ old.at → new.files.now ≡ old.files.now → (meaning : Meaning) (tables : List FileTable)
       → AreTablesThere env cmp filters codings meaning world old tables → AreTablesThere env cmp filters codings meaning world new tables
   there_left world old new left at files meaning tables there = record {
     matched = there.matched;
     agrees = there.agrees;
     each = subst (λ (fs : List (ℕ × FileMetaData)). Each (λ file table. ((new_file_of file).number < 2 ^ 64) × ((new_file_of file).largest ≡ table.largest)
-        × IsTableAt (cmp.cmp world.1.cmp) meaning (files_at env world.0) (path_at world.1.cache.now (new_file_of file).number) table) fs tables) (sym files) there.each;
+        × IsTableAt (cmp.cmp world.1.cmp) meaning (files_at env world.0) (path_at world.1.cache.now (new_file_of file).number) table × ((new_file_of file).number < world.1.below)) fs tables) (sym files) there.each;
     indexed = subst (λ i. IsIndexedFor (order.cmp (record { 0 = world.1.cmp })) (table_in tables i).parts new.core) (sym at)
         (left_indexed (order.cmp (record { 0 = world.1.cmp })) (table_in tables old.at).parts old.core new.core left there.indexed);
   }
@@ -300,8 +326,32 @@ module _ {E C FP K F : Type 0} {order : CmpGhosts (InternalKeyCmp C)} (env : Env
     there = sym (ap is_some (left_position old.core new.core left));
     at = at;
     ok = λ meaning tables there within position led. absurd (let long = each_long (λ file table. ((new_file_of file).number < 2 ^ 64) × ((new_file_of file).largest ≡ table.largest)
-        × IsTableAt (cmp.cmp world.1.cmp) meaning (files_at env world.0) (path_at world.1.cache.now (new_file_of file).number) table) old.files.now tables there.each in omega (arith, long, none, within));
+        × IsTableAt (cmp.cmp world.1.cmp) meaning (files_at env world.0) (path_at world.1.cache.now (new_file_of file).number) table × ((new_file_of file).number < world.1.below)) old.files.now tables there.each in omega (arith, long, none, within));
   }
+
+  -- a file's number was never given
+  pub steps_ungiven : (to : TableStep) (world : E × ReadTables E C FP K F order) (old new : VersionIter C order) → LeavesPairs old.core new.core → new.at ≡ old.at → new.files.now ≡ old.files.now → (file : ℕ × FileMetaData) → slice_get old.files.now old.at ≡ Some file
+      → world.1.below ≤ (new_file_of file).number → (result : Result Bool Status) → IsErrAnd result (λ status. status.code ≡ Corruption) → StepsInFile env cmp filters codings to world old result world new
+  steps_ungiven to world old new left at files file is above (Ok there) damaged = absurd damaged
+  steps_ungiven to world old new left at files file is above (Err status) damaged = record {
+    moves = record {
+      stays = record { kept = reading_kept world; files = files; there = λ meaning tables there. there_left world old new left at files meaning tables there };
+      cause = record {
+        fault = inr (inr (inr (inl damaged)));
+        lacks = λ meaning tables there. absurd (not_there meaning tables there);
+      };
+      err = left_position old.core new.core left;
+    };
+    there = tt;
+    at = at;
+    ok = λ meaning tables there within position led. tt;
+  }
+    where
+      not_there : (meaning : Meaning) (tables : List FileTable) → AreTablesThere env cmp filters codings meaning world old tables → ⊥
+      not_there meaning tables there =
+          let one = each_at (λ file table. ((new_file_of file).number < 2 ^ 64) × ((new_file_of file).largest ≡ table.largest)
+          × IsTableAt (cmp.cmp world.1.cmp) meaning (files_at env world.0) (path_at world.1.cache.now (new_file_of file).number) table × ((new_file_of file).number < world.1.below)) old.files.now tables old.at file is there.each in
+          let below = one.3 in omega (arith, below, above)
 
   -- ---- a move to the end of a file's table
 
@@ -311,7 +361,7 @@ module _ {E C FP K F : Type 0} {order : CmpGhosts (InternalKeyCmp C)} (env : Env
       matched = there.matched;
       agrees = there.agrees;
       each = subst (λ (fs : List (ℕ × FileMetaData)). Each (λ file table. ((new_file_of file).number < 2 ^ 64) × ((new_file_of file).largest ≡ table.largest)
-          × IsTableAt (cmp.cmp world.1.cmp) meaning (files_at env world.0) (path_at world.1.cache.now (new_file_of file).number) table) fs tables) (sym files) there.each;
+          × IsTableAt (cmp.cmp world.1.cmp) meaning (files_at env world.0) (path_at world.1.cache.now (new_file_of file).number) table × ((new_file_of file).number < world.1.below)) fs tables) (sym files) there.each;
       indexed = ⊎_elim
           (λ (anew : turned.core ≡ None). subst (IsIndexedFor (order.cmp (record { 0 = world.1.cmp })) (table_in tables turned.at).parts) (sym anew) tt)
           (λ (same : (old.at ≡ turned.at) × (turned.core ≡ old.core)). subst (λ i. IsIndexedFor (order.cmp (record { 0 = world.1.cmp })) (table_in tables i).parts turned.core) same.0
@@ -372,9 +422,9 @@ module _ {E C FP K F : Type 0} {order : CmpGhosts (InternalKeyCmp C)} (env : Env
           not_empty : (meaning : Meaning) (tables : List FileTable) → AreTablesThere env cmp filters codings meaning world old tables → ⊥
           not_empty meaning tables there =
               let long = each_long (λ file table. ((new_file_of file).number < 2 ^ 64) × ((new_file_of file).largest ≡ table.largest)
-              × IsTableAt (cmp.cmp world.1.cmp) meaning (files_at env world.0) (path_at world.1.cache.now (new_file_of file).number) table) old.files.now tables there.each in
+              × IsTableAt (cmp.cmp world.1.cmp) meaning (files_at env world.0) (path_at world.1.cache.now (new_file_of file).number) table × ((new_file_of file).number < world.1.below)) old.files.now tables there.each in
               let some = each_in (λ file table. ((new_file_of file).number < 2 ^ 64) × ((new_file_of file).largest ≡ table.largest)
-              × IsTableAt (cmp.cmp world.1.cmp) meaning (files_at env world.0) (path_at world.1.cache.now (new_file_of file).number) table) old.files.now tables turned.at within there.each in
+              × IsTableAt (cmp.cmp world.1.cmp) meaning (files_at env world.0) (path_at world.1.cache.now (new_file_of file).number) table × ((new_file_of file).number < world.1.below)) old.files.now tables turned.at within there.each in
               let led = end_led order to ends (order.cmp (record { 0 = world.1.cmp })) (table_in tables turned.at).parts (last_key_some some.1.2.last) in
               let at = subst (λ q. OnOk q (IsAtInTable (order.cmp (record { 0 = world.1.cmp })) (table_in tables turned.at).parts new.core (Some led.0))) r_is
               (ok_turned meaning tables there (omega (arith, long, within)) (Some led.0) led.1) in
@@ -393,7 +443,7 @@ module _ {E C FP K F : Type 0} {order : CmpGhosts (InternalKeyCmp C)} (env : Env
     past = λ more. left_position old.core new.core left;
     at_file = λ inside. absurd (omega (arith, inside, past));
     ok = λ meaning tables there within position led. absurd (let long = each_long (λ file table. ((new_file_of file).number < 2 ^ 64) × ((new_file_of file).largest ≡ table.largest)
-        × IsTableAt (cmp.cmp world.1.cmp) meaning (files_at env world.0) (path_at world.1.cache.now (new_file_of file).number) table) old.files.now tables there.each in omega (arith, long, past, within));
+        × IsTableAt (cmp.cmp world.1.cmp) meaning (files_at env world.0) (path_at world.1.cache.now (new_file_of file).number) table × ((new_file_of file).number < world.1.below)) old.files.now tables there.each in omega (arith, long, past, within));
   }
 
   -- ---- the moves of the walk
@@ -485,13 +535,13 @@ module _ {E C FP K F : Type 0} {order : CmpGhosts (InternalKeyCmp C)} (env : Env
   module _ {world : E × ReadTables E C FP K F order} {old : VersionIter C order} {keys : KeyOrder} {pairs : List Pair} (over : Over world old keys pairs) where
     pub tables_long : length old.files.now ≡ length over.tables
     tables_long = let there = over.there in each_long (λ file table. ((new_file_of file).number < 2 ^ 64) × ((new_file_of file).largest ≡ table.largest)
-        × IsTableAt (cmp.cmp world.1.cmp) over.meaning (files_at env world.0) (path_at world.1.cache.now (new_file_of file).number) table) old.files.now over.tables there.each
+        × IsTableAt (cmp.cmp world.1.cmp) over.meaning (files_at env world.0) (path_at world.1.cache.now (new_file_of file).number) table × ((new_file_of file).number < world.1.below)) old.files.now over.tables there.each
 
     table_some : (i : ℕ) → i < length over.tables → table_pairs (table_in over.tables i) ≢ []
     table_some i within =
         let there = over.there in let long = tables_long in
         let one = each_in (λ file table. ((new_file_of file).number < 2 ^ 64) × ((new_file_of file).largest ≡ table.largest)
-        × IsTableAt (cmp.cmp world.1.cmp) over.meaning (files_at env world.0) (path_at world.1.cache.now (new_file_of file).number) table) old.files.now over.tables i (omega (arith, long, within)) there.each in
+        × IsTableAt (cmp.cmp world.1.cmp) over.meaning (files_at env world.0) (path_at world.1.cache.now (new_file_of file).number) table × ((new_file_of file).number < world.1.below)) old.files.now over.tables i (omega (arith, long, within)) there.each in
         last_key_some one.1.2.last
 
     pub file_first : (i : ℕ) (result : Result Bool Status) (later : E × ReadTables E C FP K F order) (new : VersionIter C order) → MovesToFile env cmp filters codings i First world old result later new

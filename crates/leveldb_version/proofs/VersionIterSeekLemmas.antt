@@ -151,7 +151,7 @@ module _ {E C FP K F : Type 0} {order : CmpGhosts (InternalKeyCmp C)} (env : Env
         → IsPartitionPoint (λ file. ends_before_key (cmp.cmp world.1.cmp) sought.now file ≡ true) (λ file. ends_before_key (cmp.cmp world.1.cmp) sought.now file ≡ false) old.files.now i) where
       abbrev Row : ℕ × FileMetaData → FileTable → Type 0
       Row file table = ((new_file_of file).number < 2 ^ 64) × ((new_file_of file).largest ≡ table.largest)
-          × IsTableAt (cmp.cmp world.1.cmp) over.meaning (files_at env world.0) (path_at world.1.cache.now (new_file_of file).number) table
+          × IsTableAt (cmp.cmp world.1.cmp) over.meaning (files_at env world.0) (path_at world.1.cache.now (new_file_of file).number) table × ((new_file_of file).number < world.1.below)
 
       abbrev Lines : List Pair
       Lines = map index_pair (table_parts over.tables)

@@ -93,7 +93,7 @@ module _ {E C FP K F : Type 0} {order : CmpGhosts (InternalKeyCmp C)} (env : Env
     entries_back : (entry : Entry) → Contains (table_entries tables) entry → Contains (entries_of (map entries_of_pairs lists)) entry
     entries_back entry c =
         let table = in_flat (λ (t : LiveTable). t.entries) tables entry c in
-        let fits = All-contains (λ (t : LiveTable). (t.file.level < 7) × (t.file.number < 2 ^ 64) × (t.file.size < 2 ^ 64)) tables table.0 are.fit table.1 in
+        let fits = All-contains (λ (t : LiveTable). (t.file.level < 7) × (t.file.number < 2 ^ 64) × (t.file.size < 2 ^ 64) × (t.file.number < world.1.below)) tables table.0 are.fit table.1 in
         let file = in_map new_file_of version.files table.0.file
         (file_of exact meaning (store_of world.1.cache.now) (files_at env world.0) tables are.each (new_files_of version) are.files_are table.0 table.1) in
         let part = walk_of version.files file.0 file.1 (subst (λ (f : NewFile). f.level < 7) (sym file.2) fits.0) in

@@ -66,14 +66,14 @@ module _ {E C FP K F : Type 0} {order : CmpGhosts (InternalKeyCmp C)} (env : Env
     pub is_live : Contains tables live
     pub file_is : live.file ≡ new_file_of file
     pub run : IsRun ucmp (new_file_of file) table
-    pub at : ((new_file_of file).number < 2 ^ 64) × ((new_file_of file).largest ≡ table.largest) × IsTableAt ucmp meaning disk (table_path store (new_file_of file).number) table
+    pub at : ((new_file_of file).number < 2 ^ 64) × ((new_file_of file).largest ≡ table.largest) × IsTableAt ucmp meaning disk (table_path store (new_file_of file).number) table × ((new_file_of file).number < world.1.below)
     pub entries : entries_of_pairs (table_pairs table) ≡ live.entries
 
   table_for : (file : ℕ × FileMetaData) → Contains version.files file → (table : FileTable) × IsTableFor file table
   table_for file c =
       let live = table_of exact meaning store disk tables are.each (new_files_of version) are.files_are (new_file_of file) (map_in new_file_of version.files file c) in
       let has = there exact meaning store disk tables are.each live.0 live.1 in
-      let fits = All-contains (λ (table : LiveTable). (table.file.level < 7) × (table.file.number < 2 ^ 64) × (table.file.size < 2 ^ 64)) tables live.0 are.fit live.1 in
+      let fits = All-contains (λ (table : LiveTable). (table.file.level < 7) × (table.file.number < 2 ^ 64) × (table.file.size < 2 ^ 64) × (table.file.number < world.1.below)) tables live.0 are.fit live.1 in
       let total = exact_total exact in
       let table = file_table total (internal_total total) meaning store disk live.0 has in (
         table,
@@ -86,6 +86,7 @@ module _ {E C FP K F : Type 0} {order : CmpGhosts (InternalKeyCmp C)} (env : Env
             subst (λ (f : NewFile). f.number < 2 ^ 64) live.2 fits.1,
             sym (ap (λ (f : NewFile). f.largest) live.2),
             subst (λ (f : NewFile). IsTableAt ucmp meaning disk (table_path store f.number) table) live.2 (is_table_at total (internal_total total) meaning store disk live.0 has fits.2),
+            subst (λ (f : NewFile). f.number < world.1.below) live.2 fits.3,
           );
           entries = same_entries total (internal_total total) meaning store disk live.0 has;
         },
@@ -129,9 +130,9 @@ module _ {E C FP K F : Type 0} {order : CmpGhosts (InternalKeyCmp C)} (env : Env
             matched = are.matched;
             agrees = are.agrees;
             each = subst (λ fs. Each (λ file table. ((new_file_of file).number < 2 ^ 64) × ((new_file_of file).largest ≡ table.largest)
-                × IsTableAt ucmp meaning disk (table_path store (new_file_of file).number) table) fs has.tabled) (sym files)
+                × IsTableAt ucmp meaning disk (table_path store (new_file_of file).number) table × ((new_file_of file).number < world.1.below)) fs has.tabled) (sym files)
                 (each_more_of IsTableFor (λ file table. ((new_file_of file).number < 2 ^ 64) × ((new_file_of file).largest ≡ table.largest)
-                × IsTableAt ucmp meaning disk (table_path store (new_file_of file).number) table) part has.tabled (λ f t is. is.at) has.each);
+                × IsTableAt ucmp meaning disk (table_path store (new_file_of file).number) table × ((new_file_of file).number < world.1.below)) part has.tabled (λ f t is. is.at) has.each);
             indexed = indexed it none;
           };
           keys_are = refl;

@@ -1,5 +1,5 @@
 -- Moves of a walk over the table of a number, which a cache of open tables opens where it isn't open.
-use Rattle.std.specs.Prelude.{◌≡◌, ◌⊎◌, ◌<◌, ◌≤◌, ◌^◌, ℕ, Bool, true, List, length, Option, None, Some, Result, Ok, false, IfOk, IfErr, IsErrAnd, OnErr, OnOk, IsTrue, is_some}
+use Rattle.std.specs.Prelude.{◌≡◌, ◌≢◌, ◌⊎◌, ◌<◌, ◌≤◌, ◌^◌, ℕ, Bool, true, List, length, Option, None, Some, Result, Ok, false, IfOk, IfErr, IsErrAnd, OnErr, OnOk, IsTrue, is_some}
 use Rattle.std.specs.Borrow.{Bor}
 use Rattle.std.specs.declared.cmp.Ordering.{Ordering}
 use Rattle.leveldb_base.specs.Cmp.{internal_accepts}
@@ -28,7 +28,7 @@ use Rattle.leveldb_table.specs.declared.table_reader.walk.TableStep.{TableStep}
 use Rattle.leveldb_table.specs.declared.table_reader.walk.TableStep.TheVariants.{First, Last, NextBlock, BlockBefore, Seek}
 use Rattle.leveldb_version.specs.Format.{Agrees, IsTableFault, IsTableOf, LacksCompressor, Meaning}
 use Rattle.leveldb_version.specs.Store.{IsLastKey, any_user_key}
-use Rattle.leveldb_version.specs.TableCache.{HasBytesAt, MatchesFiles, TableOptions, files_at, key_order, path_at, store_of, tables_of}
+use Rattle.leveldb_version.specs.TableCache.{HasBytesAt, IsSameOrClosed, MatchesFiles, TableOptions, files_at, key_order, path_at, store_of, tables_of}
 use Rattle.leveldb_version.specs.declared.table_cache.TableCache.{TableCache}
 
 -- ---- tables in files
@@ -180,3 +180,5 @@ module _ {E C FP F : Type 0} {order : CmpGhosts (InternalKeyCmp C)} (env : EnvGh
     pub reads : ReadsFile env (λ status. IsTableFault by.format status.code) old_env new_env result
     -- the open tables are those of the files still
     pub keeps : KeepsTables old_env old new_env new
+    -- no other table is opened
+    pub others : (other : ℕ) → other < 2 ^ 64 → other ≢ number → IsSameOrClosed other old new

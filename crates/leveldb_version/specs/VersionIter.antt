@@ -1,5 +1,5 @@
 -- Walks over the tables of files, one after the other: which list such a walk is over, and where it is.
-use Rattle.std.specs.Prelude.{◌≡◌, ◌⊎◌, ◌-◌, ◌<◌, ◌≤◌, ◌^◌, ℕ, Bool, Result, IfOk, IfErr, OnOk, OnErr, is_some, List, [], ◌∷◌, Option, None, Some, length, map, slice_get, slice_index_or}
+use Rattle.std.specs.Prelude.{◌≡◌, ◌⊎◌, ◌-◌, ◌<◌, ◌≤◌, ◌^◌, ℕ, Bool, Result, IfOk, IfErr, IsSome, OnOk, OnErr, is_some, List, [], ◌∷◌, Option, None, Some, length, map, slice_get, slice_index_or}
 use Rattle.std.specs.Borrow.{Bor}
 use Rattle.std.specs.Ordering.{is_lt}
 use Rattle.std.specs.declared.cmp.Ordering.{Ordering}
@@ -22,7 +22,7 @@ use Rattle.leveldb_table.specs.declared.table_reader.walk.TableCore.{TableCore}
 use Rattle.leveldb_table.specs.declared.table_reader.walk.TableStep.{TableStep}
 use Rattle.leveldb_version.specs.Batches.{Each}
 use Rattle.leveldb_version.specs.Format.{Agrees, IsTableFault, LacksCompressor, Meaning}
-use Rattle.leveldb_version.specs.TableCache.{TableOptions, files_at, options_by, path_at}
+use Rattle.leveldb_version.specs.TableCache.{TableOptions, files_at, options_by, path_at, table_at}
 use Rattle.leveldb_version.specs.TableMoves.{AreTablesMatched, FileTable, IsAtInTable, IsIndexedFor, IsLedTo, IsTableAt, KeepsTables, core_here, core_position, table_pairs}
 use Rattle.leveldb_version.specs.VersionEdit.{new_file_of}
 use Rattle.leveldb_version.specs.declared.table_cache.moves.ReadTables.{ReadTables}
@@ -46,14 +46,20 @@ table_parts tables = map table_part tables
 abbrev pub table_in : List FileTable → ℕ → FileTable
 table_in tables i = slice_index_or tables i (record { bytes = []; parts = []; largest = [] })
 
+-- each open table's number was given
+abbrev pub AreOpenGiven : {E C FP K F : Type 0} {order : CmpGhosts (InternalKeyCmp C)}
+    → E × ReadTables E C FP K F order → Type 0
+AreOpenGiven world = (number : ℕ) → number < 2 ^ 64
+    → IsSome (table_at world.1.cache.now number) → number < world.1.below
+
 module _ {E C FP K F : Type 0} {order : CmpGhosts (InternalKeyCmp C)} (env : EnvGhosts E F)
     (cmp : CmpGhosts C) (filters : FilterGhosts FP) (codings : K → Codings) where
   -- what tables are opened with
   abbrev pub reading : ReadTables E C FP K F order → TableOptions C FP
   reading tables = options_by cmp filters (codings tables.compressors.now) tables.cmp tables.policy
 
-  -- the files are these tables, by what names and ids mean, and the walk that has begun is over the
-  -- one of the file where it is
+  -- the files are these tables, by what names and ids mean, their numbers were given, and the walk
+  -- that has begun is over the one of the file where it is
   pub record AreTablesThere (meaning : Meaning) (world : E × ReadTables E C FP K F order)
       (it : VersionIter C order) (tables : List FileTable) : Type 0 where
     pub matched : AreTablesMatched env (reading world.1) world.0 world.1.cache.now
@@ -61,7 +67,8 @@ module _ {E C FP K F : Type 0} {order : CmpGhosts (InternalKeyCmp C)} (env : Env
     pub each : Each (λ file table. ((new_file_of file).number < 2 ^ 64)
         × ((new_file_of file).largest ≡ table.largest)
         × IsTableAt (reading world.1).format.order meaning (files_at env world.0)
-        (path_at world.1.cache.now (new_file_of file).number) table) it.files.now tables
+        (path_at world.1.cache.now (new_file_of file).number) table
+        × ((new_file_of file).number < world.1.below)) it.files.now tables
     pub indexed : IsIndexedFor (order.cmp (record { 0 = world.1.cmp })) (table_in tables it.at).parts
         it.core
 
@@ -105,14 +112,17 @@ module _ {E C FP K F : Type 0} {order : CmpGhosts (InternalKeyCmp C)} (env : Env
         → FailsOr ((status.code ≡ NotSupported)
         × LacksCompressor (reading world.1).format meaning) world later status
 
-  -- What a move leaves of the world: tables are read by the same cache, with the same options.
+  -- What a move leaves of the world: tables are read by the same cache, with the same options, and
+  -- none is opened whose number wasn't given.
   pub record KeepsReading (first second : E × ReadTables E C FP K F order) : Type 0 where
     pub cmp_stays : second.1.cmp ≡ first.1.cmp
     pub policy_stays : second.1.policy ≡ first.1.policy
     pub compressors_stay : second.1.compressors ≡ first.1.compressors
+    pub below_stays : second.1.below ≡ first.1.below
     pub reference : second.1.cache.ghost_name ≡ first.1.cache.ghost_name
     pub tables : KeepsTables env (reading first.1) first.0 first.1.cache.now second.0
         second.1.cache.now
+    pub given : AreOpenGiven first → AreOpenGiven second
 
   -- ---- its steps
 

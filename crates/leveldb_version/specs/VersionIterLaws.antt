@@ -86,21 +86,26 @@ module _ {E C FP K F : Type 0} {order : CmpGhosts (InternalKeyCmp C)} {env : Env
   there_stays first second kept it meaning tables there =
       let e = sym (reading_stays first second kept) in
       let keeps = kept.tables in let matched = there.matched in
-      let Each-in : TableOptions C FP → Files → List ℕ → Type 0 = λ by files store.
+      let Each-in : ℕ → TableOptions C FP → Files → List ℕ → Type 0 = λ below by files store.
       Each (λ file table. ((new_file_of file).number < 2 ^ 64)
       × ((new_file_of file).largest ≡ table.largest)
-      × IsTableAt by.format.order meaning files (table_path store (new_file_of file).number) table)
-      it.files.now tables in
+      × IsTableAt by.format.order meaning files (table_path store (new_file_of file).number) table
+      × ((new_file_of file).number < below)) it.files.now tables in
       record {
         matched = subst (λ (by : TableOptions C FP).
             AreTablesMatched env by second.0 second.1.cache.now) e (keeps.matches matched);
         agrees = subst (λ (by : TableOptions C FP). Agrees by.format meaning) e there.agrees;
-        each = subst (λ (by : TableOptions C FP). Each-in by (files_at env second.0)
-            (store_of second.1.cache.now)) e
-            (subst (λ (files : Files). Each-in (reading env cmp filters codings first.1) files
-            (store_of second.1.cache.now)) (sym (same_files env keeps.disk matched.modelled))
-            (subst (λ (store : List ℕ). Each-in (reading env cmp filters codings first.1)
-            (files_at env first.0) store) (sym keeps.path) there.each));
+        each = subst (λ (by : TableOptions C FP). Each-in second.1.below by
+            (files_at env second.0) (store_of second.1.cache.now)) e
+            (subst (λ (files : Files). Each-in second.1.below
+            (reading env cmp filters codings first.1) files (store_of second.1.cache.now))
+            (sym (same_files env keeps.disk matched.modelled))
+            (subst (λ (store : List ℕ). Each-in second.1.below
+            (reading env cmp filters codings first.1) (files_at env first.0) store)
+            (sym keeps.path)
+            (subst (λ (below : ℕ). Each-in below (reading env cmp filters codings first.1)
+            (files_at env first.0) (store_of first.1.cache.now)) (sym kept.below_stays)
+            there.each)));
         indexed = subst (λ (c : C). IsIndexedFor (order.cmp (record { 0 = c }))
             (table_in tables it.at).parts it.core) (sym kept.cmp_stays) there.indexed;
       }
@@ -161,6 +166,7 @@ module _ {E C FP K F : Type 0} {order : CmpGhosts (InternalKeyCmp C)} {env : Env
     cmp_stays = refl;
     policy_stays = refl;
     compressors_stay = refl;
+    below_stays = refl;
     reference = refl;
     tables = record {
       disk = KeepsDisk-refl env world.0;
@@ -169,6 +175,7 @@ module _ {E C FP K F : Type 0} {order : CmpGhosts (InternalKeyCmp C)} {env : Env
       room = refl;
       matches = λ matched. matched;
     };
+    given = λ given. given;
   }
 
   pub reading_kept_on : (first second third : E × ReadTables E C FP K F order)
@@ -184,6 +191,7 @@ module _ {E C FP K F : Type 0} {order : CmpGhosts (InternalKeyCmp C)} {env : Env
         cmp_stays = other.cmp_stays ∙ one.cmp_stays;
         policy_stays = other.policy_stays ∙ one.policy_stays;
         compressors_stay = other.compressors_stay ∙ one.compressors_stay;
+        below_stays = other.below_stays ∙ one.below_stays;
         reference = other.reference ∙ one.reference;
         tables = record {
           disk = KeepsDisk-trans env a.disk b.disk;
@@ -192,6 +200,7 @@ module _ {E C FP K F : Type 0} {order : CmpGhosts (InternalKeyCmp C)} {env : Env
           room = b.room ∙ a.room;
           matches = λ matched. b.matches (a.matches matched);
         };
+        given = λ given. other.given (one.given given);
       }
 
   -- a walk over tables is a walk

@@ -103,9 +103,9 @@ module _ {E C FP K F : Type 0} {order : CmpGhosts (InternalKeyCmp C)} (env : Env
     -- each table is in its file
     pub each : All (HasTable (store_of world.1.cache.now) (cmp.cmp world.1.cmp)
         (IsTableOf (cmp.cmp world.1.cmp) meaning) (files_at env world.0)) tables
-    -- what an edit says of each fits
+    -- what an edit says of each fits, and its number was given
     pub fit : All (λ table. (table.file.level < 7) × (table.file.number < 2 ^ 64)
-        × (table.file.size < 2 ^ 64)) tables
+        × (table.file.size < 2 ^ 64) × (table.file.number < world.1.below)) tables
     -- they are in levels
     pub levels : LevelOrder (cmp.cmp world.1.cmp) tables
 

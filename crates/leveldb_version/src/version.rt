@@ -1,5 +1,5 @@
 //! A version: the files of a store by levels, and the calls on them that only look.
-ghost use Rattle.std.specs.Prelude.{◌≡◌, ◌<◌, ◌≤◌, [], None, IfOk, IfErr, length, map, string_bytes};
+ghost use Rattle.std.specs.Prelude.{◌≡◌, ◌<◌, ◌≤◌, ◌^◌, [], All, None, IfOk, IfErr, length, map, string_bytes};
 ghost use Rattle.std.specs.Option.{option_copied, option_map};
 ghost use Rattle.leveldb_base.specs.Error.{IsOutOfMemory};
 ghost use Rattle.leveldb_base.specs.KeyTypes.{user_part};
@@ -82,6 +82,7 @@ impl<C: UserCmp> Version<C> {
     where
         C: Drop,
         ensures ok { IfOk result (IsVersionOf (C.cmp cmp) cmp files.now) }
+        ensures sizes { IfOk result (λ version. All (λ file. file.1.size < 2 ^ 64) version.files) }
         ensures memory { IfErr result IsOutOfMemory }
     {
         let mut sorted = Vec::with_capacity(alloc, files.len())?;

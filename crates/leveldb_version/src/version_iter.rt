@@ -89,7 +89,8 @@ impl<'a, C: UserCmp + Copy + Drop> VersionIter<'a, C> {
         }
     }
 
-    // Makes a move in the table of the file where it is. Returns whether it is at a pair then.
+    // Makes a move in the table of the file where it is. Returns whether it is at a pair then. No
+    // table is looked up whose number was never given.
     fn step<'b, E: Env, FP: FilterPolicy + Copy + Drop, K: ReadsTables<E, C, FP>>(
         &mut self,
         env: &mut E,
@@ -104,13 +105,21 @@ impl<'a, C: UserCmp + Copy + Drop> VersionIter<'a, C> {
             self.leave();
             return Ok(false);
         }
-        let file = &self.files[at];
+        let number = self.files[at].1.num;
+        if number >= tables.below {
+            self.leave();
+            return err(
+                self.alloc,
+                StatusCode::Corruption,
+                "a file's number was never given",
+            );
+        }
         tables.compressors.move_in_table(
             env,
             tables.cache,
             tables.cmp,
             tables.policy,
-            file.1.num,
+            number,
             &mut self.core,
             to,
         )

@@ -51,6 +51,8 @@ where
     pub policy: FP,
     /// The compressors.
     pub compressors: &'a K,
+    /// The number of each file that was given is below this.
+    pub below: FileNum,
 }
 
 impl<E: Env, C: UserCmp + Copy + Drop, FP: FilterPolicy + Copy + Drop> ReadsTables<E, C, FP>
