@@ -76,6 +76,24 @@ impl Listed<DefaultCmp> {
     }
 }
 
+impl Listed<DefaultCmp> {
+    /// A list of these keys, each with the value "def".
+    pub fn of_keys(alloc: Global, keys: &[&[u8]]) -> Result<Listed<DefaultCmp>> {
+        let mut pairs = Vec::new(alloc);
+        for key in keys {
+            pairs.push((
+                Bytes::copy_from_slice(alloc, key)?,
+                Bytes::copy_from_slice(alloc, b"def")?,
+            ))?;
+        }
+        Ok(Listed {
+            cmp: DefaultCmp,
+            pairs,
+            at: None,
+        })
+    }
+}
+
 impl Listed<InternalKeyCmp<DefaultCmp>> {
     /// A list of these entries: each has the key of a letter, the sequence number of a digit and
     /// that digit as its value, or is a deletion.

@@ -7,4 +7,6 @@ mod merges;
 #[cfg(test)]
 mod moves;
 #[cfg(test)]
+mod snapshots;
+#[cfg(test)]
 mod views;

@@ -207,3 +207,30 @@ fn iterators_as_walks(rt: HostRuntime) -> Result<()> {
     assert!(rt; it.prev()? && it.current() == Some((b"c", b"c")));
     Ok(())
 }
+
+// Whether a pair has this key, and the value "def".
+fn is_def(pair: Option<(&[u8], &[u8])>, wanted: &[u8]) -> bool {
+    match pair {
+        None => false,
+        Some((key, value)) => key == wanted && value == b"def".as_slice(),
+    }
+}
+
+#[test]
+fn keys_that_share_a_prefix(rt: HostRuntime) -> Result<()> {
+    let alloc = rt.alloc();
+    let mut device = Device { calls_left: 0 };
+    let mut tables = ();
+    let mut children = Vec::new(alloc);
+    children.push(Unlent(Listed::of_keys(alloc, &[b"aba", b"abc", b"abe"])?))?;
+    children.push(Unlent(Listed::of_keys(alloc, &[b"abb", b"abd"])?))?;
+    let core = MergeCore::new::<Device, ()>(DefaultCmp, children);
+    let mut it = WalkIter::new(core, &mut device, &mut tables);
+    it.seek(b"ab0")?;
+    assert!(rt; is_def(it.current(), b"aba"));
+    it.seek(b"abx")?;
+    assert!(rt; !it.valid());
+    it.reset();
+    assert!(rt; it.advance()? && is_def(it.current(), b"aba"));
+    Ok(())
+}

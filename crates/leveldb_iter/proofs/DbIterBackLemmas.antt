@@ -13,7 +13,7 @@ use Rattle.leveldb_base.specs.Scan.{ScanStepsBack, count_shown, shown_pair}
 use Rattle.leveldb_base.specs.Types.{Pair, pair_at, previous_position}
 use Rattle.leveldb_base.specs.View.{view_of, shown_in}
 use Rattle.leveldb_base.specs.declared.error.Status.{Status}
-use Rattle.leveldb_base.specs.declared.error.StatusCode.TheVariants.{Corruption}
+use Rattle.leveldb_base.specs.declared.error.StatusCode.TheVariants.{NotSupported}
 use Rattle.leveldb_base.specs.declared.types.Direction.{Direction}
 use Rattle.leveldb_base.specs.declared.types.Direction.TheVariants.{Reverse}
 use Rattle.leveldb_base.proofs.HistoryLemmas.{in_cases}
@@ -26,7 +26,7 @@ use Rattle.leveldb_iter.specs.declared.walk.Walk.{Ghosts as WalkGhosts}
 use Rattle.leveldb_iter.specs.DbIterSteps.{IsNoEntry, IsUnread, IsEndBack, IsFoundBack, IsTaken, IsOnScanBack, IsFoundPrevious, IsStepBack, KeepsBelow, MovesBelow}
 use Rattle.leveldb_iter.specs.MergedEntries.{internal_order}
 use Rattle.leveldb_iter.specs.Walk.{KeyOrder, WalkLaws, StepsBack}
-use Rattle.leveldb_iter.proofs.DbIterLemmas.{none_from_is_some, at_front, sorted_entries, unread, same_moved, stayed, joined, revalued, corrupt}
+use Rattle.leveldb_iter.proofs.DbIterLemmas.{none_from_is_some, at_front, sorted_entries, unread, same_moved, stayed, joined, revalued, uncounted}
 
 -- ---- the last of a list
 
@@ -208,7 +208,6 @@ module _ {E T M : Type 0} (walk : WalkGhosts M E T) (laws : WalkLaws walk.over w
             shown = ap (λ list. count_shown s (entries_of_pairs list)) (sym (last_before on.front before on.over last e)) ∙ on.shown;
             finds = finds_here;
             after = λ own is entry c low. after_here own is entry (subst (λ list. Contains (entry_of_pair last ∷ list) entry) back_split c) low;
-            countable = on.countable;
             counted = let size = ap length e ∙ last_length before last in let counted = on.counted in omega (arith, size, counted, few);
             left = λ positive. some_before (some positive);
           }
@@ -293,15 +292,14 @@ module _ {E T M : Type 0} (walk : WalkGhosts M E T) (laws : WalkLaws walk.over w
     back_steps {number} same {new_world} {new} direction saved {next} {result} step = joined walk laws so_far
         (subst (λ n. MovesBelow walk (IsOnScanBack walk world now n found passed) (IsStepBack walk new_world new n direction saved next) world now result new_world new) same step)
 
-    pub back_endless : (number : ℕ) (direction : Option Direction) (saved : Pair) (result : Result (Unit {0}) Status) → 2 ^ 128 ≤ passed + 1 → IsErrAnd result (λ status. status.code ≡ Corruption)
+    pub back_too_many : (number : ℕ) (direction : Option Direction) (saved : Pair) (result : Result (Unit {0}) Status) → 2 ^ 128 ≤ passed + 1 → IsErrAnd result (λ status. status.code ≡ NotSupported)
         → MovesBelow walk (IsOnScanBack walk start old s None 0) (λ u. IsFoundPrevious walk world now number direction saved) start old result world now
-    back_endless number direction saved result many is = corrupt walk laws (λ u. IsFoundPrevious walk world now number direction saved) result so_far.keeps
+    back_too_many number direction saved result many is = uncounted walk laws (λ u. IsFoundPrevious walk world now number direction saved) result so_far.keeps
         (λ order below pairs n from.
         let on = so_far.ok order below pairs n from in
         let left = on.left (omega (arith, many)) in
         let counted = on.counted in
-        let countable = on.countable in
-        omega (arith, many, left, counted, countable)) is
+        omega (arith, many, left, counted)) is
 
   module _ {From : KeyOrder → List Pair → List Pair → ℕ → Type 0} {world new_world : E × T} {old new : M} {s : ℕ} (direction : Option Direction) (saved : Pair) {next : ℕ} {value : Option Bool}
       (m : MovesBelow walk From (IsStepBack walk new_world new s direction saved next) world old (Ok value) new_world new) where

@@ -11,7 +11,7 @@ use Rattle.leveldb_base.specs.Scan.{IsScanning, count_shown}
 use Rattle.leveldb_base.specs.Types.{Pair, pair_at, position_within, next_position, previous_position}
 use Rattle.leveldb_base.specs.View.{view_of, is_newest}
 use Rattle.leveldb_base.specs.declared.error.Status.{Status}
-use Rattle.leveldb_base.specs.declared.error.StatusCode.TheVariants.{Corruption}
+use Rattle.leveldb_base.specs.declared.error.StatusCode.TheVariants.{NotSupported}
 use Rattle.leveldb_base.specs.declared.key_types.ValueType.TheVariants.{TypeDeletion, TypeValue}
 use Rattle.leveldb_base.specs.declared.types.Direction.{Direction}
 use Rattle.leveldb_base.specs.declared.types.Direction.TheVariants.{Forward, Reverse}
@@ -64,12 +64,13 @@ module _ {E T M : Type 0} (walk : WalkGhosts M E T) (laws : WalkLaws walk.over w
   }
 
   -- errors of a later situation are errors of an earlier one
-  pub widened : {Before After : KeyOrder → List Pair → Type 0} {old_world new_world : E × T} {old new : M} → KeepsBelow walk old_world old new_world new
-      → ((order : KeyOrder) (pairs : List Pair) → Before order pairs → After order pairs)
+  pub widened : {Before After : KeyOrder → List Pair → List Pair → Type 0} {old_world new_world : E × T} {old new : M} → KeepsBelow walk old_world old new_world new
+      → ((order : KeyOrder) (below pairs : List Pair) → Before order below pairs → After order below pairs)
       → (later : E × T) (status : Status) → FailsOver walk After new_world new later status → FailsOver walk Before old_world old later status
   widened keeps later-is later status (inl fails) = inl (keeps.excuses later status fails)
   widened keeps later-is later status (inr (inl memory)) = inr (inl memory)
-  widened keeps later-is later status (inr (inr corrupt)) = inr (inr (corrupt.0, λ order pairs before. corrupt.1 order pairs (later-is order pairs before)))
+  widened keeps later-is later status (inr (inr (inl corrupt))) = inr (inr (inl (corrupt.0, λ order below pairs before. corrupt.1 order below pairs (later-is order below pairs before))))
+  widened keeps later-is later status (inr (inr (inr many))) = inr (inr (inr (many.0, λ order below pairs before. many.1 order below pairs (later-is order below pairs before))))
 
   -- nothing moved
   pub stayed : {R : Type 0} {From : KeyOrder → List Pair → List Pair → ℕ → Type 0} (To : R → KeyOrder → List Pair → List Pair → ℕ → Type 0) (world : E × T) (inner : M) (value : R)
@@ -84,7 +85,7 @@ module _ {E T M : Type 0} (walk : WalkGhosts M E T) (laws : WalkLaws walk.over w
   joined {result = result} first second = record {
     ok = map_if_ok result (λ r to order below pairs n from. to order below pairs n (first.ok order below pairs n from)) second.ok;
     keeps = kept_on first.keeps second.keeps;
-    cause = map_if_err result (λ s. widened first.keeps (λ order pairs from. (from.0, from.1, first.ok order from.0 pairs from.1 from.2)) _ s) second.cause;
+    cause = map_if_err result (λ s. widened first.keeps (λ order below pairs from. (from.0, first.ok order below pairs from.0 from.1)) _ s) second.cause;
   }
 
   -- a part that failed, whatever was to come
@@ -112,16 +113,16 @@ module _ {E T M : Type 0} (walk : WalkGhosts M E T) (laws : WalkLaws walk.over w
       → IsUnread (walk.here inner) status → MovesBelow walk From To world inner (Err status) world mid
   unread {From = From} {To} {world} {inner} {mid} {status} same at fails = subst (λ it. MovesBelow walk From To world inner (Err status) world it) (sym same) (record { ok = tt; keeps = kept_itself world inner; cause = by fails })
     where
-      by : IsUnread (walk.here inner) status → FailsOver walk (λ order pairs. (below : List Pair) × (n : ℕ) × From order below pairs n) world inner world status
+      by : IsUnread (walk.here inner) status → FailsOver walk (λ order below pairs. (n : ℕ) × From order below pairs n) world inner world status
       by (inl memory) = inr (inl memory)
-      by (inr short) = inr (inr (
+      by (inr short) = inr (inr (inl (
         short.0,
-        λ order pairs from.
-            let place = at order from.0 pairs from.1 from.2 in
-            let long = tagged world inner order from.0 place.0 short.1 place.1 short.2 in
+        λ order below pairs from.
+            let place = at order below pairs from.0 from.1 in
+            let long = tagged world inner order below place.0 short.1 place.1 short.2 in
             let few = short.3 in
             omega (arith, long, few),
-      ))
+      )))
 
   -- the entries below are sorted
   pub sorted_entries : (world : E × T) (inner : M) (order : KeyOrder) (below : List Pair) (position : Option ℕ) → IsExactOrder order.cmp → walk.is_at world inner (internal_order order) below position → AreSorted order.cmp (entries_of_pairs below)
@@ -145,7 +146,6 @@ module _ {E T M : Type 0} (walk : WalkGhosts M E T) (laws : WalkLaws walk.over w
     pub parted : below ≡ front ++ pair ∷ back
     pub at : walk.is_at world inner (internal_order order) below (Some (length front))
     pub scanning : IsScanning s pairs n skip (entries_of_pairs back)
-    pub countable : length below < 2 ^ 128
     pub counted : passed ≤ length front
 
   -- the entry at the front of those to come, with all that the situation says
@@ -187,7 +187,7 @@ module _ {E T M : Type 0} (walk : WalkGhosts M E T) (laws : WalkLaws walk.over w
       scanning_here = subst (λ list. IsScanning s pairs n skip (entries_of_pairs list)) e on.scanning
 
       passing : (next : Option (List ℕ)) → IsScanning s pairs n next (entries_of_pairs back) → IsPassing world inner s next passed order below pairs n
-      passing next scanning = record { front = on.front; pair = pair; back = back; parted = parted_here; at = at_here; scanning = scanning; countable = on.countable; counted = on.counted }
+      passing next scanning = record { front = on.front; pair = pair; back = back; parted = parted_here; at = at_here; scanning = scanning; counted = on.counted }
 
       found : is_newest s skip (entry_of_pair pair) ≡ true → type_part pair.0 ≡ TypeValue → (position_within pairs n ≡ Some n) × IsAtEntry walk world inner s order below pairs n
       found newest kind =
@@ -256,7 +256,6 @@ module _ {E T M : Type 0} (walk : WalkGhosts M E T) (laws : WalkLaws walk.over w
       parted = regrouped;
       at = at_next;
       scanning = p.scanning;
-      countable = p.countable;
       counted = omega (arith, few, longer);
       left = λ positive. left_some new_world new order below (p.front ++ p.pair ∷ []) p.back regrouped at_next (some positive);
     }
@@ -327,11 +326,12 @@ module _ {E T M : Type 0} (walk : WalkGhosts M E T) (laws : WalkLaws walk.over w
   revalued other holds m = record { ok = λ order below pairs n from. holds order below pairs n (m.ok order below pairs n from); keeps = m.keeps; cause = tt }
 
   -- what can't be isn't found
-  pub corrupt : {From : KeyOrder → List Pair → List Pair → ℕ → Type 0} (To : Unit {0} → KeyOrder → List Pair → List Pair → ℕ → Type 0) {old_world new_world : E × T} {old new : M} (result : Result (Unit {0}) Status)
-      → KeepsBelow walk old_world old new_world new → ((order : KeyOrder) (below pairs : List Pair) (n : ℕ) → From order below pairs n → ⊥) → IsErrAnd result (λ status. status.code ≡ Corruption)
+  pub uncounted : {From : KeyOrder → List Pair → List Pair → ℕ → Type 0} (To : Unit {0} → KeyOrder → List Pair → List Pair → ℕ → Type 0) {old_world new_world : E × T} {old new : M} (result : Result (Unit {0}) Status)
+      → KeepsBelow walk old_world old new_world new → ((order : KeyOrder) (below pairs : List Pair) (n : ℕ) → From order below pairs n → 2 ^ 128 ≤ length below)
+      → IsErrAnd result (λ status. status.code ≡ NotSupported)
       → MovesBelow walk From To old_world old result new_world new
-  corrupt To (Ok u) keeps never is = absurd is
-  corrupt To (Err status) keeps never is = record { ok = tt; keeps = keeps; cause = inr (inr (is, λ order pairs from. never order from.0 pairs from.1 from.2)) }
+  uncounted To (Ok u) keeps many is = absurd is
+  uncounted To (Err status) keeps many is = record { ok = tt; keeps = keeps; cause = inr (inr (inr (is, λ order below pairs from. many order below pairs from.0 from.1))) }
 
   module _ {start world : E × T} {old now : M} {s : ℕ} {first skip : Option (List ℕ)} {passed : ℕ}
       (so_far : MovesBelow walk (IsOnScan walk start old s first 0) (λ (u : Unit {0}). IsOnScan walk world now s skip passed) start old (Ok (tt {0})) world now) where
@@ -341,15 +341,14 @@ module _ {E T M : Type 0} (walk : WalkGhosts M E T) (laws : WalkLaws walk.over w
       scan_steps = joined so_far
           (subst (λ n. MovesBelow walk (IsOnScan walk world now n skip passed) (IsNextStep walk new_world new n direction saved next) world now result new_world new) same step)
 
-    pub scan_endless : (number : ℕ) (direction : Option Direction) (saved : Pair) (result : Result (Unit {0}) Status) → 2 ^ 128 ≤ passed + 1 → IsErrAnd result (λ status. status.code ≡ Corruption)
+    pub scan_too_many : (number : ℕ) (direction : Option Direction) (saved : Pair) (result : Result (Unit {0}) Status) → 2 ^ 128 ≤ passed + 1 → IsErrAnd result (λ status. status.code ≡ NotSupported)
         → MovesBelow walk (IsOnScan walk start old s first 0) (λ u. IsFoundNext walk world now number direction saved) start old result world now
-    scan_endless number direction saved result many is = corrupt (λ u. IsFoundNext walk world now number direction saved) result so_far.keeps
+    scan_too_many number direction saved result many is = uncounted (λ u. IsFoundNext walk world now number direction saved) result so_far.keeps
         (λ order below pairs n from.
         let on = so_far.ok order below pairs n from in
         let left = on.left (omega (arith, many)) in
         let counted = on.counted in
-        let countable = on.countable in
-        omega (arith, many, left, counted, countable)) is
+        omega (arith, many, left, counted)) is
 
   module _ {From : KeyOrder → List Pair → List Pair → ℕ → Type 0} {world new_world : E × T} {old new : M} {s : ℕ} (direction : Option Direction) (saved : Pair) {next : ℕ} {value : Option Bool}
       (m : MovesBelow walk From (IsNextStep walk new_world new s direction saved next) world old (Ok value) new_world new) where
@@ -383,7 +382,6 @@ module _ {E T M : Type 0} (walk : WalkGhosts M E T) (laws : WalkLaws walk.over w
             at = m.ok (internal_order order) below None view.over;
             scanning = subst (λ k. IsScanning s pairs k None (entries_of_pairs below)) (sym zero_is)
                 (subst (λ list. IsScanning s list 0 None (entries_of_pairs below)) (sym view.view) (each_scan_starts s (entries_of_pairs below)));
-            countable = view.countable;
             counted = omega arith;
             left = λ positive. absurd (omega (arith, positive));
           };
@@ -411,7 +409,6 @@ module _ {E T M : Type 0} (walk : WalkGhosts M E T) (laws : WalkLaws walk.over w
               at = entry.at;
               scanning = subst (λ k. IsScanning s pairs k (Some key) (entries_of_pairs entry.back)) (sym number)
                   (subst (λ k. IsScanning s pairs (placed.0 + 1) (Some k) (entries_of_pairs entry.back)) (sym (own entry.pair here)) entry.rest);
-              countable = view.countable;
               counted = omega arith;
             } in
             onward p ((same_moved same m).ok (internal_order order) below (Some (length p.front)) p.at) 0 (omega arith) (λ positive. absurd (omega (arith, positive)));
@@ -442,7 +439,6 @@ module _ {E T M : Type 0} (walk : WalkGhosts M E T) (laws : WalkLaws walk.over w
                   ((same_moved same m).ok (internal_order order) below (previous_position (Some (length b.front))) b.at);
               scanning = subst (λ k. IsScanning s pairs k (Some saved.0) back) (ap (λ k. k + 1) b.counted ∙ sym number)
                   (subst (λ list. IsScanning s list (count_shown s front + 1) (Some saved.0) back) (ap (view_of s) (sym whole) ∙ sym view.view) scan);
-              countable = view.countable;
               counted = omega arith;
               left = λ positive. absurd (omega (arith, positive));
             };

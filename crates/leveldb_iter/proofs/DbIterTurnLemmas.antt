@@ -14,7 +14,7 @@ use Rattle.leveldb_base.specs.Scan.{IsScanning, count_shown}
 use Rattle.leveldb_base.specs.Types.{Pair, position_within, previous_position, last_position, seek_position, count_before}
 use Rattle.leveldb_base.specs.View.{view_of, shown_in}
 use Rattle.leveldb_base.specs.declared.error.Status.{Status}
-use Rattle.leveldb_base.specs.declared.error.StatusCode.TheVariants.{Corruption}
+use Rattle.leveldb_base.specs.declared.error.StatusCode.TheVariants.{NotSupported}
 use Rattle.leveldb_base.specs.declared.key_types.ValueType.TheVariants.{TypeValue}
 use Rattle.leveldb_base.specs.declared.types.Direction.{Direction}
 use Rattle.leveldb_base.specs.declared.types.Direction.TheVariants.{Forward, Reverse}
@@ -28,7 +28,7 @@ use Rattle.leveldb_iter.specs.DbIter.{IsAtEntry, IsBeforeEntries, IsPlacedAt, Fa
 use Rattle.leveldb_iter.specs.DbIterSteps.{IsOnScan, IsOnScanBack, IsTurning, IsLeftBack, IsSought, IsWhole, MovesBelow}
 use Rattle.leveldb_iter.specs.MergedEntries.{internal_order}
 use Rattle.leveldb_iter.specs.Walk.{KeyOrder, WalkLaws, StepsBack}
-use Rattle.leveldb_iter.proofs.DbIterLemmas.{at_front, sorted_entries, stayed, joined, corrupt}
+use Rattle.leveldb_iter.proofs.DbIterLemmas.{at_front, sorted_entries, stayed, joined, uncounted}
 use Rattle.leveldb_iter.proofs.DbIterBackLemmas.{last_of, last_length, before_end, last_before, here_before_all, here_last, back_keeps}
 use Rattle.leveldb_base.specs.CmpLaws.{internal_accepts-internal_key}
 use Rattle.leveldb_base.specs.History.{AreRising}
@@ -111,7 +111,6 @@ module _ {E T M : Type 0} (walk : WalkGhosts M E T) (laws : WalkLaws walk.over w
                 (in_cases (entry_of_pair some.1) entry (entries_of_pairs on.back) c);
             own = (own.0, in_rest (entry_of_pair some.1) own.0 (entries_of_pairs on.back) own.1, own.2);
             shown = on.shown;
-            countable = on.countable;
             counted = let size = ap length some.2 ∙ last_length some.0 some.1 in let counted = on.counted in omega (arith, size, counted);
           })
           (last_of on.front)
@@ -164,7 +163,6 @@ module _ {E T M : Type 0} (walk : WalkGhosts M E T) (laws : WalkLaws walk.over w
                 ∙ ap (λ list. count_before order.cmp key (view_of s list)) (sym split_here) ∙ ap (count_before order.cmp key) (sym on.view) ∙ number_is;
             finds = refl;
             after = λ own none. let no : None ≡ Some own = none in absurd cc;
-            countable = on.countable;
             counted = let counted = on.counted in omega (arith, counted);
             left = λ positive. absurd (omega (arith, positive));
           }
@@ -173,14 +171,13 @@ module _ {E T M : Type 0} (walk : WalkGhosts M E T) (laws : WalkLaws walk.over w
 
   module _ {start world : E × T} {old now : M} {s : ℕ} {key : List ℕ} {passed : ℕ}
       (so_far : MovesBelow walk (IsTurning walk start old s key 0) (λ (u : Unit {0}). IsTurning walk world now s key passed) start old (Ok (tt {0})) world now) where
-    pub turn_endless : (result : Result (Unit {0}) Status) → 2 ^ 128 ≤ passed + 1 → IsErrAnd result (λ status. status.code ≡ Corruption)
+    pub turn_too_many : (result : Result (Unit {0}) Status) → 2 ^ 128 ≤ passed + 1 → IsErrAnd result (λ status. status.code ≡ NotSupported)
         → MovesBelow walk (IsTurning walk start old s key 0) (λ u. IsOnScanBack walk world now s None 0) start old result world now
-    turn_endless result many is = corrupt walk laws (λ u. IsOnScanBack walk world now s None 0) result so_far.keeps
+    turn_too_many result many is = uncounted walk laws (λ u. IsOnScanBack walk world now s None 0) result so_far.keeps
         (λ order below pairs n from.
         let on = so_far.ok order below pairs n from in
         let counted = on.counted in
-        let countable = on.countable in
-        omega (arith, many, counted, countable)) is
+        omega (arith, many, counted)) is
 
     pub turn_fails : {status : Status} {new_world : E × T} {new : M} {To : Unit {0} → KeyOrder → List Pair → List Pair → ℕ → Type 0} → StepsBack walk.over walk.is_at walk.here walk.fails walk.keeps {R = Bool} world now (Err status) new_world new
         → MovesBelow walk (IsTurning walk start old s key 0) To start old (Err status) new_world new
@@ -226,7 +223,6 @@ module _ {E T M : Type 0} (walk : WalkGhosts M E T) (laws : WalkLaws walk.over w
           shown = ap (λ list. count_shown s (entries_of_pairs list)) (append-nil b.front) ∙ b.counted;
           finds = refl;
           after = λ own none. let no : None ≡ Some own = none in absurd cc;
-          countable = view.countable;
           counted = let size = ap length b.parted ∙ length-append b.front b.back in omega (arith, size);
           left = λ positive. absurd (omega (arith, positive));
         })
@@ -258,7 +254,6 @@ module _ {E T M : Type 0} (walk : WalkGhosts M E T) (laws : WalkLaws walk.over w
               (in_cases (entry_of_pair entry.pair) other (entries_of_pairs entry.back) c));
           own = (entry_of_pair entry.pair, in_front (entry_of_pair entry.pair) (entries_of_pairs entry.back), sym key_is);
           shown = (user_pair entry.pair, entry.shown, sym key_is);
-          countable = view.countable;
           counted = let size = ap length entry.parted ∙ length-append entry.front (entry.pair ∷ entry.back) in omega (arith, size);
         }))
 
@@ -303,13 +298,12 @@ module _ {E T M : Type 0} (walk : WalkGhosts M E T) (laws : WalkLaws walk.over w
             scanning = subst (λ k. IsScanning s pairs k None (entries_of_pairs (drop before below))) (ap (count_before order.cmp key) (sym view.view) ∙ sym from.1)
                 (subst (λ list. IsScanning s list (count_before order.cmp key (view_of s (entries_of_pairs below))) None (entries_of_pairs (drop before below))) (sym view.view)
                 (each_seek_of_pairs order.cmp view.exact below sorted.rising key s TypeValue small));
-            countable = view.countable;
             counted = omega arith;
             left = λ positive. absurd (omega (arith, positive));
           }
 
       map_err : {R : Type 0} (result : Result R Status) → IfErr result (walk.fails world inner new_world)
-          → IfErr result (FailsOver walk (λ order pairs. (below : List Pair) × (n : ℕ) × IsSought walk world inner s key order below pairs n) world inner new_world)
+          → IfErr result (FailsOver walk (λ order below pairs. (n : ℕ) × IsSought walk world inner s key order below pairs n) world inner new_world)
       map_err (Ok value) c = tt
       map_err (Err status) c = inl c
 
@@ -338,12 +332,11 @@ module _ {E T M : Type 0} (walk : WalkGhosts M E T) (laws : WalkLaws walk.over w
             shown = ap (λ list. count_shown s (entries_of_pairs list)) (append-nil below) ∙ ap length (sym view.view) ∙ sym from.1;
             finds = refl;
             after = λ own none. let no : None ≡ Some own = none in absurd cc;
-            countable = view.countable;
             counted = omega arith;
             left = λ positive. absurd (omega (arith, positive));
           }
 
       map_err : {R : Type 0} (result : Result R Status) → IfErr result (walk.fails world inner new_world)
-          → IfErr result (FailsOver walk (λ order pairs. (below : List Pair) × (n : ℕ) × IsWhole walk world inner s order below pairs n) world inner new_world)
+          → IfErr result (FailsOver walk (λ order below pairs. (n : ℕ) × IsWhole walk world inner s order below pairs n) world inner new_world)
       map_err (Ok value) c = tt
       map_err (Err status) c = inl c

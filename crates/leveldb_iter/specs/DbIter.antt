@@ -11,7 +11,7 @@ use Rattle.leveldb_base.specs.Scan.{IsScanning, count_shown}
 use Rattle.leveldb_base.specs.Types.{Pair, pair_at, previous_position}
 use Rattle.leveldb_base.specs.View.{view_of}
 use Rattle.leveldb_base.specs.declared.error.Status.{Status}
-use Rattle.leveldb_base.specs.declared.error.StatusCode.TheVariants.{Corruption}
+use Rattle.leveldb_base.specs.declared.error.StatusCode.TheVariants.{Corruption, NotSupported}
 use Rattle.leveldb_base.specs.declared.types.Direction.{Direction}
 use Rattle.leveldb_base.specs.declared.types.Direction.TheVariants.{Forward, Reverse}
 use Rattle.leveldb_iter.specs.declared.db_iter.DbIterCore.{DbIterCore}
@@ -36,8 +36,6 @@ module _ {E T M : Type 0} (walk : WalkGhosts M E T) (world : E × T) (inner : M)
   pub record IsViewOf (below pairs : List Pair) : Type 0 where
     -- the walk below is over these, each an internal key and a value
     pub over : walk.over world inner (internal_order order) below
-    -- they can be counted
-    pub countable : length below < 2 ^ 128
     -- different keys of users are never equal
     pub exact : IsExactOrder order.cmp
     -- and each is accepted
@@ -117,13 +115,23 @@ module _ {E T M : Type 0} (walk : WalkGhosts M E T) where
   abbrev pub view_here : DbIterCore M → Option Pair
   view_here it = view_pair it.at (walk.here it.walk) (it.saved_key.items, it.saved_value.items)
 
-  -- the errors of a walk below, of memory, and of entries that are over no view, as without an end
-  abbrev pub FailsOver : (KeyOrder → List Pair → Type 0) → E × T → M → E × T → Status → Type 0
+  -- it is over the view of these entries
+  abbrev pub IsViewOfEntries : E × T → DbIterCore M → KeyOrder → List Pair → List Pair → Type 0
+  IsViewOfEntries world it order below pairs =
+      (position : Option ℕ) × (at : IsViewAt world it order pairs position) × (at.below ≡ below)
+
+  -- the errors of a walk below, of memory, of pairs that are no entries, and of more of them than
+  -- 128 bits can count
+  abbrev pub FailsOver : (KeyOrder → List Pair → List Pair → Type 0) → E × T → M → E × T → Status
+      → Type 0
   FailsOver Over world inner later status = walk.fails world inner later status
       ⊎ IsOutOfMemory status
       ⊎ ((status.code ≡ Corruption)
-      × ((order : KeyOrder) (pairs : List Pair) → Over order pairs → ⊥))
+      × ((order : KeyOrder) (below pairs : List Pair) → Over order below pairs → ⊥))
+      ⊎ ((status.code ≡ NotSupported)
+      × ((order : KeyOrder) (below pairs : List Pair) → Over order below pairs
+      → 2 ^ 128 ≤ length below))
 
-  -- the errors of a view; none but those below and of memory where it is over one
+  -- the errors of a view: where it is over one, those below, of memory, and of too many entries
   abbrev pub FailsView : E × T → DbIterCore M → E × T → Status → Type 0
-  FailsView world it = FailsOver (IsViewOver world it) world it.walk
+  FailsView world it = FailsOver (IsViewOfEntries world it) world it.walk

@@ -113,8 +113,6 @@ module _ {E T M : Type 0} (walk : WalkGhosts M E T) (world : E × T) (inner : M)
         (position_within below (length front))
     -- they show the rest of the view
     pub scanning : IsScanning s pairs n skip (entries_of_pairs back)
-    -- they can be counted
-    pub countable : length below < 2 ^ 128
     -- so many entries were passed
     pub counted : passed ≤ length front
     -- it is at an entry once one was passed
@@ -146,8 +144,6 @@ module _ {E T M : Type 0} (walk : WalkGhosts M E T) (world : E × T) (inner : M)
     pub after : (own : Pair) → found ≡ Some own → (entry : Entry)
         → Contains (entries_of_pairs (over ++ rest)) entry → entry.sequence ≤ s
         → order.cmp entry.key own.0 ≢ Less
-    -- they can be counted
-    pub countable : length below < 2 ^ 128
     -- so many entries were passed
     pub counted : passed + length front ≤ length below
     -- it is at an entry once one was passed
@@ -175,8 +171,6 @@ module _ {E T M : Type 0} (walk : WalkGhosts M E T) (world : E × T) (inner : M)
     pub own : (entry : Entry) × Contains (entries_of_pairs back) entry × (entry.key ≡ key)
     -- and the pair of the number is
     pub shown : (pair : Pair) × (pair_at pairs (Some n) ≡ Some pair) × (pair.0 ≡ key)
-    -- they can be counted
-    pub countable : length below < 2 ^ 128
     -- so many entries were passed
     pub counted : passed + length front < length below
 
@@ -252,7 +246,7 @@ module _ {E T M : Type 0} (walk : WalkGhosts M E T) where
         → From order below pairs n → To value order below pairs n)
     -- this is left of the walk below
     pub keeps : KeepsBelow old_world old new_world new
-    -- the error is one of the walk below or of memory, where it begins in the situation
+    -- the error is one of the walk below, of memory or of too many entries, where it begins in the
+    -- situation
     pub cause : IfErr result (FailsOver walk
-        (λ order pairs. (below : List Pair) × (n : ℕ) × From order below pairs n)
-        old_world old new_world)
+        (λ order below pairs. (n : ℕ) × From order below pairs n) old_world old new_world)

@@ -38,7 +38,7 @@ LandsAt order pairs position one Invalid next =
     (position_moved one order pairs position ≡ None) × (next ≡ None)
 LandsAt order pairs position one (Refused status) next = next ≡ None
 
--- why a move failed, or that it didn't though its key was short enough
+-- why a move failed; one that didn't had a key that is short enough
 abbrev pub IsRefusedFor : Step → Move → (Status → Type 0) → Type 0
 IsRefusedFor (Refused status) one Why = Why status
 IsRefusedFor step one Why = SeeksLongKey one → ⊥

@@ -51,8 +51,7 @@ impl<M> DbIterCore<M> {
         ensures none { view_here M.Walk result ≡ None }
         ensures fails { (world later : E × T) (status : Status)
             → FailsView M.Walk world result later status
-            → FailsOver M.Walk (λ order pairs. (below : List Pair)
-            × IsViewOf M.Walk world walk sequence order below pairs) world walk later status }
+            → FailsOver M.Walk (IsViewOf M.Walk world walk sequence) world walk later status }
     {
         DbIterCore {
             walk,
@@ -67,17 +66,17 @@ impl<M> DbIterCore<M> {
 // Scans forward.
 impl<M> DbIterCore<M> {
     ghost use Rattle.leveldb_base.specs.KeyTypes.{user_part};
-    ghost use Rattle.leveldb_base.specs.declared.error.StatusCode.TheVariants.{Corruption};
+    ghost use Rattle.leveldb_base.specs.declared.error.StatusCode.TheVariants.{NotSupported};
     ghost use Rattle.leveldb_iter.specs.DbIterSteps.{IsSeen, IsUnread, MovesBelow, IsOnScan, IsNextStep, IsFoundNext, IsLeft};
 
-    // The error of entries that can't be counted.
-    fn endless(&self) -> Result<()>
-        ensures { IsErrAnd result (λ status. status.code ≡ Corruption) }
+    // The error of more entries than can be counted.
+    fn too_many(&self) -> Result<()>
+        ensures { IsErrAnd result (λ status. status.code ≡ NotSupported) }
     {
         err(
             *self.saved_key.allocator(),
-            StatusCode::Corruption,
-            "entries without an end",
+            StatusCode::NotSupported,
+            "more than 2^128 entries",
         )
     }
 
@@ -183,7 +182,7 @@ impl<M> DbIterCore<M> {
                 Some(next) => skipping = next,
             }
         }
-        self.endless()
+        self.too_many()
     }
 
     // Goes to the entry after the pair that it is at, and from no position to the first entry.
@@ -307,7 +306,7 @@ impl<M> DbIterCore<M> {
                 Some(now) => taken = now,
             }
         }
-        self.endless()
+        self.too_many()
     }
 
     // Whether the walk below is at an entry of the saved key.
@@ -340,7 +339,7 @@ impl<M> DbIterCore<M> {
                 return Ok(());
             }
         }
-        self.endless()
+        self.too_many()
     }
 
     // Goes to before all entries of the key of the pair that it is at.

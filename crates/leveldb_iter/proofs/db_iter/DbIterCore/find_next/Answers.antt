@@ -1,7 +1,7 @@
 use Rattle.std.proofs.Common.{arith, ap, ◌∙◌}
 use Rattle.std.specs.Prelude.{is_some}
 use Rattle.std.proofs.lemmas.Result.{err_from_is_err_and}
-use Rattle.leveldb_iter.proofs.DbIterLemmas.{scan_steps, scan_found, scan_more, scan_endless, failed}
+use Rattle.leveldb_iter.proofs.DbIterLemmas.{scan_steps, scan_found, scan_more, scan_too_many, failed}
 use Rattle.leveldb_iter.proofs.db_iter.DbIterCore.find_next.Goals as goal
 
 pub returns-in_err-step_next-clause-moves : goal.returns-in_err-step_next-clause-moves
@@ -22,4 +22,4 @@ loop-passed-preserved g c = record {
 }
 
 pub returns-clause-moves : goal.returns-clause-moves
-returns-clause-moves g c = scan_endless g.M.Walk g.met.M.Walk.laws c.loop-passed.invariant.so_far _ _ _ _ (omega arith) c.endless.ensures
+returns-clause-moves g c = scan_too_many g.M.Walk g.met.M.Walk.laws c.loop-passed.invariant.so_far _ _ _ _ (omega arith) c.too_many.ensures

@@ -1,7 +1,7 @@
 use Rattle.std.proofs.Common.{arith, ap, ◌∙◌}
 use Rattle.std.specs.Prelude.{is_some}
 use Rattle.std.proofs.lemmas.Result.{err_from_is_err_and}
-use Rattle.leveldb_iter.proofs.DbIterBackLemmas.{back_steps, back_found, back_more, back_endless}
+use Rattle.leveldb_iter.proofs.DbIterBackLemmas.{back_steps, back_found, back_more, back_too_many}
 use Rattle.leveldb_iter.proofs.DbIterLemmas.{failed}
 use Rattle.leveldb_iter.proofs.db_iter.DbIterCore.find_previous.Goals as goal
 
@@ -23,4 +23,4 @@ loop-passed-preserved g c = record {
 }
 
 pub returns-clause-moves : goal.returns-clause-moves
-returns-clause-moves g c = back_endless g.M.Walk g.met.M.Walk.laws c.loop-passed.invariant.so_far _ _ _ _ (omega arith) c.endless.ensures
+returns-clause-moves g c = back_too_many g.M.Walk g.met.M.Walk.laws c.loop-passed.invariant.so_far _ _ _ _ (omega arith) c.too_many.ensures
