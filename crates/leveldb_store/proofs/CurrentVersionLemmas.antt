@@ -1,21 +1,22 @@
 -- The version of a store: its files are those of the version set.
-use Rattle.std.specs.Prelude.{◌&&◌, All, IsPermutation, is_none, map}
-use Rattle.std.proofs.Common.{◌≡◌, ◌∙◌, ◌∷◌, ◌++◌, ◌==◌, ◌-◌, ◌<◌, ℕ, Bool, true, false, cond, List, [], None, Option, Some, ap, arith, not, refl, subst, sym}
+use Rattle.std.specs.Prelude.{◌&&◌, All, Contains, IsPermutation, is_none, map}
+use Rattle.std.proofs.Common.{◌≡◌, ◌∙◌, ◌∷◌, ◌++◌, ◌==◌, ◌-◌, ◌<◌, ◌^◌, ⊎_elim, ℕ, Bool, true, false, cond, List, [], None, Option, Some, ap, arith, not, refl, subst, sym}
 use Rattle.std.proofs.lemmas.Bool.Decides.{nat_tests}
 use Rattle.std.proofs.lemmas.List.{map_push}
-use Rattle.std.proofs.lemmas.List.Elements.{All-head, All-tail}
-use Rattle.std.proofs.lemmas.List.Sorted.{IsPermutation-append_left, IsPermutation-map, IsPermutation-trans}
+use Rattle.std.proofs.lemmas.List.Elements.{All-contains, All-head, All-tail, Contains-push_cases}
+use Rattle.std.proofs.lemmas.List.Sorted.{Contains-permutation, IsPermutation-append_left, IsPermutation-map, IsPermutation-sym, IsPermutation-trans}
 use Rattle.std.specs.List.{list_any}
 use Rattle.std.specs.declared.cmp.Ordering.{Ordering}
 use Rattle.leveldb_base.specs.declared.types.FileMetaData.{FileMetaData}
+use Rattle.leveldb_version.proofs.SearchLemmas.{all_from_contains, sizes_are}
 use Rattle.leveldb_version.specs.FullEdit.{files_with, files_without}
 use Rattle.leveldb_version.specs.Overlap.{UserRange, output_level}
-use Rattle.leveldb_version.specs.Version.{IsVersionOf, VersionValue, after_seek, charged, has_last_seek, is_named, new_files_of, with_first_seeks}
+use Rattle.leveldb_version.specs.Version.{AreInVersionOrder, IsVersionOf, VersionValue, after_seek, charged, has_last_seek, is_named, new_files_of, with_first_seeks}
 use Rattle.leveldb_version.specs.VersionEdit.{Edit, LevelFile, NewFile, new_file_of}
 use Rattle.leveldb_version.specs.VersionSet.{is_same_file, level_file}
 use Rattle.leveldb_version.specs.VersionSetValue.{VersionSetValue}
 use Rattle.leveldb_store.proofs.LevelForLemmas.{output_level_alike}
-use Rattle.leveldb_store.specs.OpenStore.{IsCurrent}
+use Rattle.leveldb_store.specs.OpenStore.{AreNumbersGiven, IsCurrent}
 
 -- files have the same ranges with whatever seeks
 same_with_seeks : (files : List (ℕ × FileMetaData))
@@ -27,19 +28,31 @@ same_with_seeks (file ∷ files) = ap (λ fs. new_file_of file ∷ fs) (same_wit
 pub made_current : {C : Type 0} (order : List ℕ → List ℕ → Ordering) (cmp : C)
     (set : VersionSetValue) (files : List (ℕ × FileMetaData)) (version : VersionValue C)
     → IsVersionOf order cmp files version → map new_file_of files ≡ set.full.added
-    → IsCurrent cmp set version
-made_current order cmp set files version is same = record {
+    → AreNumbersGiven set set.full.added → set.next_file < 2 ^ 64
+    → All (λ file. file.1.size < 2 ^ 64) version.files → IsCurrent order cmp set version
+made_current order cmp set files version is same given fits sizes = record {
   cmp_is = is.cmp_is;
+  in_order = is.in_order;
+  fit = all_from_contains (λ (file : NewFile). (file.number < 2 ^ 64) × (file.size < 2 ^ 64))
+      (new_files_of version) (λ file c.
+      let live = Contains-permutation (new_files_of version) set.full.added file (IsPermutation-sym set.full.added (new_files_of version)
+      (subst (λ live. IsPermutation live (new_files_of version)) (same_with_seeks files ∙ same)
+      (IsPermutation-map new_file_of (map with_first_seeks files) version.files is.files_are))) c in
+      let below = All-contains (λ (one : NewFile). one.number < set.next_file) set.full.added file given live in
+      (omega (arith, below, fits), sizes_are (λ size. size < 2 ^ 64) version.files sizes file c));
   same_files = subst (λ live. IsPermutation live (new_files_of version))
       (same_with_seeks files ∙ same)
       (IsPermutation-map new_file_of (map with_first_seeks files) version.files is.files_are);
 }
 
 -- it is current for each set of these files
-pub still_current : {C : Type 0} (cmp : C) (old new : VersionSetValue) (version : VersionValue C)
-    → new.full ≡ old.full → IsCurrent cmp old version → IsCurrent cmp new version
+pub still_current : {C : Type 0} {order : List ℕ → List ℕ → Ordering} (cmp : C)
+    (old new : VersionSetValue) (version : VersionValue C) → new.full ≡ old.full
+    → IsCurrent order cmp old version → IsCurrent order cmp new version
 still_current cmp old new version same is = record {
   cmp_is = is.cmp_is;
+  in_order = is.in_order;
+  fit = is.fit;
   same_files = subst (λ (full : Edit). IsPermutation full.added (new_files_of version))
       (sym same) is.same_files;
 }
@@ -47,7 +60,7 @@ still_current cmp old new version same is = record {
 -- it picks the level for these files
 pub current_level : {C : Type 0} (order : List ℕ → List ℕ → Ordering) (cmp : C)
     (set : VersionSetValue) (version : VersionValue C) (range : UserRange)
-    → IsCurrent cmp set version
+    → IsCurrent order cmp set version
     → output_level order range (new_files_of version) ≡ output_level order range set.full.added
 current_level order cmp set version range is =
     sym (output_level_alike order range set.full.added (new_files_of version) is.same_files)
@@ -72,19 +85,27 @@ same_after_seeks at (file ∷ files) =
     λ i. same_after_seek at file i ∷ same_after_seeks at files i
 
 -- a version is current still when a file is charged with a seek
-pub charged_current : {C : Type 0} (cmp : C) (set : VersionSetValue) (version : VersionValue C)
-    → IsCurrent cmp set version → (charge : Option LevelFile)
-    → IsCurrent cmp set (charged version charge).0
+pub charged_current : {C : Type 0} {order : List ℕ → List ℕ → Ordering} (cmp : C)
+    (set : VersionSetValue) (version : VersionValue C) → IsCurrent order cmp set version
+    → (charge : Option LevelFile) → IsCurrent order cmp set (charged version charge).0
 charged_current cmp set version is None = is
-charged_current {C} cmp set version is (Some at) =
+charged_current {C} {order} cmp set version is (Some at) =
     by (is_none version.chosen && list_any (has_last_seek at) version.files)
   where
-    by : (b : Bool) → IsCurrent cmp set (cond {A = VersionValue C × Bool} b
+    by : (b : Bool) → IsCurrent order cmp set (cond {A = VersionValue C × Bool} b
         (record version { chosen = Some at }, true)
         (record version { files = map (after_seek at) version.files }, false)).0
-    by true = record { cmp_is = is.cmp_is; same_files = is.same_files }
+    by true = record {
+      cmp_is = is.cmp_is;
+      same_files = is.same_files;
+      in_order = is.in_order;
+      fit = is.fit;
+    }
     by false = record {
       cmp_is = is.cmp_is;
+      in_order = subst (AreInVersionOrder order) (sym (same_after_seeks at version.files)) is.in_order;
+      fit = subst (All (λ (file : NewFile). (file.number < 2 ^ 64) × (file.size < 2 ^ 64)))
+          (sym (same_after_seeks at version.files)) is.fit;
       same_files = subst (IsPermutation set.full.added)
           (sym (same_after_seeks at version.files)) is.same_files;
     }
@@ -115,13 +136,14 @@ lower_stay file (live ∷ files) below =
     ∙ ap (λ fs. live ∷ fs) (lower_stay file files rest)
 
 -- a version with a file more is current for the set with it, if it has a greater number than all
-pub current_with : {C : Type 0} (cmp : C) (set next : VersionSetValue) (old new : VersionValue C)
-    (level : ℕ) (file : FileMetaData) → IsCurrent cmp set old
+pub current_with : {C : Type 0} {order : List ℕ → List ℕ → Ordering} (cmp : C)
+    (set next : VersionSetValue) (old new : VersionValue C) (level : ℕ) (file : FileMetaData)
+    → (file.num < 2 ^ 64) × (file.size < 2 ^ 64) → IsCurrent order cmp set old
     → All (λ (live : NewFile). live.number < file.num) set.full.added
     → next.full.added ≡ files_with set.full.added (new_file_of (level, file))
     → new.cmp ≡ old.cmp → IsPermutation (old.files ++ with_first_seeks (level, file) ∷ []) new.files
-    → IsCurrent cmp next new
-current_with cmp set next old new level file is below more same_cmp same =
+    → AreInVersionOrder order (new_files_of new) → IsCurrent order cmp next new
+current_with cmp set next old new level file fits is below more same_cmp same in_order =
     let it = new_file_of (level, file) in
     let added : next.full.added ≡ set.full.added ++ it ∷ [] =
     more ∙ ap (λ fs. fs ++ it ∷ []) (lower_stay it set.full.added below) in
@@ -129,8 +151,17 @@ current_with cmp set next old new level file is below more same_cmp same =
     subst (λ fs. IsPermutation fs (new_files_of new)) (map_push new_file_of old.files (with_first_seeks (level, file)))
     (IsPermutation-map new_file_of (old.files ++ with_first_seeks (level, file) ∷ [])
     new.files same) in
+    let Fits : NewFile → Type 0 = λ one. (one.number < 2 ^ 64) × (one.size < 2 ^ 64) in
     record {
       cmp_is = same_cmp ∙ is.cmp_is;
+      in_order = in_order;
+      fit = all_from_contains Fits (new_files_of new) (λ one c. ⊎_elim
+          (λ (there : Contains (new_files_of old) one).
+          All-contains Fits (new_files_of old) one is.fit there)
+          (λ (same_file : it ≡ one). subst Fits same_file fits)
+          (Contains-push_cases (new_files_of old) it one
+          (Contains-permutation (new_files_of new) (new_files_of old ++ it ∷ []) one
+          (IsPermutation-sym (new_files_of old ++ it ∷ []) (new_files_of new) has) c)));
       same_files = subst (λ live. IsPermutation live (new_files_of new)) (sym added)
           (IsPermutation-trans (set.full.added ++ it ∷ []) (new_files_of old ++ it ∷ [])
           (new_files_of new) (IsPermutation-append_left (it ∷ []) set.full.added (new_files_of old)

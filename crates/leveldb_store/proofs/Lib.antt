@@ -11,12 +11,15 @@ pub mod OpenTablesLemmas
 mod LevelForLemmas
 mod CurrentVersionLemmas
 mod LevelsApartLemmas
+mod LevelsReadLemmas
 pub mod TableKeepsLemmas
 pub mod TableWaitingLemmas
 pub mod NotTabledLemmas
 pub mod SoundLemmas
 pub mod RoomLemmas
 mod ReadLemmas
+pub mod ViewLemmas
+pub mod ViewHistoryLemmas
 pub mod GivenNumbersLemmas
 mod ReplayFilesLemmas
 mod ReplayLogLemmas
@@ -49,3 +52,9 @@ mod OpeningRecoverLemmas
 mod OpeningOpenLemmas
 mod OpeningBeginLemmas
 mod OpeningBytesLemmas
+mod ViewReadsLemmas
+mod ViewMergeLemmas
+mod ViewListsLemmas
+mod ViewTablesLemmas
+mod ViewChildrenLemmas
+mod ViewStoreLemmas

@@ -25,7 +25,6 @@ use Rattle.leveldb_version.specs.LogEdit.{LogEditResult}
 use Rattle.leveldb_version.specs.Opening.{tables_edit}
 use Rattle.leveldb_version.specs.Paths.{IsFilePath, log_path, table_path}
 use Rattle.leveldb_version.specs.StoreSteps.{KeepsHistory}
-use Rattle.leveldb_version.specs.Search.{AreDisjointLevels}
 use Rattle.leveldb_version.specs.VersionEdit.{Edit, NewFile}
 use Rattle.leveldb_version.specs.VersionSetValue.{AreFileNumbersUsedUp, ManifestState, OpenManifest, VersionSetValue, broken, in_use, unmade, with_number_given}
 use Rattle.leveldb_store.proofs.FoundLogsLemmas.{lacks_one_more}
@@ -40,7 +39,7 @@ use Rattle.leveldb_store.proofs.TableKeepsLemmas.{is_log_path, is_table_path, ty
 use Rattle.leveldb_store.specs.BuildTable.{TableChoices}
 use Rattle.leveldb_version.specs.Format.{Agrees, Format, IsTableOf, Meaning}
 use Rattle.leveldb_store.specs.FoundLogs.{HasLogNotKept, LacksNumbersFor, LogsBeginWith}
-use Rattle.leveldb_store.specs.OpenStore.{AreNumbersGiven, HasOwnManifest, OpenStoreValue}
+use Rattle.leveldb_store.specs.OpenStore.{AreInLevels, AreNumbersGiven, HasOwnManifest, OpenStoreValue}
 use Rattle.leveldb_store.specs.Opening.{SameButTables}
 use Rattle.leveldb_store.specs.OpeningSteps.{AreDamagedLogs, BeginsWriting, LogsIfWanted, MayBeWritten, OpensLog, ReplaysLogs, WasRecovered, WhyNotBegun, WhyNotReplayed, entries_to_write, files_to_write, made_files, number_to_write, set_to_write, size_to_write}
 use Rattle.leveldb_store.specs.OpensStore.{IsOpenedAs, KeepsFound, SameBesideOwn}
@@ -322,9 +321,9 @@ module _ {E F D FP : Type 0} (env : Ghosts E F) {order : CmpGhosts D} {filters :
       live3 = subst (λ (s : VersionSetValue). AreNumbersGiven s s.full.added) (sym opens.set) (live_to_write replay.used set2
           (subst (λ (s : VersionSetValue). AreNumbersGiven s s.full.added) (sym set2_is) (given1 (Ok replay) set1 e1 replays)))
 
-      apart3 : AreDisjointLevels format.order set3.full.added
-      apart3 = subst (λ (e : Edit). AreDisjointLevels format.order e.added)
-          (sym (ap (λ (s : VersionSetValue). s.full) opens.set ∙ full_to_write replay.used set2 ∙ ap (λ (s : VersionSetValue). s.full) set2_is ∙ ap (λ (s : VersionSetValue). s.full) replays.spares.numbers.set)) may.apart
+      levels3 : AreInLevels env.models_disk format.order set3.full.added
+      levels3 = subst (λ (e : Edit). AreInLevels env.models_disk format.order e.added)
+          (sym (ap (λ (s : VersionSetValue). s.full) opens.set ∙ full_to_write replay.used set2 ∙ ap (λ (s : VersionSetValue). s.full) set2_is ∙ ap (λ (s : VersionSetValue). s.full) replays.spares.numbers.set)) may.levels
 
       made3 : AreNumbersGiven set3 (made_files made)
       made3 = subst (λ (s : VersionSetValue). AreNumbersGiven s (made_files made)) (sym opens.set) (given_to_write replay.used set2 (made_files made)
@@ -417,7 +416,7 @@ module _ {E F D FP : Type 0} (env : Ghosts E F) {order : CmpGhosts D} {filters :
             pub last : set4.last_sequence ≡ set3.last_sequence
             pub own : IsTrue env.models_disk → IsFilePath Descriptor store used.path
             pub given : AreNumbersGiven set4 set4.full.added
-            pub apart : AreDisjointLevels format.order set4.full.added
+            pub levels : AreInLevels env.models_disk format.order set4.full.added
 
           ended_by : (b : Bool) → wanted ≡ b → LogsIfWanted env b N made set3 e2 (Ok done) set4 e3 → IsEnded
           ended_by true is logs =
@@ -429,7 +428,7 @@ module _ {E F D FP : Type 0} (env : Ghosts E F) {order : CmpGhosts D} {filters :
                 last = it.last;
                 own = λ modelled. subst (λ s. IsFilePath Descriptor s it.manifest.path) path3 (it.own (own3 modelled) fits3);
                 given = it.given live3 made3;
-                apart = it.apart format.order apart3;
+                levels = it.levels format.order levels3;
               }
           ended_by false is same =
               let on = may.goes_on (unwanted is).0 in
@@ -440,7 +439,7 @@ module _ {E F D FP : Type 0} (env : Ghosts E F) {order : CmpGhosts D} {filters :
                 last = ap (λ (s : VersionSetValue). s.last_sequence) same.0;
                 own = λ modelled. subst (λ s. IsFilePath Descriptor s on.0.path) may.path (may.own modelled on.0 on.1);
                 given = subst (λ (s : VersionSetValue). AreNumbersGiven s s.full.added) (sym same.0) live3;
-                apart = subst (λ (s : VersionSetValue). AreDisjointLevels format.order s.full.added) (sym same.0) apart3;
+                levels = subst (λ (s : VersionSetValue). AreInLevels env.models_disk format.order s.full.added) (sym same.0) levels3;
               }
 
           is_ended : IsEnded
@@ -457,8 +456,8 @@ module _ {E F D FP : Type 0} (env : Ghosts E F) {order : CmpGhosts D} {filters :
           pub ended_given : AreNumbersGiven set4 set4.full.added
           ended_given = is_ended.given
 
-          pub ended_apart : AreDisjointLevels format.order set4.full.added
-          ended_apart = is_ended.apart
+          pub ended_levels : AreInLevels env.models_disk format.order set4.full.added
+          ended_levels = is_ended.levels
 
           pub ended_made : set4.manifest ≡ unmade → ⊥
           ended_made is = not_unmade is_ended.used (sym is_ended.is_in_use ∙ is)

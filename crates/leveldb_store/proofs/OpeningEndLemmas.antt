@@ -29,21 +29,20 @@ use Rattle.leveldb_version.specs.NewManifest.{MakingManifest, manifest_bytes, wi
 use Rattle.leveldb_version.specs.Opening.{opened_memory, tables_edit}
 use Rattle.leveldb_version.specs.OpeningLaws.{EndsOpening, IsOpened}
 use Rattle.leveldb_version.specs.Paths.{IsFilePath, current_path, log_path, manifest_path}
-use Rattle.leveldb_version.specs.Search.{AreDisjointLevels}
 use Rattle.leveldb_version.specs.Store.{IsStore}
 use Rattle.leveldb_version.specs.StoreSteps.{KeepsHistory}
 use Rattle.leveldb_version.specs.VersionEdit.{Edit, LevelsFit, NewFile, new_file_of}
 use Rattle.leveldb_version.specs.VersionSetValue.{ManifestState, OpenManifest, VersionSetValue, broken, in_use, unmade}
 use Rattle.leveldb_version.specs.Writing.{IsWrittenBy}
 use Rattle.leveldb_version.specs.Format.{IsTableOf, Meaning}
-use Rattle.leveldb_store.specs.OpenStore.{AreNumbersGiven, HasOwnManifest, OpenStoreValue}
+use Rattle.leveldb_store.specs.OpenStore.{AreInLevels, AreNumbersGiven, HasOwnManifest, OpenStoreValue}
 use Rattle.leveldb_store.specs.OpeningSteps.{LogsTables, files_to_write, made_files, number_to_write}
 use Rattle.leveldb_store.specs.OpensStore.{IsOpenedAs, IsOwnPath, SameBesideOwn}
 use Rattle.leveldb_store.specs.Write.{open_log_path}
 use Rattle.leveldb_store.specs.Written.{memory_of, waiting_entries}
 use Rattle.leveldb_store.specs.declared.opening.replay.UsedLog.{UsedLog}
 use Rattle.leveldb_store.proofs.GivenNumbersLemmas.{all_with_each, given_later}
-use Rattle.leveldb_store.proofs.LevelsApartLemmas.{apart_with_zeros}
+use Rattle.leveldb_store.proofs.LevelsApartLemmas.{levels_with_zeros}
 use Rattle.leveldb_store.proofs.OpeningLogLemmas.{HasLogOpen}
 use Rattle.leveldb_store.proofs.SwitchLemmas.{keeps_same, written_as}
 use Rattle.leveldb_store.proofs.TableKeepsLemmas.{appending_and_syncing, is_log_path, one_reading_of, types_apart}
@@ -398,15 +397,17 @@ module _ {E F : Type 0} (env : Ghosts E F) (built : List FileMetaData) (set : Ve
     -- the number of each live file was given, if it was of each before and of each that is added
     pub given : AreNumbersGiven set set.full.added → AreNumbersGiven set (made_files built)
         → AreNumbersGiven new new.full.added
-    pub apart : (cmp : List ℕ → List ℕ → Ordering) → AreDisjointLevels cmp set.full.added
-        → AreDisjointLevels cmp new.full.added
+    pub levels : (cmp : List ℕ → List ℕ → Ordering)
+        → AreInLevels env.models_disk cmp set.full.added
+        → AreInLevels env.models_disk cmp new.full.added
 
   -- the files that are added are in level 0
-  apart_after : (next : VersionSetValue) → next.full ≡ full_after set.full tables
-      → (cmp : List ℕ → List ℕ → Ordering) → AreDisjointLevels cmp set.full.added
-      → AreDisjointLevels cmp next.full.added
-  apart_after next full cmp apart = subst (λ (e : Edit). AreDisjointLevels cmp e.added) (sym full)
-      (apart_with_zeros cmp (made_files built) set.full.added (made_zeros built) apart)
+  levels_after : (next : VersionSetValue) → next.full ≡ full_after set.full tables
+      → (cmp : List ℕ → List ℕ → Ordering) → AreInLevels env.models_disk cmp set.full.added
+      → AreInLevels env.models_disk cmp next.full.added
+  levels_after next full cmp levels =
+      subst (λ (e : Edit). AreInLevels env.models_disk cmp e.added) (sym full)
+      (levels_with_zeros env.models_disk cmp (made_files built) set.full.added (made_zeros built) levels)
 
   given_after : (next : VersionSetValue) → next.full ≡ full_after set.full tables
       → next.next_file ≡ set.next_file → AreNumbersGiven set set.full.added
@@ -438,7 +439,7 @@ module _ {E F : Type 0} (env : Ghosts E F) (built : List FileMetaData) (set : Ve
             );
             given = given_after new (ap (λ (v : VersionSetValue). v.full) l.ok)
                 (ap (λ (v : VersionSetValue). v.next_file) l.ok);
-            apart = apart_after new (ap (λ (v : VersionSetValue). v.full) l.ok);
+            levels = levels_after new (ap (λ (v : VersionSetValue). v.full) l.ok);
           }
       by (in_use manifest) is =
           let l = logs.used (made_levels_fit log built) manifest is in
@@ -452,6 +453,6 @@ module _ {E F : Type 0} (env : Ghosts E F) (built : List FileMetaData) (set : Ve
             own = λ own fits. own manifest is;
             given = given_after new (ap (λ (v : VersionSetValue). v.full) l.ok)
                 (ap (λ (v : VersionSetValue). v.next_file) l.ok);
-            apart = apart_after new (ap (λ (v : VersionSetValue). v.full) l.ok);
+            levels = levels_after new (ap (λ (v : VersionSetValue). v.full) l.ok);
           }
       by broken is = absurd (logs.broken_before is).0

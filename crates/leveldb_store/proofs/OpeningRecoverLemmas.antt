@@ -291,7 +291,7 @@ module _ {E F : Type 0} (env : Ghosts E F) (format : Format) (store : List ℕ) 
                   path = path_is env format reuse limit store mid then it.is_anew it.versions logs sets.ok;
                   fits = sets.ok.fits;
                   given = sets.ok.given;
-                  apart = sets.ok.apart;
+                  levels = sets.ok.levels;
                   manifest_fits = manifest_below env format reuse limit store mid then it.is_anew it.versions logs sets.ok;
                   unbroken = unbroken_is env format reuse limit store mid then it.is_anew it.versions logs sets.ok;
                   goes_on = in_use_is env format reuse limit store mid then it.is_anew it.versions logs sets.ok;

@@ -188,7 +188,7 @@ module _ {E F C FP : Type 0} {order : CmpGhosts (InternalKeyCmp C)} (env : EnvGh
 
   -- ---- it is searched for in tables
 
-  module _ (current : IsCurrent old.cmp old.set old.current)
+  module _ {compares : List ℕ → List ℕ → Ordering} (current : IsCurrent compares old.cmp old.set old.current)
       (given : AreNumbersGiven old.set old.set.full.added)
       (apart : AreDisjointLevels by.format.order old.set.full.added)
       (none : FindsInMemory old sequence key None)

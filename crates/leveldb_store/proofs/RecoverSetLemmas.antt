@@ -1,5 +1,5 @@
 -- How a version set is recovered at an opening, a step at a time.
-use Rattle.std.specs.Prelude.{◌≢◌, ◌≤◌, ◌^◌, Contains, IfOk, IfSome, IsSomeAnd, IsTrue, codes, fold, length}
+use Rattle.std.specs.Prelude.{All, ◌≢◌, ◌≤◌, ◌^◌, Contains, IfOk, IfSome, IsSomeAnd, IsTrue, codes, fold, length}
 use Rattle.std.proofs.Common.{◌≡◌, ◌⊎◌, inl, inr, ⊎_elim, ℕ, ◌<◌, Bool, true, List, [], Option, None, Some, Ok, Err, Result, refl, sym, ◌∙◌, ap, subst, arith}
 use Rattle.std.specs.BTreeSet.{BTreeSet}
 use Rattle.std.specs.Option.{unwrap_or}
@@ -35,7 +35,8 @@ use Rattle.leveldb_store.specs.OpensStore.{HasOtherComparator, IsDamaged, SameBe
 use Rattle.leveldb_store.proofs.OpeningSameLemmas.{naming_spares}
 use Rattle.leveldb_store.specs.ReplayLog.{HasCauseOr}
 use Rattle.leveldb_store.specs.declared.opening.logs.RecoveredSet.{RecoveredSet}
-use Rattle.leveldb_store.proofs.LevelsApartLemmas.{usable_apart}
+use Rattle.leveldb_store.proofs.LevelsApartLemmas.{usable_levels}
+use Rattle.leveldb_store.proofs.LevelsReadLemmas.{read_levels}
 use Rattle.leveldb_store.proofs.OpeningCausesLemmas.{folder_bare}
 use Rattle.leveldb_store.proofs.OpeningRecoveredLemmas.{reuse_or_not}
 use Rattle.leveldb_store.proofs.OpeningDamageLemmas.{log_misnamed, manifest_lost, no_use, number_unlisted, record_damaged, table_missing, text_damaged}
@@ -398,8 +399,10 @@ module _ {E F : Type 0} (env : Ghosts E F) (format : Format) (exact : IsExactOrd
             recovers = recovers_here;
             fits = fits;
             given = given;
-            apart = usable_apart format.order (exact_total exact) format.order_name edits made.ok.usable set.full.added
-                (subst (λ (full : Edit). ListsFiles (live_after edits) full.added) (sym full_is) (full_of_all edits).added);
+            levels = usable_levels env.models_disk format.order (exact_total exact) format.order_name edits made.ok.usable set.full.added
+                (subst (λ (full : Edit). ListsFiles (live_after edits) full.added) (sym full_is) (full_of_all edits).added)
+                (λ modelled. let read = has_edits modelled in
+                subst (λ (full : Edit). All (λ (file : NewFile). file.level < 7) full.added) (sym full_is) (read_levels read.is.records edits read.is.each));
             names = names;
             lists = lists;
             logs_are = are;

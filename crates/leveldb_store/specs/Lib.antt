@@ -6,6 +6,7 @@ pub mod Write
 pub mod Written
 pub mod Switch
 pub mod Read
+pub mod View
 pub mod Opening
 pub mod OpensStore
 pub mod ReplayLog

@@ -1,11 +1,15 @@
 -- A store that is open: what is in memory of it.
-use Rattle.std.specs.Prelude.{◌≡◌, ◌≢◌, ◌<◌, ℕ, List, Option, false, All, IsPermutation}
+use Rattle.std.specs.Prelude.{◌≡◌, ◌≢◌, ◌<◌, ◌^◌, ℕ, Bool, List, Option, false, All, IsPermutation, IsTrue, map}
+use Rattle.std.specs.List.{IsDistinct}
+use Rattle.std.specs.declared.cmp.Ordering.{Ordering}
 use Rattle.leveldb_base.specs.declared.types.FileType.TheVariants.{Descriptor}
 use Rattle.leveldb_mem.specs.Log.Writer.{WriterState}
 use Rattle.leveldb_mem.specs.MemTable.{Kept}
 use Rattle.leveldb_version.specs.Paths.{IsFilePath}
-use Rattle.leveldb_version.specs.Version.{VersionValue, new_files_of}
+use Rattle.leveldb_version.specs.Search.{AreDisjointLevels}
+use Rattle.leveldb_version.specs.Version.{AreInVersionOrder, VersionValue, new_files_of}
 use Rattle.leveldb_version.specs.VersionEdit.{NewFile}
+use Rattle.leveldb_version.specs.VersionSet.{is_same_file, level_file}
 use Rattle.leveldb_version.specs.VersionSetValue.{OpenManifest, VersionSetValue, broken, in_use}
 
 -- a log that batches are appended to
@@ -38,11 +42,23 @@ abbrev pub HasOwnManifest : VersionSetValue → Type 0
 HasOwnManifest set = (manifest : OpenManifest) → set.manifest ≡ in_use manifest
     → IsFilePath Descriptor set.store manifest.path
 
--- the version has this comparator, and the live files of the set, up to their order and their seeks
-pub record IsCurrent {C : Type 0} (cmp : C) (set : VersionSetValue) (version : VersionValue C)
-    : Type 0 where
+-- the version has this comparator, and the live files of the set, up to their seeks, in the order of
+-- a version; their numbers and their sizes have 64 bits
+pub record IsCurrent {C : Type 0} (order : List ℕ → List ℕ → Ordering) (cmp : C)
+    (set : VersionSetValue) (version : VersionValue C) : Type 0 where
   pub cmp_is : version.cmp ≡ cmp
   pub same_files : IsPermutation set.full.added (new_files_of version)
+  pub in_order : AreInVersionOrder order (new_files_of version)
+  pub fit : All (λ (file : NewFile). (file.number < 2 ^ 64) × (file.size < 2 ^ 64))
+      (new_files_of version)
+
+-- files of a set: those of each level from 1 on are apart, each is listed once, and where the disk is
+-- modelled there are seven levels
+pub record AreInLevels (models_disk : Bool) (order : List ℕ → List ℕ → Ordering)
+    (files : List NewFile) : Type 0 where
+  pub apart : AreDisjointLevels order files
+  pub once : IsDistinct is_same_file (map level_file files)
+  pub seven : IsTrue models_disk → All (λ (file : NewFile). file.level < 7) files
 
 -- the set has given the number of each of these files
 abbrev pub AreNumbersGiven : VersionSetValue → List NewFile → Type 0

@@ -28,14 +28,13 @@ use Rattle.leveldb_version.specs.Contents.{Contents}
 use Rattle.leveldb_version.specs.Opening.{tables_edit}
 use Rattle.leveldb_version.specs.Paths.{current_path, log_path, table_path}
 use Rattle.leveldb_version.specs.Recover.{LeavesFiles, Recovers}
-use Rattle.leveldb_version.specs.Search.{AreDisjointLevels}
 use Rattle.leveldb_version.specs.Store.{HasLog, HasNoStore, ReplayedLog as StoreLog, SameEntries, log_batches, log_entries}
 use Rattle.leveldb_version.specs.VersionEdit.{IsEncodable, NewFile, new_file_of}
 use Rattle.leveldb_version.specs.VersionSetValue.{AreFileNumbersUsedUp, OpenManifest, VersionSetValue, broken, in_use, new_version_set, with_number_given}
 use Rattle.leveldb_version.specs.Writing.{NumbersAreBelow}
 use Rattle.leveldb_store.specs.BuildTable.{TableChoices}
 use Rattle.leveldb_version.specs.Format.{Agrees, Format, Meaning}
-use Rattle.leveldb_store.specs.OpenStore.{AreNumbersGiven, HasOwnManifest, IsUnbroken, OpenStoreValue}
+use Rattle.leveldb_store.specs.OpenStore.{AreInLevels, AreNumbersGiven, HasOwnManifest, IsUnbroken, OpenStoreValue}
 use Rattle.leveldb_store.specs.Opening.{AreMadeTables, GivesNumbers, SameButTables}
 use Rattle.leveldb_store.specs.OpeningState.{HasComparator, IsRecoveredWith, with_comparator}
 use Rattle.leveldb_store.specs.OpensStore.{HasHugeManifest, HasOtherComparator, HasSharedUserKey, IsBareFolder, IsDamaged, IsForbidden, IsForbiddenAs, IsNumberFound, IsOpenedAs, IsSound, IsTableOrLog, KeepsFound, LacksCurrent, LacksUsableEdits, LeavesFewNumbers, SameBesideOwn, WhyNotOpenable}
@@ -454,9 +453,9 @@ module _ {E F : Type 0} (env : Ghosts E F) (format : Format) (reuse : Bool) (lim
     pub recovers : Recovers env.models_disk format.order format.order_name reuse limit marked
         (env.observed from) anew set (env.observed to)
     pub fits : set.next_file < 2 ^ 64
-    -- the number of each live table was given, and the levels are apart
+    -- the number of each live table was given, and they are in levels
     pub given : AreNumbersGiven set set.full.added
-    pub apart : AreDisjointLevels format.order set.full.added
+    pub levels : AreInLevels env.models_disk format.order set.full.added
     pub names : List (List ℕ)
     pub lists : IsTrue env.models_disk
         → ListsChildren (env.observed from).disk.files store names
@@ -490,7 +489,7 @@ module _ {E F : Type 0} (env : Ghosts E F) (format : Format) (reuse : Bool) (lim
 -- ---- the store
 
 -- The set of a store that may be written once its logs are replayed: its numbers fit, those of live
--- tables were given, its levels are apart in this order of user keys, and it may log edits. Its
+-- tables were given, which are in levels in this order of user keys, and it may log edits. Its
 -- manifest is in use, unless the next edit begins a new one.
 pub record MayBeWritten (models_disk : Bool) (order : List ℕ → List ℕ → Ordering)
     (store : List ℕ) (anew : Bool) (set : VersionSetValue) (files : Files) : Type 0 where
@@ -498,7 +497,7 @@ pub record MayBeWritten (models_disk : Bool) (order : List ℕ → List ℕ → 
   pub fits : set.next_file < 2 ^ 64
   pub manifest_fits : set.manifest_number < set.next_file
   pub given : AreNumbersGiven set set.full.added
-  pub apart : AreDisjointLevels order set.full.added
+  pub levels : AreInLevels models_disk order set.full.added
   pub unbroken : set.manifest ≢ broken
   pub goes_on : anew ≡ false → (manifest : OpenManifest) × (set.manifest ≡ in_use manifest)
   -- a manifest in use is there, in the store's folder

@@ -7,6 +7,7 @@ mod read;
 mod room;
 mod switch;
 mod table;
+mod view;
 mod write;
 mod write_batch;
 
@@ -19,6 +20,7 @@ use leveldb_version::version::Version;
 use leveldb_version::version_set::VersionSet;
 use std::alloc::Global;
 use std::marker::Model;
+pub use view::StoreView;
 
 /// A log that batches are appended to: its number, its file, and the writer of its records.
 #[derive(Drop)]
@@ -50,9 +52,8 @@ impl<E: Env, C: Cmp> Model for OpenStore<E, C> {
     ghost use Rattle.std.specs.Option.{option_map};
     ghost use Rattle.leveldb_base.specs.History.{AreUpTo};
     ghost use Rattle.leveldb_version.specs.Paths.{log_path};
-    ghost use Rattle.leveldb_version.specs.Search.{AreDisjointLevels};
     ghost use Rattle.leveldb_version.specs.VersionSetValue.{unmade};
-    ghost use Rattle.leveldb_store.specs.OpenStore.{AreNumbersGiven, HasOwnManifest, IsCurrent, OpenStoreValue};
+    ghost use Rattle.leveldb_store.specs.OpenStore.{AreInLevels, AreNumbersGiven, HasOwnManifest, IsCurrent, OpenStoreValue};
 
     ghost Value = { OpenStoreValue C };
 
@@ -69,7 +70,7 @@ impl<E: Env, C: Cmp> Model for OpenStore<E, C> {
     // have the store's order. A manifest in use is in the store's folder. The manifest is in use or
     // broken. No entry of the log's memtable has a number past the last one, and a memtable that
     // waits has entries. The version has the live files, the number of each of them was given, and
-    // those of each level from 1 on are apart.
+    // they are in levels.
     ghost invariant = { λ it. (it.versions.store ≡ string_bytes it.name)
         × (IsTrue E.models_disk → E.name_of it.log.file ≡ log_path (string_bytes it.name) it.log.number)
         × (it.recent.cmp ≡ it.cmp)
@@ -78,9 +79,9 @@ impl<E: Env, C: Cmp> Model for OpenStore<E, C> {
         × (it.versions.manifest ≢ unmade)
         × AreUpTo it.versions.last_sequence it.recent.kept.entries
         × IfSome it.waiting (λ memtable. memtable.kept.entries ≢ [])
-        × IsCurrent it.cmp it.versions it.current
+        × IsCurrent (C.cmp it.cmp) it.cmp it.versions it.current
         × AreNumbersGiven it.versions it.versions.full.added
-        × AreDisjointLevels (C.cmp it.cmp) it.versions.full.added };
+        × AreInLevels E.models_disk (C.cmp it.cmp) it.versions.full.added };
 }
 
 impl<E: Env, C: UserCmp + Copy> OpenStore<E, C> {

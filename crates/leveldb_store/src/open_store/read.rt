@@ -3,9 +3,9 @@ ghost use Rattle.std.specs.Prelude.{◌≡◌, IfErr, IfOk, option_copied, optio
 ghost use Rattle.leveldb_base.specs.Entries.{FindsNewest};
 ghost use Rattle.leveldb_base.specs.Error.{IsOutOfMemory};
 ghost use Rattle.leveldb_version.specs.Format.{format_of};
-ghost use Rattle.leveldb_version.specs.Search.{AreDisjointLevels, LooksUpNewest};
+ghost use Rattle.leveldb_version.specs.Search.{LooksUpNewest};
 ghost use Rattle.leveldb_version.specs.TableCache.{table_options};
-ghost use Rattle.leveldb_store.specs.OpenStore.{AreNumbersGiven, IsCurrent};
+ghost use Rattle.leveldb_store.specs.OpenStore.{AreInLevels, AreNumbersGiven, IsCurrent};
 ghost use Rattle.leveldb_store.specs.Read.{FindsInMemory, LooksUpKey, sought_key};
 
 use super::OpenStore;
@@ -78,9 +78,10 @@ impl<E: Env, C: UserCmp + Copy + Drop> OpenStore<E, C> {
             ⟦<CompressorList as Compressors>⟧.codings options.now) options.now in
             LooksUpNewest E.Env by (sought_key sequence key.now) env.old tables.old self.now.current
             result env.new tables.new }
-        ensures current { IsCurrent self.now.cmp self.now.set self.now.current }
+        ensures current { IsCurrent (C.cmp self.now.cmp) self.now.cmp self.now.set
+            self.now.current }
         ensures given { AreNumbersGiven self.now.set self.now.set.full.added }
-        ensures apart { AreDisjointLevels (C.cmp self.now.cmp) self.now.set.full.added }
+        ensures levels { AreInLevels E.models_disk (C.cmp self.now.cmp) self.now.set.full.added }
     {
         let last = sequence.min(MAX_SEQUENCE_NUMBER);
         let sought = LookupKey::new(self.alloc, key, last)?;

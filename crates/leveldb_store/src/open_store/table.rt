@@ -8,7 +8,6 @@ ghost use Rattle.leveldb_version.specs.Batches.{Each};
 ghost use Rattle.leveldb_version.specs.FullEdit.{files_with};
 ghost use Rattle.leveldb_version.specs.LogEdit.{AppendsEdit};
 ghost use Rattle.leveldb_version.specs.Overlap.{file_range, output_level};
-ghost use Rattle.leveldb_version.specs.Search.{AreDisjointLevels};
 ghost use Rattle.leveldb_version.specs.Store.{IsInternalPair};
 ghost use Rattle.leveldb_version.specs.Version.{HasOneFileMore};
 ghost use Rattle.leveldb_version.specs.VersionEdit.{edit_of, new_file_of};
@@ -16,6 +15,7 @@ ghost use Rattle.leveldb_version.specs.VersionSetValue.{OpenManifest, broken, in
 ghost use Rattle.leveldb_version.specs.Writing.{table_edit};
 ghost use Rattle.leveldb_store.specs.BuildTable.{MakesTable, choices_of};
 ghost use Rattle.leveldb_version.specs.Format.{Agrees, Meaning, format_of};
+ghost use Rattle.leveldb_store.specs.OpenStore.{AreInLevels};
 ghost use Rattle.leveldb_store.specs.SoundCall.{IsSoundCall};
 ghost use Rattle.leveldb_store.specs.Switch.{TablesWaiting};
 ghost use Rattle.leveldb_store.specs.Written.{KeepsWritten, waiting_entries};
@@ -112,7 +112,7 @@ impl<E: Env, C: UserCmp + Copy + Drop> OpenStore<E, C> {
         requires usable { self.old.set.manifest ≢ broken }
         requires given { file.num < self.old.set.next_file }
         requires newest { All (λ live. live.number < file.num) self.old.set.full.added }
-        requires apart { AreDisjointLevels (C.cmp self.old.cmp)
+        requires levels { AreInLevels E.models_disk (C.cmp self.old.cmp)
             (files_with self.old.set.full.added (new_file_of (level, file))) }
         ensures logs { (manifest : OpenManifest) → self.old.set.manifest ≡ in_use manifest
             → AppendsEdit E.models_disk manifest self.old.set

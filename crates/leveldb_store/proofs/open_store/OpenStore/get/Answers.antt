@@ -15,14 +15,14 @@ returns-in_err-found g c =
     let failed = err_from_is_err_and c.from_residual.result c.from_residual.ensures.1 in
     let search = c.in_err-found.ensures in
     rw (failed.1, failed.2)
-    (got_in_tables g.E.Env _ c.args.self.now c.args.env.now c.args.tables.now c.args.sequence c.args.key.now search.current search.given (rw (← c.requires) at search.apart) (λ older. c.in_default.ensures older) _ search.searches)
+    (got_in_tables g.E.Env _ c.args.self.now c.args.env.now c.args.tables.now c.args.sequence c.args.key.now search.current search.given (rw (← c.requires) at search.levels.apart) (λ older. c.in_default.ensures older) _ search.searches)
 
 pub invariant_of-self : goal.invariant_of-self
 invariant_of-self g c =
     let is = c.self.invariant in
     let inside = c.self.inside in
     let charged_is = ap (λ p. p.0) c.update_stats.ensures in
-    (is.0, is.1, is.2, is.3, is.4, is.5, is.6, is.7, subst (IsCurrent inside.cmp inside.versions) (sym charged_is) (charged_current inside.cmp inside.versions inside.current is.8 c.in_ok-found.stats.file), is.9, is.10)
+    (is.0, is.1, is.2, is.3, is.4, is.5, is.6, is.7, subst (IsCurrent (g.C.Cmp.cmp inside.cmp) inside.cmp inside.versions) (sym charged_is) (charged_current inside.cmp inside.versions inside.current is.8 c.in_ok-found.stats.file), is.9, is.10)
 
 pub returns : goal.returns
 returns g c =
@@ -32,4 +32,4 @@ returns g c =
     let charged_is = ap (λ p. p.0) c.update_stats.ensures ∙ ap (λ v. (charged v.current file).0) c.self.view_is in
     let new = ap (λ (v : OpenStoreValue g.row.C.Denot). record v { current = c.update_stats.new.self }) c.self.view_is ∙ ap (λ (v : VersionValue g.row.C.Denot). record old { current = v }) charged_is in
     rw (c.unwrap_or.ensures, new)
-    (got_in_tables g.E.Env _ old c.args.env.now c.args.tables.now c.args.sequence c.args.key.now search.current search.given (rw (← c.requires) at search.apart) (λ older. c.in_default.ensures older) _ search.searches)
+    (got_in_tables g.E.Env _ old c.args.env.now c.args.tables.now c.args.sequence c.args.key.now search.current search.given (rw (← c.requires) at search.levels.apart) (λ older. c.in_default.ensures older) _ search.searches)

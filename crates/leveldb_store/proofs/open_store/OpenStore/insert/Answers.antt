@@ -1,12 +1,11 @@
 use Rattle.std.proofs.Common.{◌≡◌, ◌∙◌, ◌+◌, ◌<◌, ap, arith, length, subst, sym}
 use Rattle.leveldb_base.specs.History.{AreUpTo, greatest, placed}
 use Rattle.leveldb_mem.proofs.EntryLemmas.{new_after}
-use Rattle.leveldb_version.specs.Search.{AreDisjointLevels}
 use Rattle.leveldb_version.specs.VersionEdit.{Edit}
 use Rattle.leveldb_version.specs.VersionSetValue.{VersionSetValue}
 use Rattle.leveldb_store.proofs.CurrentVersionLemmas.{still_current}
 use Rattle.leveldb_store.proofs.GivenNumbersLemmas.{live_given}
-use Rattle.leveldb_store.specs.OpenStore.{HasOwnManifest}
+use Rattle.leveldb_store.specs.OpenStore.{AreInLevels, HasOwnManifest}
 use Rattle.leveldb_store.proofs.WriteLemmas.{greatest_below, inserted_up_to}
 use Rattle.leveldb_store.proofs.open_store.OpenStore.insert.Goals as goal
 
@@ -45,5 +44,5 @@ invariant_of-self g c =
       is.7,
       still_current c.self.inside.cmp c.self.inside.versions c.set_last_seq.new.self c.self.inside.current (ap (λ (s : VersionSetValue). s.full) set) is.8,
       live_given c.self.inside.versions c.set_last_seq.new.self (ap (λ (s : VersionSetValue). s.full) set) (omega (arith, ap (λ (s : VersionSetValue). s.next_file) set)) is.9,
-      subst (λ (full : Edit). AreDisjointLevels (g.C.Cmp.cmp c.self.inside.cmp) full.added) (sym (ap (λ (s : VersionSetValue). s.full) set)) is.10,
+      subst (λ (full : Edit). AreInLevels g.E.Env.models_disk (g.C.Cmp.cmp c.self.inside.cmp) full.added) (sym (ap (λ (s : VersionSetValue). s.full) set)) is.10,
     )

@@ -1,11 +1,12 @@
-use Rattle.std.proofs.Common.{◌≡◌, ◌∙◌, Err, Ok, ap, arith, subst, sym}
+use Rattle.std.proofs.Common.{◌≡◌, ◌∙◌, ◌<◌, ◌^◌, Err, Ok, ap, arith, rules, subst, sym}
 use Rattle.std.proofs.lemmas.Result.{err_from_is_err_and}
 use Rattle.leveldb_base.specs.History.{AreUpTo}
 use Rattle.leveldb_version.specs.LogEdit.{LogEditResult}
-use Rattle.leveldb_version.specs.Search.{AreDisjointLevels}
+use Rattle.leveldb_version.specs.Version.{AreInVersionOrder, new_files_of}
 use Rattle.leveldb_version.specs.VersionEdit.{Edit, edit_of, new_file_of}
 use Rattle.leveldb_version.specs.Writing.{table_edit}
 use Rattle.leveldb_version.specs.VersionSetValue.{VersionSetValue}
+use Rattle.leveldb_store.specs.OpenStore.{AreInLevels}
 use Rattle.leveldb_store.proofs.CurrentVersionLemmas.{current_with, still_current}
 use Rattle.leveldb_store.proofs.GivenNumbersLemmas.{given_with, live_given}
 use Rattle.leveldb_store.proofs.TableWaitingLemmas.{KeepsManifest, files_left, in_use_of, keeps_manifest, own_again, table_edit_fits, table_edit_made}
@@ -34,7 +35,7 @@ invariant_of-self g c =
       c.self.invariant.7,
       still_current c.self.inside.cmp old new c.self.inside.current left.0 c.self.invariant.8,
       live_given old new left.0 (omega (arith, left.1)) c.self.invariant.9,
-      subst (λ (full : Edit). AreDisjointLevels (g.C.Cmp.cmp c.self.inside.cmp) full.added) (sym left.0) c.self.invariant.10,
+      subst (λ (full : Edit). AreInLevels g.E.Env.models_disk (g.C.Cmp.cmp c.self.inside.cmp) full.added) (sym left.0) c.self.invariant.10,
     )
 
 pub invariant_of-self-2 : goal.invariant_of-self-2
@@ -62,9 +63,9 @@ invariant_of-self-2 g c =
       kept.made,
       subst (λ n. AreUpTo n c.self.inside.recent.kept.entries) (sym kept.last) c.self.invariant.6,
       c.self.invariant.7,
-      current_with c.self.inside.cmp old new c.self.inside.current c.in_ok-next.next c.args.level c.args.file c.self.invariant.8 newest added more.same_cmp more.files_are,
+      current_with c.self.inside.cmp old new c.self.inside.current c.in_ok-next.next c.args.level c.args.file (let given_file : c.args.file.num < 2 ^ 64 = search rules in let size : c.args.file.size < 2 ^ 64 = search rules in (given_file, size)) c.self.invariant.8 newest added more.same_cmp more.files_are (subst (λ k. AreInVersionOrder (g.C.Cmp.cmp k) (new_files_of c.in_ok-next.next)) c.self.invariant.8.cmp_is more.in_order),
       given_with old new file added (ap (λ (s : VersionSetValue). s.next_file) appends.ok) c.self.invariant.9 given,
-      subst (AreDisjointLevels (g.C.Cmp.cmp c.self.inside.cmp)) (sym added) (rw (← c.self.view_is) at c.requires.apart),
+      subst (AreInLevels g.E.Env.models_disk (g.C.Cmp.cmp c.self.inside.cmp)) (sym added) (rw (← c.self.view_is) at c.requires.levels),
     )
 
 pub returns-in_err-log_and_apply-clause-logs : goal.returns-in_err-log_and_apply-clause-logs

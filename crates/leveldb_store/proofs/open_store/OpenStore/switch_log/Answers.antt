@@ -5,12 +5,11 @@ use Rattle.leveldb_env.proofs.AppendedLemmas.{emptied_bytes, synced_bytes}
 use Rattle.leveldb_base.specs.History.{AreUpTo}
 use Rattle.leveldb_env.specs.Env.{BeforeOrAfter, ChangesFiles, emptied}
 use Rattle.leveldb_version.specs.Paths.{log_path}
-use Rattle.leveldb_version.specs.Search.{AreDisjointLevels}
 use Rattle.leveldb_version.specs.VersionEdit.{Edit}
 use Rattle.leveldb_version.specs.VersionSetValue.{VersionSetValue}
 use Rattle.leveldb_store.proofs.CurrentVersionLemmas.{still_current}
 use Rattle.leveldb_store.proofs.GivenNumbersLemmas.{live_given}
-use Rattle.leveldb_store.specs.OpenStore.{HasOwnManifest}
+use Rattle.leveldb_store.specs.OpenStore.{AreInLevels, HasOwnManifest}
 use Rattle.leveldb_store.specs.Write.{SyncsLog}
 use Rattle.leveldb_store.specs.Written.{KeepsStore, SparesRest}
 use Rattle.leveldb_store.proofs.SwitchLemmas.{after_giving, keeps_given, keeps_switched, keeps_unmade, spared_by_sync, switched, sync_made, unmade, unsynced, unsynced_keeps}
@@ -151,7 +150,7 @@ invariant_of-self-in_err-path g c =
       c.self.invariant.7,
       still_current c.self.inside.cmp c.self.inside.versions c.new_file_number.new.self c.self.inside.current (ap (λ (s : VersionSetValue). s.full) given) c.self.invariant.8,
       live_given c.self.inside.versions c.new_file_number.new.self (ap (λ (s : VersionSetValue). s.full) given) (omega (arith, ap (λ (s : VersionSetValue). s.next_file) given)) c.self.invariant.9,
-      subst (λ (full : Edit). AreDisjointLevels (g.C.Cmp.cmp c.self.inside.cmp) full.added) (sym (ap (λ (s : VersionSetValue). s.full) given)) c.self.invariant.10,
+      subst (λ (full : Edit). AreInLevels g.E.Env.models_disk (g.C.Cmp.cmp c.self.inside.cmp) full.added) (sym (ap (λ (s : VersionSetValue). s.full) given)) c.self.invariant.10,
     )
 
 pub invariant_of-self-2 : goal.invariant_of-self-2
@@ -167,7 +166,7 @@ invariant_of-self-2 g c =
       c.self.invariant.7,
       still_current c.self.inside.cmp c.self.inside.versions c.new_file_number.new.self c.self.inside.current (ap (λ (s : VersionSetValue). s.full) given) c.self.invariant.8,
       live_given c.self.inside.versions c.new_file_number.new.self (ap (λ (s : VersionSetValue). s.full) given) (omega (arith, ap (λ (s : VersionSetValue). s.next_file) given)) c.self.invariant.9,
-      subst (λ (full : Edit). AreDisjointLevels (g.C.Cmp.cmp c.self.inside.cmp) full.added) (sym (ap (λ (s : VersionSetValue). s.full) given)) c.self.invariant.10,
+      subst (λ (full : Edit). AreInLevels g.E.Env.models_disk (g.C.Cmp.cmp c.self.inside.cmp) full.added) (sym (ap (λ (s : VersionSetValue). s.full) given)) c.self.invariant.10,
     )
 
 pub invariant_of-self : goal.invariant_of-self
@@ -183,7 +182,7 @@ invariant_of-self g c =
       c.self.invariant.7,
       still_current c.self.inside.cmp c.self.inside.versions c.new_file_number.new.self c.self.inside.current (ap (λ (s : VersionSetValue). s.full) same) c.self.invariant.8,
       live_given c.self.inside.versions c.new_file_number.new.self (ap (λ (s : VersionSetValue). s.full) same) (omega (arith, ap (λ (s : VersionSetValue). s.next_file) same)) c.self.invariant.9,
-      subst (λ (full : Edit). AreDisjointLevels (g.C.Cmp.cmp c.self.inside.cmp) full.added) (sym (ap (λ (s : VersionSetValue). s.full) same)) c.self.invariant.10,
+      subst (λ (full : Edit). AreInLevels g.E.Env.models_disk (g.C.Cmp.cmp c.self.inside.cmp) full.added) (sym (ap (λ (s : VersionSetValue). s.full) same)) c.self.invariant.10,
     )
 
 -- ---- time and bytes, and what breaks the store

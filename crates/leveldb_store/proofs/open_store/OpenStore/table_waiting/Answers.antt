@@ -6,14 +6,13 @@ use Rattle.leveldb_version.specs.VersionEdit.{new_file_of}
 use Rattle.leveldb_store.specs.Written.{waiting_entries}
 use Rattle.std.proofs.lemmas.Result.{err_from_is_err_and}
 use Rattle.leveldb_base.specs.CmpLaws.{total_order}
-use Rattle.leveldb_version.specs.Search.{AreDisjointLevels}
 use Rattle.leveldb_version.specs.VersionEdit.{Edit}
 use Rattle.leveldb_version.specs.VersionSetValue.{VersionSetValue, broken}
 use Rattle.leveldb_base.specs.History.{AreUpTo}
 use Rattle.leveldb_store.proofs.CurrentVersionLemmas.{still_current}
 use Rattle.leveldb_store.proofs.GivenNumbersLemmas.{live_given}
-use Rattle.leveldb_store.specs.OpenStore.{HasOwnManifest, OpenStoreValue}
-use Rattle.leveldb_store.proofs.LevelsApartLemmas.{apart_with_picked, range_in_order}
+use Rattle.leveldb_store.specs.OpenStore.{AreInLevels, HasOwnManifest, OpenStoreValue}
+use Rattle.leveldb_store.proofs.LevelsApartLemmas.{levels_with_picked, range_in_order}
 use Rattle.leveldb_store.proofs.TableWaitingLemmas.{in_use_of, keeps_done, keeps_failed, keeps_unmade, keeps_with_current, some_pairs, tables_logged, tables_unbuilt, tables_unlogged, unlogged_sound, waiting_has_entries}
 use Rattle.leveldb_store.proofs.SoundLemmas.{edit_goes_on, given_unbroken, goes_on_then, sound_ok, sound_unbroken, table_goes_on}
 use Rattle.leveldb_store.proofs.open_store.OpenStore.table_waiting.Goals as goal
@@ -101,7 +100,7 @@ invariant_of-self g c =
       c.self.invariant.7,
       still_current c.self.inside.cmp c.self.inside.versions c.new_file_number.new.self c.self.inside.current (ap (λ (s : VersionSetValue). s.full) same) c.self.invariant.8,
       live_given c.self.inside.versions c.new_file_number.new.self (ap (λ (s : VersionSetValue). s.full) same) (omega (arith, ap (λ (s : VersionSetValue). s.next_file) same)) c.self.invariant.9,
-      subst (λ (full : Edit). AreDisjointLevels (g.C.Cmp.cmp c.self.inside.cmp) full.added) (sym (ap (λ (s : VersionSetValue). s.full) same)) c.self.invariant.10,
+      subst (λ (full : Edit). AreInLevels g.E.Env.models_disk (g.C.Cmp.cmp c.self.inside.cmp) full.added) (sym (ap (λ (s : VersionSetValue). s.full) same)) c.self.invariant.10,
     )
 
 pub invariant_of-self-2 : goal.invariant_of-self-2
@@ -117,7 +116,7 @@ invariant_of-self-2 g c =
       c.self.invariant.7,
       still_current c.self.inside.cmp c.self.inside.versions c.new_file_number.new.self c.self.inside.current (ap (λ (s : VersionSetValue). s.full) given) c.self.invariant.8,
       live_given c.self.inside.versions c.new_file_number.new.self (ap (λ (s : VersionSetValue). s.full) given) (omega (arith, ap (λ (s : VersionSetValue). s.next_file) given)) c.self.invariant.9,
-      subst (λ (full : Edit). AreDisjointLevels (g.C.Cmp.cmp c.self.inside.cmp) full.added) (sym (ap (λ (s : VersionSetValue). s.full) given)) c.self.invariant.10,
+      subst (λ (full : Edit). AreInLevels g.E.Env.models_disk (g.C.Cmp.cmp c.self.inside.cmp) full.added) (sym (ap (λ (s : VersionSetValue). s.full) given)) c.self.invariant.10,
     )
 
 -- ---- time and bytes, and what breaks the store
@@ -153,8 +152,8 @@ returns-clause-sound g c =
 
 -- ---- the levels
 
-pub log_table-requires-clause-apart : goal.log_table-requires-clause-apart
-log_table-requires-clause-apart g c =
+pub log_table-requires-clause-levels : goal.log_table-requires-clause-levels
+log_table-requires-clause-levels g c =
     let cmp = g.C.Cmp.cmp c.self.inside.cmp in
     let entries = waiting_entries (option_map (λ memtable. memtable.kept) c.self.inside.waiting) in
     let total : IsTotalOrder cmp = total_order (g.met.C.Cmp.preorder c.self.inside.cmp) (g.met.C.UserCmp.accepts_all c.self.inside.cmp) in
@@ -165,4 +164,4 @@ log_table-requires-clause-apart g c =
     let in_order = range_in_order cmp total (map internal_pair entries) rising c.in_ok-file.file.smallest c.in_ok-file.file.largest made.smallest made.largest in
     let picked = rw c.in_ok-number.ensures.ok at c.level_for-level.ensures.level in
     rw c.in_ok-number.ensures.ok
-    (apart_with_picked cmp c.self.inside.versions.full.added (new_file_of (c.level_for-level.result, c.in_ok-file.file)) picked in_order c.self.invariant.10)
+    (levels_with_picked g.E.Env.models_disk cmp c.self.inside.versions.full.added (new_file_of (c.level_for-level.result, c.in_ok-file.file)) picked (let deepest = c.level_for-level.ensures.deepest in omega (arith, deepest)) in_order c.self.invariant.10)

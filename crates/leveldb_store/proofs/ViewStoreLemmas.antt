@@ -1,0 +1,182 @@
+-- A walk over the view of the merge of a store's children is one over the store's view.
+use Rattle.std.specs.Prelude.{Contains, min}
+use Rattle.std.proofs.Common.{◌≡◌, ◌<◌, ◌≤◌, ◌^◌, ◌-◌, ◌⊎◌, inl, inr, ⊎_elim, ℕ, Bool, true, List, ◌++◌, None, map, refl, sym, ap, subst, append_assoc, arith}
+use Rattle.std.proofs.lemmas.List.Elements.{Contains-append_cases}
+use Rattle.leveldb_base.proofs.EntriesLemmas.{in_map}
+use Rattle.leveldb_base.specs.Cmp.{IsExactOrder, internal_accepts}
+use Rattle.leveldb_base.specs.Entries.{entries_of_pairs}
+use Rattle.leveldb_base.specs.Error.{IsOutOfMemory}
+use Rattle.leveldb_base.specs.History.{Entry, History, SameView, entries_of}
+use Rattle.leveldb_base.specs.KeyTypes.{greatest_sequence, internal_cmp}
+use Rattle.leveldb_base.specs.Types.{Pair}
+use Rattle.leveldb_base.specs.View.{view_of}
+use Rattle.leveldb_base.specs.declared.cmp.Cmp.{Ghosts as CmpGhosts}
+use Rattle.leveldb_base.specs.declared.cmp.internal.InternalKeyCmp.{InternalKeyCmp}
+use Rattle.leveldb_base.specs.declared.error.Status.{Status}
+use Rattle.leveldb_base.specs.declared.error.StatusCode.TheVariants.{Corruption, NotSupported}
+use Rattle.leveldb_base.specs.declared.types.LdbIterator.{Ghosts as IteratorGhosts}
+use Rattle.leveldb_env.specs.Compressor.{Codings}
+use Rattle.leveldb_env.specs.declared.env.Env.{Ghosts as EnvGhosts}
+use Rattle.leveldb_env.specs.declared.filter.FilterPolicy.{Ghosts as FilterGhosts}
+use Rattle.leveldb_iter.specs.Children.{AnyFails}
+use Rattle.leveldb_iter.specs.MergedEntries.{internal_order}
+use Rattle.leveldb_iter.specs.Walk.{KeyOrder, key_order}
+use Rattle.leveldb_iter.specs.declared.db_iter.DbIterCore.{DbIterCore}
+use Rattle.leveldb_iter.specs.declared.merging_iter.MergeCore.{MergeCore}
+use Rattle.leveldb_iter.specs.declared.unlent.Unlent.{Unlent}
+use Rattle.leveldb_iter.specs.declared.walk.Walk.{Ghosts as WalkGhosts}
+use Rattle.leveldb_version.proofs.VersionLayersLemmas.{version_iters_are_layers}
+use Rattle.leveldb_version.specs.Format.{IsTableFault, LacksCompressor, Meaning}
+use Rattle.leveldb_version.specs.Levels.{table_entries}
+use Rattle.leveldb_version.specs.StoreWalk.{FailsInStore, IsStoreOver}
+use Rattle.leveldb_version.specs.VersionIter.{FailsOr}
+use Rattle.leveldb_version.specs.VersionIters.{OrdersInternalKeys}
+use Rattle.leveldb_version.specs.declared.store_walk.StoreWalk.{StoreWalk}
+use Rattle.leveldb_version.specs.declared.store_walk.StoreWalk.TheVariants.{Memory, Tables}
+use Rattle.leveldb_version.specs.declared.table_cache.moves.ReadTables.{ReadTables}
+use Rattle.leveldb_version.specs.declared.version_iter.VersionIter.{VersionIter}
+use Rattle.leveldb_store.specs.OpenStore.{AreInLevels, AreNumbersGiven, IsCurrent, OpenStoreValue}
+use Rattle.leveldb_store.specs.Read.{in_memory}
+use Rattle.leveldb_store.specs.Room.{HasFailed}
+use Rattle.leveldb_store.specs.View.{AreChildrenOf, FailsBetween, IsUnsupported, ShowsIn, ViewsMerge, ViewsStore, any_in_order, options_in}
+use Rattle.leveldb_store.specs.Written.{waiting_entries}
+use Rattle.leveldb_store.proofs.ViewChildrenLemmas.{IsMergedView, merged_view}
+use Rattle.leveldb_store.proofs.ViewHistoryLemmas.{view_of_history}
+use Rattle.leveldb_store.proofs.ViewReadsLemmas.{counted_or_not}
+use Rattle.leveldb_store.proofs.ViewTablesLemmas.{tables_to_walk, there_for}
+
+-- where no order of keys refuses one
+pub orders_keys : {C : Type 0} {keys : CmpGhosts (InternalKeyCmp C)} (cmp : CmpGhosts C) (c : C)
+    → key_order keys (record { 0 = c }) ≡ internal_order (any_in_order (cmp.cmp c)) → OrdersInternalKeys keys (cmp.cmp c) c
+orders_keys cmp c are = record {
+  cmp_is = ap (λ (order : KeyOrder). order.cmp) are;
+  accepts = λ key takes. subst (λ (order : KeyOrder). order.accepts key ≡ true) (sym are) takes;
+}
+
+module _ {E F C FP K M : Type 0} {keys : CmpGhosts (InternalKeyCmp C)} (env : EnvGhosts E F) (counts : (e : E) → env.failures e < 2 ^ 64)
+    (cmp : CmpGhosts C) (filters : FilterGhosts FP) (codings : K → Codings)
+    (iterator : IteratorGhosts M) (never : (it after : M) (status : Status) → iterator.fails it after status → ⊥)
+    (keys_are : (c : C) → key_order keys (record { 0 = c }) ≡ internal_order (any_in_order (cmp.cmp c))) (exact : (c : C) → IsExactOrder (cmp.cmp c))
+    (child : WalkGhosts (StoreWalk C M keys) E (ReadTables E C FP K F keys))
+    (child_over : (world : E × ReadTables E C FP K F keys) (it : StoreWalk C M keys) (order : KeyOrder) (pairs : List Pair) → IsStoreOver env cmp filters codings iterator world it order pairs → child.over world it order pairs)
+    (child_fails : (world : E × ReadTables E C FP K F keys) (it : StoreWalk C M keys) (later : E × ReadTables E C FP K F keys) (status : Status) → child.fails world it later status
+    → FailsInStore env cmp filters codings iterator world it later status)
+    (walk : WalkGhosts (DbIterCore (MergeCore (InternalKeyCmp C) (StoreWalk C M keys))) E (ReadTables E C FP K F keys))
+    (value : OpenStoreValue C) (current : IsCurrent (cmp.cmp value.cmp) value.cmp value.set value.current) (given : AreNumbersGiven value.set value.set.full.added)
+    (levels : AreInLevels env.models_disk (cmp.cmp value.cmp) value.set.full.added)
+    (children : List (StoreWalk C M keys)) (are : AreChildrenOf iterator (cmp.cmp value.cmp) value children)
+    (sequence : ℕ) (it : DbIterCore (MergeCore (InternalKeyCmp C) (StoreWalk C M keys)))
+    (compares : C) (compares_is : compares ≡ value.cmp) (last : ℕ) (last_is : last ≡ min sequence greatest_sequence) (made : ViewsMerge child keys walk (record { 0 = compares }) children last it) where
+  merge : ViewsMerge child keys walk (record { 0 = value.cmp }) children (min sequence greatest_sequence) it
+  merge = subst (λ c. ViewsMerge child keys walk (record { 0 = c }) children (min sequence greatest_sequence) it) compares_is
+      (subst (λ n. ViewsMerge child keys walk (record { 0 = compares }) children n it) last_is made)
+
+  -- ---- why a child fails
+
+  between : {Why : Type 0} (from to : E × ReadTables E C FP K F keys) (status : Status) → FailsOr {order = keys} env cmp filters codings Why from to status → FailsBetween env from to (λ e. Why) status
+  between from to status fails = ⊎_elim
+      (λ (out : IsOutOfMemory status). inl out)
+      (⊎_elim
+      (λ (rose : env.failures from.0 < env.failures to.0). inr (inl (inl rose)))
+      (⊎_elim
+      (λ (full : env.failures to.0 ≡ 2 ^ 64 - 1). ⊎_elim
+      (λ (failed : HasFailed (env.failures from.0) (env.failures to.0)). inr (inl failed))
+      (λ none. absurd (none.0 full))
+      (counted_or_not (env.failures from.0) (env.failures to.0) (counts from.0)))
+      (λ why. inr (inr why))))
+      fails
+
+  fault_one : (from to : E × ReadTables E C FP K F keys) (status : Status) (one : StoreWalk C M keys) → FailsInStore env cmp filters codings iterator from one to status
+      → FailsBetween env from to (λ e. IsTableFault (options_in env cmp filters codings from).format e.code) status
+  fault_one from to status (Memory walk) fails = absurd (never walk.0 fails.0 status fails.1)
+  fault_one from to status (Tables walk) fails = between from to status fails.fault
+
+  view_fault : (from to : E × ReadTables E C FP K F keys) (status : Status) → walk.fails from it to status
+      → FailsBetween env from to (λ e. IsTableFault (options_in env cmp filters codings from).format e.code) status
+  view_fault from to status fails = ⊎_elim
+      (λ (any : AnyFails child from children to status). fault_one from to status any.1 (child_fails from any.1 to status any.4))
+      (⊎_elim (λ (out : IsOutOfMemory status). inl out) (⊎_elim (λ corrupt. inr (inr (inl corrupt.0))) (λ many. inr (inr (inr (inl many.0))))))
+      (merge.fails from to status fails)
+
+  -- ---- where memory and tables show a history
+
+  module _ (world : E × ReadTables E C FP K F keys) (meaning : Meaning) (history : History) (since : ℕ) (shows : ShowsIn env cmp filters codings value meaning history since world) where
+    here : OrdersInternalKeys keys (cmp.cmp world.1.cmp) world.1.cmp
+    here = orders_keys cmp world.1.cmp (keys_are world.1.cmp)
+
+    merged : (pairs : List Pair) × IsMergedView env cmp filters codings iterator keys_are child child_over value (exact value.cmp) children are world shows.is_world.order_is shows.shows.tables
+        (version_iters_are_layers keys env cmp filters codings value.current are.tables are.over_tables world (exact world.1.cmp) here meaning shows.shows.tables
+        (tables_to_walk env cmp filters codings value current given levels world shows.is_world meaning shows.agrees shows.shows.tables shows.shows.has shows.shows.shows.levels))
+        shows.shows.shows.waiting_older shows.shows.shows.tables_older pairs
+    merged = merged_view env cmp filters codings iterator keys_are child child_over value (exact value.cmp) children are world shows.is_world.order_is shows.shows.tables
+        (version_iters_are_layers keys env cmp filters codings value.current are.tables are.over_tables world (exact world.1.cmp) here meaning shows.shows.tables
+        (tables_to_walk env cmp filters codings value current given levels world shows.is_world meaning shows.agrees shows.shows.tables shows.shows.has shows.shows.shows.levels))
+        shows.shows.shows.waiting_older shows.shows.shows.tables_older
+
+    -- an error of a walk over tables
+    in_tables : (one : StoreWalk C M keys) → Contains (map Tables are.tables) one → (to : E × ReadTables E C FP K F keys) (status : Status) → FailsInStore env cmp filters codings iterator world one to status
+        → FailsBetween env world to (λ e. (e.code ≡ NotSupported) × LacksCompressor (options_in env cmp filters codings world).format meaning) status
+    in_tables (Memory walk) c to status fails = absurd (never walk.0 fails.0 status fails.1)
+    in_tables (Tables walk) c to status fails =
+        let from = in_map Tables are.tables (Tables walk) c in
+        let same : from.0 ≡ walk = let e : Tables from.0 ≡ Tables walk = from.2 in cc in
+        let there = there_for env cmp filters codings value current given levels world shows.is_world meaning shows.agrees shows.shows.tables shows.shows.has shows.shows.shows.levels
+        (exact world.1.cmp) here are.tables are.over_tables walk (subst (Contains are.tables) same from.1) in
+        between world to status (fails.lacks meaning there.0 there.1)
+
+    lacks_one : (one : StoreWalk C M keys) → Contains children one → (to : E × ReadTables E C FP K F keys) (status : Status) → FailsInStore env cmp filters codings iterator world one to status
+        → FailsBetween env world to (λ e. (e.code ≡ NotSupported) × LacksCompressor (options_in env cmp filters codings world).format meaning) status
+    lacks_one one c to status fails = ⊎_elim
+        (λ (in_mem : Contains (map Memory are.memory) one). of_memory one in_mem fails)
+        (λ (in_tab : Contains (map Tables are.tables) one). in_tables one in_tab to status fails)
+        (Contains-append_cases (map Memory are.memory) (map Tables are.tables) one (subst (λ cs. Contains cs one) are.are c))
+      where
+        of_memory : (one : StoreWalk C M keys) → Contains (map Memory are.memory) one → FailsInStore env cmp filters codings iterator world one to status
+            → FailsBetween env world to (λ e. (e.code ≡ NotSupported) × LacksCompressor (options_in env cmp filters codings world).format meaning) status
+        of_memory (Memory walk) c fails = absurd (never walk.0 fails.0 status fails.1)
+        of_memory (Tables walk) c fails = let from = in_map Memory are.memory (Tables walk) c in let e : Memory from.0 ≡ Tables walk = from.2 in absurd cc
+
+    -- that isn't supported
+    unsupported : (to : E × ReadTables E C FP K F keys) (status : Status)
+        → FailsBetween env world to (λ e. (e.code ≡ NotSupported) × LacksCompressor (options_in env cmp filters codings world).format meaning) status
+        → FailsBetween env world to (IsUnsupported value shows.shows.tables (options_in env cmp filters codings world).format meaning) status
+    unsupported to status fails = ⊎_elim
+        (λ (out : IsOutOfMemory status). inl out)
+        (λ rest. inr (⊎_elim (λ failed. inl failed) (λ lacks. inr (lacks.0, inl lacks.1)) rest))
+        fails
+
+    view_lacks : (to : E × ReadTables E C FP K F keys) (status : Status) → walk.fails world it to status
+        → FailsBetween env world to (IsUnsupported value shows.shows.tables (options_in env cmp filters codings world).format meaning) status
+    view_lacks to status fails = ⊎_elim
+        (λ (any : AnyFails child world children to status). unsupported to status (lacks_one any.1 (any.0, any.2, any.3) to status (child_fails world any.1 to status any.4)))
+        (⊎_elim (λ (out : IsOutOfMemory status). inl out) (⊎_elim
+        (λ corrupt. absurd (corrupt.1 (any_in_order (cmp.cmp value.cmp)) merged.0 merged.1.is_merge))
+        (λ many. inr (inr (
+          many.0,
+          inr (let least = many.1 (any_in_order (cmp.cmp value.cmp)) merged.0 merged.1.is_merge in let most = merged.1.no_more in omega (arith, least, most)),
+        )))))
+        (merge.fails world to status fails)
+
+    same_view : since ≤ sequence → SameView (in_memory value ++ table_entries shows.shows.tables) (entries_of history) sequence
+    same_view low = subst (λ (all : List Entry). SameView all (entries_of history) sequence)
+        (sym (append_assoc value.recent.entries (waiting_entries value.waiting) (table_entries shows.shows.tables))) (shows.shows.shows.same sequence low)
+
+  -- the walk is over the store's view
+  pub views_store : ViewsStore env cmp filters codings walk value sequence it
+  views_store = record {
+    over = λ world meaning history since low shows. (let it = merged world meaning history since shows in (
+      view_of (min sequence greatest_sequence) (entries_of_pairs it.0),
+      view_of_history (cmp.cmp value.cmp) (exact value.cmp) it.0 it.1.entries.sorted (in_memory value ++ table_entries shows.shows.tables) it.1.exactly history sequence
+          (same_view world meaning history since shows low),
+      merge.over world (any_in_order (cmp.cmp value.cmp)) it.0 it.1.is_merge,
+    ));
+    none = merge.none;
+    laws = merge.laws;
+    fault = view_fault;
+    lacks = λ from meaning history since shows to status fails. view_lacks from meaning history since shows to status fails;
+  }
+
+-- an order of users' keys that accepts each makes one of internal keys that accepts each with its tag
+pub keys_of : {C : Type 0} (cmp : CmpGhosts C) → ((c : C) (key : List ℕ) → cmp.accepts c key ≡ true) → (c : C)
+    → (let own : KeyOrder = record { accepts = internal_accepts (cmp.accepts c); cmp = internal_cmp (cmp.cmp c) } in own ≡ internal_order (any_in_order (cmp.cmp c)))
+keys_of cmp all c = ap (λ (accepts : List ℕ → Bool). record { accepts = internal_accepts accepts; cmp = internal_cmp (cmp.cmp c) }) (λ i key. all c key i)
