@@ -26,7 +26,7 @@ use Rattle.rusty_leveldb.specs.declared.db_impl.engine.Mode.TheVariants.{Broken,
 use Rattle.rusty_leveldb.specs.Boxes.{EngineOf, InternalOrder}
 use Rattle.rusty_leveldb.specs.Calls.{BecomesOf, EngineServes, HasReason}
 use Rattle.rusty_leveldb.specs.Causes.{IsClosedRefusal, IsBrokenRefusal, IsLongKey, IsNotHeld, Setting}
-use Rattle.rusty_leveldb.specs.Engine.{AnswersStill, GetExcused, GetFails, IsClosedOrBroken, RefusedAsBroken, RefusedAsClosed, RefusedByMode, SyncExcused, held_in, is_store_broken, mode_in, mode_with, options_in, formats_of, tables_by}
+use Rattle.rusty_leveldb.specs.Engine.{AnswersStill, GetExcused, GetFails, IsClosedOrBroken, RefusedAsBroken, RefusedAsClosed, RefusedByMode, SyncExcused, held_in, is_store_broken, mode_in, mode_with, options_in, formats_of, tables_by, ReadsAt}
 use Rattle.rusty_leveldb.specs.Frame.{MayTouch}
 use Rattle.rusty_leveldb.specs.Machine.{Step}
 use Rattle.rusty_leveldb.specs.Serves.{done_or, found_or, refusal_of, setting_between}
@@ -36,7 +36,7 @@ use Rattle.rusty_leveldb.proofs.ClosingLemmas.{close_locked, close_unsynced, clo
 use Rattle.rusty_leveldb.proofs.EngineLemmas.{open_mode_is, open_or_broken}
 use Rattle.rusty_leveldb.proofs.Moments.{moments_none}
 use Rattle.rusty_leveldb.proofs.Others.{spares_still}
-use Rattle.rusty_leveldb.proofs.ReadingLemmas.{ReadsAt, get_cause, get_closed, get_goes, get_misfit, read_store}
+use Rattle.rusty_leveldb.proofs.ReadingLemmas.{get_cause, get_closed, get_goes, get_misfit, read_store}
 use Rattle.rusty_leveldb.proofs.RestLemmas.{rest_given, rest_read, rest_still, rest_synced}
 use Rattle.rusty_leveldb.proofs.SyncLemmas.{log_is_data}
 

@@ -3,6 +3,7 @@ pub mod MachineLemmas
 pub mod RunsLemmas
 pub mod LawsLemmas
 mod ViewsLemmas
+mod WalkLawsLemmas
 pub mod ReadsLemmas
 pub mod UnopenedLemmas
 pub mod Bounds
@@ -12,6 +13,8 @@ pub mod Moments
 pub mod Causes
 pub mod Example
 pub mod Others
+pub mod Turns
+pub mod TurnLemmas
 pub mod Playing
 pub mod Living
 pub mod Lives
@@ -32,8 +35,15 @@ pub mod EngineLemmas
 pub mod SyncLemmas
 pub mod ClosingLemmas
 pub mod ReadingLemmas
+pub mod WalkLemmas
+pub mod WalkingLemmas
 pub mod WritingLemmas
 pub mod RestLemmas
 pub mod SnapshotLemmas
 pub mod CallsLemmas
+pub mod WalkCallLemmas
+mod IteratorLemmas
+mod IteratingLemmas
+mod ScanLemmas
 pub mod WriteCallLemmas
+pub mod UnknownLemmas

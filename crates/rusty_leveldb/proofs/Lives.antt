@@ -30,7 +30,7 @@ use Rattle.rusty_leveldb.specs.Runs as machine
 use Rattle.rusty_leveldb.specs.Runs.{Event, Run, CrashBefore, last_moment, StopsAt, LifeLeads, Lives, new_state}
 use Rattle.rusty_leveldb.specs.Serves.{StandsFor, Represents, recalls_nothing, IsBetweenCalls, IsConversation}
 use Rattle.rusty_leveldb.specs.Engine.{IsStoreName, IsOpening, opening_of}
-use Rattle.rusty_leveldb.specs.Lives.{requests_of, IsLife, with_name, ending_of, IsCrash, IsHonestCrash, IsNextDevice, IsReportOf, IsLifeOn, AreReports, AreReportsFromNone, IsLifeOf, AreLivesOf, AreOneRun, HasNoCrash, ReportsLives}
+use Rattle.rusty_leveldb.specs.Lives.{IsLife, with_name, ending_of, IsCrash, IsHonestCrash, IsNextDevice, IsReportOf, IsLifeOn, AreReports, AreReportsFromNone, IsLifeOf, AreLivesOf, AreOneRun, HasNoCrash, ReportsLives}
 use Rattle.leveldb_version.proofs.SafeLemmas.{front_honest}
 use Rattle.rusty_leveldb.proofs.ReadsLemmas.{nothing_stands}
 use Rattle.leveldb_env.specs.Options.{Boxed}
@@ -143,10 +143,11 @@ module _ {C FP : Type 0} {B : Boxed} (cmp : CmpGhosts C) (filters : FilterGhosts
 
     life_of : IsLifeOf ghosts cmp filters codings store fits life report of_life
     life_of = record {
+      requests = lived.requests;
       answers = lived.answers;
       moments = map (λ m. m - start) lived.moments;
-      reported = subst (λ n. IsReportOf report lived.answers (map (λ m. m - n) lived.moments)) same_start lived.reported;
-      asked = subst (λ ms. IsConversation (requests_of opening life.commands.items report.opened) lived.answers ms lived.run.events) (sym again) lived.run.asked;
+      reported = subst (λ n. IsReportOf opening life.commands.items report lived.requests lived.answers (map (λ m. m - n) lived.moments)) same_start lived.reported;
+      asked = subst (λ ms. IsConversation lived.requests lived.answers ms lived.run.events) (sym again) lived.run.asked;
       ending = refl;
       outside = mul-mod_right 2 device.journal.count;
     }

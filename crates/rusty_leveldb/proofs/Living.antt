@@ -1,18 +1,19 @@
 -- One life of a store: its opening, its commands one after another, and its end.
 use Rattle.std.proofs.Common.{◌≡◌, ◌-◌, ℕ, List, [], ◌∷◌, ◌++◌, sym, ◌∙◌, ap, subst, Some, None, Ok, Err, IsTrue}
-use Rattle.std.specs.Prelude.{map, OnErr}
+use Rattle.std.specs.Prelude.{map, OnErr, OnOk}
 use Rattle.std.proofs.lemmas.List.{map-append}
 use Rattle.leveldb_base.specs.declared.error.Status.{Status}
 use Rattle.leveldb_env.specs.declared.env.Env.{Ghosts}
 use Rattle.rusty_leveldb.specs.declared.shell.commands.Command.{Command}
 use Rattle.rusty_leveldb.specs.declared.shell.commands.Reply.{Reply}
 use Rattle.rusty_leveldb.specs.declared.shell.crash_runs.Report.{Report}
-use Rattle.rusty_leveldb.specs.State.{State, Opening, open_store, abandon, Answer, done, refused}
+use Rattle.rusty_leveldb.specs.State.{State, Snapshot, Opening, open_store, abandon, Answer, done, refused}
 use Rattle.rusty_leveldb.specs.Serves.{Represents, refusal_of}
 use Rattle.rusty_leveldb.specs.Engine.{Recalls, Answers, IsOpening, no_engine}
-use Rattle.rusty_leveldb.specs.Shell.{request_of, answer_of}
+use Rattle.rusty_leveldb.specs.Shell.{AreAsked, AnswersCommand, Turn}
+use Rattle.rusty_leveldb.proofs.Turns.{AreTurnsOf, requests_in, answers_in, turn_of, turns_of_none, turns_of_more, turns_asked, requests_more, answers_more}
 use Rattle.rusty_leveldb.specs.Lives.{requests_of, answers_of, moments_of, IsAlwaysLife}
-use Rattle.rusty_leveldb.proofs.Playing.{LeadsAt, LeadsToNone, OnlyNow, OpensAs, no_other, first_at, next_one, at_none}
+use Rattle.rusty_leveldb.proofs.Playing.{LeadsAt, OnlyNow, OpensAs, no_other, first_at, next_one, at_none}
 use Rattle.leveldb_env.specs.Options.{Boxed, OptionsOf}
 use Rattle.rusty_leveldb.specs.Boxes.{EngineOf, InternalOrder}
 use Rattle.leveldb_version.specs.Format.{Format, Meaning, Agrees}
@@ -27,54 +28,65 @@ given_more start replies moments moment told reply given is = map-append (λ (r 
 
 module _ {E F : Type 0} {B : Boxed} (C FP : Type 0) {keys : InternalOrder C} (env : Ghosts E F) (formats : OptionsOf C FP B → Format) (store : List ℕ) where
   -- so far the store was opened and these commands were given these replies
-  abbrev pub LivesSoFar : E → Opening → List Command → List (ℕ × Reply) → List ℕ → EngineOf E C FP F B keys → E → Type 0
-  LivesSoFar from wanted commands replies given engine to = (opening : Opening) → IsOpening store wanted opening
+  abbrev pub LivesSoFar : E → Opening → List Command → List (ℕ × Reply) → List Snapshot → List ℕ → EngineOf E C FP F B keys → E → Type 0
+  LivesSoFar from wanted commands replies taken given engine to = (opening : Opening) → IsOpening store wanted opening
       → (meaning : Meaning) → Agrees opening.format meaning → (old : State) → Represents store meaning (Recalls {keys = keys} env formats store meaning) None (env.observed from).disk old
-      → (first : ℕ) × LeadsAt C FP env formats store meaning from (open_store opening ∷ map request_of commands) (done ∷ map (λ (reply : ℕ × Reply). answer_of reply.1) replies) (first ∷ given) (Some engine) to old
+      → (first : ℕ) × (turns : List Turn) × AreTurnsOf turns commands (map (λ (reply : ℕ × Reply). reply.1) replies) taken
+      × LeadsAt C FP env formats store meaning from (open_store opening ∷ requests_in turns) (done ∷ answers_in turns) (first ∷ given) (Some engine) to old
 
 module _ {E F : Type 0} {B : Boxed} (C FP : Type 0) {keys : InternalOrder C} (env : Ghosts E F) (formats : OptionsOf C FP B → Format) (only_now : OnlyNow env) (modelled : IsTrue env.models_disk) (store : List ℕ) where
-  pub lives_first : (from to : E) (wanted : Opening) (engine : EngineOf E C FP F B keys) → OpensAs C FP env formats store from wanted done (Some engine) to → LivesSoFar C FP env formats store from wanted [] [] [] engine to
-  lives_first from to wanted engine opens opening is meaning agrees old represents = ((env.observed to).moment, first_at env formats only_now store meaning modelled from to (Some engine) (open_store opening) done old represents (opens opening is meaning agrees))
+  pub lives_first : (from to : E) (wanted : Opening) (engine : EngineOf E C FP F B keys) → OpensAs C FP env formats store from wanted done (Some engine) to → LivesSoFar C FP env formats store from wanted [] [] [] [] engine to
+  lives_first from to wanted engine opens opening is meaning agrees old represents = ((env.observed to).moment, [], turns_of_none, first_at env formats only_now store meaning modelled from to (Some engine) (open_store opening) done old represents (opens opening is meaning agrees))
 
-  pub lives_more : (from mid to : E) (wanted : Opening) (commands : List Command) (replies : List (ℕ × Reply)) (given : List ℕ) (engine after : EngineOf E C FP F B keys) (command : Command) (told : ℕ) (reply : Reply)
-      → LivesSoFar C FP env formats store from wanted commands replies given engine mid → Answers env formats (Some engine) mid (request_of command) (answer_of reply) (Some after) to
-      → LivesSoFar C FP env formats store from wanted (commands ++ command ∷ []) (replies ++ (told, reply) ∷ []) (given ++ (env.observed to).moment ∷ []) after to
-  lives_more from mid to wanted commands replies given engine after command told reply lives answers_so opening is meaning agrees old represents =
+  pub lives_more : (from mid to : E) (wanted : Opening) (commands : List Command) (replies : List (ℕ × Reply)) (taken left : List Snapshot) (given : List ℕ) (engine after : EngineOf E C FP F B keys) (command : Command) (told : ℕ) (reply : Reply)
+      → LivesSoFar C FP env formats store from wanted commands replies taken given engine mid → AnswersCommand env formats engine mid taken command reply after to left
+      → LivesSoFar C FP env formats store from wanted (commands ++ command ∷ []) (replies ++ (told, reply) ∷ []) left (given ++ (env.observed to).moment ∷ []) after to
+  lives_more from mid to wanted commands replies taken left given engine after command told reply lives answered opening is meaning agrees old represents =
       let led = lives opening is meaning agrees old represents in
-      let next = next_one env formats only_now store meaning modelled None from mid to (open_store opening ∷ map request_of commands) (done ∷ map (λ (r : ℕ × Reply). answer_of r.1) replies) (led.0 ∷ given) (Some engine) (Some after)
-      (request_of command) (answer_of reply) old led.1 (answers_so store meaning) in (
+      let turns = led.1 in
+      let turn : Turn = turn_of taken command answered.answer reply in
+      let next = next_one env formats only_now store meaning modelled None from mid to (open_store opening ∷ requests_in turns) (done ∷ answers_in turns) (led.0 ∷ given) (Some engine) (Some after)
+      turn.request turn.answer old led.3 (answered.step store meaning) in (
         led.0,
-        subst (λ as'. LeadsAt C FP env formats store meaning from (open_store opening ∷ map request_of (commands ++ command ∷ [])) (done ∷ as') (led.0 ∷ (given ++ (env.observed to).moment ∷ [])) (Some after) to old)
-            (sym (map-append (λ (r : ℕ × Reply). answer_of r.1) replies ((told, reply) ∷ [])))
-            (subst (λ rs. LeadsAt C FP env formats store meaning from (open_store opening ∷ rs) (done ∷ (map (λ (r : ℕ × Reply). answer_of r.1) replies ++ answer_of reply ∷ [])) (led.0 ∷ (given ++ (env.observed to).moment ∷ [])) (Some after) to old)
-            (sym (map-append request_of commands (command ∷ []))) next),
+        turns ++ turn ∷ [],
+        subst (λ rs. AreTurnsOf (turns ++ turn ∷ []) (commands ++ command ∷ []) rs left) (sym (map-append (λ (r : ℕ × Reply). r.1) replies ((told, reply) ∷ [])))
+            (turns_of_more turns commands (map (λ (r : ℕ × Reply). r.1) replies) taken left command answered.answer reply led.2 answered.tells answered.left_is),
+        subst (λ as'. LeadsAt C FP env formats store meaning from (open_store opening ∷ requests_in (turns ++ turn ∷ [])) (done ∷ as') (led.0 ∷ (given ++ (env.observed to).moment ∷ [])) (Some after) to old) (answers_more turns turn)
+            (subst (λ rs. LeadsAt C FP env formats store meaning from (open_store opening ∷ rs) (done ∷ (answers_in turns ++ turn.answer ∷ [])) (led.0 ∷ (given ++ (env.observed to).moment ∷ [])) (Some after) to old) (requests_more turns turn) next),
       )
 
   -- the life ends
-  pub lives_end : (from mid to : E) (wanted : Opening) (commands : List Command) (given : List ℕ) (engine : EngineOf E C FP F B keys) (ending : Answer) (report : Report) → report.opened ≡ Ok tt
-      → Given (env.observed from).moment report.replies.items given → LivesSoFar C FP env formats store from wanted commands report.replies.items given engine mid → Answers env formats (Some engine) mid abandon ending None to
+  pub lives_end : (from mid to : E) (wanted : Opening) (commands : List Command) (taken : List Snapshot) (given : List ℕ) (engine : EngineOf E C FP F B keys) (ending : Answer) (report : Report) → report.opened ≡ Ok tt
+      → Given (env.observed from).moment report.replies.items given → LivesSoFar C FP env formats store from wanted commands report.replies.items taken given engine mid → Answers env formats (Some engine) mid abandon ending None to
       → IsAlwaysLife env store from wanted commands report to
-  lives_end from mid to wanted commands given engine ending report opened told lives answers_so opening is meaning agrees old represents =
+  lives_end from mid to wanted commands taken given engine ending report opened told lives answers_so opening is meaning agrees old represents =
       let led = lives opening is meaning agrees old (no_other (env.observed from).disk old represents) in
       let start = (env.observed from).moment in
       let replies = report.replies.items in
-      let next = next_one env formats only_now store meaning modelled None from mid to (open_store opening ∷ map request_of commands) (done ∷ map (λ (r : ℕ × Reply). answer_of r.1) replies) (led.0 ∷ given) (Some engine) None
-      abandon ending old led.1 (answers_so store meaning) in
+      let requests = requests_in led.1 in
+      let answers = answers_in led.1 in
+      let next = next_one env formats only_now store meaning modelled None from mid to (open_store opening ∷ requests) (done ∷ answers) (led.0 ∷ given) (Some engine) None
+      abandon ending old led.3 (answers_so store meaning) in
+      let are_asked = turns_asked led.1 commands (map (λ (r : ℕ × Reply). r.1) replies) taken led.2 in
       record {
-        answers = done ∷ (map (λ (r : ℕ × Reply). answer_of r.1) replies ++ ending ∷ []);
+        requests = open_store opening ∷ (requests ++ abandon ∷ []);
+        answers = done ∷ (answers ++ ending ∷ []);
         moments = led.0 ∷ (given ++ (env.observed to).moment ∷ []);
         reported = record {
           first = led.0 - start;
           last = (env.observed to).moment - start;
           ending = ending;
-          answers_are = ap (λ o. answers_of o replies ending) (sym opened);
+          asked = requests;
+          told = answers;
+          are_asked = subst (λ o. OnOk o (AreAsked commands (map (λ (r : ℕ × Reply). r.1) replies) requests answers)) (sym opened) are_asked;
+          requests_are = ap (λ o. requests_of opening requests o) (sym opened);
+          answers_are = ap (λ o. answers_of o answers ending) (sym opened);
           moments_are = ap (λ ms. (led.0 - start) ∷ ms) (map-append (λ m. m - start) given ((env.observed to).moment ∷ []) ∙ ap (λ ms. ms ++ ((env.observed to).moment - start) ∷ []) (sym told))
               ∙ ap (λ o. moments_of o replies (led.0 - start) ((env.observed to).moment - start)) (sym opened);
           no_replies = subst (λ o. OnErr o (replies ≡ [])) (sym opened) tt;
         };
-        run = subst (λ o. LeadsToNone env store meaning from (requests_of opening commands o) (done ∷ (map (λ (r : ℕ × Reply). answer_of r.1) replies ++ ending ∷ [])) (led.0 ∷ (given ++ (env.observed to).moment ∷ [])) to old) (sym opened)
-            (at_none C FP env formats only_now store meaning from (open_store opening ∷ (map request_of commands ++ abandon ∷ [])) (done ∷ (map (λ (r : ℕ × Reply). answer_of r.1) replies ++ ending ∷ []))
-            (led.0 ∷ (given ++ (env.observed to).moment ∷ [])) to old next);
+        run = at_none C FP env formats only_now store meaning from (open_store opening ∷ (requests ++ abandon ∷ [])) (done ∷ (answers ++ ending ∷ []))
+            (led.0 ∷ (given ++ (env.observed to).moment ∷ [])) to old next;
       }
 
   -- the store wasn't opened
@@ -84,17 +96,21 @@ module _ {E F : Type 0} {B : Boxed} (C FP : Type 0) {keys : InternalOrder C} (en
       let start = (env.observed from).moment in
       let last = (env.observed to).moment in
       record {
+        requests = open_store opening ∷ [];
         answers = refused (refusal_of status) ∷ [];
         moments = last ∷ [];
         reported = record {
           first = last - start;
           last = last - start;
           ending = done;
-          answers_are = ap (λ o. answers_of o report.replies.items done) (sym opened);
+          asked = [];
+          told = [];
+          are_asked = subst (λ o. OnOk o (AreAsked commands (map (λ (r : ℕ × Reply). r.1) report.replies.items) [] [])) (sym opened) tt;
+          requests_are = ap (λ o. requests_of opening [] o) (sym opened);
+          answers_are = ap (λ o. answers_of o [] done) (sym opened);
           moments_are = ap (λ o. moments_of o report.replies.items (last - start) (last - start)) (sym opened);
           no_replies = subst (λ o. OnErr o (report.replies.items ≡ [])) (sym opened) none;
         };
-        run = subst (λ o. LeadsToNone env store meaning from (requests_of opening commands o) (refused (refusal_of status) ∷ []) (last ∷ []) to old) (sym opened)
-            (at_none C FP env formats only_now store meaning from (open_store opening ∷ []) (refused (refusal_of status) ∷ []) (last ∷ []) to old
-            (first_at env formats only_now store meaning modelled from to (no_engine options) (open_store opening) (refused (refusal_of status)) old (no_other (env.observed from).disk old represents) (opens opening is meaning agrees)));
+        run = at_none C FP env formats only_now store meaning from (open_store opening ∷ []) (refused (refusal_of status) ∷ []) (last ∷ []) to old
+            (first_at env formats only_now store meaning modelled from to (no_engine options) (open_store opening) (refused (refusal_of status)) old (no_other (env.observed from).disk old represents) (opens opening is meaning agrees));
       }

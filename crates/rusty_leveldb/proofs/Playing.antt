@@ -1,6 +1,6 @@
 -- Runs of commands, one request after another.
 use Rattle.std.proofs.Common.{◌≡◌, ◌<◌, ◌≤◌, ◌+◌, ◌-◌, ◌^◌, inl, inr, ⊎_elim, ℕ, suc, Bool, true, false, ◌⊎◌, List, [], ◌∷◌, ◌++◌, length, take, append-nil, append_assoc, refl, sym, ◌∙◌, ap, subst, arith, Option, Some, None, Result, Ok, Err, IsTrue}
-use Rattle.std.specs.Prelude.{map, OnErr, All}
+use Rattle.std.specs.Prelude.{OnErr, All}
 use Rattle.std.proofs.lemmas.Bool.{cases_lt}
 use Rattle.std.proofs.Math.ListN.{get_or}
 use Rattle.std.proofs.lemmas.List.{map-append, take_more}
@@ -11,7 +11,7 @@ use Rattle.leveldb_env.specs.declared.env.Env.{Ghosts}
 use Rattle.leveldb_env.specs.Env.{Files, Disk, FilesCrashTo, HasCause, Observed}
 use Rattle.rusty_leveldb.specs.declared.shell.commands.Command.{Command}
 use Rattle.rusty_leveldb.specs.declared.shell.commands.Reply.{Reply}
-use Rattle.rusty_leveldb.specs.State.{State, Opening, Request, open_store, abandon, Answer, done, refused}
+use Rattle.rusty_leveldb.specs.State.{State, Snapshot, Opening, Request, open_store, abandon, Answer, done, refused}
 use Rattle.leveldb_version.specs.Holds.{IsHonest}
 use Rattle.rusty_leveldb.specs.Machine.{Step, Crashes, risk_between}
 use Rattle.rusty_leveldb.specs.Runs.{Event, Run, CrashesIn, CrashBefore, last_moment, StopsAt, setting_of}
@@ -23,7 +23,8 @@ use Rattle.rusty_leveldb.proofs.Crashes.{crash_between, crash_inside}
 use Rattle.rusty_leveldb.proofs.Others.{spares_still, spares_own, others_then}
 use Rattle.rusty_leveldb.specs.Frame.{IsOwn}
 use Rattle.leveldb_base.specs.Error.{IsOutOfMemory}
-use Rattle.rusty_leveldb.specs.Shell.{Plays, HasRun, request_of, answer_of}
+use Rattle.rusty_leveldb.specs.Shell.{Plays, HasRun, AnswersCommand, Turn}
+use Rattle.rusty_leveldb.proofs.Turns.{AreTurnsOf, requests_in, answers_in, turn_of, turns_of_none, turns_of_more, turns_asked, requests_more, answers_more}
 use Rattle.leveldb_env.specs.Options.{Boxed, OptionsOf}
 use Rattle.rusty_leveldb.specs.Boxes.{EngineOf, InternalOrder}
 use Rattle.leveldb_version.specs.Format.{Format, Meaning, Agrees}
@@ -361,13 +362,6 @@ module _ {E F C FP : Type 0} {B : Boxed} {keys : InternalOrder C} (env : Ghosts 
       → Leads C FP env formats store meaning from (request ∷ []) (answer ∷ []) after to old
   first_one from to after request answer old is answers_so = ((env.observed to).moment ∷ [], first_at from to after request answer old is answers_so)
 
--- the same of a command and its reply
-pub answered : {E F C FP : Type 0} {B : Boxed} {keys : InternalOrder C} (env : Ghosts E F) {formats : OptionsOf C FP B → Format} {before after : Option (EngineOf E C FP F B keys)} (from to : E)
-    (command : Command) (request : Request) (reply : Reply) (answer : Answer) → request_of command ≡ request → answer_of reply ≡ answer
-    → Answers env formats before from request answer after to → Answers env formats before from (request_of command) (answer_of reply) after to
-answered env {formats = formats} {before = before} {after = after} from to command request reply answer asks gives so =
-    subst (λ r. Answers env formats before from r (answer_of reply) after to) (sym asks) (subst (λ a. Answers env formats before from request a after to) (sym gives) so)
-
 -- ---- commands
 
 -- where no engine stands, none of another kind does
@@ -376,11 +370,12 @@ pub no_other : {M N : Type 0} {store : List ℕ} {meaning : Meaning} {this : M �
 no_other disk state represents = record { disk_is = represents.disk_is; memory_is = represents.memory_is }
 
 module _ {E F : Type 0} {B : Boxed} (C FP : Type 0) {keys : InternalOrder C} (env : Ghosts E F) (formats : OptionsOf C FP B → Format) (store : List ℕ) where
-  -- so far the store was opened and these commands were given these replies, from every state that the disk stood for
-  abbrev pub PlaysSoFar : E → Opening → List Command → List Reply → EngineOf E C FP F B keys → E → Type 0
-  PlaysSoFar from wanted commands given engine to = IsTrue env.models_disk → (opening : Opening) → IsOpening store wanted opening
+  -- so far the store was opened and these commands were given these replies and snapshots, from every state that the disk stood for
+  abbrev pub PlaysSoFar : E → Opening → List Command → List Reply → List Snapshot → EngineOf E C FP F B keys → E → Type 0
+  PlaysSoFar from wanted commands given taken engine to = IsTrue env.models_disk → (opening : Opening) → IsOpening store wanted opening
       → (meaning : Meaning) → Agrees opening.format meaning → (old : State) → Represents store meaning (Recalls {keys = keys} env formats store meaning) None (env.observed from).disk old
-      → Leads C FP env formats store meaning from (open_store opening ∷ map request_of commands) (done ∷ map answer_of given) (Some engine) to old
+      → (turns : List Turn) × AreTurnsOf turns commands given taken
+      × Leads C FP env formats store meaning from (open_store opening ∷ requests_in turns) (done ∷ answers_in turns) (Some engine) to old
 
   -- what an opening of the store answers
   abbrev pub OpensAs : E → Opening → Answer → Option (EngineOf E C FP F B keys) → E → Type 0
@@ -407,25 +402,38 @@ module _ {E F : Type 0} {B : Boxed} (C FP : Type 0) {keys : InternalOrder C} (en
       → Leads C FP {B = B} {keys = keys} env formats store meaning from requests answers None to old → (moments : List ℕ) × LeadsToNone env store meaning from requests answers moments to old
   leads_to_none meaning from requests answers to old led = (led.0, at_none meaning from requests answers led.0 to old led.1)
 
-  pub play_first : (from to : E) (wanted : Opening) (engine : EngineOf E C FP F B keys) → OpensAs C FP env formats store from wanted done (Some engine) to → PlaysSoFar C FP env formats store from wanted [] [] engine to
-  play_first from to wanted engine opens modelled opening is meaning agrees old represents = first_one env formats only_now store meaning modelled from to (Some engine) (open_store opening) done old represents (opens opening is meaning agrees)
+  pub play_first : (from to : E) (wanted : Opening) (engine : EngineOf E C FP F B keys) → OpensAs C FP env formats store from wanted done (Some engine) to → PlaysSoFar C FP env formats store from wanted [] [] [] engine to
+  play_first from to wanted engine opens modelled opening is meaning agrees old represents =
+      ([], turns_of_none, first_one env formats only_now store meaning modelled from to (Some engine) (open_store opening) done old represents (opens opening is meaning agrees))
 
-  pub play_more : (from mid to : E) (wanted : Opening) (commands : List Command) (given : List Reply) (engine after : EngineOf E C FP F B keys) (command : Command) (reply : Reply)
-      → PlaysSoFar C FP env formats store from wanted commands given engine mid → Answers env formats (Some engine) mid (request_of command) (answer_of reply) (Some after) to
-      → PlaysSoFar C FP env formats store from wanted (commands ++ command ∷ []) (given ++ reply ∷ []) after to
-  play_more from mid to wanted commands given engine after command reply plays answers_so modelled opening is meaning agrees old represents =
-      let led = one_more env formats only_now store meaning modelled from mid to (open_store opening ∷ map request_of commands) (done ∷ map answer_of given) (Some engine) (Some after) (request_of command) (answer_of reply) old
-      (plays modelled opening is meaning agrees old represents) answers_so in
-      subst (λ as'. Leads C FP env formats store meaning from (open_store opening ∷ map request_of (commands ++ command ∷ [])) (done ∷ as') (Some after) to old) (sym (map-append answer_of given (reply ∷ [])))
-      (subst (λ rs. Leads C FP env formats store meaning from (open_store opening ∷ rs) (done ∷ (map answer_of given ++ answer_of reply ∷ [])) (Some after) to old) (sym (map-append request_of commands (command ∷ []))) led)
+  pub play_more : (from mid to : E) (wanted : Opening) (commands : List Command) (given : List Reply) (taken left : List Snapshot) (engine after : EngineOf E C FP F B keys) (command : Command) (reply : Reply)
+      → PlaysSoFar C FP env formats store from wanted commands given taken engine mid → AnswersCommand env formats engine mid taken command reply after to left
+      → PlaysSoFar C FP env formats store from wanted (commands ++ command ∷ []) (given ++ reply ∷ []) left after to
+  play_more from mid to wanted commands given taken left engine after command reply plays answered modelled opening is meaning agrees old represents =
+      let so_far = plays modelled opening is meaning agrees old represents in
+      let turns = so_far.0 in
+      let turn : Turn = turn_of taken command answered.answer reply in
+      let led = one_more env formats only_now store meaning modelled from mid to (open_store opening ∷ requests_in turns) (done ∷ answers_in turns) (Some engine) (Some after) turn.request turn.answer old so_far.2 answered.step in (
+        turns ++ turn ∷ [],
+        turns_of_more turns commands given taken left command answered.answer reply so_far.1 answered.tells answered.left_is,
+        subst (λ as'. Leads C FP env formats store meaning from (open_store opening ∷ requests_in (turns ++ turn ∷ [])) (done ∷ as') (Some after) to old) (answers_more turns turn)
+            (subst (λ rs. Leads C FP env formats store meaning from (open_store opening ∷ rs) (done ∷ (answers_in turns ++ turn.answer ∷ [])) (Some after) to old) (requests_more turns turn) led),
+      )
 
-  pub play_end : (from mid to : E) (wanted : Opening) (commands : List Command) (given : List Reply) (engine : EngineOf E C FP F B keys) (result : Result (Unit {0}) Status)
-      → PlaysSoFar C FP env formats store from wanted commands given engine mid → Answers env formats (Some engine) mid abandon (done_or result) None to
+  pub play_end : (from mid to : E) (wanted : Opening) (commands : List Command) (given : List Reply) (taken : List Snapshot) (engine : EngineOf E C FP F B keys) (result : Result (Unit {0}) Status)
+      → PlaysSoFar C FP env formats store from wanted commands given taken engine mid → Answers env formats (Some engine) mid abandon (done_or result) None to
       → PlaysAlways env store from wanted commands given result to
-  play_end from mid to wanted commands given engine result plays answers_so modelled opening is meaning agrees old represents = inl
-      (leads_to_none meaning from (open_store opening ∷ (map request_of commands ++ abandon ∷ [])) (done ∷ (map answer_of given ++ done_or result ∷ [])) to old
-      (one_more env formats only_now store meaning modelled from mid to (open_store opening ∷ map request_of commands) (done ∷ map answer_of given) (Some engine) None abandon (done_or result) old
-      (plays modelled opening is meaning agrees old (no_other (env.observed from).disk old represents)) answers_so))
+  play_end from mid to wanted commands given taken engine result plays answers_so modelled opening is meaning agrees old represents =
+      let so_far = plays modelled opening is meaning agrees old (no_other (env.observed from).disk old represents) in
+      let requests = requests_in so_far.0 in
+      let answers = answers_in so_far.0 in
+      inl (
+        requests,
+        answers,
+        turns_asked so_far.0 commands given taken so_far.1,
+        leads_to_none meaning from (open_store opening ∷ (requests ++ abandon ∷ [])) (done ∷ (answers ++ done_or result ∷ [])) to old
+            (one_more env formats only_now store meaning modelled from mid to (open_store opening ∷ requests) (done ∷ answers) (Some engine) None abandon (done_or result) old so_far.2 answers_so),
+      )
 
   pub not_opened : (options : OptionsOf C FP B) (from to : E) (wanted : Opening) (commands : List Command) (given : List Reply) (status : Status) → given ≡ []
       → OpensAs C FP {keys = keys} env formats store from wanted (refused (refusal_of status)) (no_engine options) to → PlaysAlways env store from wanted commands given (Err status) to

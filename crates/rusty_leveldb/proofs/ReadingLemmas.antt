@@ -25,7 +25,7 @@ use Rattle.leveldb_store.specs.Room.{FailsFor, HasFailed}
 use Rattle.leveldb_store.specs.Written.{IsWritten, Shows}
 use Rattle.rusty_leveldb.specs.Boxes.{EngineOf, InternalOrder}
 use Rattle.rusty_leveldb.specs.Causes.{Cause, Comes, IsLongKey, IsNotHeld, Misfits, Setting, bad_operand, device_failed, lacks_compressor, out_of_memory}
-use Rattle.rusty_leveldb.specs.Engine.{Answers, AnswersStill, GetExcused, GetFails, Recalls, RefusedAsClosed, ShowsViews, held_in, is_store_broken, mode_in, mode_with, options_in, scene, tables_by}
+use Rattle.rusty_leveldb.specs.Engine.{Answers, AnswersStill, GetExcused, GetFails, ReadsAt, Recalls, RefusedAsClosed, ShowsViews, held_in, is_store_broken, mode_in, mode_with, options_in, scene, tables_by}
 use Rattle.rusty_leveldb.specs.Frame.{MayTouch}
 use Rattle.rusty_leveldb.specs.Machine.{IsSequenceOf, Responds, Step, risk_between}
 use Rattle.rusty_leveldb.specs.Serves.{Goes, IsSpared, Reads, Represents, found_or, refusal_of, setting_between}
@@ -58,12 +58,6 @@ module _ {C : Type 0} (cmp : List ℕ → List ℕ → Ordering) (meaning : Mean
       → IsWritten cmp meaning (record value { current = current }) files
   written_read written =
       record { edits = written.edits; by = written.by; writer = written.writer }
-
--- the number at which an engine reads: its last one, or that of a snapshot that it holds
-abbrev pub ReadsAt : {E C FP F : Type 0} {B : Boxed} {keys : InternalOrder C}
-    → EngineOf E C FP F B keys → Option Snapshot → ℕ → Type 0
-ReadsAt engine None n = n ≡ engine.store.set.last_sequence
-ReadsAt engine (Some one) n = Contains (held_in engine) one × (n ≡ one.sequence)
 
 module _ {E C FP F : Type 0} {B : Boxed} {keys : InternalOrder C} (env : Ghosts E F)
     (formats : OptionsOf C FP B → Format) (before : EngineOf E C FP F B keys)

@@ -1,7 +1,7 @@
 -- The steps of the machine in which a snapshot is given out or released, and what these calls do.
-use Rattle.std.specs.Prelude.{◌↔◌, Contains, IfErr, IsTrue, Result, map}
+use Rattle.std.specs.Prelude.{◌↔◌, Contains, IsTrue, Result, map}
 use Rattle.std.specs.Bool.{OnTrue}
-use Rattle.std.proofs.Common.{◌≡◌, ◌≤◌, ◌<◌, ◌+◌, ◌-◌, ◌^◌, ◌⊎◌, ◌∙◌, ⊎_elim, inl, inr, ℕ, Bool, true, false, List, [], ◌∷◌, ◌++◌, length, length-append, refl, sym, ap, subst, arith, Option, Some, None, Ok, Err}
+use Rattle.std.proofs.Common.{◌≡◌, ◌≤◌, ◌<◌, ◌-◌, ◌^◌, ◌⊎◌, ◌∙◌, ⊎_elim, inl, inr, ℕ, Bool, true, false, List, [], ◌∷◌, ◌++◌, length, length-append, refl, sym, ap, subst, arith, Some, Ok, Err}
 use Rattle.std.proofs.lemmas.List.{map-append}
 use Rattle.std.proofs.lemmas.List.Elements.{Contains-append_cases, Contains-append_left, Contains-append_right, Contains-push_cases}
 use Rattle.leveldb_base.proofs.EntriesLemmas.{in_map}
@@ -20,10 +20,10 @@ use Rattle.leveldb_store.specs.BuildTable.{TableChoices}
 use Rattle.leveldb_version.specs.Format.{Format, Meaning}
 use Rattle.rusty_leveldb.specs.Boxes.{EngineOf, InternalOrder}
 use Rattle.rusty_leveldb.specs.Calls.{EngineServes, LeavesRest}
-use Rattle.rusty_leveldb.specs.Causes.{IsNotHeld, IsUsedUp, Misfits, Setting, bad_operand, out_of_memory, used_up}
-use Rattle.rusty_leveldb.specs.Engine.{AnswersStill, HasSnapshots, Recalls, RefusedAsClosed, ReleaseExcused, ShowsViews, SnapshotExcused, formats_of, held_in, mode_in, scene}
+use Rattle.rusty_leveldb.specs.Causes.{IsNotHeld, Setting, bad_operand, out_of_memory, used_up}
+use Rattle.rusty_leveldb.specs.Engine.{AnswersStill, HasSnapshots, Recalls, RefusedAsClosed, formats_of, held_in, mode_in, scene}
 use Rattle.rusty_leveldb.specs.Frame.{IsSyncing, MayTouch}
-use Rattle.rusty_leveldb.specs.Machine.{Gives, Releases, Responds, Step, risk_between, risk_of}
+use Rattle.rusty_leveldb.specs.Machine.{Responds, Step, risk_between, risk_of}
 use Rattle.rusty_leveldb.specs.Serves.{Goes, IsSpared, Represents, done_or, refusal_of, setting_between, snapshot_of, snapshot_or}
 use Rattle.rusty_leveldb.specs.State as machine
 use Rattle.rusty_leveldb.specs.State.{Answer, Request, Snapshot, State, done, get_snapshot, refused, release_snapshot}

@@ -1,18 +1,18 @@
 -- What a snapshot reads stays as it is until the store is opened again.
-use Rattle.std.proofs.Common.{◌≡◌, ◌≤◌, ◌<◌, ◌+◌, ◌∙◌, ⊎_elim, inl, inr, ℕ, List, [], ◌∷◌, ◌++◌, refl, sym, ap, subst, arith, Option, Some, None, Contains}
+use Rattle.std.proofs.Common.{◌≡◌, ◌≤◌, ◌+◌, ◌∙◌, ⊎_elim, ℕ, List, [], ◌∷◌, ◌++◌, refl, sym, ap, subst, arith, Option, Some, None, Contains}
 use Rattle.std.specs.Prelude.{length}
 use Rattle.std.proofs.lemmas.List.Elements.{All-head, All-tail, Contains-append_cases, Contains-append_left, Contains-append_right}
 use Rattle.leveldb_base.proofs.HistoryLemmas.{in_cases, in_none}
-use Rattle.leveldb_base.specs.History.{AreAbove, Entry, HasValueAt, IsValueAt, Item, RiseAbove, SameView, entries_of}
+use Rattle.leveldb_base.specs.History.{AreAbove, Entry, HasValueAt, IsValueAt, RiseAbove, SameView, entries_of}
 use Rattle.leveldb_version.proofs.ViewsLemmas.{view_trans}
 use Rattle.leveldb_version.specs.Format.{Meaning}
 use Rattle.rusty_leveldb.specs.Causes.{Setting, TakesLock}
 use Rattle.rusty_leveldb.specs.Laws.{HeldStays, MayRelease, NoneOpens, SnapshotIsRead, ViewsStay}
 use Rattle.rusty_leveldb.specs.Machine.{Gets, Gives, Step, added_batch}
 use Rattle.rusty_leveldb.specs.Runs.{Event, Run, setting_of}
-use Rattle.rusty_leveldb.specs.State.{IsState, Mode, Request, Snapshot, State, broken, closed, found, get, get_snapshot, open_mode, snapshot}
+use Rattle.rusty_leveldb.specs.State.{Mode, Request, Snapshot, State, broken, closed, found, get, get_snapshot, open_mode, snapshot}
 use Rattle.rusty_leveldb.proofs.Histories.{entries_more, placed_above}
-use Rattle.rusty_leveldb.proofs.MachineLemmas.{Change, abandons, before_pending, breaks, breaks_with, change, closes, covers, gives, keeps, opens, releases, same, stays, step_fits, writes}
+use Rattle.rusty_leveldb.proofs.MachineLemmas.{Change, abandons, before_pending, breaks, breaks_with, change, closes, covers, gives, keeps, opens, releases, same, stays, writes}
 
 -- ---- entries past a number aren't seen at it
 

@@ -1,6 +1,6 @@
 -- What each call on an engine does: one record a call, the same of an engine and of a store that
 -- holds its environment.
-use Rattle.std.specs.Prelude.{◌≡◌, ◌⊎◌, ℕ, Bool, false, List, Some, None, Result, Ok, Err, OnOk, OnErr, IfOk, IfErr, IsErrAnd, IsTrue, string_bytes}
+use Rattle.std.specs.Prelude.{◌≡◌, ◌≤◌, ◌⊎◌, ℕ, Bool, false, List, Some, None, Result, Ok, Err, OnOk, OnErr, IfOk, IfErr, IsErrAnd, IsTrue, string_bytes}
 use Rattle.leveldb_base.specs.declared.error.Status.{Status}
 use Rattle.leveldb_base.specs.Error.{IsOutOfMemory}
 use Rattle.leveldb_env.specs.declared.env.Env.{Ghosts}
@@ -15,7 +15,7 @@ use Rattle.leveldb_store.specs.SoundCall.{TimeGoesOn}
 use Rattle.leveldb_store.specs.Write.{open_log_path}
 use Rattle.rusty_leveldb.specs.State.{Opening, Request, Answer, open_mode, open_store, write, get, walk, get_snapshot, release_snapshot, flush, close, abandon}
 use Rattle.rusty_leveldb.specs.Serves.{done_or, given_engine}
-use Rattle.rusty_leveldb.specs.Engine.{IsClosed, IsBroken, IsClosedOrBroken, RefusedByMode, AnswersAs, Answers, WriteExcused, SyncExcused, CloseExcused, GetFails, SnapshotExcused, ReleaseExcused, IsStoreName, IsOpening, HasOwnLock, WritesIntoRoom, formats_of, holds_lock, mode_in, options_in}
+use Rattle.rusty_leveldb.specs.Engine.{IsClosed, IsBroken, IsClosedOrBroken, RefusedByMode, AnswersAs, Answers, WriteExcused, SyncExcused, CloseExcused, GetFails, SnapshotExcused, ReleaseExcused, WalkExcused, IsStoreName, IsOpening, HasOwnLock, WritesIntoRoom, formats_of, holds_lock, mode_in, options_in}
 use Rattle.rusty_leveldb.specs.Frame.{IsOwn, MayTouchOrLog, Spares}
 use Rattle.rusty_leveldb.specs.Unopened.{IsLockGivenBack, IsLockHeld, MakesLockAlone, NeverOpens, OpenExcused}
 use Rattle.rusty_leveldb.specs.Boxes.{EngineOf, InternalOrder}
@@ -25,11 +25,14 @@ use Rattle.rusty_leveldb.specs.Boxes.{EngineOf, InternalOrder}
 module _ {E C FP F P : Type 0} {B : Boxed} {keys : InternalOrder C} {key_filters : FilterGhosts P}
     (env : Ghosts E F) (choices : OptionsOf C FP B → TableChoices keys key_filters) where
   -- Why a call fails, by its request; each failed call of the device is the reason for which a
-  -- flush or a close fails. The calls for snapshots make none.
+  -- flush or a close fails. The calls for snapshots make none, and a walk fails as a whole for none:
+  -- its moves do.
   abbrev pub HasReason : {T : Type 0} → EngineOf E C FP F B keys → E → Request → Result T Status → E
       → Type 0
   HasReason before from (get at key) result to =
       GetFails env (formats_of choices) before from at key result to
+  HasReason before from (walk at moves) result to = (env.failures from ≤ env.failures to)
+      × IfErr result (WalkExcused before at)
   HasReason before from get_snapshot result to = IfErr result (SnapshotExcused before)
   HasReason before from (release_snapshot one) result to = IfErr result (ReleaseExcused before one)
   HasReason before from (write items sync) result to =

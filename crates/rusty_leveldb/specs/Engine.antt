@@ -103,6 +103,12 @@ abbrev pub held_in : {E C FP F : Type 0} {B : Boxed} {keys : InternalOrder C}
     → EngineOf E C FP F B keys → List Snapshot
 held_in engine = map snapshot_of engine.snapshots.held
 
+-- the number at which an engine reads: its last one, or that of a snapshot that it holds
+abbrev pub ReadsAt : {E C FP F : Type 0} {B : Boxed} {keys : InternalOrder C}
+    → EngineOf E C FP F B keys → Option Snapshot → ℕ → Type 0
+ReadsAt engine None n = n ≡ engine.store.set.last_sequence
+ReadsAt engine (Some one) n = Contains (held_in engine) one × (n ≡ one.sequence)
+
 -- The snapshots of a list are those that a state holds, in the order in which they were given out.
 pub record HasSnapshots (snapshots : HeldSnapshots) (state : State) : Type 0 where
   pub held : map snapshot_of snapshots.held ≡ state.held
@@ -213,6 +219,12 @@ abbrev pub GetExcused : {E C FP F : Type 0} {B : Boxed} {keys : InternalOrder C}
 GetExcused engine at key Unreadable e = RefusedAsClosed (mode_in engine) e
     ⊎ ((e.code ≡ InvalidArgument) × (IsNotHeld (held_in engine) at ⊎ IsLongKey key))
     ⊎ IsOutOfMemory e ⊎ Unreadable e
+
+-- why no walk may be made: the store is closed, the snapshot isn't held, or memory ran out
+abbrev pub WalkExcused : {E C FP F : Type 0} {B : Boxed} {keys : InternalOrder C}
+    → EngineOf E C FP F B keys → Option Snapshot → Status → Type 0
+WalkExcused engine at e = RefusedAsClosed (mode_in engine) e
+    ⊎ ((e.code ≡ InvalidArgument) × IsNotHeld (held_in engine) at) ⊎ IsOutOfMemory e
 
 -- why no snapshot may be given out: the store is closed, memory ran out, or the numbers are used up
 abbrev pub SnapshotExcused : {E C FP F : Type 0} {B : Boxed} {keys : InternalOrder C}

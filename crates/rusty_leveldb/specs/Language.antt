@@ -1,12 +1,19 @@
--- The command language of the program: one command a line, one spelling of each.
-use Rattle.std.specs.Prelude.{◌≡◌, ◌≢◌, ◌⊎◌, ◌+◌, ℕ, Bool, true, false, List, [], ◌∷◌, ◌++◌, length, flat_map, codes, All, Contains, Result, OnOk}
+-- The command language of the program: one command a line. Each has one spelling, but for zeros
+-- before a snapshot's number.
+use Rattle.std.specs.Prelude.{◌≡◌, ◌≢◌, ◌⊎◌, ◌+◌, ℕ, Bool, true, false, List, [], ◌∷◌, ◌++◌, length, flat_map, codes, decimal, Option, None, Some, All, Contains, Result, OnOk}
 use Rattle.std.specs.declared.alloc.AllocError.{AllocError}
 use Rattle.hex.specs.Hex.{encode_lower, IsBytes}
 use Rattle.leveldb_base.specs.Error.{code_text}
+use Rattle.leveldb_base.specs.Names.{IsNumber}
+use Rattle.leveldb_base.specs.declared.error.StatusCode.{StatusCode}
 use Rattle.rusty_leveldb.specs.declared.shell.commands.Command.{Command}
 use Rattle.rusty_leveldb.specs.declared.shell.commands.Command.TheVariants as command
 use Rattle.rusty_leveldb.specs.declared.shell.commands.Item.{Item}
 use Rattle.rusty_leveldb.specs.declared.shell.commands.Item.TheVariants as item
+use Rattle.leveldb_iter.specs.declared.moves.Move.{Move}
+use Rattle.leveldb_iter.specs.declared.moves.Move.TheVariants as move
+use Rattle.leveldb_iter.specs.declared.moves.Step.{Step}
+use Rattle.leveldb_iter.specs.declared.moves.Step.TheVariants as step
 use Rattle.rusty_leveldb.specs.declared.shell.language.Script.{Script}
 use Rattle.rusty_leveldb.specs.declared.shell.language.Script.TheVariants as script
 use Rattle.rusty_leveldb.specs.declared.shell.commands.Reply.{Reply}
@@ -28,21 +35,51 @@ abbrev pub sync_word : Bool → List ℕ
 sync_word false = codes "0"
 sync_word true = codes "1"
 
--- the line that is a command, without its newline
-abbrev pub line_of : Command → List ℕ
-line_of (command.Put key value) =
-    codes "put " ++ hex_word key.items ++ codes " " ++ hex_word value.items
-line_of (command.Delete key) = codes "del " ++ hex_word key.items
-line_of (command.Write sync items) =
-    codes "write " ++ sync_word sync ++ flat_map (λ one. codes " " ++ item_word one) items.items
-line_of (command.Get key) = codes "get " ++ hex_word key.items
-line_of command.Flush = codes "flush"
-line_of command.Close = codes "close"
+-- a move as a word
+abbrev pub move_word : Move → List ℕ
+move_word move.First = codes "first"
+move_word move.Next = codes "next"
+move_word move.Prev = codes "prev"
+move_word (move.Seek key) = codes "seek=" ++ hex_word key.items
+
+-- the word says what is read: the store as it is now, or the snapshot of this number
+abbrev pub IsViewWord : List ℕ → Option ℕ → Type 0
+IsViewWord word None = word ≡ codes "now"
+IsViewWord word (Some number) = IsNumber word number
+
+-- words, a space before each
+abbrev pub words_text : {T : Type 0} → (T → List ℕ) → List T → List ℕ
+words_text word all = flat_map (λ one. codes " " ++ word one) all
+
+-- the line is a command's, without its newline
+abbrev pub IsLine : List ℕ → Command → Type 0
+IsLine line (command.Put key value) =
+    line ≡ codes "put " ++ hex_word key.items ++ codes " " ++ hex_word value.items
+IsLine line (command.Delete key) = line ≡ codes "del " ++ hex_word key.items
+IsLine line (command.Write sync items) =
+    line ≡ codes "write " ++ sync_word sync ++ words_text item_word items.items
+IsLine line (command.Get key) = line ≡ codes "get " ++ hex_word key.items
+IsLine line command.Snap = line ≡ codes "snap"
+IsLine line (command.GetAt number key) = (digits : List ℕ) × IsNumber digits number
+    × (line ≡ codes "getat " ++ digits ++ codes " " ++ hex_word key.items)
+IsLine line (command.Release number) = (digits : List ℕ) × IsNumber digits number
+    × (line ≡ codes "release " ++ digits)
+IsLine line (command.Walk at moves) = (view : List ℕ) × IsViewWord view at
+    × (line ≡ codes "walk " ++ view ++ words_text move_word moves.items)
+IsLine line command.Flush = line ≡ codes "flush"
+IsLine line command.Close = line ≡ codes "close"
 
 -- a change's words are of bytes
 abbrev pub ItemHasBytes : Item → Type 0
 ItemHasBytes (item.Put key value) = IsBytes key.items × IsBytes value.items
 ItemHasBytes (item.Delete key) = IsBytes key.items
+
+-- a move's word is of bytes
+abbrev pub MoveHasBytes : Move → Type 0
+MoveHasBytes move.First = Unit {0}
+MoveHasBytes move.Next = Unit {0}
+MoveHasBytes move.Prev = Unit {0}
+MoveHasBytes (move.Seek key) = IsBytes key.items
 
 -- a command's words are of bytes
 abbrev pub HasBytes : Command → Type 0
@@ -50,31 +87,39 @@ HasBytes (command.Put key value) = IsBytes key.items × IsBytes value.items
 HasBytes (command.Delete key) = IsBytes key.items
 HasBytes (command.Write sync items) = All ItemHasBytes items.items
 HasBytes (command.Get key) = IsBytes key.items
+HasBytes command.Snap = Unit {0}
+HasBytes (command.GetAt number key) = IsBytes key.items
+HasBytes (command.Release number) = Unit {0}
+HasBytes (command.Walk at moves) = All MoveHasBytes moves.items
 HasBytes command.Flush = Unit {0}
 HasBytes command.Close = Unit {0}
 
 -- the line is no command's
 abbrev pub IsNoLine : List ℕ → Type 0
-IsNoLine line = (one : Command) → HasBytes one → line ≡ line_of one → ⊥
+IsNoLine line = (one : Command) → HasBytes one → IsLine line one → ⊥
 
--- the lines of commands, each with its newline
-abbrev pub lines_of : List Command → List ℕ
-lines_of commands = flat_map (λ one. line_of one ++ 10 ∷ []) commands
+-- the text is the lines of these commands, each with its newline
+abbrev pub AreLines : List ℕ → List Command → Type 0
+AreLines text [] = text ≡ []
+AreLines text (one ∷ commands) = (line : List ℕ) × (rest : List ℕ) × IsLine line one
+    × (text ≡ line ++ 10 ∷ rest) × AreLines rest commands
 
 -- the text is these commands; its last newline may be missing
 abbrev pub IsScript : List ℕ → List Command → Type 0
 IsScript text commands = All HasBytes commands
-    × ((text ≡ lines_of commands) ⊎ ((commands ≢ []) × (text ++ 10 ∷ [] ≡ lines_of commands)))
+    × (AreLines text commands ⊎ ((commands ≢ []) × AreLines (text ++ 10 ∷ []) commands))
 
 -- the text's line of this number, from 1, is no command, and all before it are
 pub record IsBadLine (text : List ℕ) (number : ℕ) : Type 0 where
   pub before : List Command
+  pub lines : List ℕ
   pub line : List ℕ
   pub rest : List ℕ
   pub bytes : All HasBytes before
   pub number_is : number ≡ length before + 1
-  pub text_is : (text ≡ lines_of before ++ line ++ 10 ∷ rest)
-      ⊎ ((text ≡ lines_of before ++ line) × (line ≢ []))
+  pub lines_are : AreLines lines before
+  pub text_is : (text ≡ lines ++ line ++ 10 ∷ rest)
+      ⊎ ((text ≡ lines ++ line) × (line ≢ []))
   pub one_line : Contains line 10 → ⊥
   pub none : IsNoLine line
 
@@ -83,16 +128,29 @@ abbrev pub IsReading : List ℕ → Script → Type 0
 IsReading text (script.Commands commands) = IsScript text commands.items
 IsReading text (script.BadLine number) = IsBadLine text number
 
--- the line that tells a reply
-abbrev pub reply_line : Reply → List ℕ
-reply_line reply.Done = codes "ok\n"
-reply_line (reply.Value value) = codes "value " ++ hex_word value ++ codes "\n"
-reply_line reply.Nothing = codes "none\n"
-reply_line (reply.Refused status) = codes "refused " ++ code_text status.code ++ codes "\n"
+-- the line that tells a refusal
+abbrev pub refusal_line : StatusCode → List ℕ
+refusal_line code = codes "refused " ++ code_text code ++ codes "\n"
+
+-- the line that tells where a move led
+abbrev pub step_line : Step → List ℕ
+step_line (step.At key value) =
+    codes "at " ++ hex_word key.items ++ codes " " ++ hex_word value.items ++ codes "\n"
+step_line step.Invalid = codes "invalid\n"
+step_line (step.Refused status) = refusal_line status.code
+
+-- the lines that tell a reply: one, but for a walk, which has one for each of its moves
+abbrev pub reply_text : Reply → List ℕ
+reply_text reply.Done = codes "ok\n"
+reply_text (reply.Value value) = codes "value " ++ hex_word value ++ codes "\n"
+reply_text reply.Nothing = codes "none\n"
+reply_text (reply.Snapshot number) = codes "snapshot " ++ decimal number ++ codes "\n"
+reply_text (reply.Walk steps) = flat_map step_line steps.items
+reply_text (reply.Refused status) = refusal_line status.code
 
 -- the lines that tell replies
 abbrev pub reply_lines : List Reply → List ℕ
-reply_lines replies = flat_map reply_line replies
+reply_lines replies = flat_map reply_text replies
 
 -- a text grew by this one; where it was refused, by some
 abbrev pub Appends : List ℕ → List ℕ → Result (Unit {0}) AllocError → List ℕ → Type 0

@@ -1,6 +1,8 @@
 -- What holds of the machine and of disks that hold its history, whatever names in files mean.
-use Rattle.std.specs.Prelude.{◌≡◌, ◌≢◌, ◌≤◌, ◌⊎◌, ℕ, List, [], ◌∷◌, ◌++◌, map, flat_map, take, Option, Some, None, All, Contains, true, false, IsTrue, nat_le, if◌then◌else◌}
-use Rattle.leveldb_base.specs.History.{Item, Entry, History, SameView, entries_of}
+use Rattle.std.specs.Prelude.{◌≡◌, ◌≢◌, ◌≤◌, ◌⊎◌, ℕ, List, [], ◌∷◌, ◌++◌, map, flat_map, take, Option, Some, None, All, Contains, length, replicate, ◌+◌, true, false, IsTrue, nat_le, if◌then◌else◌}
+use Rattle.leveldb_base.specs.Cmp.{IsExactOrder}
+use Rattle.leveldb_base.specs.History.{Item, Entry, History, IsView, SameView, entries_of}
+use Rattle.leveldb_base.specs.Types.{Pair}
 use Rattle.leveldb_env.specs.declared.env.Env.{Ghosts}
 use Rattle.leveldb_env.specs.Env.{Files, Disk, FilesCrashTo, DiskCrashesTo, Since}
 use Rattle.leveldb_version.specs.Paths.{lock_path}
@@ -9,9 +11,9 @@ use Rattle.leveldb_version.specs.Format.{Format, Meaning}
 use Rattle.leveldb_version.specs.Store.{HasNoStore, SameContents}
 use Rattle.leveldb_version.specs.StoreSteps.{AppendedAreBytes}
 use Rattle.leveldb_version.specs.Holds.{IsHonest, CarriesPrefix}
-use Rattle.rusty_leveldb.specs.State.{State, IsState, broken, closed, Opening, Snapshot, Request, open_store, write, get, get_snapshot, release_snapshot, flush, close, abandon, Answer, done, found, snapshot, Refusal, refused}
+use Rattle.rusty_leveldb.specs.State.{State, IsState, broken, closed, Opening, Snapshot, Request, open_store, write, get, walk, get_snapshot, release_snapshot, flush, close, abandon, Move, advance, prev, Landing, stands_on, nowhere, move_refused, Answer, done, found, walked, snapshot, Refusal, refused}
 use Rattle.rusty_leveldb.specs.Causes.{Setting, Cause, TakesLock, IsLongKey, IsLongBatch, Comes, IsClosedRefusal, IsBrokenRefusal}
-use Rattle.rusty_leveldb.specs.Machine.{Step, StaysOr, risk_between, risk_of, Crashes}
+use Rattle.rusty_leveldb.specs.Machine.{IsSequenceOf, Step, StaysOr, risk_between, risk_of, Crashes}
 use Rattle.rusty_leveldb.specs.Runs.{Event, Run, setting_of, Ending, goes_on, crashes, Life, Lives, new_state}
 use Rattle.rusty_leveldb.specs.Serves.{Reads, StandsFor, IsSpared, AtEachMoment}
 
@@ -252,6 +254,35 @@ SnapshotIsRead = (meaning : Meaning) (first second later : Setting) (old taken l
     → Step old.mode second old get_snapshot (snapshot one) taken
     → NoneOpens events → Run meaning before taken events after last
     → Step last.mode later last (get (Some one) key) (found now) new → now ≡ earlier
+
+-- ---- what a walk gives
+
+-- a move of a walk led to a pair or to no position
+abbrev pub HasLanded : Landing → Type 0
+HasLanded (stands_on pair) = Unit {0}
+HasLanded nowhere = Unit {0}
+HasLanded (move_refused refusal) = ⊥
+
+-- A walk that goes forward once more than its view has pairs gives the view, each key once and in
+-- order, and ends there, unless a move is refused.
+abbrev pub ForwardWalkGivesView : Type 0
+ForwardWalkGivesView = (setting : Setting) (old new : State) (at : Option Snapshot)
+    (sequence : ℕ) (pairs : List Pair) (landings : List Landing)
+    → IsExactOrder old.format.order → IsSequenceOf old at sequence
+    → IsView old.format.order (entries_of old.history) sequence pairs
+    → Step old.mode setting old (walk at (replicate (length pairs + 1) advance)) (walked landings)
+    new
+    → All HasLanded landings → landings ≡ map stands_on pairs ++ nowhere ∷ []
+
+-- A walk that came to a pair, went on to another and then back is at the first one again, unless
+-- that last move is refused.
+abbrev pub PrevUndoesAdvance : Type 0
+PrevUndoesAdvance = (setting : Setting) (old new : State) (at : Option Snapshot)
+    (moves : List Move) (one : Move) (landings : List Landing) (here there : Pair) (back : Landing)
+    → length landings ≡ length moves
+    → Step old.mode setting old (walk at (moves ++ one ∷ advance ∷ prev ∷ []))
+    (walked (landings ++ stands_on here ∷ stands_on there ∷ back ∷ [])) new
+    → HasLanded back → back ≡ stands_on here
 
 -- ---- an example
 

@@ -9,6 +9,9 @@ pub mod Laws
 pub mod Engine
 pub mod Unopened
 pub mod Calls
+pub mod Views
+pub mod Walks
+pub mod Iterator
 pub mod Shell
 pub mod Lives
 pub mod Language

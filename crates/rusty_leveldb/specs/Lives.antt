@@ -1,6 +1,6 @@
 -- Lives of a store on a device that records its calls: what a report says of its life, and what
 -- reports say of lives one after another, with crashes between them.
-use Rattle.std.specs.Prelude.{◌≡◌, ◌≤◌, ◌↔◌, ◌⊎◌, ◌+◌, ◌-◌, ◌%◌, ◌==◌, ◌&&◌, ℕ, Bool, false, All, List, [], ◌∷◌, ◌++◌, map, Option, Some, None, unwrap_or, Result, Ok, Err, OnErr, IfOk, IfErr, IsTrue, Vec}
+use Rattle.std.specs.Prelude.{◌≡◌, ◌≤◌, ◌↔◌, ◌⊎◌, ◌+◌, ◌-◌, ◌%◌, ◌==◌, ◌&&◌, ℕ, Bool, false, All, List, [], ◌∷◌, ◌++◌, map, Option, Some, None, unwrap_or, Result, Ok, Err, OnOk, OnErr, IfOk, IfErr, IsTrue, Vec}
 use Rattle.std.specs.declared.alloc.Global.{Global}
 use Rattle.leveldb_base.specs.declared.cmp.Cmp.{Ghosts as CmpGhosts}
 use Rattle.leveldb_base.specs.declared.error.Status.{Status}
@@ -25,34 +25,42 @@ use Rattle.rusty_leveldb.specs.Runs as machine
 use Rattle.rusty_leveldb.specs.Runs.{Ending, goes_on, crashes, Lives, new_state}
 use Rattle.rusty_leveldb.specs.Serves.{Represents, Runs, recalls_nothing, IsConversation, refusal_of}
 use Rattle.rusty_leveldb.specs.Engine.{scene, IsStoreName, IsOpening, opening_of}
-use Rattle.rusty_leveldb.specs.Shell.{request_of, answer_of}
+use Rattle.rusty_leveldb.specs.Shell.{AreAsked}
 use Rattle.leveldb_env.specs.Options.{Boxed}
 use Rattle.rusty_leveldb.specs.Boxes.{LifeOf}
 
 -- ---- a report
 
--- what a life asks: an opening, and if that is done each command and at last `abandon`
-abbrev pub requests_of : Opening → List Command → Result (Unit {0}) Status → List Request
-requests_of opening commands (Ok opened) =
-    open_store opening ∷ (map request_of commands ++ abandon ∷ [])
-requests_of opening commands (Err status) = open_store opening ∷ []
+-- what a life asks: an opening, and if that is done these requests and at last `abandon`
+abbrev pub requests_of : Opening → List Request → Result (Unit {0}) Status → List Request
+requests_of opening requests (Ok opened) =
+    open_store opening ∷ (requests ++ abandon ∷ [])
+requests_of opening requests (Err status) = open_store opening ∷ []
 
--- what it is answered; a report leaves out the answer to `abandon`
-abbrev pub answers_of : Result (Unit {0}) Status → List (ℕ × Reply) → Answer → List Answer
-answers_of (Ok opened) replies last = done ∷ (map (λ reply. answer_of reply.1) replies ++ last ∷ [])
-answers_of (Err status) replies last = refused (refusal_of status) ∷ []
+-- what it is answered
+abbrev pub answers_of : Result (Unit {0}) Status → List Answer → Answer → List Answer
+answers_of (Ok opened) answers last = done ∷ (answers ++ last ∷ [])
+answers_of (Err status) answers last = refused (refusal_of status) ∷ []
 
 -- and when; a report leaves out the moments of the opening and of `abandon`
 abbrev pub moments_of : Result (Unit {0}) Status → List (ℕ × Reply) → ℕ → ℕ → List ℕ
 moments_of (Ok opened) replies first last = first ∷ (map (λ reply. reply.0) replies ++ last ∷ [])
 moments_of (Err status) replies first last = first ∷ []
 
--- the report of a life with these answers, given at these moments from its start
-pub record IsReportOf (report : Report) (answers : List Answer) (moments : List ℕ) : Type 0 where
+-- The report of a life of these commands that made these requests and had these answers, given at
+-- these moments from its start. It leaves out the answer to `abandon`.
+pub record IsReportOf (opening : Opening) (commands : List Command) (report : Report)
+    (requests : List Request) (answers : List Answer) (moments : List ℕ) : Type 0 where
   pub first : ℕ
   pub last : ℕ
   pub ending : Answer
-  pub answers_are : answers ≡ answers_of report.opened report.replies.items ending
+  -- the requests and answers between the opening and `abandon`
+  pub asked : List Request
+  pub told : List Answer
+  pub are_asked : OnOk report.opened
+      (AreAsked commands (map (λ reply. reply.1) report.replies.items) asked told)
+  pub requests_are : requests ≡ requests_of opening asked report.opened
+  pub answers_are : answers ≡ answers_of report.opened told ending
   pub moments_are : moments ≡ moments_of report.opened report.replies.items first last
   pub no_replies : OnErr report.opened (report.replies.items ≡ [])
 
@@ -61,12 +69,13 @@ module _ {E F : Type 0} (env : Ghosts E F) (store : List ℕ) where
   -- it is
   pub record IsLife (meaning : Meaning) (from : E) (opening : Opening) (commands : List Command)
       (report : Report) (to : E) (old : State) : Type 0 where
+    pub requests : List Request
     pub answers : List Answer
     pub moments : List ℕ
-    pub reported : IsReportOf report answers
+    pub reported : IsReportOf opening commands report requests answers
         (map (λ moment. moment - (env.observed from).moment) moments)
     pub run : Runs store meaning recalls_nothing env.models_moments (scene env None from)
-        (requests_of opening commands report.opened) answers moments (scene env None to) old
+        requests answers moments (scene env None to) old
 
   -- the same from every state that the disk represents, if the options say of names and ids what
   -- they mean
@@ -152,13 +161,13 @@ module _ {C FP F : Type 0} {B : Boxed} (env : Ghosts RecordEnv F) (cmp : CmpGhos
   -- inside no call, at an even moment
   pub record IsLifeOf (named : Bool) (life : LifeOf C FP B) (report : Report)
       (of_machine : machine.Life) : Type 0 where
+    pub requests : List Request
     pub answers : List Answer
     pub moments : List ℕ
-    pub reported : IsReportOf report answers moments
-    pub asked : IsConversation
-        (requests_of (with_name named (opening_of cmp filters codings life.options))
-        life.commands.items report.opened)
-        answers (map (λ moment. of_machine.start + moment) moments) of_machine.events
+    pub reported : IsReportOf (with_name named (opening_of cmp filters codings life.options))
+        life.commands.items report requests answers moments
+    pub asked : IsConversation requests answers
+        (map (λ moment. of_machine.start + moment) moments) of_machine.events
     pub ending : of_machine.ending ≡ ending_of of_machine.start life.moment
     pub outside : of_machine.start % 2 ≡ 0
 

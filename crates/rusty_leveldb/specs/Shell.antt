@@ -1,7 +1,9 @@
 -- Commands and replies as requests and answers, and what a run of commands is.
-use Rattle.std.specs.Prelude.{◌≡◌, ◌⊎◌, ℕ, false, List, [], ◌∷◌, ◌++◌, map, Some, None, Result, OnOk, IsErrAnd, IsTrue}
+use Rattle.std.specs.Prelude.{◌≡◌, ◌⊎◌, ℕ, false, List, [], ◌∷◌, ◌++◌, length, map, slice_get, unwrap_or, Some, None, Result, OnOk, IsErrAnd, IsTrue}
+use Rattle.std.specs.Option.{option_map}
 use Rattle.leveldb_base.specs.declared.error.Status.{Status}
 use Rattle.leveldb_base.specs.History as history
+use Rattle.leveldb_env.specs.Options.{Boxed, OptionsOf}
 use Rattle.leveldb_env.specs.declared.env.Env.{Ghosts}
 use Rattle.leveldb_base.specs.Error.{IsOutOfMemory}
 use Rattle.leveldb_mem.specs.WriteBatch.{item_of}
@@ -11,11 +13,14 @@ use Rattle.rusty_leveldb.specs.declared.shell.commands.Item.{Item}
 use Rattle.rusty_leveldb.specs.declared.shell.commands.Item.TheVariants as item
 use Rattle.rusty_leveldb.specs.declared.shell.commands.Reply.{Reply}
 use Rattle.rusty_leveldb.specs.declared.shell.commands.Reply.TheVariants as reply
-use Rattle.leveldb_version.specs.Format.{Meaning, Agrees}
-use Rattle.rusty_leveldb.specs.State.{State, Opening, Request, open_store, write, get, flush, close, abandon, Answer, done, found, refused}
+use Rattle.leveldb_version.specs.Format.{Format, Meaning, Agrees}
+use Rattle.rusty_leveldb.specs.State.{State, Opening, Snapshot, Request, open_store, write, get, get_snapshot, release_snapshot, flush, close, abandon, Answer, done, found, walked, snapshot, refused}
 use Rattle.rusty_leveldb.specs.Serves.{Represents, Runs, recalls_nothing, refusal_of, done_or}
-use Rattle.rusty_leveldb.specs.Engine.{scene, IsOpening, IsStoreName}
+use Rattle.rusty_leveldb.specs.Boxes.{EngineOf, InternalOrder}
+use Rattle.rusty_leveldb.specs.Engine.{scene, Answers, IsOpening, IsStoreName}
 use Rattle.rusty_leveldb.specs.Frame.{IsOwn, Spares}
+use Rattle.rusty_leveldb.specs.Views.{no_snapshot}
+use Rattle.rusty_leveldb.specs.Walks.{landing_of, walk_of}
 use Rattle.rusty_leveldb.specs.Unopened.{IsLockGivenBack, IsNotKeptUnder, MakesLockAlone, NeverOpens}
 
 -- the change that an item asks for
@@ -23,21 +28,79 @@ abbrev pub change_of : Item → history.Item
 change_of (item.Put key value) = item_of key.items (Some value.items)
 change_of (item.Delete key) = item_of key.items None
 
--- the request that a command is
-abbrev pub request_of : Command → Request
-request_of (command.Put key value) = write (item_of key.items (Some value.items) ∷ []) false
-request_of (command.Delete key) = write (item_of key.items None ∷ []) false
-request_of (command.Write sync items) = write (map change_of items.items) sync
-request_of (command.Get key) = get None key.items
-request_of command.Flush = flush
-request_of command.Close = close
+-- of the snapshots that were given out, counted from 0, the one of this number
+abbrev pub snapshot_named : List Snapshot → ℕ → Snapshot
+snapshot_named taken number = unwrap_or (slice_get taken number) no_snapshot
 
--- the answer that a reply is
-abbrev pub answer_of : Reply → Answer
-answer_of reply.Done = done
-answer_of (reply.Value value) = found (Some value)
-answer_of reply.Nothing = found None
-answer_of (reply.Refused status) = refused (refusal_of status)
+-- the request that a command is, where these snapshots were given out before
+abbrev pub request_of : List Snapshot → Command → Request
+request_of taken (command.Put key value) =
+    write (item_of key.items (Some value.items) ∷ []) false
+request_of taken (command.Delete key) = write (item_of key.items None ∷ []) false
+request_of taken (command.Write sync items) = write (map change_of items.items) sync
+request_of taken (command.Get key) = get None key.items
+request_of taken command.Snap = get_snapshot
+request_of taken (command.GetAt number key) = get (Some (snapshot_named taken number)) key.items
+request_of taken (command.Release number) = release_snapshot (snapshot_named taken number)
+request_of taken (command.Walk at moves) =
+    walk_of (option_map (snapshot_named taken) at) moves.items
+request_of taken command.Flush = flush
+request_of taken command.Close = close
+
+-- the reply tells the answer; a snapshot is told by how many were given out before
+abbrev pub IsReplyOf : List Snapshot → Reply → Answer → Type 0
+IsReplyOf taken reply.Done answer = answer ≡ done
+IsReplyOf taken (reply.Value value) answer = answer ≡ found (Some value)
+IsReplyOf taken reply.Nothing answer = answer ≡ found None
+IsReplyOf taken (reply.Snapshot number) answer =
+    (number ≡ length taken) × (one : Snapshot) × (answer ≡ snapshot one)
+IsReplyOf taken (reply.Walk steps) answer = answer ≡ walked (map landing_of steps.items)
+IsReplyOf taken (reply.Refused status) answer = answer ≡ refused (refusal_of status)
+
+-- the snapshot that an answer gives out, if it gives one out
+abbrev pub given_by : Answer → List Snapshot
+given_by (snapshot one) = one ∷ []
+given_by answer = []
+
+-- a command with the request that it became, its answer, and the reply that told it
+pub record Turn : Type 0 where
+  pub command : Command
+  pub request : Request
+  pub answer : Answer
+  pub reply : Reply
+
+-- the turn of a command after these snapshots were given out
+abbrev pub IsTurn : List Snapshot → Turn → Type 0
+IsTurn taken turn = (turn.request ≡ request_of taken turn.command)
+    × IsReplyOf taken turn.reply turn.answer
+
+-- each turn in its place, where those before it gave out these snapshots
+abbrev pub AreTurns : List Snapshot → List Turn → Type 0
+AreTurns taken [] = Unit {0}
+AreTurns taken (turn ∷ turns) = IsTurn taken turn × AreTurns (taken ++ given_by turn.answer) turns
+
+-- these commands with these replies are these requests with these answers, from an opening on
+pub record AreAsked (commands : List Command) (replies : List Reply) (requests : List Request)
+    (answers : List Answer) : Type 0 where
+  pub turns : List Turn
+  pub follow : AreTurns [] turns
+  pub commands_are : map (λ turn. turn.command) turns ≡ commands
+  pub replies_are : map (λ turn. turn.reply) turns ≡ replies
+  pub requests_are : map (λ turn. turn.request) turns ≡ requests
+  pub answers_are : map (λ turn. turn.answer) turns ≡ answers
+
+-- One command over an engine, after these snapshots were given out: it becomes a request, whose
+-- answer the reply tells; and those that were given out then.
+pub record AnswersCommand {E C FP F : Type 0} {B : Boxed} {keys : InternalOrder C}
+    (env : Ghosts E F) (formats : OptionsOf C FP B → Format) (before : EngineOf E C FP F B keys)
+    (from : E)
+    (taken : List Snapshot) (command : Command) (reply : Reply) (after : EngineOf E C FP F B keys)
+    (to : E) (left : List Snapshot) : Type 0 where
+  pub answer : Answer
+  pub tells : IsReplyOf taken reply answer
+  pub left_is : left ≡ taken ++ given_by answer
+  pub step : Answers env formats (Some before) from (request_of taken command) answer (Some after)
+      to
 
 -- ---- runs
 
@@ -60,8 +123,10 @@ module _ {E F : Type 0} (env : Ghosts E F) (store : List ℕ) where
       let leads : List Request → List Answer → Type 0 = λ requests answers. (moments : List ℕ)
       × Runs store meaning recalls_nothing env.models_moments (scene env None from) requests
       answers moments (scene env None to) old in
-      leads (open_store opening ∷ (map request_of commands ++ abandon ∷ []))
-      (done ∷ (map answer_of given ++ done_or result ∷ []))
+      ((requests : List Request) × (answers : List Answer)
+      × AreAsked commands given requests answers
+      × leads (open_store opening ∷ (requests ++ abandon ∷ []))
+      (done ∷ (answers ++ done_or result ∷ [])))
       ⊎ IsErrAnd result (λ status. (given ≡ [])
       × (leads (open_store opening ∷ []) (refused (refusal_of status) ∷ [])
       ⊎ (IsOutOfMemory status × (to ≡ from))))

@@ -3,11 +3,13 @@
 mod close;
 mod engine;
 mod info_log;
+mod iterate;
 mod names;
 mod open;
 mod read;
 mod snapshots;
 mod store;
+mod walk;
 mod write;
 
 pub use engine::{Engine, Mode};

@@ -2,10 +2,12 @@
 #![tactic(auto)]
 
 pub mod db_impl;
+pub mod db_iter;
 pub mod promises;
 pub mod shell;
 
 pub use db_impl::DB;
+pub use db_iter::DBIterator;
 pub use leveldb_base::cmp::{Cmp, DefaultCmp};
 pub use leveldb_base::error::{Result, Status, StatusCode};
 pub use leveldb_base::types::LdbIterator;
@@ -17,6 +19,7 @@ pub use leveldb_env::options::Options;
 pub use leveldb_env::{
     compressor, disk_env, env, filter, filter_block, infolog, laws as env_laws, mem_env, options,
 };
+pub use leveldb_iter::moves::{Move, Step};
 pub use leveldb_iter::snapshot::Snapshot;
 pub use leveldb_mem::skipmap::SkipMap;
 pub use leveldb_mem::write_batch::WriteBatch;

@@ -1,8 +1,14 @@
 //! The laws of the store's machine, as contracts of functions that do nothing.
 
-ghost use Rattle.rusty_leveldb.specs.Laws.{OneReading, NothingStands, CrashBetween, CrashInside, CrashSince, RefusalHasCause, StepFits, CrashFits, CrashInsideFits, LivesFit, DurableStays, SyncedStays, EachAnswerParts, HistoryIsAsked, MoreIsAsked, SyncedIsRead, ViewsStay, HeldStays, SnapshotIsRead, SyncedCanBeFound};
+ghost use Rattle.rusty_leveldb.specs.Iterator.{ScanGivesPairs};
+ghost use Rattle.rusty_leveldb.specs.Laws.{OneReading, NothingStands, CrashBetween, CrashInside, CrashSince, RefusalHasCause, StepFits, CrashFits, CrashInsideFits, LivesFit, DurableStays, SyncedStays, EachAnswerParts, HistoryIsAsked, MoreIsAsked, SyncedIsRead, ViewsStay, HeldStays, SnapshotIsRead, ForwardWalkGivesView, PrevUndoesAdvance, SyncedCanBeFound};
 
+use leveldb_base::cmp::{Cmp, UserCmp};
+use leveldb_env::compressor::Compressors;
 use leveldb_env::env::Env;
+use leveldb_env::filter::FilterPolicy;
+use leveldb_iter::walk::Walk;
+use leveldb_version::table_cache::{ReadTables, ReadsTables};
 
 /// What a store's files hold is determined, so a store can't choose what it recovers. And a disk
 /// on which no store is yet is one from which a store's life may begin.
@@ -71,6 +77,26 @@ pub fn snapshots_keep_their_view()
     ensures views { ViewsStay }
     ensures held { HeldStays }
     ensures reads { SnapshotIsRead }
+{}
+
+/// A walk that goes forward from no position on, until it is at none again, gives the view: each key
+/// once, and in order. A move back after one forward leads to where the walk was.
+pub fn walks_give_the_view()
+    ensures forward { ForwardWalkGivesView }
+    ensures back { PrevUndoesAdvance }
+{}
+
+/// A scan of an iterator that goes forward from no position, until it is at none again, is at each of
+/// the pairs that it is over, in their order.
+pub fn scans_give_the_pairs<
+    'a,
+    E: Env + 'a,
+    C: UserCmp + Copy + Drop + 'a,
+    FP: FilterPolicy + Copy + Drop + 'a,
+    K: ReadsTables<E, C, FP> + 'a,
+    V: Walk<E, ReadTables<'a, E, C, FP, K>>,
+>()
+    ensures { ScanGivesPairs E.Env C.Cmp FP.FilterPolicy K.codings V.Walk }
 {}
 
 /// The machine's rows can be met: there are lives in which a value that was written with a sync

@@ -7,9 +7,11 @@ mod lines;
 mod program;
 mod replies;
 mod runs;
+mod views;
+mod walks;
 mod words;
 
-pub use commands::{Command, Item, Reply};
+pub use commands::{Command, Item, Move, Reply, Step};
 pub use crash_runs::{Life, Report, live, lives};
 pub use language::{Script, parse};
 pub use program::ldb_main;

@@ -7,10 +7,11 @@ ghost use Rattle.rusty_leveldb.specs.Serves.{done_or, snapshot_or, snapshot_of};
 ghost use Rattle.rusty_leveldb.specs.Engine.{held_in};
 ghost use Rattle.leveldb_store.specs.BuildTable.{choices_of};
 ghost use Rattle.rusty_leveldb.specs.Calls.{EngineServes};
+ghost use Rattle.rusty_leveldb.specs.Views.{RefusesUnknown};
 
 use super::engine::Engine;
 use leveldb_base::cmp::{Cmp, InternalKeyCmp, UserCmp};
-use leveldb_base::error::{Result, StatusCode, err};
+use leveldb_base::error::{Result, Status, StatusCode, err};
 use leveldb_env::compressor::{CompressorList, Compressors};
 use leveldb_env::env::Env;
 use leveldb_env::filter::{FilterPolicy, InternalFilterPolicy};
@@ -45,6 +46,27 @@ impl<E: Env, C: UserCmp + Copy, FP: FilterPolicy + Copy> Engine<E, C, FP> {
         self.check_held(snapshot)?;
         self.snapshots.release(snapshot);
         Ok(())
+    }
+
+    // Why a snapshot is refused that was never given out: it isn't held.
+    pub(crate) fn refuse_unknown(&self) -> Status
+        ensures { let choices = choices_of C.Cmp FP.FilterPolicy
+            ⟦<InternalKeyCmp<C> as Cmp>⟧ ⟦<InternalFilterPolicy<FP> as FilterPolicy>⟧
+            ⟦<CompressorList as Compressors>⟧.codings in
+            RefusesUnknown E.Env choices self.now result }
+    {
+        match self.check_not_closed() {
+            Err(status) => status,
+            Ok(()) => {
+                // Whatever is held reads at a number of 64 bits.
+                let _ = self.snapshots.newest();
+                Status::new(
+                    self.alloc,
+                    StatusCode::InvalidArgument,
+                    "no such snapshot was given out",
+                )
+            }
+        }
     }
 
     // A snapshot that isn't held is refused.

@@ -1,5 +1,6 @@
 //! The public store: an engine beside a borrow of its environment, which each call gives to it.
-ghost use Rattle.std.specs.Prelude.{◌≡◌, ◌∷◌, [], Some, None, false, IfOk};
+ghost use Rattle.std.specs.Prelude.{◌≡◌, ◌∷◌, ◌++◌, List, [], Some, None, false, IfOk};
+ghost use Rattle.std.specs.Option.{option_map};
 ghost use Rattle.leveldb_mem.specs.WriteBatch.{item_of};
 ghost use Rattle.rusty_leveldb.specs.State.{write, get, get_snapshot, release_snapshot, flush, close};
 ghost use Rattle.rusty_leveldb.specs.Serves.{done_or, found_or, snapshot_or, snapshot_of};
@@ -7,8 +8,11 @@ ghost use Rattle.rusty_leveldb.specs.Engine.{opening_of};
 ghost use Rattle.leveldb_store.specs.BuildTable.{choices_of};
 ghost use Rattle.leveldb_version.specs.Format.{format_of};
 ghost use Rattle.rusty_leveldb.specs.Calls.{EngineServes, EngineAbandons, EngineOpens, result_map};
+ghost use Rattle.rusty_leveldb.specs.Iterator.{EngineIterates};
+ghost use Rattle.rusty_leveldb.specs.Walks.{EngineWalks};
 
 use super::engine::Engine;
+use crate::db_iter::{DBIterator, StoreTables};
 use bytes::Bytes;
 use leveldb_base::cmp::{Cmp, InternalKeyCmp, UserCmp};
 use leveldb_base::error::Result;
@@ -16,8 +20,11 @@ use leveldb_env::compressor::{CompressorList, Compressors};
 use leveldb_env::env::Env;
 use leveldb_env::filter::{FilterPolicy, InternalFilterPolicy};
 use leveldb_env::options::Options;
+use leveldb_iter::moves::{Move, Step};
 use leveldb_iter::snapshot::Snapshot;
+use leveldb_iter::walk::Walk;
 use leveldb_mem::write_batch::WriteBatch;
+use leveldb_store::open_store::StoreView;
 use std::alloc::Global;
 
 /// A store's state beside a borrow of its environment, for as long as the store is used.
@@ -183,6 +190,51 @@ impl<'e, E: Env, C: UserCmp + Copy, FP: FilterPolicy + Copy> Store<'e, E, Engine
             (release_snapshot (snapshot_of snapshot)) result self.new.state self.new.env.now }
     {
         self.state.release_snapshot(snapshot)
+    }
+
+    /// Makes moves of a walk over the store as it is now, or over a snapshot, from no position on.
+    /// `steps` gains where each led. A move that fails leaves no position, and the next one goes on
+    /// from there. A snapshot that isn't held is `InvalidArgument`.
+    pub fn walk(
+        &mut self,
+        at: Option<Snapshot>,
+        moves: &[Move],
+        steps: &mut Vec<Step>,
+    ) -> Result<()>
+        ensures same_reference { self.new.env.ghost_name ≡ self.old.env.ghost_name }
+        ensures walks { let choices = choices_of C.Cmp FP.FilterPolicy
+            ⟦<InternalKeyCmp<C> as Cmp>⟧ ⟦<InternalFilterPolicy<FP> as FilterPolicy>⟧
+            ⟦<CompressorList as Compressors>⟧.codings in
+            (given : List Step) × (steps.new.items ≡ steps.old.items ++ given)
+            × EngineWalks E.Env choices self.old.state self.old.env.now
+            (option_map snapshot_of at) moves.now given result self.new.state self.new.env.now }
+    {
+        self.state.walk(&mut *self.env, at, moves, steps)
+    }
+
+    /// An iterator over the store as it is now, at no position. It borrows the store: until it ends
+    /// nothing else is done with that.
+    pub fn new_iter<'a>(&'a mut self) -> Result<DBIterator<'a, E, C, FP>>
+        ensures { let codings = ⟦<CompressorList as Compressors>⟧.codings in
+            let walk = ⟦<StoreView<'a, C> as Walk<E, StoreTables<'a, E, C, FP>>>⟧ in
+            EngineIterates E.Env C.Cmp FP.FilterPolicy codings walk self.old.state
+            self.old.env.now None result }
+    {
+        let Store { env, state } = self;
+        state.new_iter(&mut **env)
+    }
+
+    /// An iterator over the store as it was when a snapshot was given out, at no position. A
+    /// snapshot that isn't held is `InvalidArgument`.
+    pub fn new_iter_at<'a>(&'a mut self, snapshot: &Snapshot) -> Result<DBIterator<'a, E, C, FP>>
+        ensures { let codings = ⟦<CompressorList as Compressors>⟧.codings in
+            let walk = ⟦<StoreView<'a, C> as Walk<E, StoreTables<'a, E, C, FP>>>⟧ in
+            EngineIterates E.Env C.Cmp FP.FilterPolicy codings walk self.old.state
+            self.old.env.now (Some (snapshot_of snapshot.now)) result }
+    {
+        let snapshot = *snapshot;
+        let Store { env, state } = self;
+        state.new_iter_at(&mut **env, snapshot)
     }
 
     /// Makes a crash keep all batches and gives back the lock. An open store that fails to do so is

@@ -2,6 +2,7 @@
 
 use bytes::Bytes;
 use leveldb_base::error::Status;
+pub use leveldb_iter::moves::{Move, Step};
 
 /// What is asked of a store.
 #[derive(Debug, Drop)]
@@ -14,6 +15,15 @@ pub enum Command {
     Write { sync: bool, items: Vec<Item> },
     /// Look up a key.
     Get(Vec<u8>),
+    /// Hold a snapshot of the store as it is now.
+    Snap,
+    /// Look up a key in the snapshot of this number.
+    GetAt(usize, Vec<u8>),
+    /// Release the snapshot of this number.
+    Release(usize),
+    /// Make these moves with an iterator, from no position on: over the store as it is now, or over
+    /// the snapshot of this number.
+    Walk(Option<usize>, Vec<Move>),
     /// Sync all that was written.
     Flush,
     /// Sync, and give back the lock; then every command is refused.
@@ -35,5 +45,9 @@ pub enum Reply {
     Value(Bytes),
     /// The key has no value.
     Nothing,
+    /// The number of a snapshot that is held from now on.
+    Snapshot(usize),
+    /// Where each move of a walk led.
+    Walk(Vec<Step>),
     Refused(Status),
 }

@@ -67,8 +67,9 @@ pub fn live<C: UserCmp + Copy, FP: FilterPolicy + Copy>(
             });
         }
     };
+    let mut taken = Vec::new(alloc);
     for command in commands {
-        let reply = answer(alloc, &mut engine, env, command);
+        let reply = answer(alloc, &mut engine, env, &mut taken, command);
         replies.push((env.moment() - start, reply)).unwrap();
     }
     let _ = engine.abandon(env);

@@ -24,24 +24,24 @@ pub fn parse(alloc: Global, text: &[u8]) -> Result<Script, AllocError>
     let mut commands = Vec::new(alloc);
     let mut rest = text;
     while !rest.is_empty() {
-        let (line, behind) = next_line(rest);
+        let (line, more) = next_line(rest);
         let Some(command) = read_line(alloc, line)? else {
             return Ok(Script::BadLine(commands.len() + 1));
         };
         commands.push(command)?;
-        rest = behind;
+        rest = more;
     }
     Ok(Script::Commands(commands))
 }
 
-// The first line of a text, without its newline, and what stands behind that.
+// The first line of a text, without its newline, and what comes after that.
 fn next_line(text: &[u8]) -> (&[u8], &[u8])
     ensures one_line { Contains result.0.now 10 → ⊥ }
     ensures parts { (text.now ≡ result.0.now ++ 10 ∷ result.1.now)
         ⊎ ((text.now ≡ result.0.now) × (result.1.now ≡ [])) }
 {
     match split_once(text, b'\n') {
-        (line, Some(behind)) => (line, behind),
+        (line, Some(more)) => (line, more),
         (line, None) => (line, &[]),
     }
 }

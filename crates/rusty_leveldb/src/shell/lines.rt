@@ -1,47 +1,63 @@
 //! The lines of the command language: one command each, without its newline.
 ghost use Rattle.std.specs.Prelude.{◌≡◌, ◌≢◌, ◌∷◌, ◌++◌, [], ℕ, Bool, false, List, IfOk, MatchOption, codes};
 ghost use Rattle.hex.specs.Hex.{is_hex_digit};
-ghost use Rattle.rusty_leveldb.specs.Language.{sync_word};
+ghost use Rattle.rusty_leveldb.specs.Language.{sync_word, HasBytes, IsLine};
 ghost use Rattle.rusty_leveldb.specs.Spelling.{IsPairReading, IsItemReading, IsItemsReading, IsLineReading};
 
 use super::commands::{Command, Item};
-use super::words::{read_word, split_once};
+use super::walks::read_walk;
+use super::words::{after, read_number, read_word, split_once};
 use std::alloc::{AllocError, Global};
 
 /// The command that a line spells; none where it spells none. It is refused for want of memory.
 pub(super) fn read_line(alloc: Global, line: &[u8]) -> Result<Option<Command>, AllocError>
     ensures { IfOk result (IsLineReading line.now) }
 {
-    if line == b"flush".as_slice() {
-        return Ok(Some(Command::Flush));
+    if let Some(command) = read_name(line) {
+        return Ok(Some(command));
     }
-    if line == b"close".as_slice() {
-        return Ok(Some(Command::Close));
-    }
-    if let Some(words) = behind(line, b"put ") {
+    if let Some(words) = after(line, b"put ") {
         return read_put(alloc, words);
     }
-    if let Some(word) = behind(line, b"del ") {
+    if let Some(word) = after(line, b"del ") {
         return read_delete(alloc, word);
     }
-    if let Some(word) = behind(line, b"get ") {
+    if let Some(words) = after(line, b"write ") {
+        return read_write(alloc, words);
+    }
+    if let Some(word) = after(line, b"get ") {
         return read_get(alloc, word);
     }
-    let Some(words) = behind(line, b"write ") else {
-        return Ok(None);
-    };
-    read_write(alloc, words)
+    if let Some(words) = after(line, b"getat ") {
+        return read_get_at(alloc, words);
+    }
+    if let Some(digits) = after(line, b"release ") {
+        return Ok(read_release(digits));
+    }
+    match after(line, b"walk ") {
+        Some(words) => read_walk(alloc, words),
+        None => Ok(None),
+    }
 }
 
-// What stands behind these bytes, where a text begins with them.
-fn behind<'a>(text: &'a [u8], head: &[u8]) -> Option<&'a [u8]>
-    ensures { MatchOption result ((rest : List ℕ) → text.now ≢ head.now ++ rest)
-        (λ rest. text.now ≡ head.now ++ rest.now) }
+// The command that is a name alone.
+fn read_name(line: &[u8]) -> Option<Command>
+    ensures { MatchOption result
+        ((line.now ≢ codes "snap") × (line.now ≢ codes "flush") × (line.now ≢ codes "close"))
+        (λ one. HasBytes one × IsLine line.now one) }
 {
-    text.strip_prefix(head)
+    if line == b"snap".as_slice() {
+        Some(Command::Snap)
+    } else if line == b"flush".as_slice() {
+        Some(Command::Flush)
+    } else if line == b"close".as_slice() {
+        Some(Command::Close)
+    } else {
+        None
+    }
 }
 
-// A put, by the words behind its name.
+// A put, by the words after its name.
 fn read_put(alloc: Global, words: &[u8]) -> Result<Option<Command>, AllocError>
     ensures { IfOk result (IsLineReading (codes "put " ++ words.now)) }
 {
@@ -51,7 +67,7 @@ fn read_put(alloc: Global, words: &[u8]) -> Result<Option<Command>, AllocError>
     Ok(Some(Command::Put(pair.0, pair.1)))
 }
 
-// A delete, by the word behind its name.
+// A delete, by the word after its name.
 fn read_delete(alloc: Global, word: &[u8]) -> Result<Option<Command>, AllocError>
     ensures { IfOk result (IsLineReading (codes "del " ++ word.now)) }
 {
@@ -61,7 +77,7 @@ fn read_delete(alloc: Global, word: &[u8]) -> Result<Option<Command>, AllocError
     Ok(Some(Command::Delete(key)))
 }
 
-// A get, by the word behind its name.
+// A get, by the word after its name.
 fn read_get(alloc: Global, word: &[u8]) -> Result<Option<Command>, AllocError>
     ensures { IfOk result (IsLineReading (codes "get " ++ word.now)) }
 {
@@ -71,7 +87,34 @@ fn read_get(alloc: Global, word: &[u8]) -> Result<Option<Command>, AllocError>
     Ok(Some(Command::Get(key)))
 }
 
-// A write, by the words behind its name.
+// A look-up in a snapshot, by the words after its name.
+fn read_get_at(alloc: Global, words: &[u8]) -> Result<Option<Command>, AllocError>
+    ensures { IfOk result (IsLineReading (codes "getat " ++ words.now)) }
+{
+    let (digits, word) = split_once(words, b' ');
+    let Some(word) = word else {
+        return Ok(None);
+    };
+    let Some(number) = read_number(digits) else {
+        return Ok(None);
+    };
+    let Some(key) = read_word(alloc, word)? else {
+        return Ok(None);
+    };
+    Ok(Some(Command::GetAt(number, key)))
+}
+
+// A release, by the digits after its name.
+fn read_release(digits: &[u8]) -> Option<Command>
+    ensures { IsLineReading (codes "release " ++ digits.now) result }
+{
+    match read_number(digits) {
+        Some(number) => Some(Command::Release(number)),
+        None => None,
+    }
+}
+
+// A write, by the words after its name.
 fn read_write(alloc: Global, words: &[u8]) -> Result<Option<Command>, AllocError>
     ensures { IfOk result (IsLineReading (codes "write " ++ words.now)) }
 {
@@ -87,15 +130,15 @@ fn read_write(alloc: Global, words: &[u8]) -> Result<Option<Command>, AllocError
     }))
 }
 
-// Whether a write is synced, and what stands behind that.
+// Whether a write is synced, and what comes after that.
 fn read_sync(words: &[u8]) -> Option<(bool, &[u8])>
     ensures { MatchOption result
         ((sync : Bool) (text : List ℕ) → words.now ≢ sync_word sync ++ text)
         (λ found. words.now ≡ sync_word found.0 ++ found.1.now) }
 {
-    match behind(words, b"0") {
+    match after(words, b"0") {
         Some(text) => Some((false, text)),
-        None => match behind(words, b"1") {
+        None => match after(words, b"1") {
             Some(text) => Some((true, text)),
             None => None,
         },
@@ -109,7 +152,7 @@ fn read_items(alloc: Global, text: &[u8]) -> Result<Option<Vec<Item>>, AllocErro
     if text.is_empty() {
         return Ok(Some(Vec::new(alloc)));
     }
-    match behind(text, b" ") {
+    match after(text, b" ") {
         Some(words) => read_words(alloc, words),
         None => Ok(None),
     }
@@ -136,16 +179,16 @@ fn read_words(alloc: Global, words: &[u8]) -> Result<Option<Vec<Item>>, AllocErr
 fn read_item(alloc: Global, word: &[u8]) -> Result<Option<Item>, AllocError>
     ensures { IfOk result (IsItemReading word.now) }
 {
-    if let Some(words) = behind(word, b"+") {
+    if let Some(words) = after(word, b"+") {
         return read_put_item(alloc, words);
     }
-    let Some(word) = behind(word, b"-") else {
+    let Some(word) = after(word, b"-") else {
         return Ok(None);
     };
     read_delete_item(alloc, word)
 }
 
-// A put among changes, by the words behind its sign.
+// A put among changes, by the words after its sign.
 fn read_put_item(alloc: Global, words: &[u8]) -> Result<Option<Item>, AllocError>
     ensures { IfOk result (IsItemReading (codes "+" ++ words.now)) }
 {
@@ -155,7 +198,7 @@ fn read_put_item(alloc: Global, words: &[u8]) -> Result<Option<Item>, AllocError
     Ok(Some(Item::Put(pair.0, pair.1)))
 }
 
-// A delete among changes, by the word behind its sign.
+// A delete among changes, by the word after its sign.
 fn read_delete_item(alloc: Global, word: &[u8]) -> Result<Option<Item>, AllocError>
     ensures { IfOk result (IsItemReading (codes "-" ++ word.now)) }
 {

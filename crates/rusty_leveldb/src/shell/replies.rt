@@ -1,14 +1,13 @@
 //! Replies as text.
-ghost use Rattle.std.specs.Prelude.{◌≡◌, ◌++◌, ℕ, List, length, take, codes, OnOk, OnErr};
-ghost use Rattle.leveldb_base.specs.Error.{code_text};
-ghost use Rattle.rusty_leveldb.specs.Language.{hex_word, reply_line, reply_lines, Appends};
+ghost use Rattle.std.specs.Prelude.{◌≡◌, ◌++◌, ℕ, List, length, take, flat_map, codes, decimal, OnOk, OnErr};
+ghost use Rattle.rusty_leveldb.specs.Language.{hex_word, refusal_line, step_line, reply_text, reply_lines, Appends};
 
-use super::commands::Reply;
+use super::commands::{Reply, Step};
 use super::words::put_word;
 use leveldb_base::error::StatusCode;
 use std::alloc::AllocError;
 
-/// Writes the lines that tell these replies behind the text. Where it is refused, for want of
+/// Writes the lines that tell these replies after the text. Where it is refused, for want of
 /// memory, those of the first replies stand there.
 pub fn put_replies(out: &mut Vec<u8>, replies: &[Reply]) -> Result<(), AllocError>
     ensures { (told : ℕ) × (out.new.items ≡ out.old.items ++ reply_lines (take told replies.now))
@@ -20,33 +19,35 @@ pub fn put_replies(out: &mut Vec<u8>, replies: &[Reply]) -> Result<(), AllocErro
     Ok(())
 }
 
-// Writes the line that tells a reply behind the text, or leaves the text as it was.
+// Writes the lines that tell a reply after the text, or leaves the text as it was.
 fn put_reply(out: &mut Vec<u8>, reply: &Reply) -> Result<(), AllocError>
-    ensures ok { OnOk result (out.new.items ≡ out.old.items ++ reply_line reply.now) }
+    ensures ok { OnOk result (out.new.items ≡ out.old.items ++ reply_text reply.now) }
     ensures err { OnErr result (out.new.items ≡ out.old.items) }
 {
     let before = out.len();
-    let put = put_line(out, reply);
+    let put = put_text(out, reply);
     if put.is_err() {
         out.truncate(before);
     }
     put
 }
 
-// Writes the line that tells a reply behind the text. Where it is refused, part of the line may
-// stand there.
-fn put_line(out: &mut Vec<u8>, reply: &Reply) -> Result<(), AllocError>
-    ensures { Appends out.old.items out.new.items result (reply_line reply.now) }
+// Writes the lines that tell a reply after the text. Where it is refused, part of them may stand
+// there.
+fn put_text(out: &mut Vec<u8>, reply: &Reply) -> Result<(), AllocError>
+    ensures { Appends out.old.items out.new.items result (reply_text reply.now) }
 {
     match reply {
         Reply::Done => out.extend_from_slice(b"ok\n"),
         Reply::Nothing => out.extend_from_slice(b"none\n"),
         Reply::Value(value) => put_value(out, value.as_slice()),
+        Reply::Snapshot(number) => put_snapshot(out, *number),
+        Reply::Walk(steps) => put_steps(out, steps),
         Reply::Refused(status) => put_refusal(out, status.code),
     }
 }
 
-// Writes the line that tells a value behind the text.
+// Writes the line that tells a value after the text.
 fn put_value(out: &mut Vec<u8>, value: &[u8]) -> Result<(), AllocError>
     ensures { Appends out.old.items out.new.items result
         (codes "value " ++ hex_word value.now ++ codes "\n") }
@@ -56,10 +57,51 @@ fn put_value(out: &mut Vec<u8>, value: &[u8]) -> Result<(), AllocError>
     out.extend_from_slice(b"\n")
 }
 
-// Writes the line that tells a refusal behind the text.
-fn put_refusal(out: &mut Vec<u8>, code: StatusCode) -> Result<(), AllocError>
+// Writes the line that tells a snapshot's number after the text.
+fn put_snapshot(out: &mut Vec<u8>, number: usize) -> Result<(), AllocError>
     ensures { Appends out.old.items out.new.items result
-        (codes "refused " ++ code_text code ++ codes "\n") }
+        (codes "snapshot " ++ decimal number ++ codes "\n") }
+{
+    let line = format!(in *out.allocator(); "snapshot {number}\n")?;
+    out.extend_from_slice(line.as_bytes())
+}
+
+// Writes the lines that tell where moves led after the text.
+fn put_steps(out: &mut Vec<u8>, steps: &[Step]) -> Result<(), AllocError>
+    ensures { Appends out.old.items out.new.items result (flat_map step_line steps.now) }
+{
+    for step in steps {
+        put_step(out, step)?;
+    }
+    Ok(())
+}
+
+// Writes the line that tells where a move led after the text.
+fn put_step(out: &mut Vec<u8>, step: &Step) -> Result<(), AllocError>
+    ensures { Appends out.old.items out.new.items result (step_line step.now) }
+{
+    match step {
+        Step::At(key, value) => put_pair(out, key, value),
+        Step::Invalid => out.extend_from_slice(b"invalid\n"),
+        Step::Refused(status) => put_refusal(out, status.code),
+    }
+}
+
+// Writes the line that tells a pair after the text.
+fn put_pair(out: &mut Vec<u8>, key: &[u8], value: &[u8]) -> Result<(), AllocError>
+    ensures { Appends out.old.items out.new.items result
+        (codes "at " ++ hex_word key.now ++ codes " " ++ hex_word value.now ++ codes "\n") }
+{
+    out.extend_from_slice(b"at ")?;
+    put_word(out, key)?;
+    out.extend_from_slice(b" ")?;
+    put_word(out, value)?;
+    out.extend_from_slice(b"\n")
+}
+
+// Writes the line that tells a refusal after the text.
+fn put_refusal(out: &mut Vec<u8>, code: StatusCode) -> Result<(), AllocError>
+    ensures { Appends out.old.items out.new.items result (refusal_line code) }
 {
     let line = format!(in *out.allocator(); "refused {code}\n")?;
     out.extend_from_slice(line.as_bytes())

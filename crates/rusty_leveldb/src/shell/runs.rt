@@ -9,18 +9,21 @@ ghost use Rattle.leveldb_store.specs.BuildTable.{choices_of};
 ghost use Rattle.leveldb_version.specs.Format.{format_of};
 ghost use Rattle.leveldb_store.specs.Room.{FailsFor};
 ghost use Rattle.leveldb_store.specs.SoundCall.{TimeGoesOn};
-ghost use Rattle.rusty_leveldb.specs.Serves.{done_or};
+ghost use Rattle.rusty_leveldb.specs.Serves.{done_or, found_or, snapshot_of};
 ghost use Rattle.rusty_leveldb.specs.State as machine;
-ghost use Rattle.rusty_leveldb.specs.Shell.{HasRun, request_of, answer_of, change_of};
+ghost use Rattle.rusty_leveldb.specs.Shell.{HasRun, AnswersCommand, IsReplyOf, change_of};
 
 use super::commands::{Command, Item, Reply};
+use super::views::{get_at, release, take, walk};
 use crate::db_impl::Engine;
+use bytes::Bytes;
 use leveldb_base::cmp::{Cmp, InternalKeyCmp, UserCmp};
 use leveldb_base::error::{Result, StatusCode};
 use leveldb_env::compressor::{CompressorList, Compressors};
 use leveldb_env::env::Env;
 use leveldb_env::filter::{FilterPolicy, InternalFilterPolicy};
 use leveldb_env::options::Options;
+use leveldb_iter::snapshot::Snapshot;
 use leveldb_mem::write_batch::WriteBatch;
 use std::alloc::Global;
 
@@ -52,25 +55,27 @@ pub fn run<E: Env, C: UserCmp + Copy, FP: FilterPolicy + Copy>(
     let alloc = *replies.allocator();
     replies.reserve(commands.len())?;
     let mut engine = Engine::open(alloc, name, env, opt)?;
+    let mut taken = Vec::new(alloc);
     for command in commands {
         replies
-            .push(answer(alloc, &mut engine, env, command))
+            .push(answer(alloc, &mut engine, env, &mut taken, command))
             .unwrap();
     }
     engine.abandon(env)
 }
 
-// What a command is answered.
+// What a command is answered, after these snapshots were taken.
 pub(super) fn answer<E: Env, C: UserCmp + Copy, FP: FilterPolicy + Copy>(
     alloc: Global,
     engine: &mut Engine<E, C, FP>,
     env: &mut E,
+    taken: &mut Vec<Snapshot>,
     command: &Command,
 ) -> Reply
     ensures step { let formats = format_of C.Cmp FP.FilterPolicy
         ⟦<CompressorList as Compressors>⟧.codings in
-        Answers E.Env formats (Some engine.old) env.old (request_of command.now)
-        (answer_of result) (Some engine.new) env.new }
+        AnswersCommand E.Env formats engine.old env.old (map snapshot_of taken.old.items)
+        command.now result engine.new env.new (map snapshot_of taken.new.items) }
     ensures later { E.failures env.old ≤ E.failures env.new }
     ensures time { TimeGoesOn E.Env env.old env.new }
 {
@@ -78,9 +83,15 @@ pub(super) fn answer<E: Env, C: UserCmp + Copy, FP: FilterPolicy + Copy>(
         Command::Put(key, value) => reply_of(engine.put(env, key, value)),
         Command::Delete(key) => reply_of(engine.delete(env, key)),
         Command::Write { sync, items } => reply_of(write(alloc, engine, env, items, *sync)),
-        Command::Get(key) => match engine.get(env, key) {
-            Ok(Some(value)) => Reply::Value(value),
-            Ok(None) => Reply::Nothing,
+        Command::Get(key) => looked_up(engine.get(env, key)),
+        Command::Snap => match take(engine, taken) {
+            Ok(number) => Reply::Snapshot(number),
+            Err(status) => Reply::Refused(status),
+        },
+        Command::GetAt(number, key) => looked_up(get_at(engine, env, taken, *number, key)),
+        Command::Release(number) => reply_of(release(engine, taken, *number)),
+        Command::Walk(at, moves) => match walk(alloc, engine, env, taken, *at, moves) {
+            Ok(steps) => Reply::Walk(steps),
             Err(status) => Reply::Refused(status),
         },
         Command::Flush => reply_of(engine.flush(env)),
@@ -90,10 +101,21 @@ pub(super) fn answer<E: Env, C: UserCmp + Copy, FP: FilterPolicy + Copy>(
 
 // Done, or refused.
 fn reply_of(answer: Result<()>) -> Reply
-    ensures { answer_of result ≡ done_or answer }
+    ensures { (taken : List machine.Snapshot) → IsReplyOf taken result (done_or answer) }
 {
     match answer {
         Ok(()) => Reply::Done,
+        Err(status) => Reply::Refused(status),
+    }
+}
+
+// What was found, or refused.
+fn looked_up(answer: Result<Option<Bytes>>) -> Reply
+    ensures { (taken : List machine.Snapshot) → IsReplyOf taken result (found_or answer) }
+{
+    match answer {
+        Ok(Some(value)) => Reply::Value(value),
+        Ok(None) => Reply::Nothing,
         Err(status) => Reply::Refused(status),
     }
 }

@@ -1,16 +1,17 @@
 //! The words of the command language: bytes as pairs of lower case digits, and a full stop for
-//! none.
-ghost use Rattle.std.specs.Prelude.{◌≡◌, ◌∷◌, ◌++◌, [], List, ℕ, IfOk, OnOk, MatchOption, Contains};
+//! none; and numbers.
+ghost use Rattle.std.specs.Prelude.{◌≡◌, ◌≢◌, ◌∷◌, ◌++◌, [], List, ℕ, IfOk, OnOk, MatchOption, Contains};
 ghost use Rattle.hex.specs.Hex.{encode_lower, IsBytes};
 ghost use Rattle.rusty_leveldb.specs.Language.{hex_word, Appends};
-ghost use Rattle.rusty_leveldb.specs.Spelling.{IsWord, IsWordReading};
+ghost use Rattle.rusty_leveldb.specs.Spelling.{IsWord, IsWordReading, IsNumberReading};
 
 use hex::FromHexError;
 use std::alloc::{AllocError, Global};
+use std::str;
 
 const DIGITS: &[u8; 16] = b"0123456789abcdef";
 
-/// Writes bytes as a word behind the text. Where it is refused, for want of memory, part of the
+/// Writes bytes as a word after the text. Where it is refused, for want of memory, part of the
 /// word may stand there.
 pub(super) fn put_word(out: &mut Vec<u8>, bytes: &[u8]) -> Result<(), AllocError>
     ensures { Appends out.old.items out.new.items result (hex_word bytes.now) }
@@ -66,12 +67,34 @@ fn read_digits(alloc: Global, word: &[u8]) -> Result<Option<Vec<u8>>, AllocError
     }
 }
 
-/// What stands before the first of these bytes in a text, and what stands behind it, where there is
+/// The number that decimal digits are, zeros before it left aside; none where the text isn't digits
+/// alone, or their number has more than 64 bits.
+pub(super) fn read_number(digits: &[u8]) -> Option<usize>
+    ensures { IsNumberReading digits.now result }
+{
+    let Ok(text) = str::from_utf8(digits) else {
+        return None;
+    };
+    if text.starts_with('+') {
+        return None;
+    }
+    text.parse().ok()
+}
+
+/// What comes after these bytes, where a text begins with them.
+pub(super) fn after<'a>(text: &'a [u8], head: &[u8]) -> Option<&'a [u8]>
+    ensures { MatchOption result ((rest : List ℕ) → text.now ≢ head.now ++ rest)
+        (λ rest. text.now ≡ head.now ++ rest.now) }
+{
+    text.strip_prefix(head)
+}
+
+/// What stands before the first of these bytes in a text, and what comes after it, where there is
 /// one.
 pub(super) fn split_once(text: &[u8], separator: u8) -> (&[u8], Option<&[u8]>)
     ensures before { Contains result.0.now separator → ⊥ }
     ensures parts { MatchOption result.1 (result.0.now ≡ text.now)
-        (λ behind. text.now ≡ result.0.now ++ separator ∷ behind.now) }
+        (λ rest. text.now ≡ result.0.now ++ separator ∷ rest.now) }
 {
     for (place, byte) in text.iter().enumerate() {
         if *byte == separator {

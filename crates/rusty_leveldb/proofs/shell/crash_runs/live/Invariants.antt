@@ -1,8 +1,9 @@
-use Rattle.std.proofs.Common.{◌≤◌, ◌+◌, ◌-◌, ℕ, List, length, take, vec_len, vec_capacity}
+use Rattle.std.proofs.Common.{◌≤◌, ◌+◌, ◌-◌, ℕ, List, length, map, take, vec_len, vec_capacity}
 use Rattle.leveldb_env.specs.contracts.mem_env.record.RecordEnvEnv.TheImpl.{ghosts}
 use Rattle.leveldb_env.specs.Record.{moment_of}
 use Rattle.leveldb_env.specs.contracts.compressor.CompressorListCompressors.TheImpl.{ghosts as compressors}
 use Rattle.rusty_leveldb.specs.Engine.{opening_of}
+use Rattle.rusty_leveldb.specs.Serves.{snapshot_of}
 use Rattle.leveldb_version.specs.Format.{format_of}
 use Rattle.rusty_leveldb.proofs.Living.{Given, LivesSoFar}
 use Rattle.rusty_leveldb.proofs.shell.crash_runs.live.Given as goal
@@ -12,4 +13,4 @@ invariant-loop-command g l =
     (moment_of l.fn.env ≤ moment_of l.env)
     × (vec_len l.replies + (length l.commands - l.command-index) ≤ vec_capacity l.replies)
     × (given : List ℕ) × Given (moment_of l.fn.env) l.replies.items given
-    × LivesSoFar g.row.C.Denot g.row.FP.Denot ghosts (format_of g.C.Cmp g.FP.FilterPolicy (compressors g.dyn-2).codings) l.name l.fn.env (opening_of g.C.Cmp g.FP.FilterPolicy (compressors g.dyn-2).codings l.fn.options) (take l.command-index l.commands) l.replies.items given l.engine l.env
+    × LivesSoFar g.row.C.Denot g.row.FP.Denot ghosts (format_of g.C.Cmp g.FP.FilterPolicy (compressors g.dyn-2).codings) l.name l.fn.env (opening_of g.C.Cmp g.FP.FilterPolicy (compressors g.dyn-2).codings l.fn.options) (take l.command-index l.commands) l.replies.items (map snapshot_of l.taken.items) given l.engine l.env

@@ -1,15 +1,14 @@
 use Rattle.std.proofs.Common.{◌≡◌, ◌∷◌, ◌++◌, List, length}
 use Rattle.std.specs.Prelude.{All}
 use Rattle.rusty_leveldb.specs.declared.shell.commands.Item.{Item}
-use Rattle.rusty_leveldb.specs.Language.{ItemHasBytes}
-use Rattle.rusty_leveldb.specs.Spelling.{IsItems, items_text}
-use Rattle.rusty_leveldb.proofs.Lines.{rest_text}
+use Rattle.rusty_leveldb.specs.Language.{item_word, words_text, ItemHasBytes}
+use Rattle.rusty_leveldb.specs.Spelling.{IsItems, rest_text}
 use Rattle.rusty_leveldb.proofs.shell.lines.read_words.Given as goal
 
 abbrev pub invariant-loop-rest : goal.invariant-loop-rest
 invariant-loop-rest l = record {
   bytes : All ItemHasBytes l.items.items;
-  text_is : 32 ∷ l.fn.words ≡ items_text l.items.items ++ rest_text l.rest;
+  text_is : 32 ∷ l.fn.words ≡ words_text item_word l.items.items ++ rest_text l.rest;
   others : (all : List Item) → IsItems (32 ∷ l.fn.words) all → (left : List Item) × IsItems (rest_text l.rest) left;
 }
 

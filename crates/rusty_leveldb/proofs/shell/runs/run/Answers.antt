@@ -1,4 +1,4 @@
-use Rattle.std.proofs.Common.{rules, ◌≡◌, ◌++◌, ◌∷◌, [], length, take, drop, refl, ◌∙◌, ap, arith, append_assoc, length-append}
+use Rattle.std.proofs.Common.{rules, ◌≡◌, ◌++◌, ◌∷◌, [], length, map, take, drop, refl, ◌∙◌, ap, arith, append_assoc, length-append}
 use Rattle.std.proofs.Math.Seq.{drop-length, drop-append_seam}
 use Rattle.std.proofs.lemmas.List.{take_all}
 use Rattle.std.proofs.lemmas.Result.{err_from_is_err_and}
@@ -7,6 +7,7 @@ use Rattle.rusty_leveldb.proofs.UnopenedLemmas.{given_back_under}
 use Rattle.leveldb_env.proofs.FilterBlockLemmas.{on_ok}
 use Rattle.rusty_leveldb.proofs.Playing.{abandon_fails, play_first, play_more, play_end, not_opened, not_begun, commands_up_to}
 use Rattle.rusty_leveldb.specs.Engine.{opening_of}
+use Rattle.rusty_leveldb.specs.Serves.{snapshot_of}
 use Rattle.leveldb_version.specs.Format.{format_of}
 use Rattle.rusty_leveldb.proofs.shell.runs.run.Goals as goal
 
@@ -44,7 +45,7 @@ loop-command-init g c = (
   [],
   search rules,
   refl,
-  play_first g.row.C.Denot g.row.FP.Denot g.E.Env (format_of g.C.Cmp g.FP.FilterPolicy (compressors g.dyn-2).codings) (g.met.E.Env.only_now, g.met.E.Env.counts_now) c.args.name.now c.args.env.now c.open.new.env (opening_of g.C.Cmp g.FP.FilterPolicy (compressors g.dyn-2).codings c.args.opt) c.in_ok-engine.engine c.in_ok-engine.ensures.step,
+  rw (c.new-taken.ensures.items) (play_first g.row.C.Denot g.row.FP.Denot g.E.Env (format_of g.C.Cmp g.FP.FilterPolicy (compressors g.dyn-2).codings) (g.met.E.Env.only_now, g.met.E.Env.counts_now) c.args.name.now c.args.env.now c.open.new.env (opening_of g.C.Cmp g.FP.FilterPolicy (compressors g.dyn-2).codings c.args.opt) c.in_ok-engine.engine c.in_ok-engine.ensures.step),
   c.in_ok-engine.ensures.time,
 )
 
@@ -59,7 +60,7 @@ loop-command-preserved g c =
     let pushed : c.push.new.self.items ≡ c.loop-command.replies.items ++ reply ∷ [] = search rules in
     let step = c.answer.ensures.step in
     let more = play_more g.row.C.Denot g.row.FP.Denot g.E.Env (format_of g.C.Cmp g.FP.FilterPolicy (compressors g.dyn-2).codings) (g.met.E.Env.only_now, g.met.E.Env.counts_now) c.args.name.now c.args.env.now c.loop-command.env c.answer.new.env (opening_of g.C.Cmp g.FP.FilterPolicy (compressors g.dyn-2).codings c.args.opt)
-    (take c.loop-command.command-index c.args.commands.now) so_far.2 c.loop-command.engine c.answer.new.engine command reply so_far.5 step in
+    (take c.loop-command.command-index c.args.commands.now) so_far.2 (map snapshot_of c.loop-command.taken.items) (map snapshot_of c.answer.new.taken.items) c.loop-command.engine c.answer.new.engine command reply so_far.5 step in
     let behind = commands_up_to c.args.commands.now c.loop-command.command-index command c.loop-command-test.true c.command-item.is in (
       search rules,
       search rules,
@@ -78,7 +79,7 @@ returns-clause-runs g c =
     let step = c.abandon.ensures.step in
     rw given (record {
       plays = play_end g.row.C.Denot g.row.FP.Denot g.E.Env (format_of g.C.Cmp g.FP.FilterPolicy (compressors g.dyn-2).codings) (g.met.E.Env.only_now, g.met.E.Env.counts_now) c.args.name.now c.args.env.now c.loop-command.env c.abandon.new.env (opening_of g.C.Cmp g.FP.FilterPolicy (compressors g.dyn-2).codings c.args.opt)
-          c.args.commands.now so_far.2 c.loop-command.engine c.abandon.result (rw all at so_far.5) step;
+          c.args.commands.now so_far.2 (map snapshot_of c.loop-command.taken.items) c.loop-command.engine c.abandon.result (rw all at so_far.5) step;
       unopened = λ modelled never. absurd (c.in_ok-engine.ensures.never_opens modelled never).0;
       misnamed = λ no. absurd (c.in_ok-engine.ensures.misnamed no).1;
     })

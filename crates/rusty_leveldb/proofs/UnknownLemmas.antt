@@ -1,0 +1,54 @@
+-- A snapshot that no store gives out is refused, as one that isn't held.
+use Rattle.std.proofs.Common.{◌≡◌, ◌<◌, ◌^◌, ℕ, List, map, ap, arith, inl, Some}
+use Rattle.leveldb_base.proofs.EntriesLemmas.{in_map}
+use Rattle.leveldb_base.specs.declared.error.Status.{Status}
+use Rattle.leveldb_base.specs.declared.error.StatusCode.TheVariants.{InvalidArgument}
+use Rattle.leveldb_env.specs.Options.{Boxed, OptionsOf}
+use Rattle.leveldb_env.specs.declared.env.Env.{Ghosts}
+use Rattle.leveldb_env.specs.declared.filter.FilterPolicy.{Ghosts as FilterGhosts}
+use Rattle.leveldb_iter.specs.Snapshot.{IsNewest}
+use Rattle.leveldb_iter.specs.declared.snapshot.Snapshot.{Snapshot as HeldSnapshot}
+use Rattle.leveldb_store.specs.BuildTable.{TableChoices}
+use Rattle.rusty_leveldb.specs.Boxes.{EngineOf, InternalOrder}
+use Rattle.rusty_leveldb.specs.Causes.{IsNotHeld}
+use Rattle.rusty_leveldb.specs.Engine.{RefusedAsClosed, formats_of, held_in, mode_in}
+use Rattle.rusty_leveldb.specs.Serves.{snapshot_of}
+use Rattle.rusty_leveldb.specs.State as machine
+use Rattle.rusty_leveldb.specs.State.{Snapshot}
+use Rattle.rusty_leveldb.specs.Views.{RefusesUnknown, no_snapshot}
+use Rattle.rusty_leveldb.proofs.ReadingLemmas.{get_closed, get_misfit}
+use Rattle.rusty_leveldb.proofs.SnapshotLemmas.{closed_releases, releases_none}
+use Rattle.rusty_leveldb.proofs.WalkingLemmas.{walk_closed, walk_unheld}
+
+-- it is held by no list whose numbers are of 64 bits
+pub unknown_unheld : (held : List HeldSnapshot) (newest : ℕ) → IsNewest held newest → newest < 2 ^ 64
+    → IsNotHeld (map snapshot_of held) (Some no_snapshot)
+unknown_unheld held newest is fits there =
+    let it = in_map snapshot_of held no_snapshot there in
+    let most = is.greatest it.0 it.1 in
+    let same : it.0.sequence ≡ 2 ^ 64 = ap (λ (s : Snapshot). s.sequence) it.2 in
+    absurd (omega (arith, most, same, fits))
+
+module _ {E C FP F P : Type 0} {B : Boxed} {keys : InternalOrder C} {key_filters : FilterGhosts P}
+    (env : Ghosts E F) (choices : OptionsOf C FP B → TableChoices keys key_filters)
+    (engine : EngineOf E C FP F B keys) (status : Status) where
+  -- a closed store
+  pub unknown_closed : RefusedAsClosed (mode_in engine) status
+      → RefusesUnknown env choices engine status
+  unknown_closed out = record {
+    get_at = λ key. get_closed env (formats_of choices) engine (Some no_snapshot) key status out;
+    release = λ at. (closed_releases env choices engine no_snapshot status at out).step;
+    walk = λ moves. walk_closed env (formats_of choices) engine (Some no_snapshot) moves status out;
+  }
+
+  -- one that isn't
+  pub unknown_refused : (mode_in engine ≡ machine.closed → ⊥) → status.code ≡ InvalidArgument
+      → IsNotHeld (held_in engine) (Some no_snapshot) → RefusesUnknown env choices engine status
+  unknown_refused usable code unheld = record {
+    get_at = λ key. get_misfit env (formats_of choices) engine (Some no_snapshot) key usable status
+        code (inl unheld);
+    release = λ at. (releases_none env choices engine usable no_snapshot status at
+        (code, unheld)).step;
+    walk = λ moves. walk_unheld env (formats_of choices) engine (Some no_snapshot) moves usable
+        status code unheld;
+  }

@@ -1,0 +1,141 @@
+-- What a call does that makes moves of a walk, put together.
+use Rattle.std.specs.Prelude.{IfErr, OnErr, Result, string_bytes}
+use Rattle.std.proofs.Common.{◌≡◌, ◌≤◌, inl, inr, ℕ, Bool, List, [], refl, sym, ap, subst, arith, Option, Ok, Err}
+use Rattle.leveldb_base.specs.Error.{IsOutOfMemory}
+use Rattle.leveldb_base.specs.declared.error.Status.{Status}
+use Rattle.leveldb_base.specs.declared.error.StatusCode.TheVariants.{InvalidArgument}
+use Rattle.leveldb_env.specs.Options.{Boxed, OptionsOf}
+use Rattle.leveldb_env.specs.declared.env.Env.{Ghosts}
+use Rattle.leveldb_env.specs.declared.filter.FilterPolicy.{Ghosts as FilterGhosts}
+use Rattle.leveldb_iter.specs.declared.moves.Move.{Move}
+use Rattle.leveldb_iter.specs.declared.moves.Step.{Step}
+use Rattle.leveldb_version.specs.TableCache.{table_options}
+use Rattle.leveldb_version.specs.declared.table_cache.TableCache.{TableCache}
+use Rattle.leveldb_store.specs.BuildTable.{TableChoices}
+use Rattle.leveldb_store.specs.View.{WalksStore}
+use Rattle.rusty_leveldb.specs.Boxes.{EngineOf, InternalOrder}
+use Rattle.rusty_leveldb.specs.Calls.{IsLockLeft}
+use Rattle.rusty_leveldb.specs.Causes.{IsNotHeld}
+use Rattle.rusty_leveldb.specs.Engine.{RefusedAsClosed, WalkExcused, formats_of, held_in, holds_lock, mode_in, options_in, tables_by, ReadsAt}
+use Rattle.rusty_leveldb.specs.State as machine
+use Rattle.rusty_leveldb.specs.State.{Request, Snapshot}
+use Rattle.rusty_leveldb.specs.Walks.{EngineWalks, walk_of}
+use Rattle.rusty_leveldb.proofs.Others.{spares_same}
+use Rattle.rusty_leveldb.proofs.RestLemmas.{rest_still}
+use Rattle.rusty_leveldb.proofs.WalkingLemmas.{walk_closed, walk_goes, walk_starved, walk_unheld, walk_unsupported}
+
+module _ {E C FP F P : Type 0} {B : Boxed} {keys : InternalOrder C} {key_filters : FilterGhosts P}
+    (env : Ghosts E F) (choices : OptionsOf C FP B → TableChoices keys key_filters)
+    (before : EngineOf E C FP F B keys) (at : Option Snapshot) (moves : List Move) (from : E) where
+  -- a call that makes no walk fails for this
+  unmade : (status : Status) → WalkExcused before at status
+      → (env.failures from ≤ env.failures from) × WalkExcused before at status
+  unmade status why = (omega arith, why)
+
+  pub walk_closed_serves : (status : Status) → RefusedAsClosed (mode_in before) status
+      → EngineWalks env choices before from at moves [] (Err status) before from
+  walk_closed_serves status why = record {
+    serves = record {
+      options = record { rest = refl; sink = refl };
+      halted = λ halted. (refl, refl, inl why);
+      becomes = (refl, refl);
+      step = walk_closed env (formats_of choices) before at moves status why from;
+      rest = rest_still env before from (walk_of at moves) (Err status) (inr (status, refl));
+      time = λ modelled. omega arith;
+      cause = unmade status (inl why);
+    };
+    refused = tt;
+    unsupported = λ modelled store meaning state represents. tt;
+    none = refl;
+  }
+
+  module _ (usable : mode_in before ≡ machine.closed → ⊥) where
+    pub walk_unheld_serves : (status : Status) → status.code ≡ InvalidArgument → IsNotHeld (held_in before) at
+        → EngineWalks env choices before from at moves [] (Err status) before from
+    walk_unheld_serves status code unheld = record {
+      serves = record {
+        options = record { rest = refl; sink = refl };
+        halted = λ halted. absurd (usable halted);
+        becomes = (refl, refl);
+        step = walk_unheld env (formats_of choices) before at moves usable status code unheld from;
+        rest = rest_still env before from (walk_of at moves) (Err status) (inr (status, refl));
+        time = λ modelled. omega arith;
+        cause = unmade status (inr (inl (code, unheld)));
+      };
+      refused = tt;
+      unsupported = λ modelled store meaning state represents. tt;
+      none = refl;
+    }
+
+    pub walk_starved_serves : (status : Status) → IsOutOfMemory status
+        → EngineWalks env choices before from at moves [] (Err status) before from
+    walk_starved_serves status out = record {
+      serves = record {
+        options = record { rest = refl; sink = refl };
+        halted = λ halted. absurd (usable halted);
+        becomes = (refl, refl);
+        step = walk_starved env (formats_of choices) before at moves usable status out from;
+        rest = rest_still env before from (walk_of at moves) (Err status) (inr (status, refl));
+        time = λ modelled. omega arith;
+        cause = unmade status (inr (inr out));
+      };
+      refused = tt;
+      unsupported = λ modelled store meaning state represents. tt;
+      none = refl;
+    }
+
+    module _ (sequence : ℕ) (reads_at : ReadsAt before at sequence) (to : E) (left : TableCache E C FP F keys) (given : List Step)
+        (result : Result (Unit {0}) Status)
+        (walks : WalksStore env (tables_by (formats_of choices) before) before.store from before.tables sequence moves given result to left) where
+      -- the engine in the end
+      abbrev walked_engine : EngineOf E C FP F B keys
+      walked_engine = record before { options = options_in before; tables = left }
+
+      locks_stay : (r : Result (Unit {0}) Status) (now was : Bool) → now ≡ was → IsLockLeft (walk_of at moves) r was now
+      locks_stay (Ok done) now was same = (same, tt)
+      locks_stay (Err status) now was same = (tt, same)
+
+      caused : (r : Result (Unit {0}) Status) → IfErr r (λ e. IsOutOfMemory e × (given ≡ []) × (to ≡ from) × (left ≡ before.tables))
+          → IfErr r (WalkExcused before at)
+      caused (Ok done) none = tt
+      caused (Err status) none = inr (inr none.0)
+
+      steps_none : (r : Result (Unit {0}) Status) → IfErr r (λ e. IsOutOfMemory e × (given ≡ []) × (to ≡ from) × (left ≡ before.tables))
+          → OnErr r (given ≡ [])
+      steps_none (Ok done) none = tt
+      steps_none (Err status) none = none.1
+
+      walk_serves : EngineWalks env choices before from at moves given result walked_engine to
+      walk_serves = record {
+        serves = record {
+          options = record { rest = refl; sink = refl };
+          halted = λ halted. absurd (usable halted);
+          becomes = (refl, refl);
+          step = walk_goes env (formats_of choices) before at moves usable sequence reads_at from to left given result walks;
+          rest = record {
+            place = (refl, refl);
+            others = λ modelled own. spares_same before.store.set.store (env.observed from).disk (env.observed to).disk _ (walks.kept.disk modelled).has
+                (λ path differs. ap (λ (l : List ℕ → Bool). l path) (walks.kept.locks modelled));
+            lock = λ modelled. locks_stay result (holds_lock env before to) (holds_lock env before from)
+                (ap (λ (l : List ℕ → Bool). l (string_bytes before.lock)) (walks.kept.locks modelled));
+          };
+          time = λ modelled. (walks.kept.disk modelled).time.later;
+          cause = (walks.later, caused result walks.none);
+        };
+        refused = walks.refused;
+        unsupported = λ modelled store meaning state represents. walk_unsupported env (formats_of choices) before at moves usable sequence reads_at from to left given result walks
+            store meaning modelled state represents;
+        none = steps_none result walks.none;
+      }
+
+    -- the same where the options were given the store's order before the walk
+    pub walk_serves_in : (cmp : C) → cmp ≡ before.store.cmp → (sequence : ℕ) → ReadsAt before at sequence → (to : E) (left : TableCache E C FP F keys) (given : List Step)
+        (result : Result (Unit {0}) Status)
+        → (let options : OptionsOf C FP B = record before.options { cmp = cmp } in
+        WalksStore env (table_options (formats_of choices options) options) before.store from before.tables sequence moves given result to left)
+        → EngineWalks env choices before from at moves given result (record before { options = record before.options { cmp = cmp }; tables = left }) to
+    walk_serves_in cmp same sequence reads_at to left given result walks =
+        subst (λ (c : C). EngineWalks env choices before from at moves given result (record before { options = record before.options { cmp = c }; tables = left }) to) (sym same)
+        (walk_serves sequence reads_at to left given result (subst (λ (c : C).
+        let options : OptionsOf C FP B = record before.options { cmp = c } in
+        WalksStore env (table_options (formats_of choices options) options) before.store from before.tables sequence moves given result to left) same walks))

@@ -1,0 +1,4 @@
+use Rattle.rusty_leveldb.proofs.db_impl.store.Store+E+Engine+E+C+FP.new_iter_at.Goals as goal
+
+pub returns : goal.returns
+returns g c = c.new_iter_at.ensures.iterates

@@ -1,0 +1,9 @@
+use Rattle.std.proofs.Common.{refl}
+use Rattle.leveldb_base.specs.Types.{next_position}
+use Rattle.rusty_leveldb.specs.Iterator.{no_cause}
+use Rattle.rusty_leveldb.proofs.IteratorLemmas.{moved}
+use Rattle.rusty_leveldb.proofs.db_iter.StoreIterator.advance.Goals as goal
+
+pub returns-clause-moves : goal.returns-clause-moves
+returns-clause-moves g c = moved g.E.Env g.met.E.Env.counts g.C.Cmp g.FP.FilterPolicy g.K.Compressors.codings g.V.Walk no_cause
+    (λ _. next_position) c.args.self.now _ refl _ (λ laws order pairs position at. at) c.advance.result c.advance.ensures.moves

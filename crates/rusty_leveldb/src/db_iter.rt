@@ -1,0 +1,166 @@
+//! Iterators over a store's view.
+ghost use Rattle.std.specs.Prelude.{◌≡◌, None, IfErr, IfOk, IsErrAnd, is_some};
+ghost use Rattle.leveldb_base.specs.Error.{IsOutOfMemory};
+ghost use Rattle.leveldb_base.specs.Types.{copied_pair, last_position, next_position, pair_of, position_within, previous_position, seek_position};
+ghost use Rattle.leveldb_base.specs.declared.error.StatusCode.TheVariants.{InvalidArgument};
+ghost use Rattle.rusty_leveldb.specs.Causes.{IsLongKey};
+
+use leveldb_base::cmp::{Cmp, InternalKeyCmp, UserCmp};
+use leveldb_base::error::{Result, StatusCode, err};
+use leveldb_env::compressor::{CompressorList, Compressors};
+use leveldb_env::env::Env;
+use leveldb_env::filter::FilterPolicy;
+use leveldb_iter::walk::Walk;
+use leveldb_store::open_store::StoreView;
+use leveldb_version::table_cache::{ReadTables, ReadsTables};
+use std::alloc::Global;
+
+/// The greatest length of a key, in bytes.
+const MAX_KEY_SIZE: usize = 1 << 30;
+
+/// An iterator over the pairs of a store, in the order of their keys, as the store was when the
+/// iterator was made, or at a snapshot. It is at one of the pairs or at no position. A move that
+/// fails leaves no position, and the iterator can go on from there.
+///
+/// It borrows the store: until it ends nothing else is done with that. `DBIterator` is what a store
+/// gives. `K` are the compressors by which tables are read, and `V` is the view.
+#[derive(Drop)]
+pub struct StoreIterator<'a, E: Env, C: UserCmp + Copy + Drop, FP: FilterPolicy + Copy + Drop, K, V>
+where
+    InternalKeyCmp<C>: Cmp,
+{
+    pub(crate) alloc: Global,
+    pub(crate) view: V,
+    pub(crate) env: &'a mut E,
+    pub(crate) tables: ReadTables<'a, E, C, FP, K>,
+}
+
+/// The open tables of a store, as its iterators read them.
+pub type StoreTables<'a, E, C, FP> = ReadTables<'a, E, C, FP, CompressorList>;
+
+/// An iterator over the pairs of a store.
+pub type DBIterator<'a, E, C, FP> = StoreIterator<'a, E, C, FP, CompressorList, StoreView<'a, C>>;
+
+impl<
+    'a,
+    E: Env,
+    C: UserCmp + Copy + Drop,
+    FP: FilterPolicy + Copy + Drop,
+    K: ReadsTables<E, C, FP>,
+    V: Walk<E, ReadTables<'a, E, C, FP, K>>,
+> StoreIterator<'a, E, C, FP, K, V> {
+    ghost use Rattle.rusty_leveldb.specs.Iterator.{MovesIterator, moved, no_cause, pair_in};
+
+    /// Moves to the next pair, from no position to the first, and from the last to no position.
+    /// Returns whether it is at a pair.
+    pub fn advance(&mut self) -> Result<bool>
+        ensures moves { MovesIterator E.Env C.Cmp FP.FilterPolicy K.codings V.Walk no_cause
+            (λ _. next_position) self.old result self.new }
+        ensures valid { IfOk result (λ is_valid. is_valid ≡ is_some
+            (pair_in V.Walk self.new)) }
+    {
+        self.view.advance(self.env, &mut self.tables)
+    }
+
+    /// Moves to the pair before, and from the first or from no position to no position.
+    /// Returns whether it is at a pair.
+    pub fn prev(&mut self) -> Result<bool>
+        ensures moves { MovesIterator E.Env C.Cmp FP.FilterPolicy K.codings V.Walk no_cause
+            (λ _ _. previous_position) self.old result self.new }
+        ensures valid { IfOk result (λ is_valid. is_valid ≡ is_some
+            (pair_in V.Walk self.new)) }
+    {
+        self.view.prev(self.env, &mut self.tables)
+    }
+
+    /// Moves to the first pair whose key is at or after `key`, or to no position where all are
+    /// before it. A key of more than 2^30 bytes is `InvalidArgument`.
+    pub fn seek(&mut self, key: &[u8]) -> Result<()>
+        ensures moves { MovesIterator E.Env C.Cmp FP.FilterPolicy K.codings V.Walk
+            (λ e. (e.code ≡ InvalidArgument) × IsLongKey key.now)
+            (λ order pairs _. seek_position order pairs key.now) self.old result self.new }
+        ensures long { IsLongKey key.now → IsErrAnd result (λ e. e.code ≡ InvalidArgument) }
+    {
+        if key.len() > MAX_KEY_SIZE {
+            self.reset();
+            return err(
+                self.alloc,
+                StatusCode::InvalidArgument,
+                "a key has at most 2^30 bytes",
+            );
+        }
+        self.view.seek(self.env, &mut self.tables, key)
+    }
+
+    /// Moves to the first pair, or to no position in an empty store.
+    pub fn seek_to_first(&mut self) -> Result<()>
+        ensures { MovesIterator E.Env C.Cmp FP.FilterPolicy K.codings V.Walk no_cause
+            (λ _ pairs _. position_within pairs 0) self.old result self.new }
+    {
+        self.view.seek_to_first(self.env, &mut self.tables)
+    }
+
+    /// Moves to the last pair, or to no position in an empty store.
+    pub fn seek_to_last(&mut self) -> Result<()>
+        ensures { MovesIterator E.Env C.Cmp FP.FilterPolicy K.codings V.Walk no_cause
+            (λ _ pairs _. last_position pairs) self.old result self.new }
+    {
+        self.view.seek_to_last(self.env, &mut self.tables)
+    }
+
+    /// Moves as `advance` does, and returns a copy of the pair that it is then at. Where there is
+    /// no memory for the copy, it is at no position.
+    pub fn next(&mut self) -> Result<Option<(Vec<u8>, Vec<u8>)>>
+        ensures moves { MovesIterator E.Env C.Cmp FP.FilterPolicy K.codings V.Walk no_cause
+            (λ _. next_position) self.old result self.new }
+        ensures pair { IfOk result (λ copied. copied_pair copied
+            ≡ pair_in V.Walk self.new) }
+    {
+        if !self.advance()? {
+            return Ok(None);
+        }
+        match copy_pair(self.alloc, self.view.current()) {
+            Ok(pair) => Ok(pair),
+            Err(status) => {
+                self.reset();
+                Err(status)
+            }
+        }
+    }
+
+    /// Moves to no position.
+    pub fn reset(&mut self)
+        ensures moves { MovesIterator E.Env C.Cmp FP.FilterPolicy K.codings V.Walk no_cause
+            (λ _ _ _. None) self.old moved self.new }
+        ensures none { pair_in V.Walk self.new ≡ None }
+    {
+        self.view.reset();
+    }
+
+    /// The key and the value of the pair that it is at, borrowed until it moves or ends.
+    pub fn current(&self) -> Option<(&[u8], &[u8])>
+        ensures { pair_of result
+            ≡ pair_in V.Walk self.now }
+    {
+        self.view.current()
+    }
+
+    /// Whether it is at a pair.
+    pub fn valid(&self) -> bool
+        ensures { result ≡ is_some
+            (pair_in V.Walk self.now) }
+    {
+        self.view.valid()
+    }
+}
+
+// A copy of a pair.
+fn copy_pair(alloc: Global, pair: Option<(&[u8], &[u8])>) -> Result<Option<(Vec<u8>, Vec<u8>)>>
+    ensures ok { IfOk result (λ copied. copied_pair copied ≡ pair_of pair.entry) }
+    ensures cause { IfErr result IsOutOfMemory }
+{
+    match pair {
+        None => Ok(None),
+        Some((key, value)) => Ok(Some((key.to_vec(alloc)?, value.to_vec(alloc)?))),
+    }
+}
