@@ -1,7 +1,8 @@
-// Times look-ups in C++ LevelDB over an environment in memory, as db_bench's readrandom and readmissing do here: all entries are in tables, and as
-// many look-ups go before those that are timed.
+// Times look-ups, walks and seeks in C++ LevelDB over an environment in memory, as db_bench's readrandom, readmissing, readseq, readreverse and
+// seekrandom do here: all entries are in tables, and as much as is timed goes before it.
 //
 //     theirs COUNT CACHE_SIZE ROUNDS     prints, for each row, its name and the least nanoseconds an operation of the rounds
+#include <algorithm>
 #include <chrono>
 #include <cstdint>
 #include <cstdio>
@@ -74,6 +75,60 @@ double Get(const leveldb::Options& options, uint64_t count, bool missing) {
   return took.count() / static_cast<double>(count);
 }
 
+// Nanoseconds a pair of a walk over all of them, forward or back; a walk before it isn't timed.
+double Walk(const leveldb::Options& options, uint64_t count, bool back) {
+  auto db = Open(options);
+  std::unique_ptr<leveldb::Iterator> it(db->NewIterator(leveldb::ReadOptions()));
+  uint64_t bytes = 0;
+  auto start = Clock::now();
+  for (int turn = 0; turn < 2; ++turn) {
+    start = Clock::now();
+    bytes = 0;
+    if (back) {
+      for (it->SeekToLast(); it->Valid(); it->Prev()) bytes += it->key().size() + it->value().size();
+    } else {
+      for (it->SeekToFirst(); it->Valid(); it->Next()) bytes += it->key().size() + it->value().size();
+    }
+  }
+  std::chrono::duration<double, std::nano> took = Clock::now() - start;
+  if (bytes != 116 * count) {
+    std::fprintf(stderr, "theirs: %llu bytes\n", static_cast<unsigned long long>(bytes));
+    std::exit(1);
+  }
+  return took.count() / static_cast<double>(count);
+}
+
+// Nanoseconds a seek of keys at random; the first half isn't timed.
+double Seek(const leveldb::Options& options, uint64_t count) {
+  auto db = Open(options);
+  std::unique_ptr<leveldb::Iterator> it(db->NewIterator(leveldb::ReadOptions()));
+  std::mt19937_64 random(17);
+  uint64_t bytes = 0;
+  auto start = Clock::now();
+  for (uint64_t turn = 0; turn < 2 * count; ++turn) {
+    if (turn == count) {
+      bytes = 0;
+      start = Clock::now();
+    }
+    it->Seek(KeyOf(random() % count));
+    if (it->Valid()) bytes += it->value().size();
+  }
+  std::chrono::duration<double, std::nano> took = Clock::now() - start;
+  if (bytes != 100 * count) {
+    std::fprintf(stderr, "theirs: %llu bytes sought\n", static_cast<unsigned long long>(bytes));
+    std::exit(1);
+  }
+  return took.count() / static_cast<double>(count);
+}
+
+// The least of as many rounds.
+template <typename Row>
+void Print(const char* name, int rounds, Row row) {
+  double least = row();
+  for (int round = 1; round < rounds; ++round) least = std::min(least, row());
+  std::printf("%s %.1f\n", name, least);
+}
+
 }  // namespace
 
 int main(int argc, char** argv) {
@@ -91,13 +146,10 @@ int main(int argc, char** argv) {
   options.block_cache = cache.get();
   options.filter_policy = filter.get();
   Fill(options, count);
-  for (bool missing : {false, true}) {
-    double least = 0;
-    for (int round = 0; round < rounds; ++round) {
-      double took = Get(options, count, missing);
-      if (round == 0 || took < least) least = took;
-    }
-    std::printf("%s %.1f\n", missing ? "readmissing" : "readrandom", least);
-  }
+  Print("readrandom", rounds, [&] { return Get(options, count, false); });
+  Print("readmissing", rounds, [&] { return Get(options, count, true); });
+  Print("readseq", rounds, [&] { return Walk(options, count, false); });
+  Print("readreverse", rounds, [&] { return Walk(options, count, true); });
+  Print("seekrandom", rounds, [&] { return Seek(options, count); });
   return 0;
 }

@@ -8,6 +8,7 @@ use std::{env, io};
 
 mod block_rows;
 mod flags;
+mod iter_rows;
 mod keys;
 mod log_rows;
 mod mem_rows;

@@ -4,7 +4,7 @@ ghost use Rattle.db_bench.specs.Rows.{ops_of};
 
 use crate::flags::Scale;
 use crate::report::Run;
-use crate::{block_rows, log_rows, mem_rows, store_rows, sum_rows, table_rows};
+use crate::{block_rows, iter_rows, log_rows, mem_rows, store_rows, sum_rows, table_rows};
 use leveldb_base::error::Result;
 use std::alloc::Global;
 use std::time::Clock;
@@ -18,6 +18,9 @@ pub enum Row {
     Overwrite,
     ReadRandom,
     ReadMissing,
+    ReadSeq,
+    ReadReverse,
+    SeekRandom,
     Open,
     Crc32c,
     LogWrite,
@@ -55,13 +58,16 @@ pub struct Job {
 
 impl Row {
     /// All rows, in the order in which they run where no rows are named.
-    pub const ALL: [Row; 24] = [
+    pub const ALL: [Row; 27] = [
         Row::FillSeq,
         Row::FillSync,
         Row::FillRandom,
         Row::Overwrite,
         Row::ReadRandom,
         Row::ReadMissing,
+        Row::ReadSeq,
+        Row::ReadReverse,
+        Row::SeekRandom,
         Row::Open,
         Row::Crc32c,
         Row::LogWrite,
@@ -91,6 +97,9 @@ impl Row {
             Row::Overwrite => "overwrite",
             Row::ReadRandom => "readrandom",
             Row::ReadMissing => "readmissing",
+            Row::ReadSeq => "readseq",
+            Row::ReadReverse => "readreverse",
+            Row::SeekRandom => "seekrandom",
             Row::Open => "open",
             Row::Crc32c => "crc32c",
             Row::LogWrite => "logwrite",
@@ -157,6 +166,9 @@ fn run_once<K: Clock>(alloc: Global, clock: &K, db: &str, row: Row, job: Job) ->
         Row::Overwrite => store_rows::overwrite(alloc, clock, db, job),
         Row::ReadRandom => store_rows::read_at_random(alloc, clock, db, job),
         Row::ReadMissing => store_rows::read_missing(alloc, clock, db, job),
+        Row::ReadSeq => iter_rows::read_forward(alloc, clock, db, job),
+        Row::ReadReverse => iter_rows::read_backward(alloc, clock, db, job),
+        Row::SeekRandom => iter_rows::seek_at_random(alloc, clock, db, job),
         Row::Open => store_rows::open_again(alloc, clock, db, job),
         Row::Crc32c => sum_rows::crc32c(alloc, clock, job),
         Row::LogWrite => log_rows::write(alloc, clock, job),

@@ -121,7 +121,7 @@ fn get_all<K: Clock, E: Env>(
 }
 
 // An environment whose store of this name has each key, and is closed.
-fn filled<K: Clock>(alloc: Global, clock: &K, name: &str, job: Job) -> Result<MemEnv> {
+pub(crate) fn filled<K: Clock>(alloc: Global, clock: &K, name: &str, job: Job) -> Result<MemEnv> {
     let mut env = MemEnv::new(alloc);
     let unchecked = Job {
         checked: false,

@@ -2,5 +2,7 @@
 #![tactic(auto)]
 
 mod view;
+mod walk;
 
 pub use view::{BorrowedPair, Entry, look_up, view_of};
+pub use walk::{Landing, Move, is_walk};

@@ -9,7 +9,7 @@ ghost use Rattle.slow_machine.specs.Items.{item_of, entry_at};
 use leveldb_base::cmp::UserCmp;
 use leveldb_base::error::{Result, StatusCode, err};
 use leveldb_base::types::{MAX_SEQUENCE_NUMBER, SequenceNumber};
-use slow_history::{BorrowedPair, Entry, look_up, view_of};
+use slow_history::{BorrowedPair, Entry, Landing, Move, is_walk, look_up, view_of};
 use std::alloc::Global;
 
 /// A key given a value, or none, which deletes it.
@@ -67,6 +67,8 @@ struct State {
     history: Vec<usize>,
     covered: usize,
     held: Vec<Held>,
+    /// The numbers that were given to snapshots since the store was opened.
+    given: Vec<u64>,
     pending: Option<usize>,
     mode: Mode,
 }
@@ -77,6 +79,7 @@ impl State {
             history: self.history.clone()?,
             covered: self.covered,
             held: self.held.clone()?,
+            given: self.given.clone()?,
             pending: self.pending,
             mode: self.mode,
         })
@@ -92,8 +95,7 @@ impl State {
 
     /// With nothing held, in this mode, and with this batch at the end of the history, where there is one.
     fn bare(&self, mode: Mode, batch: Option<usize>) -> Result<State> {
-        let mut state = self.in_mode(mode, None)?;
-        state.held.clear();
+        let mut state = self.in_mode(mode, None)?.holding_nothing();
         if let Some(batch) = batch {
             state.history.push(batch)?;
         }
@@ -105,6 +107,13 @@ impl State {
         if all {
             self.covered = self.history.len();
         }
+        self
+    }
+
+    /// With no snapshot held, and none given.
+    fn holding_nothing(mut self) -> State {
+        self.held.clear();
+        self.given.clear();
         self
     }
 
@@ -163,6 +172,7 @@ impl SlowStore {
             history: Vec::new(alloc),
             covered: 0,
             held: Vec::new(alloc),
+            given: Vec::new(alloc),
             pending: None,
             mode: Mode::Closed,
         })?;
@@ -285,6 +295,11 @@ impl SlowStore {
         Ok(())
     }
 
+    /// Something was answered that no store answers.
+    pub fn was_impossible(&mut self) {
+        self.states.clear();
+    }
+
     /// A close was answered Ok.
     pub fn closed(&mut self) -> Result<()> {
         self.flushed()?;
@@ -295,9 +310,8 @@ impl SlowStore {
     pub fn abandoned(&mut self) -> Result<()> {
         let mut states = Vec::new(self.alloc);
         for state in &self.states {
-            let mut closed = state.in_mode(Mode::Closed, state.pending)?;
-            closed.held.clear();
-            add_state(&mut states, closed)?;
+            let closed = state.in_mode(Mode::Closed, state.pending)?;
+            add_state(&mut states, closed.holding_nothing())?;
         }
         self.states = states;
         Ok(())
@@ -328,14 +342,15 @@ impl SlowStore {
         Ok(())
     }
 
-    /// A snapshot was given out under this number.
+    /// A snapshot was given out under this number, which wasn't given before.
     pub fn gave_snapshot(&mut self, number: u64) -> Result<()> {
         let sequence = self.last;
         let mut states = Vec::new(self.alloc);
         for state in &self.states {
-            if state.mode != Mode::Closed && state.sequence_of(number).is_none() {
+            if state.mode != Mode::Closed && !state.given.contains(&number) {
                 let mut more = state.copy()?;
                 more.held.push(Held { number, sequence })?;
+                more.given.push(number)?;
                 states.push(more)?;
             }
         }
@@ -351,6 +366,18 @@ impl SlowStore {
                 let mut fewer = state.copy()?;
                 fewer.held.retain(|held| held.number != number);
                 states.push(fewer)?;
+            }
+        }
+        self.states = states;
+        Ok(())
+    }
+
+    /// A request of this snapshot was refused since the store doesn't hold it.
+    pub fn was_not_held(&mut self, number: u64) -> Result<()> {
+        let mut states = Vec::new(self.alloc);
+        for state in &self.states {
+            if state.sequence_of(number).is_none() {
+                states.push(state.copy()?)?;
             }
         }
         self.states = states;
@@ -379,6 +406,24 @@ impl SlowStore {
         let mut states = Vec::new(self.alloc);
         for state in &self.states {
             if state.mode != Mode::Closed && self.shows(cmp, state, at, pairs)? {
+                states.push(state.copy()?)?;
+            }
+        }
+        self.states = states;
+        Ok(())
+    }
+
+    /// Moves of an iterator, from no position on, led there, one after another, now or at a snapshot.
+    pub fn walked<C: UserCmp>(
+        &mut self,
+        cmp: &C,
+        at: Option<u64>,
+        moves: &[Move<'_>],
+        landings: &[Landing<'_>],
+    ) -> Result<()> {
+        let mut states = Vec::new(self.alloc);
+        for state in &self.states {
+            if state.mode != Mode::Closed && self.walks(cmp, state, at, moves, landings)? {
                 states.push(state.copy()?)?;
             }
         }
@@ -429,6 +474,21 @@ impl SlowStore {
         })
     }
 
+    /// The map that a state shows, now or at a snapshot, if it holds that.
+    fn map_at<C: UserCmp>(
+        &self,
+        cmp: &C,
+        state: &State,
+        at: Option<u64>,
+    ) -> Result<Option<Vec<BorrowedPair<'_>>>> {
+        let Some(sequence) = self.sequence_at(state, at) else {
+            return Ok(None);
+        };
+        let entries = self.entries_of(state)?;
+        let map = view_of(self.alloc, cmp, entries.as_slice(), sequence)?;
+        Ok(Some(map))
+    }
+
     fn shows<C: UserCmp>(
         &self,
         cmp: &C,
@@ -436,11 +496,23 @@ impl SlowStore {
         at: Option<u64>,
         pairs: &[BorrowedPair<'_>],
     ) -> Result<bool> {
-        let Some(sequence) = self.sequence_at(state, at) else {
-            return Ok(false);
-        };
-        let entries = self.entries_of(state)?;
-        let map = view_of(self.alloc, cmp, entries.as_slice(), sequence)?;
-        Ok(map.as_slice() == pairs)
+        Ok(match self.map_at(cmp, state, at)? {
+            Some(map) => map.as_slice() == pairs,
+            None => false,
+        })
+    }
+
+    fn walks<C: UserCmp>(
+        &self,
+        cmp: &C,
+        state: &State,
+        at: Option<u64>,
+        moves: &[Move<'_>],
+        landings: &[Landing<'_>],
+    ) -> Result<bool> {
+        Ok(match self.map_at(cmp, state, at)? {
+            Some(map) => is_walk(cmp, &map, moves, landings),
+            None => false,
+        })
     }
 }

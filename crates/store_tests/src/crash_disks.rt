@@ -8,7 +8,7 @@ use leveldb_env::env::whole_files::read_file;
 use leveldb_env::filter::BloomPolicy;
 use leveldb_env::mem_env::{Pick, RecordEnv};
 use leveldb_env::options::Options;
-use rusty_leveldb::shell::{Reply, Report, live, run};
+use rusty_leveldb::shell::{Reply, Report, Step as ShellStep, live, run};
 use slow_history::BorrowedPair;
 use slow_machine::SlowStore;
 use std::alloc::{AllocError, Global};
@@ -133,14 +133,30 @@ pub fn bytes_on(alloc: Global, env: &mut RecordEnv) -> Result<Vec<u8>> {
     Ok(all)
 }
 
-/// Out of memory, if the reply is that.
-fn check_memory(reply: &Reply) -> Result<()> {
-    match reply {
-        Reply::Refused(status) if status.code == StatusCode::OutOfMemory => {
-            Err(Status::from(AllocError))
-        }
+/// Out of memory, if this is that.
+fn check_status(status: &Status) -> Result<()> {
+    match status.code {
+        StatusCode::OutOfMemory => Err(Status::from(AllocError)),
         _ => Ok(()),
     }
+}
+
+/// Out of memory, if the reply is that, or a move of it was.
+fn check_memory(reply: &Reply) -> Result<()> {
+    match reply {
+        Reply::Refused(status) => check_status(status),
+        Reply::Walk(steps) => check_moves(steps),
+        _ => Ok(()),
+    }
+}
+
+fn check_moves(steps: &[ShellStep]) -> Result<()> {
+    for led in steps {
+        if let ShellStep::Refused(status) = led {
+            check_status(status)?;
+        }
+    }
+    Ok(())
 }
 
 /// Out of memory, if a call was.
@@ -203,7 +219,8 @@ pub fn add_calls(
     add_call(calls, Step::Abandon, Reply::Done, end)
 }
 
-fn record_life(alloc: Global, recorded: &mut Recorded, steps: &[Step]) -> Result<()> {
+/// Runs one more life on a device.
+pub fn record_life(alloc: Global, recorded: &mut Recorded, steps: &[Step]) -> Result<()> {
     let start = recorded.env.moment();
     let report = live(
         alloc,

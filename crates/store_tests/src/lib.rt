@@ -16,6 +16,8 @@ mod engines;
 #[cfg(test)]
 mod example;
 #[cfg(test)]
+mod iterators;
+#[cfg(test)]
 mod lives;
 #[cfg(test)]
 mod memory;
@@ -34,6 +36,8 @@ mod rooms;
 #[cfg(test)]
 mod rows;
 #[cfg(test)]
+mod snapshot_calls;
+#[cfg(test)]
 mod snapshots;
 #[cfg(test)]
 mod steps;
@@ -45,3 +49,5 @@ mod sweep;
 mod sweeps;
 #[cfg(test)]
 mod switches;
+#[cfg(test)]
+mod views;

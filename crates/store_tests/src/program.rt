@@ -7,7 +7,7 @@ use std::io::{self, Read, Write};
 use std::process::Abort;
 
 /// Lines that are no command.
-const BAD_LINES: [&[u8]; 32] = [
+const BAD_LINES: [&[u8]; 58] = [
     b"\n",
     b" ",
     b"get",
@@ -40,6 +40,32 @@ const BAD_LINES: [&[u8]; 32] = [
     b"write 0 61=31",
     b"write 1 +61",
     b"write 1 -61  -62",
+    b"snap 1",
+    b"snap ",
+    b"getat",
+    b"getat 0",
+    b"getat 0 ",
+    b"getat  61",
+    b"getat 61",
+    b"getat 0 6",
+    b"getat now 61",
+    b"getat -1 61",
+    b"getat +1 61",
+    b"getat 0x1 61",
+    b"getat 18446744073709551616 61",
+    b"getat 99999999999999999999 61",
+    b"release",
+    b"release ",
+    b"release x",
+    b"release 0 ",
+    b"walk",
+    b"walk ",
+    b"walk first",
+    b"walk now ",
+    b"walk now up",
+    b"walk now first  next",
+    b"walk 0 seek",
+    b"walk now seek=6",
 ];
 
 /// A count of newlines that are nowhere stored.
@@ -142,7 +168,7 @@ fn assert_ending(rt: &impl Abort, ending: &Ending, status: u8, out: &[u8], err: 
 }
 
 /// Runs the program over this disk, with input that is text, and compares how it ends.
-fn assert_run(
+pub fn assert_run(
     rt: &impl Abort,
     env: &mut MemEnv,
     alloc: Global,

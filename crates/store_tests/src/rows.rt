@@ -1,7 +1,7 @@
 //! The slow store at worked rows: which maps an opening, a crash and a snapshot may show.
 use leveldb_base::cmp::DefaultCmp;
 use leveldb_base::error::Result;
-use slow_history::BorrowedPair;
+use slow_history::{BorrowedPair, Landing, Move};
 use slow_machine::{Found, Item, SlowStore};
 use std::alloc::Global;
 use std::process::Abort;
@@ -36,6 +36,10 @@ enum Row {
     Abandoned,
     GaveSnapshot(u64),
     Released(u64),
+    /// It refused a request of this snapshot, which it doesn't hold.
+    WasNotHeld(u64),
+    /// Moves of an iterator, under a snapshot or not, led there.
+    Walked(Option<u64>, &'static [Move<'static>], &'static [Landing<'static>]),
     /// A store may have done all this.
     IsPossible,
     /// No store can have done all this.
@@ -96,6 +100,8 @@ fn happen(slow: &mut SlowStore, alloc: Global, row: &Row) -> Result<()> {
         Row::Abandoned => slow.abandoned(),
         Row::GaveSnapshot(number) => slow.gave_snapshot(*number),
         Row::Released(number) => slow.released(*number),
+        Row::WasNotHeld(number) => slow.was_not_held(*number),
+        Row::Walked(at, moves, landings) => slow.walked(&DefaultCmp, *at, moves, landings),
         Row::IsPossible | Row::IsImpossible | Row::MayShow(_) => Ok(()),
     }
 }
@@ -211,4 +217,135 @@ const SNAPSHOT: &[Row] = &[
 #[test]
 fn a_snapshot_keeps_its_view(rt: HostRuntime) -> Result<()> {
     play(&rt, rt.alloc(), SNAPSHOT)
+}
+
+const NUMBERS: &[Row] = &[
+    Row::Opened,
+    Row::GaveSnapshot(0),
+    Row::Released(0),
+    Row::WasNotHeld(0),
+    Row::WasNotHeld(7),
+    Row::GaveSnapshot(1),
+    Row::IsPossible,
+    Row::WasNotHeld(1),
+    Row::IsImpossible,
+];
+
+const GIVEN_TWICE: &[Row] = &[
+    Row::Opened,
+    Row::GaveSnapshot(0),
+    Row::Released(0),
+    Row::IsPossible,
+    Row::GaveSnapshot(0),
+    Row::IsImpossible,
+];
+
+const GIVEN_ANEW: &[Row] = &[
+    Row::Opened,
+    Row::GaveSnapshot(0),
+    Row::Abandoned,
+    Row::Opened,
+    Row::WasNotHeld(0),
+    Row::GaveSnapshot(0),
+    Row::IsPossible,
+];
+
+/// A number is given once, until the store is opened again, and is refused when it isn't held.
+#[test]
+fn snapshots_have_numbers(rt: HostRuntime) -> Result<()> {
+    play(&rt, rt.alloc(), NUMBERS)?;
+    play(&rt, rt.alloc(), GIVEN_TWICE)?;
+    play(&rt, rt.alloc(), GIVEN_ANEW)
+}
+
+const TURNS: &[Row] = &[
+    Row::Opened,
+    Row::Walked(None, &[Move::Next], &[Landing::Nowhere]),
+    Row::Put(b"a", b"1"),
+    Row::Put(b"b", b"2"),
+    Row::GaveSnapshot(0),
+    Row::Put(b"c", b"3"),
+    Row::Deleted(b"b"),
+    Row::Walked(
+        None,
+        &[
+            Move::Seek(b"c"),
+            Move::Prev,
+            Move::Prev,
+            Move::Prev,
+            Move::Next,
+        ],
+        &[
+            Landing::At(b"c", b"3"),
+            Landing::At(b"a", b"1"),
+            Landing::Nowhere,
+            Landing::Nowhere,
+            Landing::At(b"a", b"1"),
+        ],
+    ),
+    Row::Walked(
+        Some(0),
+        &[Move::First, Move::Next, Move::Next, Move::Seek(b"aa")],
+        &[
+            Landing::At(b"a", b"1"),
+            Landing::At(b"b", b"2"),
+            Landing::Nowhere,
+            Landing::At(b"b", b"2"),
+        ],
+    ),
+    // A move that fails leaves no position.
+    Row::Walked(
+        None,
+        &[Move::Seek(b"c"), Move::Prev, Move::Prev, Move::Next],
+        &[
+            Landing::At(b"c", b"3"),
+            Landing::Refused,
+            Landing::Nowhere,
+            Landing::At(b"a", b"1"),
+        ],
+    ),
+    Row::Walked(None, &[], &[]),
+    Row::IsPossible,
+];
+
+#[test]
+fn walks_turn_at_both_ends(rt: HostRuntime) -> Result<()> {
+    play(&rt, rt.alloc(), TURNS)
+}
+
+/// Walks that no store of a=1 and c=3 does.
+const WRONG_WALKS: &[(&[Move<'static>], &[Landing<'static>])] = &[
+    (&[Move::First], &[Landing::Nowhere]),
+    (&[Move::First], &[Landing::At(b"a", b"2")]),
+    (&[Move::First], &[Landing::At(b"c", b"3")]),
+    (&[Move::Seek(b"b")], &[Landing::At(b"a", b"1")]),
+    (&[Move::Seek(b"c")], &[Landing::Nowhere]),
+    (&[Move::Prev], &[Landing::At(b"c", b"3")]),
+    (&[Move::First], &[]),
+    (&[], &[Landing::Nowhere]),
+    (
+        &[Move::First, Move::Prev],
+        &[Landing::At(b"a", b"1"), Landing::At(b"a", b"1")],
+    ),
+    (
+        &[Move::First, Move::Next],
+        &[Landing::Refused, Landing::At(b"c", b"3")],
+    ),
+];
+
+fn is_wrong(alloc: Global, moves: &[Move<'_>], landings: &[Landing<'_>]) -> Result<bool> {
+    let mut slow = SlowStore::new(alloc)?;
+    slow.opened()?;
+    put(&mut slow, alloc, b"a", b"1", false)?;
+    put(&mut slow, alloc, b"c", b"3", false)?;
+    slow.walked(&DefaultCmp, None, moves, landings)?;
+    Ok(!slow.is_possible())
+}
+
+#[test]
+fn wrong_walks_are_impossible(rt: HostRuntime) -> Result<()> {
+    for (at, (moves, landings)) in WRONG_WALKS.iter().enumerate() {
+        assert!(rt; is_wrong(rt.alloc(), moves, landings)?, "row {at}");
+    }
+    Ok(())
 }

@@ -1,91 +1,67 @@
-//! Snapshots: what is read at them, and those that aren't held.
-use crate::stores::{DefaultEngine, STORE, buffered};
-use leveldb_base::error::{Result, StatusCode};
+//! Snapshots and walks of the program.
+use crate::program::assert_run;
 use leveldb_env::mem_env::MemEnv;
-use rusty_leveldb::{DB, Options, Snapshot};
-use std::process::Abort;
+use std::io;
 
-/// The value of `k` at a snapshot, or `-`; or `!` where that is `InvalidArgument`.
-fn seen_at(engine: &mut DefaultEngine<MemEnv>, env: &mut MemEnv, snapshot: Snapshot) -> Result<u8> {
-    match engine.get_at(env, snapshot, b"k") {
-        Ok(Some(value)) => Ok(value.as_slice().first().copied().unwrap_or(b'?')),
-        Ok(None) => Ok(b'-'),
-        Err(status) if status.code == StatusCode::InvalidArgument => Ok(b'!'),
-        Err(status) => Err(status),
-    }
-}
+/// Inputs one after another over one disk, each with its output.
+const ROWS: [(&[u8], &[u8]); 13] = [
+    (
+        b"write 1 +61=31 -62\nget 61\nget 62\nsnap\nput 61 32\ngetat 0 61\nwalk now first next prev\nrelease 0\ngetat 0 61\n",
+        b"ok\nvalue 31\nnone\nsnapshot 0\nok\nvalue 31\nat 61 32\ninvalid\ninvalid\nok\nrefused InvalidArgument\n",
+    ),
+    (b"get 61\n", b"value 32\n"),
+    // A snapshot reads what the store had, until it is released.
+    (
+        b"put 6b 31\nsnap\nput 6b 32\ngetat 0 6b\nget 6b\nrelease 0\ngetat 0 6b\nrelease 0\nwalk 0 first\nget 6b",
+        b"ok\nsnapshot 0\nok\nvalue 31\nvalue 32\nok\nrefused InvalidArgument\nrefused InvalidArgument\n\
+refused InvalidArgument\nvalue 32\n",
+    ),
+    // Numbers count from 0 in each run, and a number that was never given is refused. Zeros before a number say nothing.
+    (
+        b"getat 0 6b\nsnap\nsnap\nrelease 0\nsnap\ngetat 001 6b\ngetat 3 6b\nrelease 18446744073709551615\nrelease 00\ngetat 2 61",
+        b"refused InvalidArgument\nsnapshot 0\nsnapshot 1\nok\nsnapshot 2\nvalue 32\nrefused InvalidArgument\n\
+refused InvalidArgument\nrefused InvalidArgument\nvalue 32\n",
+    ),
+    (
+        b"write 0 -61 -6b +61=31 +62=32 +63=33\ndel 62\nwalk now seek=63 prev prev prev next",
+        b"ok\nok\nat 63 33\nat 61 31\ninvalid\ninvalid\nat 61 31\n",
+    ),
+    (
+        b"walk now next next next next prev",
+        b"at 61 31\nat 63 33\ninvalid\nat 61 31\ninvalid\n",
+    ),
+    (
+        b"walk now seek=62 seek=. seek=64 next seek=6100 first",
+        b"at 63 33\nat 61 31\ninvalid\nat 61 31\nat 63 33\nat 61 31\n",
+    ),
+    // A walk over a snapshot, beside one over the store as it is.
+    (
+        b"snap\nwrite 0 -61 +62=34 -63\nwalk 0 first next next\nwalk now first next\nwalk 0 seek=62 prev",
+        b"snapshot 0\nok\nat 61 31\nat 63 33\ninvalid\nat 62 34\ninvalid\nat 63 33\nat 61 31\n",
+    ),
+    // A walk without a move has no reply.
+    (b"snap\nwalk now\nwalk 0\nflush", b"snapshot 0\nok\n"),
+    (b"walk 0", b"refused InvalidArgument\n"),
+    (
+        b"del 62\nwalk now next first prev seek=.",
+        b"ok\ninvalid\ninvalid\ninvalid\ninvalid\n",
+    ),
+    (
+        b"put . .\nget .\nwalk now first next seek=.",
+        b"ok\nvalue .\nat . .\ninvalid\nat . .\n",
+    ),
+    (
+        b"snap\nclose\nsnap\ngetat 0 .\nwalk 0 first\nwalk now first\nrelease 0",
+        b"snapshot 0\nok\nrefused InvalidArgument\nrefused InvalidArgument\nrefused InvalidArgument\n\
+refused InvalidArgument\nrefused InvalidArgument\n",
+    ),
+];
 
-/// Whether this is `InvalidArgument`.
-fn is_refused(answer: Result<()>) -> bool {
-    match answer {
-        Ok(()) => false,
-        Err(status) => status.code == StatusCode::InvalidArgument,
-    }
-}
-
-/// What `k` is at each of these snapshots.
-fn all_seen(
-    rt: &impl Abort,
-    engine: &mut DefaultEngine<MemEnv>,
-    env: &mut MemEnv,
-    snapshots: &[Snapshot; 3],
-    wanted: &[u8; 3],
-) -> Result<()> {
-    for (snapshot, value) in snapshots.iter().zip(wanted) {
-        assert_eq!(rt; seen_at(engine, env, *snapshot)?, *value);
-    }
-    Ok(())
-}
-
-/// Each snapshot sees the value as of its own time, in memory and in tables, until it is released.
 #[test]
-fn values_over_time(rt: HostRuntime) -> Result<()> {
-    let alloc = rt.alloc();
-    for size in [1, 1 << 20] {
-        let mut env = MemEnv::new(alloc);
-        let mut engine = DefaultEngine::open(alloc, STORE, &mut env, buffered(size))?;
-        let first = engine.get_snapshot()?;
-        engine.put(&mut env, b"k", b"1")?;
-        let second = engine.get_snapshot()?;
-        engine.delete(&mut env, b"k")?;
-        let third = engine.get_snapshot()?;
-        engine.put(&mut env, b"k", b"2")?;
-        engine.put(&mut env, b"l", b"3")?;
-        let all = [first, second, third];
-        all_seen(&rt, &mut engine, &mut env, &all, b"-1-")?;
-        engine.release_snapshot(second)?;
-        all_seen(&rt, &mut engine, &mut env, &all, b"-!-")?;
-        assert!(rt; is_refused(engine.release_snapshot(second)));
-        engine.close(&mut env)?;
-        all_seen(&rt, &mut engine, &mut env, &all, b"!!!")?;
-        assert!(rt; is_refused(engine.release_snapshot(first)));
-        assert!(rt; engine.get_snapshot().is_err());
+fn snapshots_and_walks(rt: HostRuntime) -> io::Result<()> {
+    let mut env = MemEnv::new(rt.alloc());
+    for (input, out) in &ROWS {
+        assert_run(&rt, &mut env, rt.alloc(), &["db"], input, (0, out, b""))?;
     }
-    Ok(())
-}
-
-/// A snapshot of an opening isn't held in the next one.
-#[test]
-fn opened_again(rt: HostRuntime) -> Result<()> {
-    let alloc = rt.alloc();
-    let mut env = MemEnv::new(alloc);
-    let mut db = DB::open(alloc, STORE, &mut env, Options::default())?;
-    db.put(b"k", b"1")?;
-    let snapshot = db.get_snapshot()?;
-    db.put(b"k", b"2")?;
-    let seen = db.get_at(&snapshot, b"k")?;
-    db.close()?;
-    drop(db);
-    let mut db = DB::open(alloc, STORE, &mut env, Options::default())?;
-    let lost = db.get_at(&snapshot, b"k");
-    db.close()?;
-
-    assert!(rt;
-        match seen {
-            Some(value) => value.as_slice() == b"1".as_slice(),
-            None => false,
-        }
-    );
-    assert!(rt; lost.is_err());
     Ok(())
 }

@@ -1,7 +1,9 @@
 //! Calls of a store: what is asked, what it returns, and what the slow store says to that.
 use crate::replies::bytes_of;
+use leveldb_base::cmp::DefaultCmp;
 use leveldb_base::error::{Result, Status, StatusCode};
-use rusty_leveldb::shell::{Command, Item, Reply};
+use rusty_leveldb::shell::{Command, Item, Move as ShellMove, Reply, Step as ShellStep};
+use slow_history::{Landing, Move};
 use slow_machine::{Found, Item as SlowItem, SlowStore};
 use std::alloc::Global;
 
@@ -16,6 +18,10 @@ pub enum Step {
     Delete(&'static str),
     Write(bool, &'static [Change]),
     Get(&'static str),
+    Snap,
+    GetAt(usize, &'static str),
+    Release(usize),
+    Walk(Option<usize>, &'static [Move<'static>]),
     Flush,
     Close,
     Abandon,
@@ -45,6 +51,23 @@ fn write_of(alloc: Global, sync: bool, changes: &[Change]) -> Result<Command> {
     Ok(Command::Write { sync, items })
 }
 
+fn shell_move(alloc: Global, one: &Move<'_>) -> Result<ShellMove> {
+    Ok(match one {
+        Move::First => ShellMove::First,
+        Move::Next => ShellMove::Next,
+        Move::Prev => ShellMove::Prev,
+        Move::Seek(key) => ShellMove::Seek(Vec::from_slice(alloc, key)?),
+    })
+}
+
+fn walk_of(alloc: Global, at: Option<usize>, moves: &[Move<'_>]) -> Result<Command> {
+    let mut asked = Vec::new(alloc);
+    for one in moves {
+        asked.push(shell_move(alloc, one)?)?;
+    }
+    Ok(Command::Walk(at, asked))
+}
+
 /// The command of a step between opening and abandoning.
 fn command_of(alloc: Global, step: &Step) -> Result<Option<Command>> {
     Ok(Some(match step {
@@ -53,6 +76,10 @@ fn command_of(alloc: Global, step: &Step) -> Result<Option<Command>> {
         Step::Delete(key) => Command::Delete(bytes_of(alloc, key)?),
         Step::Write(sync, changes) => write_of(alloc, *sync, changes)?,
         Step::Get(key) => Command::Get(bytes_of(alloc, key)?),
+        Step::Snap => Command::Snap,
+        Step::GetAt(number, key) => Command::GetAt(*number, bytes_of(alloc, key)?),
+        Step::Release(number) => Command::Release(*number),
+        Step::Walk(at, moves) => walk_of(alloc, *at, moves)?,
         Step::Flush => Command::Flush,
         Step::Close => Command::Close,
     }))
@@ -141,13 +168,91 @@ fn judge_success(slow: &mut SlowStore, alloc: Global, step: &Step) -> Result<()>
     }
 }
 
-/// A look-up returned this. One that fails since the device failed changes nothing.
-fn judge_look_up(slow: &mut SlowStore, key: &str, reply: &Reply) -> Result<()> {
+/// A read failed. Since the device failed, or out of memory, that changes nothing.
+fn judge_failed_read(slow: &mut SlowStore, at: Option<usize>, status: &Status) -> Result<()> {
+    if status.code != StatusCode::InvalidArgument {
+        return Ok(());
+    }
+    match at {
+        Some(number) => slow.was_not_held(number as u64),
+        None => slow.was_closed(),
+    }
+}
+
+/// A look-up returned this, now or at a snapshot.
+fn judge_look_up(slow: &mut SlowStore, at: Option<usize>, key: &str, reply: &Reply) -> Result<()> {
+    let number = at.map(|number| number as u64);
     match reply {
-        Reply::Value(value) => slow.found(None, key.as_bytes(), &Found::Value(value.as_slice())),
-        Reply::Nothing => slow.found(None, key.as_bytes(), &Found::Nothing),
-        Reply::Refused(status) if status.code == StatusCode::InvalidArgument => slow.was_closed(),
-        Reply::Done | Reply::Refused(_) => Ok(()),
+        Reply::Value(value) => slow.found(number, key.as_bytes(), &Found::Value(value.as_slice())),
+        Reply::Nothing => slow.found(number, key.as_bytes(), &Found::Nothing),
+        Reply::Refused(status) => judge_failed_read(slow, at, status),
+        _ => {
+            slow.was_impossible();
+            Ok(())
+        }
+    }
+}
+
+fn landing_of(led: &ShellStep) -> Landing<'_> {
+    match led {
+        ShellStep::At(key, value) => Landing::At(key.as_slice(), value.as_slice()),
+        ShellStep::Invalid => Landing::Nowhere,
+        ShellStep::Refused(_) => Landing::Refused,
+    }
+}
+
+fn landings_of<'a>(alloc: Global, steps: &'a [ShellStep]) -> Result<Vec<Landing<'a>>> {
+    let mut landings = Vec::new(alloc);
+    for led in steps {
+        landings.push(landing_of(led))?;
+    }
+    Ok(landings)
+}
+
+/// A walk returned this, now or at a snapshot.
+fn judge_walk(
+    slow: &mut SlowStore,
+    alloc: Global,
+    at: Option<usize>,
+    moves: &[Move<'_>],
+    reply: &Reply,
+) -> Result<()> {
+    match reply {
+        Reply::Walk(steps) => {
+            let number = at.map(|number| number as u64);
+            slow.walked(&DefaultCmp, number, moves, &landings_of(alloc, steps)?)
+        }
+        Reply::Refused(status) => judge_failed_read(slow, at, status),
+        _ => {
+            slow.was_impossible();
+            Ok(())
+        }
+    }
+}
+
+/// A snapshot was asked for. Out of memory changes nothing.
+fn judge_snapshot(slow: &mut SlowStore, reply: &Reply) -> Result<()> {
+    match reply {
+        Reply::Snapshot(number) => slow.gave_snapshot(*number as u64),
+        Reply::Refused(status) => judge_failed_read(slow, None, status),
+        _ => {
+            slow.was_impossible();
+            Ok(())
+        }
+    }
+}
+
+/// A snapshot was released. That takes no memory and no call of the device.
+fn judge_release(slow: &mut SlowStore, number: usize, reply: &Reply) -> Result<()> {
+    match reply {
+        Reply::Done => slow.released(number as u64),
+        Reply::Refused(status) if status.code == StatusCode::InvalidArgument => {
+            slow.was_not_held(number as u64)
+        }
+        _ => {
+            slow.was_impossible();
+            Ok(())
+        }
     }
 }
 
@@ -155,7 +260,11 @@ fn judge_look_up(slow: &mut SlowStore, key: &str, reply: &Reply) -> Result<()> {
 pub fn judge(slow: &mut SlowStore, alloc: Global, step: &Step, reply: &Reply) -> Result<()> {
     match (step, reply) {
         (Step::Abandon, _) => slow.abandoned(),
-        (Step::Get(key), _) => judge_look_up(slow, key, reply),
+        (Step::Get(key), _) => judge_look_up(slow, None, key, reply),
+        (Step::GetAt(number, key), _) => judge_look_up(slow, Some(*number), key, reply),
+        (Step::Walk(at, moves), _) => judge_walk(slow, alloc, *at, moves, reply),
+        (Step::Snap, _) => judge_snapshot(slow, reply),
+        (Step::Release(number), _) => judge_release(slow, *number, reply),
         (Step::Open, Reply::Refused(_)) => slow.was_closed(),
         (_, Reply::Refused(status)) => judge_failure(slow, alloc, step, status),
         _ => judge_success(slow, alloc, step),

@@ -10,7 +10,7 @@ use crate::stores::reopen;
 use leveldb_base::cmp::DefaultCmp;
 use leveldb_base::error::{Result, StatusCode};
 use leveldb_env::mem_env::RecordEnv;
-use rusty_leveldb::shell::Reply;
+use rusty_leveldb::shell::{Reply, Step as ShellStep};
 use slow_history::BorrowedPair;
 use std::alloc::Global;
 use std::process::Abort;
@@ -220,10 +220,25 @@ pub fn crash_twice_everywhere(
     Ok(())
 }
 
-/// Whether a call that failed has a cause: the device, memory, a closed store, or a lock that an earlier life couldn't give back.
+/// Whether each move that failed has a cause: the device, or memory.
+fn have_move_causes(steps: &[ShellStep]) -> bool {
+    for led in steps {
+        if let ShellStep::Refused(status) = led
+            && !matches!(status.code, StatusCode::IOError | StatusCode::OutOfMemory)
+        {
+            return false;
+        }
+    }
+    true
+}
+
+/// Whether a call that failed has a cause: the device, memory, a closed store, a snapshot that isn't held, or a lock that an earlier life
+/// couldn't give back.
 fn has_cause(call: &Call) -> bool {
-    let Reply::Refused(status) = &call.reply else {
-        return true;
+    let status = match &call.reply {
+        Reply::Refused(status) => status,
+        Reply::Walk(steps) => return have_move_causes(steps),
+        _ => return true,
     };
     match status.code {
         StatusCode::IOError | StatusCode::OutOfMemory => true,
@@ -279,7 +294,7 @@ fn record_failing(alloc: Global, script: Script, nth: u64, done: bool) -> Result
 }
 
 /// Whether the slow store allows all that was returned.
-fn is_possible(alloc: Global, recorded: &Recorded) -> Result<bool> {
+pub fn is_possible(alloc: Global, recorded: &Recorded) -> Result<bool> {
     Ok(judge_all(alloc, &recorded.calls)?.is_possible())
 }
 

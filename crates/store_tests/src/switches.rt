@@ -128,6 +128,11 @@ fn crashes_of_new_manifests(rt: HostRuntime) -> Result<()> {
 fn crashes_of_new_manifests_with_tails(rt: HostRuntime) -> Result<()> {
     let tally = crash_everywhere(&rt, rt.alloc(), ANEW, Tails::Whole)?;
     assert_tally(&rt, tally, tally.longest > 20);
+    Ok(())
+}
+
+#[test]
+fn crashes_of_new_manifests_with_wrong_bytes(rt: HostRuntime) -> Result<()> {
     let tally = crash_everywhere(&rt, rt.alloc(), ANEW, Tails::WrongBytes)?;
     assert_tally(&rt, tally, tally.shortest > 20);
     Ok(())
@@ -169,6 +174,11 @@ fn failures_with_their_change(rt: HostRuntime) -> Result<()> {
 fn failures_of_new_manifests(rt: HostRuntime) -> Result<()> {
     let tally = fail_everywhere(&rt, rt.alloc(), ANEW, false)?;
     assert_tally(&rt, tally, tally.shortest > 20 && tally.longest > 20);
+    Ok(())
+}
+
+#[test]
+fn failures_of_new_manifests_with_their_change(rt: HostRuntime) -> Result<()> {
     let tally = fail_everywhere(&rt, rt.alloc(), ANEW, true)?;
     assert_tally(&rt, tally, tally.shortest > 20 && tally.longest > 20);
     Ok(())
