@@ -122,16 +122,16 @@ module _ {E T M : Type 0} (walk : WalkGhosts M E T) (laws : WalkLaws walk.over w
 
   -- a scan at a sequence number, by another name
   pub next_at : {number s : ℕ} {skip : Option (List ℕ)} {world new_world : E × T} {inner new : M} (direction : Option Direction) (saved : Pair) {result : Result (Unit {0}) Status} → number ≡ s
-      → MovesBelow walk (IsOnScan walk world inner number skip 0) (λ (u : Unit {0}). IsFoundNext walk new_world new number direction saved) world inner result new_world new
-      → MovesBelow walk (IsOnScan walk world inner s skip 0) (λ (u : Unit {0}). IsFoundNext walk new_world new s direction saved) world inner result new_world new
+      → MovesBelow walk (IsOnScan walk world inner number skip) (λ (u : Unit {0}). IsFoundNext walk new_world new number direction saved) world inner result new_world new
+      → MovesBelow walk (IsOnScan walk world inner s skip) (λ (u : Unit {0}). IsFoundNext walk new_world new s direction saved) world inner result new_world new
   next_at {skip = skip} {world} {new_world} {inner} {new} direction saved {result} same m =
-      subst (λ n. MovesBelow walk (IsOnScan walk world inner n skip 0) (λ (u : Unit {0}). IsFoundNext walk new_world new n direction saved) world inner result new_world new) same m
+      subst (λ n. MovesBelow walk (IsOnScan walk world inner n skip) (λ (u : Unit {0}). IsFoundNext walk new_world new n direction saved) world inner result new_world new) same m
 
   pub previous_at : {number s : ℕ} {world new_world : E × T} {inner new : M} (direction : Option Direction) (saved : Pair) {result : Result (Unit {0}) Status} → number ≡ s
-      → MovesBelow walk (IsOnScanBack walk world inner number None 0) (λ (u : Unit {0}). IsFoundPrevious walk new_world new number direction saved) world inner result new_world new
-      → MovesBelow walk (IsOnScanBack walk world inner s None 0) (λ (u : Unit {0}). IsFoundPrevious walk new_world new s direction saved) world inner result new_world new
+      → MovesBelow walk (IsOnScanBack walk world inner number None) (λ (u : Unit {0}). IsFoundPrevious walk new_world new number direction saved) world inner result new_world new
+      → MovesBelow walk (IsOnScanBack walk world inner s None) (λ (u : Unit {0}). IsFoundPrevious walk new_world new s direction saved) world inner result new_world new
   previous_at {world = world} {new_world} {inner} {new} direction saved {result} same m =
-      subst (λ n. MovesBelow walk (IsOnScanBack walk world inner n None 0) (λ (u : Unit {0}). IsFoundPrevious walk new_world new n direction saved) world inner result new_world new) same m
+      subst (λ n. MovesBelow walk (IsOnScanBack walk world inner n None) (λ (u : Unit {0}). IsFoundPrevious walk new_world new n direction saved) world inner result new_world new) same m
 
   -- ---- each move
 

@@ -11,7 +11,7 @@ use Rattle.leveldb_base.specs.Scan.{IsScanning, count_shown}
 use Rattle.leveldb_base.specs.Types.{Pair, pair_at, previous_position}
 use Rattle.leveldb_base.specs.View.{view_of}
 use Rattle.leveldb_base.specs.declared.error.Status.{Status}
-use Rattle.leveldb_base.specs.declared.error.StatusCode.TheVariants.{Corruption, NotSupported}
+use Rattle.leveldb_base.specs.declared.error.StatusCode.TheVariants.{Corruption}
 use Rattle.leveldb_base.specs.declared.types.Direction.{Direction}
 use Rattle.leveldb_base.specs.declared.types.Direction.TheVariants.{Forward, Reverse}
 use Rattle.leveldb_iter.specs.declared.db_iter.DbIterCore.{DbIterCore}
@@ -120,18 +120,14 @@ module _ {E T M : Type 0} (walk : WalkGhosts M E T) where
   IsViewOfEntries world it order below pairs =
       (position : Option ℕ) × (at : IsViewAt world it order pairs position) × (at.below ≡ below)
 
-  -- the errors of a walk below, of memory, of pairs that are no entries, and of more of them than
-  -- 128 bits can count
+  -- the errors of a walk below, of memory, and of pairs that are no entries
   abbrev pub FailsOver : (KeyOrder → List Pair → List Pair → Type 0) → E × T → M → E × T → Status
       → Type 0
   FailsOver Over world inner later status = walk.fails world inner later status
       ⊎ IsOutOfMemory status
       ⊎ ((status.code ≡ Corruption)
       × ((order : KeyOrder) (below pairs : List Pair) → Over order below pairs → ⊥))
-      ⊎ ((status.code ≡ NotSupported)
-      × ((order : KeyOrder) (below pairs : List Pair) → Over order below pairs
-      → 2 ^ 128 ≤ length below))
 
-  -- the errors of a view: where it is over one, those below, of memory, and of too many entries
+  -- the errors of a view: where it is over one, those below and of memory
   abbrev pub FailsView : E × T → DbIterCore M → E × T → Status → Type 0
   FailsView world it = FailsOver (IsViewOfEntries world it) world it.walk

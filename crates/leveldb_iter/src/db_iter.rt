@@ -1,5 +1,5 @@
 //! The view of a store at a sequence number, as a walk above one over all entries.
-ghost use Rattle.std.specs.Prelude.{◌≡◌, ◌<◌, ◌+◌, ◌^◌, ℕ, true, List, None, Some, IfOk, IfErr, OnErr, is_some, IsErrAnd};
+ghost use Rattle.std.specs.Prelude.{◌≡◌, ◌<◌, ◌^◌, ℕ, true, List, None, Some, IfOk, IfErr, OnErr, is_some, IsErrAnd};
 ghost use Rattle.std.specs.Bool.{then_some};
 ghost use Rattle.leveldb_base.specs.Error.{IsOutOfMemory};
 ghost use Rattle.leveldb_base.specs.Types.{Pair};
@@ -8,10 +8,10 @@ ghost use Rattle.leveldb_iter.specs.Walk.{KeyOrder};
 use crate::entry::{Seen, entry_at, keep};
 use crate::walk::Walk;
 use crate::walk_iter::WalkIter;
-use leveldb_base::error::{Result, StatusCode, err};
+use leveldb_base::error::{Result, Status};
 use leveldb_base::key_types::{ValueType, split_sequence, tag_bytes};
 use leveldb_base::types::{Direction, SequenceNumber};
-use std::alloc::Global;
+use std::alloc::{AllocError, Global};
 
 /// The view of a store at a sequence number, as a walk above one over all entries: the keys that
 /// have a value there, each with the newest at or below the number. The order of users' keys is to
@@ -66,18 +66,13 @@ impl<M> DbIterCore<M> {
 // Scans forward.
 impl<M> DbIterCore<M> {
     ghost use Rattle.leveldb_base.specs.KeyTypes.{user_part};
-    ghost use Rattle.leveldb_base.specs.declared.error.StatusCode.TheVariants.{NotSupported};
     ghost use Rattle.leveldb_iter.specs.DbIterSteps.{IsSeen, IsUnread, MovesBelow, IsOnScan, IsNextStep, IsFoundNext, IsLeft};
 
-    // The error of more entries than can be counted.
-    fn too_many(&self) -> Result<()>
-        ensures { IsErrAnd result (λ status. status.code ≡ NotSupported) }
+    // The error of more entries than any memory holds: out of memory.
+    fn too_long(&self) -> Result<()>
+        ensures { IsErrAnd result IsOutOfMemory }
     {
-        err(
-            *self.saved_key.allocator(),
-            StatusCode::NotSupported,
-            "more than 2^128 entries",
-        )
+        Err(Status::from(AllocError))
     }
 
     // What the entry is that the walk below is at. The key of a deletion is kept.
@@ -139,11 +134,11 @@ impl<M> DbIterCore<M> {
         ensures sequence { self.new.sequence ≡ self.old.sequence }
         ensures at { OnErr result (self.new.at ≡ None) }
         ensures on { IfOk result (λ next. is_some next ≡ true → self.new.at ≡ None) }
-        ensures moves { (passed : ℕ) → MovesBelow M.Walk
+        ensures moves { MovesBelow M.Walk
             (IsOnScan M.Walk (env.old, tables.old) self.old.walk self.old.sequence
-            (then_some skipping self.old.saved_key.items) passed)
+            (then_some skipping self.old.saved_key.items))
             (IsNextStep M.Walk (env.new, tables.new) self.new.walk self.old.sequence self.new.at
-            (self.new.saved_key.items, self.new.saved_value.items) (passed + 1))
+            (self.new.saved_key.items, self.new.saved_value.items))
             (env.old, tables.old) self.old.walk result (env.new, tables.new) self.new.walk }
     {
         let next = match self.look::<E, T>(skipping)? {
@@ -170,7 +165,7 @@ impl<M> DbIterCore<M> {
         ensures at { OnErr result (self.new.at ≡ None) }
         ensures moves { MovesBelow M.Walk
             (IsOnScan M.Walk (env.old, tables.old) self.old.walk self.old.sequence
-            (then_some skipping self.old.saved_key.items) 0)
+            (then_some skipping self.old.saved_key.items))
             (λ _. IsFoundNext M.Walk (env.new, tables.new) self.new.walk self.old.sequence
             self.new.at (self.new.saved_key.items, self.new.saved_value.items))
             (env.old, tables.old) self.old.walk result (env.new, tables.new) self.new.walk }
@@ -182,7 +177,7 @@ impl<M> DbIterCore<M> {
                 Some(next) => skipping = next,
             }
         }
-        self.too_many()
+        self.too_long()
     }
 
     // Goes to the entry after the pair that it is at, and from no position to the first entry.
@@ -196,7 +191,7 @@ impl<M> DbIterCore<M> {
             (IsLeft M.Walk (env.old, tables.old) self.old.walk self.old.sequence self.old.at
             (self.old.saved_key.items, self.old.saved_value.items))
             (λ skipping. IsOnScan M.Walk (env.new, tables.new) self.new.walk self.old.sequence
-            (then_some skipping self.new.saved_key.items) 0)
+            (then_some skipping self.new.saved_key.items))
             (env.old, tables.old) self.old.walk result (env.new, tables.new) self.new.walk }
     {
         let at = self.at;
@@ -267,11 +262,11 @@ impl<M> DbIterCore<M> {
         ensures sequence { self.new.sequence ≡ self.old.sequence }
         ensures at { OnErr result (self.new.at ≡ None) }
         ensures on { IfOk result (λ next. is_some next ≡ true → self.new.at ≡ None) }
-        ensures moves { (passed : ℕ) → MovesBelow M.Walk
+        ensures moves { MovesBelow M.Walk
             (IsOnScanBack M.Walk (env.old, tables.old) self.old.walk self.old.sequence
-            (then_some taken (self.old.saved_key.items, self.old.saved_value.items)) passed)
+            (then_some taken (self.old.saved_key.items, self.old.saved_value.items)))
             (IsStepBack M.Walk (env.new, tables.new) self.new.walk self.old.sequence self.new.at
-            (self.new.saved_key.items, self.new.saved_value.items) (passed + 1))
+            (self.new.saved_key.items, self.new.saved_value.items))
             (env.old, tables.old) self.old.walk result (env.new, tables.new) self.new.walk }
     {
         let Some(now) = self.take::<E, T>(taken)? else {
@@ -294,7 +289,7 @@ impl<M> DbIterCore<M> {
         ensures sequence { self.new.sequence ≡ self.old.sequence }
         ensures at { OnErr result (self.new.at ≡ None) }
         ensures moves { MovesBelow M.Walk
-            (IsOnScanBack M.Walk (env.old, tables.old) self.old.walk self.old.sequence None 0)
+            (IsOnScanBack M.Walk (env.old, tables.old) self.old.walk self.old.sequence None)
             (λ _. IsFoundPrevious M.Walk (env.new, tables.new) self.new.walk self.old.sequence
             self.new.at (self.new.saved_key.items, self.new.saved_value.items))
             (env.old, tables.old) self.old.walk result (env.new, tables.new) self.new.walk }
@@ -306,7 +301,7 @@ impl<M> DbIterCore<M> {
                 Some(now) => taken = now,
             }
         }
-        self.too_many()
+        self.too_long()
     }
 
     // Whether the walk below is at an entry of the saved key.
@@ -329,8 +324,8 @@ impl<M> DbIterCore<M> {
         ensures at { self.new.at ≡ self.old.at }
         ensures moves { MovesBelow M.Walk
             (IsTurning M.Walk (env.old, tables.old) self.old.walk self.old.sequence
-            self.old.saved_key.items 0)
-            (λ _. IsOnScanBack M.Walk (env.new, tables.new) self.new.walk self.old.sequence None 0)
+            self.old.saved_key.items)
+            (λ _. IsOnScanBack M.Walk (env.new, tables.new) self.new.walk self.old.sequence None)
             (env.old, tables.old) self.old.walk result (env.new, tables.new) self.new.walk }
     {
         for passed in 0..u128::MAX {
@@ -339,7 +334,7 @@ impl<M> DbIterCore<M> {
                 return Ok(());
             }
         }
-        self.too_many()
+        self.too_long()
     }
 
     // Goes to before all entries of the key of the pair that it is at.
@@ -351,7 +346,7 @@ impl<M> DbIterCore<M> {
         ensures moves { MovesBelow M.Walk
             (IsLeftBack M.Walk (env.old, tables.old) self.old.walk self.old.sequence direction
             (self.old.saved_key.items, self.old.saved_value.items))
-            (λ _. IsOnScanBack M.Walk (env.new, tables.new) self.new.walk self.old.sequence None 0)
+            (λ _. IsOnScanBack M.Walk (env.new, tables.new) self.new.walk self.old.sequence None)
             (env.old, tables.old) self.old.walk result (env.new, tables.new) self.new.walk }
     {
         self.at = None;
@@ -372,7 +367,7 @@ impl<M> DbIterCore<M> {
         ensures at { self.new.at ≡ None }
         ensures moves { MovesBelow M.Walk
             (IsSought M.Walk (env.old, tables.old) self.old.walk self.old.sequence key.now)
-            (λ _. IsOnScan M.Walk (env.new, tables.new) self.new.walk self.old.sequence None 0)
+            (λ _. IsOnScan M.Walk (env.new, tables.new) self.new.walk self.old.sequence None)
             (env.old, tables.old) self.old.walk result (env.new, tables.new) self.new.walk }
     {
         self.at = None;
@@ -390,7 +385,7 @@ impl<M> DbIterCore<M> {
         ensures at { self.new.at ≡ None }
         ensures moves { MovesBelow M.Walk
             (IsWhole M.Walk (env.old, tables.old) self.old.walk self.old.sequence)
-            (λ _. IsOnScanBack M.Walk (env.new, tables.new) self.new.walk self.old.sequence None 0)
+            (λ _. IsOnScanBack M.Walk (env.new, tables.new) self.new.walk self.old.sequence None)
             (env.old, tables.old) self.old.walk result (env.new, tables.new) self.new.walk }
     {
         self.at = None;

@@ -8,8 +8,8 @@ invariant-loop-passed g l = record {
   at : l.self.at ≡ None;
   sequence : l.self.sequence ≡ l.initial.self.sequence;
   so_far : MovesBelow g.M.Walk
-      (IsOnScan g.M.Walk (l.initial.env, l.initial.tables) l.initial.self.walk l.initial.self.sequence (then_some l.initial.skipping l.initial.self.saved_key.items) 0)
-      (λ (u : Unit {0}). IsOnScan g.M.Walk (l.env, l.tables) l.self.walk l.initial.self.sequence (then_some l.skipping l.self.saved_key.items) l.passed)
+      (IsOnScan g.M.Walk (l.initial.env, l.initial.tables) l.initial.self.walk l.initial.self.sequence (then_some l.initial.skipping l.initial.self.saved_key.items))
+      (λ (u : Unit {0}). IsOnScan g.M.Walk (l.env, l.tables) l.self.walk l.initial.self.sequence (then_some l.skipping l.self.saved_key.items))
       (l.initial.env, l.initial.tables) l.initial.self.walk (Ok (tt {0})) (l.env, l.tables) l.self.walk;
 }
 

@@ -8,8 +8,8 @@ invariant-loop-passed g l = record {
   at : l.self.at ≡ None;
   sequence : l.self.sequence ≡ l.initial.self.sequence;
   so_far : MovesBelow g.M.Walk
-      (IsOnScanBack g.M.Walk (l.initial.env, l.initial.tables) l.initial.self.walk l.initial.self.sequence None 0)
-      (λ (u : Unit {0}). IsOnScanBack g.M.Walk (l.env, l.tables) l.self.walk l.initial.self.sequence (then_some l.taken (l.self.saved_key.items, l.self.saved_value.items)) l.passed)
+      (IsOnScanBack g.M.Walk (l.initial.env, l.initial.tables) l.initial.self.walk l.initial.self.sequence None)
+      (λ (u : Unit {0}). IsOnScanBack g.M.Walk (l.env, l.tables) l.self.walk l.initial.self.sequence (then_some l.taken (l.self.saved_key.items, l.self.saved_value.items)))
       (l.initial.env, l.initial.tables) l.initial.self.walk (Ok (tt {0})) (l.env, l.tables) l.self.walk;
 }
 

@@ -1,7 +1,8 @@
 use Rattle.std.proofs.Common.{arith, sym, ap, ◌∙◌}
 use Rattle.std.proofs.lemmas.Result.{err_from_is_err_and}
 use Rattle.leveldb_iter.specs.DbIterSteps.{is_at_key}
-use Rattle.leveldb_iter.proofs.DbIterTurnLemmas.{turn_fails, turn_ends, turn_more, turn_too_many}
+use Rattle.leveldb_iter.proofs.DbIterTurnLemmas.{turn_fails, turn_ends, turn_more}
+use Rattle.leveldb_iter.proofs.DbIterLemmas.{runs_out}
 use Rattle.leveldb_iter.proofs.db_iter.DbIterCore.turn_back.Goals as goal
 
 pub returns-in_err-prev-clause-moves : goal.returns-in_err-prev-clause-moves
@@ -23,4 +24,4 @@ loop-passed-preserved g c = record {
 }
 
 pub returns-clause-moves : goal.returns-clause-moves
-returns-clause-moves g c = turn_too_many g.M.Walk g.met.M.Walk.laws c.loop-passed.invariant.so_far _ (omega arith) c.too_many.ensures
+returns-clause-moves g c = let so_far = c.loop-passed.invariant.so_far in runs_out g.M.Walk g.met.M.Walk.laws _ _ so_far.keeps c.too_long.ensures

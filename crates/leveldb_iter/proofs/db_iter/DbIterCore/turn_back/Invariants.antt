@@ -8,8 +8,8 @@ invariant-loop-passed g l = record {
   sequence : l.self.sequence ≡ l.initial.self.sequence;
   key : l.self.saved_key.items ≡ l.initial.self.saved_key.items;
   so_far : MovesBelow g.M.Walk
-      (IsTurning g.M.Walk (l.initial.env, l.initial.tables) l.initial.self.walk l.initial.self.sequence l.initial.self.saved_key.items 0)
-      (λ (u : Unit {0}). IsTurning g.M.Walk (l.env, l.tables) l.self.walk l.initial.self.sequence l.initial.self.saved_key.items l.passed)
+      (IsTurning g.M.Walk (l.initial.env, l.initial.tables) l.initial.self.walk l.initial.self.sequence l.initial.self.saved_key.items)
+      (λ (u : Unit {0}). IsTurning g.M.Walk (l.env, l.tables) l.self.walk l.initial.self.sequence l.initial.self.saved_key.items)
       (l.initial.env, l.initial.tables) l.initial.self.walk (Ok (tt {0})) (l.env, l.tables) l.self.walk;
 }
 
