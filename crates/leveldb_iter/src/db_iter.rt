@@ -171,7 +171,7 @@ impl<M> DbIterCore<M> {
             (env.old, tables.old) self.old.walk result (env.new, tables.new) self.new.walk }
     {
         let mut skipping = skipping;
-        for passed in 0..u128::MAX {
+        for _ in 0..u128::MAX {
             match self.step_next(env, tables, skipping)? {
                 None => return Ok(()),
                 Some(next) => skipping = next,
@@ -295,7 +295,7 @@ impl<M> DbIterCore<M> {
             (env.old, tables.old) self.old.walk result (env.new, tables.new) self.new.walk }
     {
         let mut taken = false;
-        for passed in 0..u128::MAX {
+        for _ in 0..u128::MAX {
             match self.step_back(env, tables, taken)? {
                 None => return Ok(()),
                 Some(now) => taken = now,
@@ -328,7 +328,7 @@ impl<M> DbIterCore<M> {
             (λ _. IsOnScanBack M.Walk (env.new, tables.new) self.new.walk self.old.sequence None)
             (env.old, tables.old) self.old.walk result (env.new, tables.new) self.new.walk }
     {
-        for passed in 0..u128::MAX {
+        for _ in 0..u128::MAX {
             self.walk.prev(env, tables)?;
             if !self.is_at_saved::<E, T>() {
                 return Ok(());

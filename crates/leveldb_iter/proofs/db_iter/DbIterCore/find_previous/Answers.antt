@@ -8,19 +8,19 @@ use Rattle.leveldb_iter.proofs.db_iter.DbIterCore.find_previous.Goals as goal
 pub returns-in_err-step_back-clause-moves : goal.returns-in_err-step_back-clause-moves
 returns-in_err-step_back-clause-moves g c =
     let p = err_from_is_err_and c.from_residual.result c.from_residual.ensures.1 in
-    rw p.1 (rw p.2 (failed g.M.Walk g.met.M.Walk.laws (back_steps g.M.Walk g.met.M.Walk.laws c.loop-passed.invariant.so_far c.loop-passed.invariant.sequence _ _ c.in_err-step_back.ensures.moves)))
+    rw p.1 (rw p.2 (failed g.M.Walk g.met.M.Walk.laws (back_steps g.M.Walk g.met.M.Walk.laws c.loop.invariant.so_far c.loop.invariant.sequence _ _ c.in_err-step_back.ensures.moves)))
 
 pub returns-in-None-clause-moves : goal.returns-in-None-clause-moves
 returns-in-None-clause-moves g c = back_found g.M.Walk g.met.M.Walk.laws _ _
-    (back_steps g.M.Walk g.met.M.Walk.laws c.loop-passed.invariant.so_far c.loop-passed.invariant.sequence _ _ c.in_ok-step_back.ensures.moves) c.in-None.is
+    (back_steps g.M.Walk g.met.M.Walk.laws c.loop.invariant.so_far c.loop.invariant.sequence _ _ c.in_ok-step_back.ensures.moves) c.in-None.is
 
-pub loop-passed-preserved : goal.loop-passed-preserved
-loop-passed-preserved g c = record {
+pub loop-preserved : goal.loop-preserved
+loop-preserved g c = record {
   at = c.in_ok-step_back.ensures.on (ap is_some c.in-Some.is);
-  sequence = c.in_ok-step_back.ensures.sequence ∙ c.loop-passed.invariant.sequence;
+  sequence = c.in_ok-step_back.ensures.sequence ∙ c.loop.invariant.sequence;
   so_far = back_more g.M.Walk g.met.M.Walk.laws _ _
-      (back_steps g.M.Walk g.met.M.Walk.laws c.loop-passed.invariant.so_far c.loop-passed.invariant.sequence _ _ c.in_ok-step_back.ensures.moves) c.in-Some.is;
+      (back_steps g.M.Walk g.met.M.Walk.laws c.loop.invariant.so_far c.loop.invariant.sequence _ _ c.in_ok-step_back.ensures.moves) c.in-Some.is;
 }
 
 pub returns-clause-moves : goal.returns-clause-moves
-returns-clause-moves g c = let so_far = c.loop-passed.invariant.so_far in runs_out g.M.Walk g.met.M.Walk.laws _ _ so_far.keeps c.too_long.ensures
+returns-clause-moves g c = let so_far = c.loop.invariant.so_far in runs_out g.M.Walk g.met.M.Walk.laws _ _ so_far.keeps c.too_long.ensures
