@@ -1,8 +1,8 @@
 -- Moves in a view, step by step.
-use Rattle.std.proofs.Common.{◌≡◌, ◌⊎◌, inl, inr, ⊎_elim, ℕ, ◌+◌, ◌<◌, ◌≤◌, ◌^◌, Bool, true, false, List, [], ◌∷◌, ◌++◌, length, refl, sym, ◌∙◌, ap, subst, arith, Option, Some, None, Result, Ok, Err, append_assoc, length-append}
+use Rattle.std.proofs.Common.{◌≡◌, ◌⊎◌, inl, inr, ⊎_elim, ℕ, ◌+◌, ◌<◌, ◌≤◌, Bool, true, false, List, [], ◌∷◌, ◌++◌, length, refl, sym, ◌∙◌, ap, subst, arith, Option, Some, None, Result, Ok, Err, append_assoc, length-append}
 use Rattle.std.specs.Prelude.{slice_get, is_some, IfOk, IfErr, IsErrAnd, nat_le}
 use Rattle.std.specs.Bool.{then_some}
-use Rattle.std.proofs.lemmas.Bool.{leb-true, and_parts, false≢true}
+use Rattle.std.proofs.lemmas.Bool.{leb-true, and_parts}
 use Rattle.std.proofs.lemmas.Option.{slice_get_within, get_or_from_slice_get}
 use Rattle.leveldb_base.specs.Cmp.{IsExactOrder}
 use Rattle.leveldb_base.specs.Entries.{entry_of_pair, entries_of_pairs, value_of, AreSorted}
@@ -64,12 +64,12 @@ module _ {E T M : Type 0} (walk : WalkGhosts M E T) (laws : WalkLaws walk.over w
   }
 
   -- errors of a later situation are errors of an earlier one
-  pub widened : {Before After : KeyOrder → List Pair → List Pair → Type 0} {old_world new_world : E × T} {old new : M} → KeepsBelow walk old_world old new_world new
-      → ((order : KeyOrder) (below pairs : List Pair) → Before order below pairs → After order below pairs)
+  pub widened : {Before After : KeyOrder → List Pair → Type 0} {old_world new_world : E × T} {old new : M} → KeepsBelow walk old_world old new_world new
+      → ((order : KeyOrder) (pairs : List Pair) → Before order pairs → After order pairs)
       → (later : E × T) (status : Status) → FailsOver walk After new_world new later status → FailsOver walk Before old_world old later status
   widened keeps later-is later status (inl fails) = inl (keeps.excuses later status fails)
   widened keeps later-is later status (inr (inl memory)) = inr (inl memory)
-  widened keeps later-is later status (inr (inr corrupt)) = inr (inr (corrupt.0, λ order below pairs before. corrupt.1 order below pairs (later-is order below pairs before)))
+  widened keeps later-is later status (inr (inr corrupt)) = inr (inr (corrupt.0, λ order pairs before. corrupt.1 order pairs (later-is order pairs before)))
 
   -- nothing moved
   pub stayed : {R : Type 0} {From : KeyOrder → List Pair → List Pair → ℕ → Type 0} (To : R → KeyOrder → List Pair → List Pair → ℕ → Type 0) (world : E × T) (inner : M) (value : R)
@@ -84,7 +84,7 @@ module _ {E T M : Type 0} (walk : WalkGhosts M E T) (laws : WalkLaws walk.over w
   joined {result = result} first second = record {
     ok = map_if_ok result (λ r to order below pairs n from. to order below pairs n (first.ok order below pairs n from)) second.ok;
     keeps = kept_on first.keeps second.keeps;
-    cause = map_if_err result (λ s. widened first.keeps (λ order below pairs from. (from.0, first.ok order below pairs from.0 from.1)) _ s) second.cause;
+    cause = map_if_err result (λ s. widened first.keeps (λ order pairs from. (from.0, from.1, first.ok order from.0 pairs from.1 from.2)) _ s) second.cause;
   }
 
   -- a part that failed, whatever was to come
@@ -112,13 +112,13 @@ module _ {E T M : Type 0} (walk : WalkGhosts M E T) (laws : WalkLaws walk.over w
       → IsUnread (walk.here inner) status → MovesBelow walk From To world inner (Err status) world mid
   unread {From = From} {To} {world} {inner} {mid} {status} same at fails = subst (λ it. MovesBelow walk From To world inner (Err status) world it) (sym same) (record { ok = tt; keeps = kept_itself world inner; cause = by fails })
     where
-      by : IsUnread (walk.here inner) status → FailsOver walk (λ order below pairs. (n : ℕ) × From order below pairs n) world inner world status
+      by : IsUnread (walk.here inner) status → FailsOver walk (λ order pairs. (below : List Pair) × (n : ℕ) × From order below pairs n) world inner world status
       by (inl memory) = inr (inl memory)
       by (inr short) = inr (inr (
         short.0,
-        λ order below pairs from.
-            let place = at order below pairs from.0 from.1 in
-            let long = tagged world inner order below place.0 short.1 place.1 short.2 in
+        λ order pairs from.
+            let place = at order from.0 pairs from.1 from.2 in
+            let long = tagged world inner order from.0 place.0 short.1 place.1 short.2 in
             let few = short.3 in
             omega (arith, long, few),
       ))

@@ -1,6 +1,6 @@
 -- Turns in a view, and seeks.
-use Rattle.std.proofs.Common.{◌≡◌, inl, ⊎_elim, ℕ, ◌+◌, ◌<◌, ◌≤◌, ◌^◌, Bool, true, false, List, [], ◌∷◌, ◌++◌, length, take, drop, refl, sym, ◌∙◌, ap, subst, arith, Some, None, Result, Ok, Err, append-nil, length-append}
-use Rattle.std.specs.Prelude.{slice_get, OnOk, IfOk, IfErr, IsErrAnd, Contains}
+use Rattle.std.proofs.Common.{◌≡◌, inl, ⊎_elim, ℕ, ◌<◌, ◌≤◌, ◌^◌, Bool, true, false, List, [], ◌∷◌, ◌++◌, length, take, drop, refl, sym, ◌∙◌, ap, subst, arith, Some, None, Result, Ok, Err, append-nil}
+use Rattle.std.specs.Prelude.{slice_get, OnOk, IfOk, IfErr, Contains}
 use Rattle.std.specs.Str.{bytes_eq}
 use Rattle.std.proofs.lemmas.Bool.{false≢true}
 use Rattle.std.proofs.lemmas.List.Elements.{Contains-append_right, Contains-append_cases}
@@ -28,7 +28,7 @@ use Rattle.leveldb_iter.specs.DbIterSteps.{IsOnScan, IsOnScanBack, IsTurning, Is
 use Rattle.leveldb_iter.specs.MergedEntries.{internal_order}
 use Rattle.leveldb_iter.specs.Walk.{KeyOrder, WalkLaws, StepsBack}
 use Rattle.leveldb_iter.proofs.DbIterLemmas.{at_front, sorted_entries, stayed, joined}
-use Rattle.leveldb_iter.proofs.DbIterBackLemmas.{last_of, last_length, before_end, last_before, here_before_all, here_last, back_keeps}
+use Rattle.leveldb_iter.proofs.DbIterBackLemmas.{last_of, before_end, last_before, here_before_all, here_last, back_keeps}
 use Rattle.leveldb_base.specs.CmpLaws.{internal_accepts-internal_key}
 use Rattle.leveldb_base.specs.History.{AreRising}
 use Rattle.leveldb_base.specs.KeyTypes.{internal_key, internal_cmp}
@@ -286,7 +286,7 @@ module _ {E T M : Type 0} (walk : WalkGhosts M E T) (laws : WalkLaws walk.over w
           }
 
       map_err : {R : Type 0} (result : Result R Status) → IfErr result (walk.fails world inner new_world)
-          → IfErr result (FailsOver walk (λ order below pairs. (n : ℕ) × IsSought walk world inner s key order below pairs n) world inner new_world)
+          → IfErr result (FailsOver walk (λ order pairs. (below : List Pair) × (n : ℕ) × IsSought walk world inner s key order below pairs n) world inner new_world)
       map_err (Ok value) c = tt
       map_err (Err status) c = inl c
 
@@ -318,6 +318,6 @@ module _ {E T M : Type 0} (walk : WalkGhosts M E T) (laws : WalkLaws walk.over w
           }
 
       map_err : {R : Type 0} (result : Result R Status) → IfErr result (walk.fails world inner new_world)
-          → IfErr result (FailsOver walk (λ order below pairs. (n : ℕ) × IsWhole walk world inner s order below pairs n) world inner new_world)
+          → IfErr result (FailsOver walk (λ order pairs. (below : List Pair) × (n : ℕ) × IsWhole walk world inner s order below pairs n) world inner new_world)
       map_err (Ok value) c = tt
       map_err (Err status) c = inl c

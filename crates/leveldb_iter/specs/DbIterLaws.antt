@@ -138,8 +138,8 @@ module _ {E T M : Type 0} {walk : WalkGhosts M E T}
   view_excuses first second kept it later status (inr (inr corrupt)) =
       inr (inr (
         corrupt.0,
-        λ order below pairs over. corrupt.1 order below pairs
-            (over.0, view_at_stays first second kept it order pairs over.0 over.1, over.2),
+        λ order pairs over. corrupt.1 order pairs
+            (over.0, view_at_stays first second kept it order pairs over.0 over.1),
       ))
 
   -- the view of sorted entries is sorted

@@ -1,6 +1,6 @@
 -- The steps of a move in a view: situations of the walk below, and moves between them. A situation
 -- is of an order, of the pairs below, of those of the view, and of a number of the latter.
-use Rattle.std.specs.Prelude.{◌≡◌, ◌≢◌, ◌⊎◌, ◌<◌, ◌≤◌, ◌+◌, ◌^◌, ℕ, Bool, true, false, List, ◌++◌, length, Option, Some, None, Result, IfOk, IfErr, Contains}
+use Rattle.std.specs.Prelude.{◌≡◌, ◌≢◌, ◌⊎◌, ◌<◌, ◌≤◌, ◌+◌, ℕ, Bool, true, false, List, ◌++◌, length, Option, Some, None, Result, IfOk, IfErr, Contains}
 use Rattle.std.specs.Borrow.{Bor}
 use Rattle.std.specs.Bool.{then_some}
 use Rattle.std.specs.Option.{option_to_list}
@@ -237,4 +237,5 @@ module _ {E T M : Type 0} (walk : WalkGhosts M E T) where
     pub keeps : KeepsBelow old_world old new_world new
     -- the error is one of the walk below or of memory, where it begins in the situation
     pub cause : IfErr result (FailsOver walk
-        (λ order below pairs. (n : ℕ) × From order below pairs n) old_world old new_world)
+        (λ order pairs. (below : List Pair) × (n : ℕ) × From order below pairs n) old_world old
+        new_world)

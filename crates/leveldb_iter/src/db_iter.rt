@@ -51,7 +51,9 @@ impl<M> DbIterCore<M> {
         ensures none { view_here M.Walk result ≡ None }
         ensures fails { (world later : E × T) (status : Status)
             → FailsView M.Walk world result later status
-            → FailsOver M.Walk (IsViewOf M.Walk world walk sequence) world walk later status }
+            → FailsOver M.Walk (λ order pairs.
+            (below : List Pair) × IsViewOf M.Walk world walk sequence order below pairs)
+            world walk later status }
     {
         DbIterCore {
             walk,

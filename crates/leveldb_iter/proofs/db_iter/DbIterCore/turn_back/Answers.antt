@@ -1,4 +1,4 @@
-use Rattle.std.proofs.Common.{arith, sym, ap, ◌∙◌}
+use Rattle.std.proofs.Common.{sym, ap, ◌∙◌}
 use Rattle.std.proofs.lemmas.Result.{err_from_is_err_and}
 use Rattle.leveldb_iter.specs.DbIterSteps.{is_at_key}
 use Rattle.leveldb_iter.proofs.DbIterTurnLemmas.{turn_fails, turn_ends, turn_more}
