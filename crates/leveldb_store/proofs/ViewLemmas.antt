@@ -58,14 +58,14 @@ accepts_key order all Prev = tt
 accepts_key order all (Seek key) = all key.items
 
 -- a weaker reason
-pub refused_for : (step : Step) (one : Move) {Why Other : Status → Type 0} → ((status : Status) → Why status → Other status)
+refused_for : (step : Step) (one : Move) {Why Other : Status → Type 0} → ((status : Status) → Why status → Other status)
     → IsRefusedFor step one Why → IsRefusedFor step one Other
 refused_for (At key value) one weaker short = short
 refused_for Invalid one weaker short = short
 refused_for (Refused status) one weaker why = weaker status why
 
 -- a count that rose between two numbers, or was at its greatest, did so in a wider range
-pub wider : (a b c d : ℕ) → a ≤ b → b ≤ c → c ≤ d → HasFailed b c → HasFailed a d
+wider : (a b c d : ℕ) → a ≤ b → b ≤ c → c ≤ d → HasFailed b c → HasFailed a d
 wider a b c d low risen high (inl less) = inl (omega (arith, low, high, less))
 wider a b c d low risen high (inr full) = ⊎_elim (λ (same : a ≡ b). inr (same ∙ full))
     (⊎_elim (λ (less : a < b). inl (omega (arith, less, risen, high))) (λ (more : b < a). absurd (omega (arith, low, more)))) (cases_order a b)
