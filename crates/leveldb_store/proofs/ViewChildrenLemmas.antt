@@ -1,16 +1,16 @@
 -- The children of a store's view: over which lists they are, newer entries first, and the merge of these.
-use Rattle.std.specs.Prelude.{All, AllPairs, Contains, slice_get, slice_index_or}
-use Rattle.std.proofs.Common.{◌≡◌, ◌↔◌, ◌<◌, ◌≤◌, ◌^◌, ◌⊎◌, inl, inr, ⊎_elim, ℕ, true, List, [], ◌∷◌, ◌++◌, Option, None, Some, length, map, refl, sym, ◌∙◌, ap, subst, arith, append_assoc}
-use Rattle.std.proofs.lemmas.List.{length-map, map-append}
+use Rattle.std.specs.Prelude.{All, Contains, slice_index_or}
+use Rattle.std.proofs.Common.{◌≡◌, ◌↔◌, ⊎_elim, ℕ, true, List, [], ◌∷◌, ◌++◌, Option, None, Some, map, refl, sym, ◌∙◌, ap, subst, arith}
+use Rattle.std.proofs.lemmas.List.{map-append}
 use Rattle.std.proofs.lemmas.List.Elements.{Contains-append_cases, Contains-append_left, Contains-append_right}
 use Rattle.std.specs.declared.cmp.Ordering.{Ordering}
-use Rattle.leveldb_base.proofs.EntriesLemmas.{in_map, map_in, pair_is_read}
+use Rattle.leveldb_base.proofs.EntriesLemmas.{in_map, pair_is_read}
 use Rattle.leveldb_base.proofs.HistoryLemmas.{in_cases, in_front, in_none, in_rest}
 use Rattle.leveldb_base.specs.Cmp.{IsExactOrder, internal_accepts}
 use Rattle.leveldb_base.specs.CmpLaws.{internal_accepts-internal_key}
-use Rattle.leveldb_base.specs.Entries.{entries_of_pairs, entry_of_pair, internal_pair, type_of}
-use Rattle.leveldb_base.specs.History.{AreRising, AreUpTo, Entry, entries_of}
-use Rattle.leveldb_base.specs.KeyTypes.{greatest_sequence, internal_cmp, internal_key}
+use Rattle.leveldb_base.specs.Entries.{entries_of_pairs, internal_pair, type_of}
+use Rattle.leveldb_base.specs.History.{AreUpTo, Entry, entries_of}
+use Rattle.leveldb_base.specs.KeyTypes.{greatest_sequence}
 use Rattle.leveldb_base.specs.Layers.{AreLayered, IsOlder}
 use Rattle.leveldb_base.specs.Types.{Pair}
 use Rattle.leveldb_base.specs.declared.cmp.Cmp.{Ghosts as CmpGhosts}
@@ -22,8 +22,6 @@ use Rattle.leveldb_env.specs.declared.filter.FilterPolicy.{Ghosts as FilterGhost
 use Rattle.leveldb_iter.proofs.MergeCountLemmas.{layers_merged}
 use Rattle.leveldb_iter.specs.Children.{AreOver}
 use Rattle.leveldb_iter.specs.MergedEntries.{MergesEntries, internal_order}
-use Rattle.leveldb_iter.specs.MergingIter.{AreMerged}
-use Rattle.leveldb_iter.specs.Unlent.{IsAloneOver}
 use Rattle.leveldb_iter.specs.Walk.{IsSortedIn, KeyOrder, key_order}
 use Rattle.leveldb_iter.specs.declared.unlent.Unlent.{Unlent}
 use Rattle.leveldb_iter.specs.declared.walk.Walk.{Ghosts as WalkGhosts}

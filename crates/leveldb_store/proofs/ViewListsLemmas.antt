@@ -1,15 +1,6 @@
 -- Lists side by side, and each element of a list before each later one.
-use Rattle.std.specs.Prelude.{All, AllPairs, Contains, slice_get, slice_index_or}
-use Rattle.std.proofs.Common.{◌≡◌, ◌+◌, ◌≤◌, ◌<◌, ◌⊎◌, inl, inr, ⊎_elim, ℕ, zero, suc, List, [], ◌∷◌, ◌++◌, Option, None, Some, length, map, refl, sym, ◌∙◌, ap, subst, arith}
-use Rattle.std.proofs.lemmas.List.Elements.{All-contains_itself, All-weaker, Contains-append_cases}
-use Rattle.std.specs.Ordering.{ordering_reverse}
-use Rattle.std.specs.declared.cmp.Ordering.{Ordering}
-use Rattle.std.specs.declared.cmp.Ordering.TheVariants.{Greater, Less}
-use Rattle.leveldb_base.proofs.HistoryLemmas.{in_cases, in_front, in_none, in_rest}
-use Rattle.leveldb_base.proofs.OrderLemmas.{exact_total}
-use Rattle.leveldb_base.specs.Cmp.{IsExactOrder}
-use Rattle.leveldb_base.specs.Entries.{AreSorted, IsBeforeEntry}
-use Rattle.leveldb_base.specs.History.{Entry}
+use Rattle.std.specs.Prelude.{AllPairs, slice_get, slice_index_or}
+use Rattle.std.proofs.Common.{◌≡◌, ℕ, zero, suc, List, [], ◌∷◌, ◌++◌, Some, length, refl, subst, arith}
 use Rattle.leveldb_version.proofs.PairwiseLemmas.{Pairwise}
 use Rattle.leveldb_version.specs.Batches.{Each}
 

@@ -1,4 +1,4 @@
-use Rattle.std.proofs.Common.{◌⊎◌, ⊎_elim, inl, inr, refl}
+use Rattle.std.proofs.Common.{⊎_elim, inl, inr}
 use Rattle.leveldb_base.specs.Entries.{entries_of_pairs}
 use Rattle.leveldb_base.specs.View.{view_of}
 use Rattle.leveldb_iter.specs.DbIterLaws.{view_laws}
