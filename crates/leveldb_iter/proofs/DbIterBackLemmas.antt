@@ -1,9 +1,9 @@
 -- Moves back in a view, step by step.
-use Rattle.std.proofs.Common.{◌≡◌, ◌≢◌, ◌⊎◌, inl, inr, ⊎_elim, ℕ, ◌+◌, ◌<◌, ◌≤◌, ◌^◌, Bool, true, false, List, [], ◌∷◌, ◌++◌, length, suc, add-one, refl, sym, ◌∙◌, ap, subst, arith, Option, Some, None, Result, Ok, Err, append_assoc, length-append}
-use Rattle.std.specs.Prelude.{slice_get, is_some, IsErrAnd, Contains}
+use Rattle.std.proofs.Common.{◌≡◌, ◌≢◌, ◌⊎◌, inl, inr, ⊎_elim, ℕ, ◌<◌, ◌≤◌, Bool, true, false, List, [], ◌∷◌, ◌++◌, length, suc, add-one, refl, sym, ◌∙◌, ap, subst, arith, Option, Some, None, Result, Ok, Err, append_assoc, length-append}
+use Rattle.std.specs.Prelude.{slice_get, is_some, Contains}
 use Rattle.std.specs.Bool.{then_some}
 use Rattle.std.specs.Option.{option_map, option_to_list}
-use Rattle.std.proofs.lemmas.Bool.{cases_lt, false≢true}
+use Rattle.std.proofs.lemmas.Bool.{cases_lt}
 use Rattle.std.specs.declared.cmp.Ordering.TheVariants.{Less}
 use Rattle.std.specs.Ordering.{is_lt}
 use Rattle.leveldb_base.specs.Entries.{entry_of_pair, entries_of_pairs, value_of, AreSorted}
@@ -13,7 +13,6 @@ use Rattle.leveldb_base.specs.Scan.{ScanStepsBack, count_shown, shown_pair}
 use Rattle.leveldb_base.specs.Types.{Pair, pair_at, previous_position}
 use Rattle.leveldb_base.specs.View.{view_of, shown_in}
 use Rattle.leveldb_base.specs.declared.error.Status.{Status}
-use Rattle.leveldb_base.specs.declared.error.StatusCode.TheVariants.{NotSupported}
 use Rattle.leveldb_base.specs.declared.types.Direction.{Direction}
 use Rattle.leveldb_base.specs.declared.types.Direction.TheVariants.{Reverse}
 use Rattle.leveldb_base.proofs.HistoryLemmas.{in_cases}
@@ -26,7 +25,7 @@ use Rattle.leveldb_iter.specs.declared.walk.Walk.{Ghosts as WalkGhosts}
 use Rattle.leveldb_iter.specs.DbIterSteps.{IsNoEntry, IsUnread, IsEndBack, IsFoundBack, IsTaken, IsOnScanBack, IsFoundPrevious, IsStepBack, KeepsBelow, MovesBelow}
 use Rattle.leveldb_iter.specs.MergedEntries.{internal_order}
 use Rattle.leveldb_iter.specs.Walk.{KeyOrder, WalkLaws, StepsBack}
-use Rattle.leveldb_iter.proofs.DbIterLemmas.{none_from_is_some, at_front, sorted_entries, unread, same_moved, stayed, joined, revalued, uncounted}
+use Rattle.leveldb_iter.proofs.DbIterLemmas.{none_from_is_some, at_front, sorted_entries, unread, same_moved, stayed, joined, revalued}
 
 -- ---- the last of a list
 
@@ -65,7 +64,7 @@ module _ {E T M : Type 0} (walk : WalkGhosts M E T) (laws : WalkLaws walk.over w
       ∙ ap (pair_at below) (before_end front before last e)
       ∙ ap (λ list. slice_get list (length before)) (parted ∙ last_before front before back last e) ∙ at_front before (last ∷ back)
 
-  module _ {world : E × T} {inner : M} {s : ℕ} {found : Option Pair} {passed : ℕ} {order : KeyOrder} {below pairs : List Pair} {n : ℕ} (on : IsOnScanBack walk world inner s found passed order below pairs n) where
+  module _ {world : E × T} {inner : M} {s : ℕ} {found : Option Pair} {order : KeyOrder} {below pairs : List Pair} {n : ℕ} (on : IsOnScanBack walk world inner s found order below pairs n) where
     abbrev gone_over : List Entry
     gone_over = entries_of_pairs on.over
 
@@ -189,15 +188,8 @@ module _ {E T M : Type 0} (walk : WalkGhosts M E T) (laws : WalkLaws walk.over w
           at_before : walk.is_at new_world new (internal_order order) below (previous_position (Some (length before)))
           at_before = subst (λ p. walk.is_at new_world new (internal_order order) below (previous_position p)) (before_end on.front before last e) at
 
-          -- before all entries it is at no pair
-          some_before : is_some (walk.here new) ≡ true → 0 < length before
-          some_before some = ⊎_elim
-              (λ (empty : before ≡ []). absurd (false≢true (sym (ap is_some (here_before_all new_world new order below before at_before empty)) ∙ some)))
-              (λ (more : (front : List Pair) × (pair : Pair) × (before ≡ front ++ pair ∷ [])). let size = ap length more.2 ∙ last_length more.0 more.1 in omega (arith, size))
-              (last_of before)
-
-          backward : (count : ℕ) → count ≤ passed + 1 → (0 < count → is_some (walk.here new) ≡ true) → IsOnScanBack walk new_world new s new_found count order below pairs n
-          backward count few some = record {
+          backward : IsOnScanBack walk new_world new s new_found order below pairs n
+          backward = record {
             front = before;
             over = last ∷ on.over;
             rest = on.rest;
@@ -208,8 +200,6 @@ module _ {E T M : Type 0} (walk : WalkGhosts M E T) (laws : WalkLaws walk.over w
             shown = ap (λ list. count_shown s (entries_of_pairs list)) (sym (last_before on.front before on.over last e)) ∙ on.shown;
             finds = finds_here;
             after = λ own is entry c low. after_here own is entry (subst (λ list. Contains (entry_of_pair last ∷ list) entry) back_split c) low;
-            counted = let size = ap length e ∙ last_length before last in let counted = on.counted in omega (arith, size, counted, few);
-            left = λ positive. some_before (some positive);
           }
 
     -- it is at the entry that was found to be there
@@ -232,51 +222,51 @@ module _ {E T M : Type 0} (walk : WalkGhosts M E T) (laws : WalkLaws walk.over w
 
     pub goes_back : {new_found : Option Pair} {new_world : E × T} {new : M} → IsFoundBack s found new_found (walk.here inner)
         → walk.is_at new_world new (internal_order order) below (previous_position (previous_position (Some (length on.front))))
-        → (count : ℕ) → count ≤ passed + 1 → (0 < count → is_some (walk.here new) ≡ true) → IsOnScanBack walk new_world new s new_found count order below pairs n
-    goes_back {new_found} b at count few some =
+        → IsOnScanBack walk new_world new s new_found order below pairs n
+    goes_back {new_found} b at =
         let last = last_here b.pair b.here_is in
-        backward last.0 b.pair last.1 new_found b.unseen b.same_key b.takes at count few some
+        backward last.0 b.pair last.1 new_found b.unseen b.same_key b.takes at
 
   pub back_keeps : {R : Type 0} {old_world : E × T} {old : M} {result : Result R Status} {new_world : E × T} {new : M} → StepsBack walk.over walk.is_at walk.here walk.fails walk.keeps old_world old result new_world new → KeepsBelow walk old_world old new_world new
   back_keeps m = record { over = m.same; kept = m.kept; excuses = m.excuses }
 
   -- ---- a step of a scan back
 
-  pub step_back_unread : {world : E × T} {inner mid : M} {s : ℕ} {found : Option Pair} {passed : ℕ} {To : Option Bool → KeyOrder → List Pair → List Pair → ℕ → Type 0} {status : Status} → mid ≡ inner → IsUnread (walk.here inner) status
-      → MovesBelow walk (IsOnScanBack walk world inner s found passed) To world inner (Err status) world mid
+  pub step_back_unread : {world : E × T} {inner mid : M} {s : ℕ} {found : Option Pair} {To : Option Bool → KeyOrder → List Pair → List Pair → ℕ → Type 0} {status : Status} → mid ≡ inner → IsUnread (walk.here inner) status
+      → MovesBelow walk (IsOnScanBack walk world inner s found) To world inner (Err status) world mid
   step_back_unread same fails = unread walk laws same (λ order below pairs n on. (previous_position (Some (length on.front)), on.at)) fails
 
   module _ {world : E × T} {inner mid : M} {s : ℕ} (taken : Bool) (saved new_saved : Pair) {seen : Option Bool} (same : mid ≡ inner) (takes : IsTaken s (then_some taken saved) (walk.here inner) saved new_saved seen) where
-    pub step_back_ends : (direction : Option Direction) → seen ≡ None → direction ≡ then_some taken Reverse → (passed next : ℕ)
-        → MovesBelow walk (IsOnScanBack walk world inner s (then_some taken saved) passed) (IsStepBack walk world mid s direction new_saved next) world inner (Ok None) world mid
-    step_back_ends direction is reverse passed next =
+    pub step_back_ends : (direction : Option Direction) → seen ≡ None → direction ≡ then_some taken Reverse
+        → MovesBelow walk (IsOnScanBack walk world inner s (then_some taken saved)) (IsStepBack walk world mid s direction new_saved) world inner (Ok None) world mid
+    step_back_ends direction is reverse =
         let end : IsEndBack s (then_some taken saved) (walk.here inner) × (new_saved ≡ saved) = subst (IsTaken s (then_some taken saved) (walk.here inner) saved new_saved) is takes in
-        subst (λ it. MovesBelow walk (IsOnScanBack walk world inner s (then_some taken saved) passed) (IsStepBack walk world it s direction new_saved next) world inner (Ok None) world it) (sym same)
-        (stayed walk laws (IsStepBack walk world inner s direction new_saved next) world inner None
+        subst (λ it. MovesBelow walk (IsOnScanBack walk world inner s (then_some taken saved)) (IsStepBack walk world it s direction new_saved) world inner (Ok None) world it) (sym same)
+        (stayed walk laws (IsStepBack walk world inner s direction new_saved) world inner None
         (λ order below pairs n on. subst (λ d. IsFoundPrevious walk world inner s d new_saved order below pairs n) (sym reverse)
         (ends_back on taken new_saved (ap (then_some taken) (sym end.1)) end.0)))
 
     module _ {now valid : Bool} {new_world : E × T} {new : M} (is : seen ≡ Some now)
         (m : StepsBack walk.over walk.is_at walk.here walk.fails walk.keeps world mid (Ok valid) new_world new) (valid_is : valid ≡ is_some (walk.here new)) where
-      went_back : {passed : ℕ} {order : KeyOrder} {below pairs : List Pair} {n : ℕ} → IsOnScanBack walk world inner s (then_some taken saved) passed order below pairs n → (count : ℕ) → count ≤ passed + 1 → (0 < count → valid ≡ true)
-          → IsOnScanBack walk new_world new s (then_some now new_saved) count order below pairs n
-      went_back {order = order} {below} on count few some =
+      went_back : {order : KeyOrder} {below pairs : List Pair} {n : ℕ} → IsOnScanBack walk world inner s (then_some taken saved) order below pairs n
+          → IsOnScanBack walk new_world new s (then_some now new_saved) order below pairs n
+      went_back {order = order} {below} on =
           goes_back on (subst (IsTaken s (then_some taken saved) (walk.here inner) saved new_saved) is takes)
-          ((same_moved walk laws same m).ok (internal_order order) below (previous_position (Some (length on.front))) on.at) count few (λ positive. sym valid_is ∙ some positive)
+          ((same_moved walk laws same m).ok (internal_order order) below (previous_position (Some (length on.front))) on.at)
 
-      pub step_back_passes : (direction : Option Direction) → valid ≡ true → (passed : ℕ)
-          → MovesBelow walk (IsOnScanBack walk world inner s (then_some taken saved) passed) (IsStepBack walk new_world new s direction new_saved (passed + 1)) world inner (Ok (Some now)) new_world new
-      step_back_passes direction is_valid passed = record {
-        ok = λ order below pairs n on. went_back on (passed + 1) (omega arith) (λ positive. is_valid);
+      pub step_back_passes : (direction : Option Direction)
+          → MovesBelow walk (IsOnScanBack walk world inner s (then_some taken saved)) (IsStepBack walk new_world new s direction new_saved) world inner (Ok (Some now)) new_world new
+      step_back_passes direction = record {
+        ok = λ order below pairs n on. went_back on;
         keeps = back_keeps (same_moved walk laws same m);
         cause = tt;
       }
 
-      pub step_back_passes_last : (direction : Option Direction) → valid ≡ false → direction ≡ then_some now Reverse → (passed next : ℕ)
-          → MovesBelow walk (IsOnScanBack walk world inner s (then_some taken saved) passed) (IsStepBack walk new_world new s direction new_saved next) world inner (Ok None) new_world new
-      step_back_passes_last direction is_not reverse passed next = record {
+      pub step_back_passes_last : (direction : Option Direction) → valid ≡ false → direction ≡ then_some now Reverse
+          → MovesBelow walk (IsOnScanBack walk world inner s (then_some taken saved)) (IsStepBack walk new_world new s direction new_saved) world inner (Ok None) new_world new
+      step_back_passes_last direction is_not reverse = record {
         ok = λ order below pairs n on. subst (λ d. IsFoundPrevious walk new_world new s d new_saved order below pairs n) (sym reverse)
-            (ends_before_all (went_back on 0 (omega arith) (λ positive. absurd (omega (arith, positive)))) now new_saved refl
+            (ends_before_all (went_back on) now new_saved refl
             (none_from_is_some (walk.here new) (sym valid_is ∙ is_not)));
         keeps = back_keeps (same_moved walk laws same m);
         cause = tt;
@@ -284,29 +274,20 @@ module _ {E T M : Type 0} (walk : WalkGhosts M E T) (laws : WalkLaws walk.over w
 
   -- ---- a whole scan back
 
-  module _ {start world : E × T} {old now : M} {s : ℕ} {found : Option Pair} {passed : ℕ}
-      (so_far : MovesBelow walk (IsOnScanBack walk start old s None 0) (λ (u : Unit {0}). IsOnScanBack walk world now s found passed) start old (Ok (tt {0})) world now) where
-    pub back_steps : {number : ℕ} → number ≡ s → {new_world : E × T} {new : M} (direction : Option Direction) (saved : Pair) {next : ℕ} {result : Result (Option Bool) Status}
-        → MovesBelow walk (IsOnScanBack walk world now number found passed) (IsStepBack walk new_world new number direction saved next) world now result new_world new
-        → MovesBelow walk (IsOnScanBack walk start old s None 0) (IsStepBack walk new_world new s direction saved next) start old result new_world new
-    back_steps {number} same {new_world} {new} direction saved {next} {result} step = joined walk laws so_far
-        (subst (λ n. MovesBelow walk (IsOnScanBack walk world now n found passed) (IsStepBack walk new_world new n direction saved next) world now result new_world new) same step)
+  module _ {start world : E × T} {old now : M} {s : ℕ} {found : Option Pair}
+      (so_far : MovesBelow walk (IsOnScanBack walk start old s None) (λ (u : Unit {0}). IsOnScanBack walk world now s found) start old (Ok (tt {0})) world now) where
+    pub back_steps : {number : ℕ} → number ≡ s → {new_world : E × T} {new : M} (direction : Option Direction) (saved : Pair) {result : Result (Option Bool) Status}
+        → MovesBelow walk (IsOnScanBack walk world now number found) (IsStepBack walk new_world new number direction saved) world now result new_world new
+        → MovesBelow walk (IsOnScanBack walk start old s None) (IsStepBack walk new_world new s direction saved) start old result new_world new
+    back_steps {number} same {new_world} {new} direction saved {result} step = joined walk laws so_far
+        (subst (λ n. MovesBelow walk (IsOnScanBack walk world now n found) (IsStepBack walk new_world new n direction saved) world now result new_world new) same step)
 
-    pub back_too_many : (number : ℕ) (direction : Option Direction) (saved : Pair) (result : Result (Unit {0}) Status) → 2 ^ 128 ≤ passed + 1 → IsErrAnd result (λ status. status.code ≡ NotSupported)
-        → MovesBelow walk (IsOnScanBack walk start old s None 0) (λ u. IsFoundPrevious walk world now number direction saved) start old result world now
-    back_too_many number direction saved result many is = uncounted walk laws (λ u. IsFoundPrevious walk world now number direction saved) result so_far.keeps
-        (λ order below pairs n from.
-        let on = so_far.ok order below pairs n from in
-        let left = on.left (omega (arith, many)) in
-        let counted = on.counted in
-        omega (arith, many, left, counted)) is
-
-  module _ {From : KeyOrder → List Pair → List Pair → ℕ → Type 0} {world new_world : E × T} {old new : M} {s : ℕ} (direction : Option Direction) (saved : Pair) {next : ℕ} {value : Option Bool}
-      (m : MovesBelow walk From (IsStepBack walk new_world new s direction saved next) world old (Ok value) new_world new) where
+  module _ {From : KeyOrder → List Pair → List Pair → ℕ → Type 0} {world new_world : E × T} {old new : M} {s : ℕ} (direction : Option Direction) (saved : Pair) {value : Option Bool}
+      (m : MovesBelow walk From (IsStepBack walk new_world new s direction saved) world old (Ok value) new_world new) where
     -- it ends
     pub back_found : value ≡ None → MovesBelow walk From (λ (u : Unit {0}). IsFoundPrevious walk new_world new s direction saved) world old (Ok (tt {0})) new_world new
-    back_found is = revalued walk laws (tt {0}) (λ order below pairs n to. subst (λ v. IsStepBack walk new_world new s direction saved next v order below pairs n) is to) m
+    back_found is = revalued walk laws (tt {0}) (λ order below pairs n to. subst (λ v. IsStepBack walk new_world new s direction saved v order below pairs n) is to) m
 
     -- or goes on
-    pub back_more : {taken : Bool} → value ≡ Some taken → MovesBelow walk From (λ (u : Unit {0}). IsOnScanBack walk new_world new s (then_some taken saved) next) world old (Ok (tt {0})) new_world new
-    back_more is = revalued walk laws (tt {0}) (λ order below pairs n to. subst (λ v. IsStepBack walk new_world new s direction saved next v order below pairs n) is to) m
+    pub back_more : {taken : Bool} → value ≡ Some taken → MovesBelow walk From (λ (u : Unit {0}). IsOnScanBack walk new_world new s (then_some taken saved)) world old (Ok (tt {0})) new_world new
+    back_more is = revalued walk laws (tt {0}) (λ order below pairs n to. subst (λ v. IsStepBack walk new_world new s direction saved v order below pairs n) is to) m

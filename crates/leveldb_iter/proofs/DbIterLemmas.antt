@@ -1,17 +1,17 @@
 -- Moves in a view, step by step.
-use Rattle.std.proofs.Common.{◌≡◌, ◌⊎◌, inl, inr, ⊎_elim, ℕ, ◌+◌, ◌<◌, ◌≤◌, ◌^◌, Bool, true, false, List, [], ◌∷◌, ◌++◌, length, refl, sym, ◌∙◌, ap, subst, arith, Option, Some, None, Result, Ok, Err, append_assoc, length-append}
+use Rattle.std.proofs.Common.{◌≡◌, ◌⊎◌, inl, inr, ⊎_elim, ℕ, ◌+◌, ◌<◌, ◌≤◌, Bool, true, false, List, [], ◌∷◌, ◌++◌, length, refl, sym, ◌∙◌, ap, subst, arith, Option, Some, None, Result, Ok, Err, append_assoc, length-append}
 use Rattle.std.specs.Prelude.{slice_get, is_some, IfOk, IfErr, IsErrAnd, nat_le}
 use Rattle.std.specs.Bool.{then_some}
-use Rattle.std.proofs.lemmas.Bool.{leb-true, and_parts, false≢true}
+use Rattle.std.proofs.lemmas.Bool.{leb-true, and_parts}
 use Rattle.std.proofs.lemmas.Option.{slice_get_within, get_or_from_slice_get}
 use Rattle.leveldb_base.specs.Cmp.{IsExactOrder}
 use Rattle.leveldb_base.specs.Entries.{entry_of_pair, entries_of_pairs, value_of, AreSorted}
+use Rattle.leveldb_base.specs.Error.{IsOutOfMemory}
 use Rattle.leveldb_base.specs.KeyTypes.{user_part, type_part}
 use Rattle.leveldb_base.specs.Scan.{IsScanning, count_shown}
 use Rattle.leveldb_base.specs.Types.{Pair, pair_at, position_within, next_position, previous_position}
 use Rattle.leveldb_base.specs.View.{view_of, is_newest}
 use Rattle.leveldb_base.specs.declared.error.Status.{Status}
-use Rattle.leveldb_base.specs.declared.error.StatusCode.TheVariants.{NotSupported}
 use Rattle.leveldb_base.specs.declared.key_types.ValueType.TheVariants.{TypeDeletion, TypeValue}
 use Rattle.leveldb_base.specs.declared.types.Direction.{Direction}
 use Rattle.leveldb_base.specs.declared.types.Direction.TheVariants.{Forward, Reverse}
@@ -64,13 +64,12 @@ module _ {E T M : Type 0} (walk : WalkGhosts M E T) (laws : WalkLaws walk.over w
   }
 
   -- errors of a later situation are errors of an earlier one
-  pub widened : {Before After : KeyOrder → List Pair → List Pair → Type 0} {old_world new_world : E × T} {old new : M} → KeepsBelow walk old_world old new_world new
-      → ((order : KeyOrder) (below pairs : List Pair) → Before order below pairs → After order below pairs)
+  pub widened : {Before After : KeyOrder → List Pair → Type 0} {old_world new_world : E × T} {old new : M} → KeepsBelow walk old_world old new_world new
+      → ((order : KeyOrder) (pairs : List Pair) → Before order pairs → After order pairs)
       → (later : E × T) (status : Status) → FailsOver walk After new_world new later status → FailsOver walk Before old_world old later status
   widened keeps later-is later status (inl fails) = inl (keeps.excuses later status fails)
   widened keeps later-is later status (inr (inl memory)) = inr (inl memory)
-  widened keeps later-is later status (inr (inr (inl corrupt))) = inr (inr (inl (corrupt.0, λ order below pairs before. corrupt.1 order below pairs (later-is order below pairs before))))
-  widened keeps later-is later status (inr (inr (inr many))) = inr (inr (inr (many.0, λ order below pairs before. many.1 order below pairs (later-is order below pairs before))))
+  widened keeps later-is later status (inr (inr corrupt)) = inr (inr (corrupt.0, λ order pairs before. corrupt.1 order pairs (later-is order pairs before)))
 
   -- nothing moved
   pub stayed : {R : Type 0} {From : KeyOrder → List Pair → List Pair → ℕ → Type 0} (To : R → KeyOrder → List Pair → List Pair → ℕ → Type 0) (world : E × T) (inner : M) (value : R)
@@ -85,7 +84,7 @@ module _ {E T M : Type 0} (walk : WalkGhosts M E T) (laws : WalkLaws walk.over w
   joined {result = result} first second = record {
     ok = map_if_ok result (λ r to order below pairs n from. to order below pairs n (first.ok order below pairs n from)) second.ok;
     keeps = kept_on first.keeps second.keeps;
-    cause = map_if_err result (λ s. widened first.keeps (λ order below pairs from. (from.0, first.ok order below pairs from.0 from.1)) _ s) second.cause;
+    cause = map_if_err result (λ s. widened first.keeps (λ order pairs from. (from.0, from.1, first.ok order from.0 pairs from.1 from.2)) _ s) second.cause;
   }
 
   -- a part that failed, whatever was to come
@@ -113,16 +112,16 @@ module _ {E T M : Type 0} (walk : WalkGhosts M E T) (laws : WalkLaws walk.over w
       → IsUnread (walk.here inner) status → MovesBelow walk From To world inner (Err status) world mid
   unread {From = From} {To} {world} {inner} {mid} {status} same at fails = subst (λ it. MovesBelow walk From To world inner (Err status) world it) (sym same) (record { ok = tt; keeps = kept_itself world inner; cause = by fails })
     where
-      by : IsUnread (walk.here inner) status → FailsOver walk (λ order below pairs. (n : ℕ) × From order below pairs n) world inner world status
+      by : IsUnread (walk.here inner) status → FailsOver walk (λ order pairs. (below : List Pair) × (n : ℕ) × From order below pairs n) world inner world status
       by (inl memory) = inr (inl memory)
-      by (inr short) = inr (inr (inl (
+      by (inr short) = inr (inr (
         short.0,
-        λ order below pairs from.
-            let place = at order below pairs from.0 from.1 in
-            let long = tagged world inner order below place.0 short.1 place.1 short.2 in
+        λ order pairs from.
+            let place = at order from.0 pairs from.1 from.2 in
+            let long = tagged world inner order from.0 place.0 short.1 place.1 short.2 in
             let few = short.3 in
             omega (arith, long, few),
-      )))
+      ))
 
   -- the entries below are sorted
   pub sorted_entries : (world : E × T) (inner : M) (order : KeyOrder) (below : List Pair) (position : Option ℕ) → IsExactOrder order.cmp → walk.is_at world inner (internal_order order) below position → AreSorted order.cmp (entries_of_pairs below)
@@ -139,17 +138,16 @@ module _ {E T M : Type 0} (walk : WalkGhosts M E T) (laws : WalkLaws walk.over w
   -- ---- one entry of a scan forward
 
   -- after so many pairs of the view the entry is passed, and the walk below is still at it
-  pub record IsPassing (world : E × T) (inner : M) (s : ℕ) (skip : Option (List ℕ)) (passed : ℕ) (order : KeyOrder) (below pairs : List Pair) (n : ℕ) : Type 0 where
+  pub record IsPassing (world : E × T) (inner : M) (s : ℕ) (skip : Option (List ℕ)) (order : KeyOrder) (below pairs : List Pair) (n : ℕ) : Type 0 where
     pub front : List Pair
     pub pair : Pair
     pub back : List Pair
     pub parted : below ≡ front ++ pair ∷ back
     pub at : walk.is_at world inner (internal_order order) below (Some (length front))
     pub scanning : IsScanning s pairs n skip (entries_of_pairs back)
-    pub counted : passed ≤ length front
 
   -- the entry at the front of those to come, with all that the situation says
-  module _ {world : E × T} {inner : M} {s : ℕ} {skip : Option (List ℕ)} {passed : ℕ} {order : KeyOrder} {below pairs : List Pair} {n : ℕ} (on : IsOnScan walk world inner s skip passed order below pairs n) where
+  module _ {world : E × T} {inner : M} {s : ℕ} {skip : Option (List ℕ)} {order : KeyOrder} {below pairs : List Pair} {n : ℕ} (on : IsOnScan walk world inner s skip order below pairs n) where
     -- at no entry there is no further position
     ends : IsNoEntry (walk.here inner) → position_within pairs n ≡ None
     ends none = by on.back refl
@@ -186,8 +184,8 @@ module _ {E T M : Type 0} (walk : WalkGhosts M E T) (laws : WalkLaws walk.over w
       scanning_here : IsScanning s pairs n skip (entry_of_pair pair ∷ entries_of_pairs back)
       scanning_here = subst (λ list. IsScanning s pairs n skip (entries_of_pairs list)) e on.scanning
 
-      passing : (next : Option (List ℕ)) → IsScanning s pairs n next (entries_of_pairs back) → IsPassing world inner s next passed order below pairs n
-      passing next scanning = record { front = on.front; pair = pair; back = back; parted = parted_here; at = at_here; scanning = scanning; counted = on.counted }
+      passing : (next : Option (List ℕ)) → IsScanning s pairs n next (entries_of_pairs back) → IsPassing world inner s next order below pairs n
+      passing next scanning = record { front = on.front; pair = pair; back = back; parted = parted_here; at = at_here; scanning = scanning }
 
       found : is_newest s skip (entry_of_pair pair) ≡ true → type_part pair.0 ≡ TypeValue → (position_within pairs n ≡ Some n) × IsAtEntry walk world inner s order below pairs n
       found newest kind =
@@ -198,7 +196,7 @@ module _ {E T M : Type 0} (walk : WalkGhosts M E T) (laws : WalkLaws walk.over w
       passed_over : (skipping : Bool) (key : List ℕ)
           → ((is_newest s skip (entry_of_pair pair) ≡ false) × (then_some skipping key ≡ skip))
           ⊎ ((is_newest s skip (entry_of_pair pair) ≡ true) × (type_part pair.0 ≡ TypeDeletion) × (then_some skipping key ≡ Some (user_part pair.0)))
-          → IsPassing world inner s (then_some skipping key) passed order below pairs n
+          → IsPassing world inner s (then_some skipping key) order below pairs n
       passed_over skipping key seen =
           let step = each_scan_steps s pairs n skip (entry_of_pair pair) (entries_of_pairs back) scanning_here in
           passing (then_some skipping key) (⊎_elim
@@ -219,7 +217,7 @@ module _ {E T M : Type 0} (walk : WalkGhosts M E T) (laws : WalkLaws walk.over w
     pub found_none : (direction : Option Direction) (saved : Pair) → direction ≡ None → IsNoEntry (walk.here inner) → IsFoundNext walk world inner s direction saved order below pairs n
     found_none direction saved is_none none = subst (λ d. IsPlaced walk world inner s order d saved below pairs (position_within pairs n)) (sym is_none) (ends none)
 
-    pub passing_here : (skipping : Bool) (key : List ℕ) → IsSeen s skip (walk.here inner) key (Passed skipping) → IsPassing world inner s (then_some skipping key) passed order below pairs n
+    pub passing_here : (skipping : Bool) (key : List ℕ) → IsSeen s skip (walk.here inner) key (Passed skipping) → IsPassing world inner s (then_some skipping key) order below pairs n
     passing_here skipping key seen =
         let first = first_is seen.0 seen.1 in
         passed_over seen.0 first.0 first.1 skipping key seen.2
@@ -229,16 +227,8 @@ module _ {E T M : Type 0} (walk : WalkGhosts M E T) (laws : WalkLaws walk.over w
     pub advance_keeps : KeepsBelow walk old_world old new_world new
     advance_keeps = record { over = m.same; kept = m.kept; excuses = m.excuses }
 
-  -- it is at a pair where it isn't at the end
-  left_some : (world : E × T) (inner : M) (order : KeyOrder) (below front back : List Pair) → below ≡ front ++ back → walk.is_at world inner (internal_order order) below (position_within below (length front))
-      → is_some (walk.here inner) ≡ true → length front < length below
-  left_some world inner order below front [] parted at some =
-      let none : walk.here inner ≡ None = at_back world inner order below front [] parted at in
-      absurd (false≢true (sym (ap is_some none) ∙ some))
-  left_some world inner order below front (pair ∷ back) parted at some = subst (λ list. length front < length list) (sym parted) (more_length front back pair)
-
   -- a scan goes on after the entry that was passed
-  module _ {old_world new_world : E × T} {old new : M} {s : ℕ} {skip : Option (List ℕ)} {passed : ℕ} {order : KeyOrder} {below pairs : List Pair} {n : ℕ} (p : IsPassing old_world old s skip passed order below pairs n)
+  module _ {old_world new_world : E × T} {old new : M} {s : ℕ} {skip : Option (List ℕ)} {order : KeyOrder} {below pairs : List Pair} {n : ℕ} (p : IsPassing old_world old s skip order below pairs n)
       (at : walk.is_at new_world new (internal_order order) below (next_position below (Some (length p.front)))) where
     longer : length (p.front ++ p.pair ∷ []) ≡ length p.front + 1
     longer = length-append p.front (p.pair ∷ [])
@@ -249,15 +239,13 @@ module _ {E T M : Type 0} (walk : WalkGhosts M E T) (laws : WalkLaws walk.over w
     at_next : walk.is_at new_world new (internal_order order) below (position_within below (length (p.front ++ p.pair ∷ [])))
     at_next = subst (λ k. walk.is_at new_world new (internal_order order) below (position_within below k)) (sym longer) at
 
-    onward : (count : ℕ) → count ≤ length p.front + 1 → (0 < count → is_some (walk.here new) ≡ true) → IsOnScan walk new_world new s skip count order below pairs n
-    onward count few some = record {
+    onward : IsOnScan walk new_world new s skip order below pairs n
+    onward = record {
       front = p.front ++ p.pair ∷ [];
       back = p.back;
       parted = regrouped;
       at = at_next;
       scanning = p.scanning;
-      counted = omega (arith, few, longer);
-      left = λ positive. left_some new_world new order below (p.front ++ p.pair ∷ []) p.back regrouped at_next (some positive);
     }
 
   -- the walk below that moved is the one before, which wasn't changed
@@ -267,51 +255,50 @@ module _ {E T M : Type 0} (walk : WalkGhosts M E T) (laws : WalkLaws walk.over w
 
   -- ---- a step of a scan forward
 
-  pub step_unread : {world : E × T} {inner mid : M} {s : ℕ} {skip : Option (List ℕ)} {passed : ℕ} {To : Option Bool → KeyOrder → List Pair → List Pair → ℕ → Type 0} {status : Status} → mid ≡ inner → IsUnread (walk.here inner) status
-      → MovesBelow walk (IsOnScan walk world inner s skip passed) To world inner (Err status) world mid
+  pub step_unread : {world : E × T} {inner mid : M} {s : ℕ} {skip : Option (List ℕ)} {To : Option Bool → KeyOrder → List Pair → List Pair → ℕ → Type 0} {status : Status} → mid ≡ inner → IsUnread (walk.here inner) status
+      → MovesBelow walk (IsOnScan walk world inner s skip) To world inner (Err status) world mid
   step_unread same fails = unread same (λ order below pairs n on. (position_within below (length on.front), on.at)) fails
 
   module _ {world : E × T} {inner mid : M} {s : ℕ} {skip : Option (List ℕ)} (saved : Pair) {seen : Seen} (same : mid ≡ inner) (sees : IsSeen s skip (walk.here inner) saved.0 seen) where
     -- no entry is left
-    pub step_ends : (direction : Option Direction) → seen ≡ End → direction ≡ None → (passed next : ℕ)
-        → MovesBelow walk (IsOnScan walk world inner s skip passed) (IsNextStep walk world mid s direction saved next) world inner (Ok None) world mid
-    step_ends direction is none passed next =
-        subst (λ it. MovesBelow walk (IsOnScan walk world inner s skip passed) (IsNextStep walk world it s direction saved next) world inner (Ok None) world it) (sym same)
-        (stayed (IsNextStep walk world inner s direction saved next) world inner None
+    pub step_ends : (direction : Option Direction) → seen ≡ End → direction ≡ None
+        → MovesBelow walk (IsOnScan walk world inner s skip) (IsNextStep walk world mid s direction saved) world inner (Ok None) world mid
+    step_ends direction is none =
+        subst (λ it. MovesBelow walk (IsOnScan walk world inner s skip) (IsNextStep walk world it s direction saved) world inner (Ok None) world it) (sym same)
+        (stayed (IsNextStep walk world inner s direction saved) world inner None
         (λ order below pairs n on. found_none on direction saved none (subst (IsSeen s skip (walk.here inner) saved.0) is sees)))
 
     -- the entry is shown
-    pub step_shows : (direction : Option Direction) → seen ≡ Shown → direction ≡ Some Forward → (passed next : ℕ)
-        → MovesBelow walk (IsOnScan walk world inner s skip passed) (IsNextStep walk world mid s direction saved next) world inner (Ok None) world mid
-    step_shows direction is forward passed next =
-        subst (λ it. MovesBelow walk (IsOnScan walk world inner s skip passed) (IsNextStep walk world it s direction saved next) world inner (Ok None) world it) (sym same)
-        (stayed (IsNextStep walk world inner s direction saved next) world inner None
+    pub step_shows : (direction : Option Direction) → seen ≡ Shown → direction ≡ Some Forward
+        → MovesBelow walk (IsOnScan walk world inner s skip) (IsNextStep walk world mid s direction saved) world inner (Ok None) world mid
+    step_shows direction is forward =
+        subst (λ it. MovesBelow walk (IsOnScan walk world inner s skip) (IsNextStep walk world it s direction saved) world inner (Ok None) world it) (sym same)
+        (stayed (IsNextStep walk world inner s direction saved) world inner None
         (λ order below pairs n on. found_here on direction saved forward (subst (IsSeen s skip (walk.here inner) saved.0) is sees)))
 
     module _ {skipping valid : Bool} {new_world : E × T} {new : M} (is : seen ≡ Passed skipping)
         (m : Advances walk.over walk.is_at walk.here walk.fails walk.keeps world mid (Ok valid) new_world new) (valid_is : valid ≡ is_some (walk.here new)) where
-      went_on : {passed : ℕ} {order : KeyOrder} {below pairs : List Pair} {n : ℕ} → IsOnScan walk world inner s skip passed order below pairs n → (count : ℕ) → count ≤ passed + 1 → (0 < count → valid ≡ true)
-          → IsOnScan walk new_world new s (then_some skipping saved.0) count order below pairs n
-      went_on {order = order} {below} on count few some =
+      went_on : {order : KeyOrder} {below pairs : List Pair} {n : ℕ} → IsOnScan walk world inner s skip order below pairs n
+          → IsOnScan walk new_world new s (then_some skipping saved.0) order below pairs n
+      went_on {order = order} {below} on =
           let p = passing_here on skipping saved.0 (subst (IsSeen s skip (walk.here inner) saved.0) is sees) in
-          let counted = p.counted in
-          onward p ((same_moved same m).ok (internal_order order) below (Some (length p.front)) p.at) count (omega (arith, counted, few)) (λ positive. sym valid_is ∙ some positive)
+          onward p ((same_moved same m).ok (internal_order order) below (Some (length p.front)) p.at)
 
       -- the entry is passed, and another is there
-      pub step_passes : (direction : Option Direction) → valid ≡ true → (passed : ℕ)
-          → MovesBelow walk (IsOnScan walk world inner s skip passed) (IsNextStep walk new_world new s direction saved (passed + 1)) world inner (Ok (Some skipping)) new_world new
-      step_passes direction is_valid passed = record {
-        ok = λ order below pairs n on. went_on on (passed + 1) (omega arith) (λ positive. is_valid);
+      pub step_passes : (direction : Option Direction)
+          → MovesBelow walk (IsOnScan walk world inner s skip) (IsNextStep walk new_world new s direction saved) world inner (Ok (Some skipping)) new_world new
+      step_passes direction = record {
+        ok = λ order below pairs n on. went_on on;
         keeps = advance_keeps (same_moved same m);
         cause = tt;
       }
 
       -- or none is
-      pub step_passes_last : (direction : Option Direction) → valid ≡ false → direction ≡ None → (passed next : ℕ)
-          → MovesBelow walk (IsOnScan walk world inner s skip passed) (IsNextStep walk new_world new s direction saved next) world inner (Ok None) new_world new
-      step_passes_last direction is_not none passed next = record {
+      pub step_passes_last : (direction : Option Direction) → valid ≡ false → direction ≡ None
+          → MovesBelow walk (IsOnScan walk world inner s skip) (IsNextStep walk new_world new s direction saved) world inner (Ok None) new_world new
+      step_passes_last direction is_not none = record {
         ok = λ order below pairs n on.
-            found_none (went_on on 0 (omega arith) (λ positive. absurd (omega (arith, positive)))) direction saved none
+            found_none (went_on on) direction saved none
             (none_from_is_some (walk.here new) (sym valid_is ∙ is_not));
         keeps = advance_keeps (same_moved same m);
         cause = tt;
@@ -325,40 +312,29 @@ module _ {E T M : Type 0} (walk : WalkGhosts M E T) (laws : WalkLaws walk.over w
       → MovesBelow walk From To old_world old (Ok value) new_world new → MovesBelow walk From Other old_world old (Ok other) new_world new
   revalued other holds m = record { ok = λ order below pairs n from. holds order below pairs n (m.ok order below pairs n from); keeps = m.keeps; cause = tt }
 
-  -- what can't be isn't found
-  pub uncounted : {From : KeyOrder → List Pair → List Pair → ℕ → Type 0} (To : Unit {0} → KeyOrder → List Pair → List Pair → ℕ → Type 0) {old_world new_world : E × T} {old new : M} (result : Result (Unit {0}) Status)
-      → KeepsBelow walk old_world old new_world new → ((order : KeyOrder) (below pairs : List Pair) (n : ℕ) → From order below pairs n → 2 ^ 128 ≤ length below)
-      → IsErrAnd result (λ status. status.code ≡ NotSupported)
-      → MovesBelow walk From To old_world old result new_world new
-  uncounted To (Ok u) keeps many is = absurd is
-  uncounted To (Err status) keeps many is = record { ok = tt; keeps = keeps; cause = inr (inr (inr (is, λ order below pairs from. many order below pairs from.0 from.1))) }
+  -- out of memory, whatever was to come
+  pub runs_out : {From : KeyOrder → List Pair → List Pair → ℕ → Type 0} (To : Unit {0} → KeyOrder → List Pair → List Pair → ℕ → Type 0) {old_world new_world : E × T} {old new : M} (result : Result (Unit {0}) Status)
+      → KeepsBelow walk old_world old new_world new → IsErrAnd result IsOutOfMemory → MovesBelow walk From To old_world old result new_world new
+  runs_out To (Ok u) keeps is = absurd is
+  runs_out To (Err status) keeps is = record { ok = tt; keeps = keeps; cause = inr (inl is) }
 
-  module _ {start world : E × T} {old now : M} {s : ℕ} {first skip : Option (List ℕ)} {passed : ℕ}
-      (so_far : MovesBelow walk (IsOnScan walk start old s first 0) (λ (u : Unit {0}). IsOnScan walk world now s skip passed) start old (Ok (tt {0})) world now) where
-    module _ {number : ℕ} (same : number ≡ s) {new_world : E × T} {new : M} (direction : Option Direction) (saved : Pair) {next : ℕ} {result : Result (Option Bool) Status}
-        (step : MovesBelow walk (IsOnScan walk world now number skip passed) (IsNextStep walk new_world new number direction saved next) world now result new_world new) where
-      pub scan_steps : MovesBelow walk (IsOnScan walk start old s first 0) (IsNextStep walk new_world new s direction saved next) start old result new_world new
+  module _ {start world : E × T} {old now : M} {s : ℕ} {first skip : Option (List ℕ)}
+      (so_far : MovesBelow walk (IsOnScan walk start old s first) (λ (u : Unit {0}). IsOnScan walk world now s skip) start old (Ok (tt {0})) world now) where
+    module _ {number : ℕ} (same : number ≡ s) {new_world : E × T} {new : M} (direction : Option Direction) (saved : Pair) {result : Result (Option Bool) Status}
+        (step : MovesBelow walk (IsOnScan walk world now number skip) (IsNextStep walk new_world new number direction saved) world now result new_world new) where
+      pub scan_steps : MovesBelow walk (IsOnScan walk start old s first) (IsNextStep walk new_world new s direction saved) start old result new_world new
       scan_steps = joined so_far
-          (subst (λ n. MovesBelow walk (IsOnScan walk world now n skip passed) (IsNextStep walk new_world new n direction saved next) world now result new_world new) same step)
+          (subst (λ n. MovesBelow walk (IsOnScan walk world now n skip) (IsNextStep walk new_world new n direction saved) world now result new_world new) same step)
 
-    pub scan_too_many : (number : ℕ) (direction : Option Direction) (saved : Pair) (result : Result (Unit {0}) Status) → 2 ^ 128 ≤ passed + 1 → IsErrAnd result (λ status. status.code ≡ NotSupported)
-        → MovesBelow walk (IsOnScan walk start old s first 0) (λ u. IsFoundNext walk world now number direction saved) start old result world now
-    scan_too_many number direction saved result many is = uncounted (λ u. IsFoundNext walk world now number direction saved) result so_far.keeps
-        (λ order below pairs n from.
-        let on = so_far.ok order below pairs n from in
-        let left = on.left (omega (arith, many)) in
-        let counted = on.counted in
-        omega (arith, many, left, counted)) is
-
-  module _ {From : KeyOrder → List Pair → List Pair → ℕ → Type 0} {world new_world : E × T} {old new : M} {s : ℕ} (direction : Option Direction) (saved : Pair) {next : ℕ} {value : Option Bool}
-      (m : MovesBelow walk From (IsNextStep walk new_world new s direction saved next) world old (Ok value) new_world new) where
+  module _ {From : KeyOrder → List Pair → List Pair → ℕ → Type 0} {world new_world : E × T} {old new : M} {s : ℕ} (direction : Option Direction) (saved : Pair) {value : Option Bool}
+      (m : MovesBelow walk From (IsNextStep walk new_world new s direction saved) world old (Ok value) new_world new) where
     -- it ends
     pub scan_found : value ≡ None → MovesBelow walk From (λ (u : Unit {0}). IsFoundNext walk new_world new s direction saved) world old (Ok (tt {0})) new_world new
-    scan_found is = revalued (tt {0}) (λ order below pairs n to. subst (λ v. IsNextStep walk new_world new s direction saved next v order below pairs n) is to) m
+    scan_found is = revalued (tt {0}) (λ order below pairs n to. subst (λ v. IsNextStep walk new_world new s direction saved v order below pairs n) is to) m
 
     -- or goes on
-    pub scan_more : {skipping : Bool} → value ≡ Some skipping → MovesBelow walk From (λ (u : Unit {0}). IsOnScan walk new_world new s (then_some skipping saved.0) next) world old (Ok (tt {0})) new_world new
-    scan_more is = revalued (tt {0}) (λ order below pairs n to. subst (λ v. IsNextStep walk new_world new s direction saved next v order below pairs n) is to) m
+    pub scan_more : {skipping : Bool} → value ≡ Some skipping → MovesBelow walk From (λ (u : Unit {0}). IsOnScan walk new_world new s (then_some skipping saved.0)) world old (Ok (tt {0})) new_world new
+    scan_more is = revalued (tt {0}) (λ order below pairs n to. subst (λ v. IsNextStep walk new_world new s direction saved v order below pairs n) is to) m
 
   -- ---- to the entry after the pair that it is at
 
@@ -369,7 +345,7 @@ module _ {E T M : Type 0} (walk : WalkGhosts M E T) (laws : WalkLaws walk.over w
   module _ {world : E × T} {inner : M} {s : ℕ} (direction : Option Direction) (saved : Pair) where
     -- from no position to the first entry
     pub leaves_none : {R : Type 0} {value : R} {new_world : E × T} {new : M} (key : List ℕ) → direction ≡ None → SeeksFirst walk.over walk.is_at walk.here walk.fails walk.keeps world inner (Ok value) new_world new
-        → MovesBelow walk (IsLeft walk world inner s direction saved) (λ skipping. IsOnScan walk new_world new s (then_some skipping key) 0) world inner (Ok false) new_world new
+        → MovesBelow walk (IsLeft walk world inner s direction saved) (λ skipping. IsOnScan walk new_world new s (then_some skipping key)) world inner (Ok false) new_world new
     leaves_none key none m = record {
       ok = λ order below pairs n from.
           let view = from.0 in
@@ -382,8 +358,6 @@ module _ {E T M : Type 0} (walk : WalkGhosts M E T) (laws : WalkLaws walk.over w
             at = m.ok (internal_order order) below None view.over;
             scanning = subst (λ k. IsScanning s pairs k None (entries_of_pairs below)) (sym zero_is)
                 (subst (λ list. IsScanning s list 0 None (entries_of_pairs below)) (sym view.view) (each_scan_starts s (entries_of_pairs below)));
-            counted = omega arith;
-            left = λ positive. absurd (omega (arith, positive));
           };
       keeps = record { over = m.same; kept = m.kept; excuses = m.excuses };
       cause = tt;
@@ -392,7 +366,7 @@ module _ {E T M : Type 0} (walk : WalkGhosts M E T) (laws : WalkLaws walk.over w
     module _ {mid : M} {R : Type 0} {value : R} {new_world : E × T} {new : M} (same : mid ≡ inner) (m : Advances walk.over walk.is_at walk.here walk.fails walk.keeps world mid (Ok value) new_world new) where
       -- from the entry that is shown to the one after it
       pub leaves_forward : (key : List ℕ) → direction ≡ Some Forward → ((pair : Pair) → walk.here inner ≡ Some pair → key ≡ user_part pair.0)
-          → MovesBelow walk (IsLeft walk world inner s direction saved) (λ skipping. IsOnScan walk new_world new s (then_some skipping key) 0) world inner (Ok true) new_world new
+          → MovesBelow walk (IsLeft walk world inner s direction saved) (λ skipping. IsOnScan walk new_world new s (then_some skipping key)) world inner (Ok true) new_world new
       leaves_forward key forward own = record {
         ok = λ order below pairs n from.
             let view = from.0 in
@@ -401,7 +375,7 @@ module _ {E T M : Type 0} (walk : WalkGhosts M E T) (laws : WalkLaws walk.over w
             let number : n ≡ placed.0 + 1 = from.2 ∙ ap number_after placed.1 in
             let here : walk.here inner ≡ Some entry.pair = laws.at_position world inner (internal_order order) below (Some (length entry.front)) entry.at
             ∙ ap (λ list. slice_get list (length entry.front)) entry.parted ∙ at_front entry.front (entry.pair ∷ entry.back) in
-            let p : IsPassing world inner s (Some key) 0 order below pairs n = record {
+            let p : IsPassing world inner s (Some key) order below pairs n = record {
               front = entry.front;
               pair = entry.pair;
               back = entry.back;
@@ -409,16 +383,15 @@ module _ {E T M : Type 0} (walk : WalkGhosts M E T) (laws : WalkLaws walk.over w
               at = entry.at;
               scanning = subst (λ k. IsScanning s pairs k (Some key) (entries_of_pairs entry.back)) (sym number)
                   (subst (λ k. IsScanning s pairs (placed.0 + 1) (Some k) (entries_of_pairs entry.back)) (sym (own entry.pair here)) entry.rest);
-              counted = omega arith;
             } in
-            onward p ((same_moved same m).ok (internal_order order) below (Some (length p.front)) p.at) 0 (omega arith) (λ positive. absurd (omega (arith, positive)));
+            onward p ((same_moved same m).ok (internal_order order) below (Some (length p.front)) p.at);
         keeps = advance_keeps (same_moved same m);
         cause = tt;
       }
 
       -- from before the entries of the saved key to the first of them
       pub leaves_reverse : direction ≡ Some Reverse
-          → MovesBelow walk (IsLeft walk world inner s direction saved) (λ skipping. IsOnScan walk new_world new s (then_some skipping saved.0) 0) world inner (Ok true) new_world new
+          → MovesBelow walk (IsLeft walk world inner s direction saved) (λ skipping. IsOnScan walk new_world new s (then_some skipping saved.0)) world inner (Ok true) new_world new
       leaves_reverse reverse = record {
         ok = λ order below pairs n from.
             let view = from.0 in
@@ -439,8 +412,6 @@ module _ {E T M : Type 0} (walk : WalkGhosts M E T) (laws : WalkLaws walk.over w
                   ((same_moved same m).ok (internal_order order) below (previous_position (Some (length b.front))) b.at);
               scanning = subst (λ k. IsScanning s pairs k (Some saved.0) back) (ap (λ k. k + 1) b.counted ∙ sym number)
                   (subst (λ list. IsScanning s list (count_shown s front + 1) (Some saved.0) back) (ap (view_of s) (sym whole) ∙ sym view.view) scan);
-              counted = omega arith;
-              left = λ positive. absurd (omega (arith, positive));
             };
         keeps = advance_keeps (same_moved same m);
         cause = tt;

@@ -1,5 +1,5 @@
 -- Whole moves in a view.
-use Rattle.std.proofs.Common.{◌∙◌, ◌≡◌, ℕ, Bool, true, List, length, refl, sym, ap, subst, Option, Some, None, Result, Ok, Err}
+use Rattle.std.proofs.Common.{◌≡◌, ℕ, Bool, true, List, length, refl, sym, ap, subst, Option, Some, None, Result, Ok, Err}
 use Rattle.std.specs.Prelude.{OnErr}
 use Rattle.leveldb_base.specs.Types.{Pair, position_within, next_position, previous_position, last_position, seek_position, count_before}
 use Rattle.leveldb_base.specs.declared.error.Status.{Status}
@@ -11,7 +11,7 @@ use Rattle.leveldb_base.proofs.ViewLemmas.{sorted_has_view}
 use Rattle.leveldb_base.proofs.PositionLemmas.{last_before_end}
 use Rattle.leveldb_iter.specs.declared.db_iter.DbIterCore.{DbIterCore}
 use Rattle.leveldb_iter.specs.declared.walk.Walk.{Ghosts as WalkGhosts}
-use Rattle.leveldb_iter.specs.DbIter.{IsViewOf, IsPlaced, IsPlacedAt, IsViewAt, IsViewOver, IsViewOfEntries, view_pair, view_here, FailsOver, FailsView}
+use Rattle.leveldb_iter.specs.DbIter.{IsViewOf, IsPlaced, IsPlacedAt, IsViewAt, IsViewOver, view_pair, view_here, FailsOver, FailsView}
 use Rattle.leveldb_iter.specs.DbIterSteps.{IsOnScan, IsOnScanBack, IsFoundNext, IsFoundPrevious, IsLeft, IsLeftBack, IsSought, IsWhole, KeepsBelow, MovesBelow, number_after}
 use Rattle.leveldb_iter.specs.MergedEntries.{internal_order}
 use Rattle.leveldb_iter.specs.Walk.{KeyOrder, Way, WalkLaws, MovesWalk, Advances, StepsBack, SeeksFirst, Resets}
@@ -44,17 +44,10 @@ module _ {E T M : Type 0} (walk : WalkGhosts M E T) (laws : WalkLaws walk.over w
     pub start : Start order below pairs number
     pub end : End value order below pairs number → IsPlaced walk new_world new.walk old.sequence order new.at (saved_of new) below pairs (to order pairs position)
 
-  -- it comes from the view of the same entries
-  abbrev IsOfSameEntries : {R : Type 0} {From : E × T → DbIterCore M → KeyOrder → List Pair → Option ℕ → Type 0} {to : Way} {Start : KeyOrder → List Pair → List Pair → ℕ → Type 0} {End : R → KeyOrder → List Pair → List Pair → ℕ → Type 0}
-      {old_world : E × T} {old : DbIterCore M} {value : R} {new_world : E × T} {new : DbIterCore M} {order : KeyOrder} {pairs : List Pair} {position : Option ℕ}
-      → Enters From to Start End old_world old value new_world new order pairs position → IsViewOver walk old_world old order pairs → Type 0
-  IsOfSameEntries e was = let at = was.1 in e.below ≡ at.below
-
   module _ {R S : Type 0} {From : E × T → DbIterCore M → KeyOrder → List Pair → Option ℕ → Type 0} {to : Way} {Start : KeyOrder → List Pair → List Pair → ℕ → Type 0} {End : R → KeyOrder → List Pair → List Pair → ℕ → Type 0}
       {old_world : E × T} (old : DbIterCore M) {new_world : E × T} (new : DbIterCore M) (value : R)
       (same : new.sequence ≡ old.sequence) (enters : (order : KeyOrder) (pairs : List Pair) (position : Option ℕ) → From old_world old order pairs position → Enters From to Start End old_world old value new_world new order pairs position)
-      (from_over : (order : KeyOrder) (pairs : List Pair) (was : IsViewOver walk old_world old order pairs)
-      → (position : Option ℕ) × (from : From old_world old order pairs position) × IsOfSameEntries (enters order pairs position from) was) where
+      (from_over : (order : KeyOrder) (pairs : List Pair) → IsViewOver walk old_world old order pairs → (position : Option ℕ) × From old_world old order pairs position) where
     -- it succeeds
     pub arrived : (result : S) → MovesBelow walk Start End old_world old.walk (Ok value) new_world new.walk
         → MovesWalk (IsViewOver walk) (IsViewAt walk) (view_here walk) (FailsView walk) walk.keeps From to old_world old (Ok result) new_world new
@@ -76,15 +69,12 @@ module _ {E T M : Type 0} (walk : WalkGhosts M E T) (laws : WalkLaws walk.over w
           none = tt;
           kept = keeps.kept;
           cause = tt;
-          excuses = widened walk laws m.keeps (λ order below pairs was.
-              let from = from_over order pairs (was.0, was.1) in
-              (to order pairs from.0, at order pairs from.0 from.1, from.2 ∙ was.2));
+          excuses = widened walk laws m.keeps over;
         }
 
     -- or fails
     pub refused : (status : Status) → MovesBelow walk Start End old_world old.walk (Err status) new_world new.walk → new.at ≡ None
         → MovesWalk (IsViewOver walk) (IsViewAt walk) (view_here walk) (FailsView walk) walk.keeps {R = S} From to old_world old (Err status) new_world new
-    unfolding rests
     refused status m none =
         let resting : (order : KeyOrder) (pairs : List Pair) → IsViewOver walk old_world old order pairs → IsViewAt walk new_world new order pairs None = λ order pairs was.
         let at = was.1 in
@@ -96,19 +86,18 @@ module _ {E T M : Type 0} (walk : WalkGhosts M E T) (laws : WalkLaws walk.over w
           err = resting;
           none = ap (λ d. view_pair d (walk.here new.walk) (saved_of new)) none;
           kept = keeps.kept;
-          cause = widened walk laws (kept_itself walk laws old_world old.walk) (λ order below pairs was.
-              let from = from_over order pairs (was.0, was.1) in
+          cause = widened walk laws (kept_itself walk laws old_world old.walk) (λ order pairs was.
+              let from = from_over order pairs was in
               let e = enters order pairs from.0 from.1 in
-              subst (λ (entries : List Pair). (n : ℕ) × Start order entries pairs n) (from.2 ∙ was.2) (e.number, e.start)) new_world status m.cause;
-          excuses = widened walk laws m.keeps (λ order below pairs was. (None, resting order pairs (was.0, was.1), was.2));
+              (e.below, e.number, e.start)) new_world status m.cause;
+          excuses = widened walk laws m.keeps (λ order pairs was. (None, resting order pairs was));
         }
 
   -- a move whose last part gives its result
   pub finished : {From : E × T → DbIterCore M → KeyOrder → List Pair → Option ℕ → Type 0} {to : Way} {Start : KeyOrder → List Pair → List Pair → ℕ → Type 0} {End : Unit {0} → KeyOrder → List Pair → List Pair → ℕ → Type 0}
       {old_world : E × T} (old : DbIterCore M) {new_world : E × T} (new : DbIterCore M) → new.sequence ≡ old.sequence
       → (enters : (order : KeyOrder) (pairs : List Pair) (position : Option ℕ) → From old_world old order pairs position → Enters From to Start End old_world old (tt {0}) new_world new order pairs position)
-      → ((order : KeyOrder) (pairs : List Pair) (was : IsViewOver walk old_world old order pairs)
-      → (position : Option ℕ) × (from : From old_world old order pairs position) × IsOfSameEntries (enters order pairs position from) was)
+      → ((order : KeyOrder) (pairs : List Pair) → IsViewOver walk old_world old order pairs → (position : Option ℕ) × From old_world old order pairs position)
       → (result : Result (Unit {0}) Status) → MovesBelow walk Start End old_world old.walk result new_world new.walk → OnErr result (new.at ≡ None)
       → MovesWalk (IsViewOver walk) (IsViewAt walk) (view_here walk) (FailsView walk) walk.keeps From to old_world old result new_world new
   finished old new same enters from_over (Ok u) m none = arrived old new u same enters from_over u m
@@ -116,22 +105,21 @@ module _ {E T M : Type 0} (walk : WalkGhosts M E T) (laws : WalkLaws walk.over w
 
   -- the errors of a new view
   pub made_fails : (it : DbIterCore M) → it.at ≡ None → (world later : E × T) (status : Status) → FailsView walk world it later status
-      → FailsOver walk (IsViewOf walk world it.walk it.sequence) world it.walk later status
-  unfolding rests
-  made_fails it none world later status fails = widened walk laws (kept_itself walk laws world it.walk) (λ order below pairs view. (None, rests world it order below pairs none view, refl)) later status fails
+      → FailsOver walk (λ order pairs. (below : List Pair) × IsViewOf walk world it.walk it.sequence order below pairs) world it.walk later status
+  made_fails it none world later status fails = widened walk laws (kept_itself walk laws world it.walk) (λ order pairs view. (None, rests world it order view.0 pairs none view.1)) later status fails
 
   -- a scan at a sequence number, by another name
   pub next_at : {number s : ℕ} {skip : Option (List ℕ)} {world new_world : E × T} {inner new : M} (direction : Option Direction) (saved : Pair) {result : Result (Unit {0}) Status} → number ≡ s
-      → MovesBelow walk (IsOnScan walk world inner number skip 0) (λ (u : Unit {0}). IsFoundNext walk new_world new number direction saved) world inner result new_world new
-      → MovesBelow walk (IsOnScan walk world inner s skip 0) (λ (u : Unit {0}). IsFoundNext walk new_world new s direction saved) world inner result new_world new
+      → MovesBelow walk (IsOnScan walk world inner number skip) (λ (u : Unit {0}). IsFoundNext walk new_world new number direction saved) world inner result new_world new
+      → MovesBelow walk (IsOnScan walk world inner s skip) (λ (u : Unit {0}). IsFoundNext walk new_world new s direction saved) world inner result new_world new
   next_at {skip = skip} {world} {new_world} {inner} {new} direction saved {result} same m =
-      subst (λ n. MovesBelow walk (IsOnScan walk world inner n skip 0) (λ (u : Unit {0}). IsFoundNext walk new_world new n direction saved) world inner result new_world new) same m
+      subst (λ n. MovesBelow walk (IsOnScan walk world inner n skip) (λ (u : Unit {0}). IsFoundNext walk new_world new n direction saved) world inner result new_world new) same m
 
   pub previous_at : {number s : ℕ} {world new_world : E × T} {inner new : M} (direction : Option Direction) (saved : Pair) {result : Result (Unit {0}) Status} → number ≡ s
-      → MovesBelow walk (IsOnScanBack walk world inner number None 0) (λ (u : Unit {0}). IsFoundPrevious walk new_world new number direction saved) world inner result new_world new
-      → MovesBelow walk (IsOnScanBack walk world inner s None 0) (λ (u : Unit {0}). IsFoundPrevious walk new_world new s direction saved) world inner result new_world new
+      → MovesBelow walk (IsOnScanBack walk world inner number None) (λ (u : Unit {0}). IsFoundPrevious walk new_world new number direction saved) world inner result new_world new
+      → MovesBelow walk (IsOnScanBack walk world inner s None) (λ (u : Unit {0}). IsFoundPrevious walk new_world new s direction saved) world inner result new_world new
   previous_at {world = world} {new_world} {inner} {new} direction saved {result} same m =
-      subst (λ n. MovesBelow walk (IsOnScanBack walk world inner n None 0) (λ (u : Unit {0}). IsFoundPrevious walk new_world new n direction saved) world inner result new_world new) same m
+      subst (λ n. MovesBelow walk (IsOnScanBack walk world inner n None) (λ (u : Unit {0}). IsFoundPrevious walk new_world new n direction saved) world inner result new_world new) same m
 
   -- ---- each move
 
@@ -186,30 +174,13 @@ module _ {E T M : Type 0} (walk : WalkGhosts M E T) (laws : WalkLaws walk.over w
           end = λ found. subst (IsPlaced walk new_world new.walk old.sequence order new.at (saved_of new) at.below pairs) (sym (last_before_end pairs)) found;
         }
 
-  -- a view at a position is where each of these moves may come from
-  module _ {old_world : E × T} {old : DbIterCore M} (new_world : E × T) (new : DbIterCore M) where
-    pub next_from_over : (order : KeyOrder) (pairs : List Pair) (was : IsViewOver walk old_world old order pairs)
-        → (position : Option ℕ) × (from : IsViewAt walk old_world old order pairs position) × IsOfSameEntries (enters_next {new_world = new_world} {new = new} order pairs position from) was
-    unfolding enters_next
-    next_from_over order pairs was = (was.0, was.1, refl)
-
-    pub previous_from_over : (direction : Direction) (is : old.at ≡ Some direction) (order : KeyOrder) (pairs : List Pair) (was : IsViewOver walk old_world old order pairs)
-        → (position : Option ℕ) × (from : IsViewAt walk old_world old order pairs position) × IsOfSameEntries (enters_previous {new_world = new_world} {new = new} direction is order pairs position from) was
-    unfolding enters_previous
-    previous_from_over direction is order pairs was = (was.0, was.1, refl)
-
-    pub key_from_over : (key : List ℕ) (order : KeyOrder) (pairs : List Pair) (was : IsViewOver walk old_world old order pairs)
-        → (position : Option ℕ) × (from : IsViewOver walk old_world old order pairs × (order.accepts key ≡ true)) × IsOfSameEntries (enters_key {new_world = new_world} {new = new} key order pairs position from) was
-    unfolding enters_key
-    key_from_over key order pairs was =
-        let at = was.1 in
-        let view = at.view in
-        (None, (was, view.accepts key), refl)
-
-    pub last_from_over : (order : KeyOrder) (pairs : List Pair) (was : IsViewOver walk old_world old order pairs)
-        → (position : Option ℕ) × (from : IsViewOver walk old_world old order pairs) × IsOfSameEntries (enters_last {new_world = new_world} {new = new} order pairs position from) was
-    unfolding enters_last
-    last_from_over order pairs was = (None, was, refl)
+  -- over a view it accepts any key
+  pub key_from_over : {world : E × T} {it : DbIterCore M} (key : List ℕ) (order : KeyOrder) (pairs : List Pair) → IsViewOver walk world it order pairs
+      → (position : Option ℕ) × (IsViewOver walk world it order pairs × (order.accepts key ≡ true))
+  key_from_over key order pairs was =
+      let at = was.1 in
+      let view = at.view in
+      (None, (was, view.accepts key))
 
   -- ---- at no position
 
@@ -222,10 +193,9 @@ module _ {E T M : Type 0} (walk : WalkGhosts M E T) (laws : WalkLaws walk.over w
         (subst (λ s. IsViewOf walk world new.walk s order at.below pairs) (sym same) (subst (λ it. IsViewOf walk world it old.sequence order at.below pairs) (sym same_walk) at.view))
 
     pub reset_excuses : (world later : E × T) (status : Status) → FailsView walk world new later status → FailsView walk world old later status
-    unfolding reset_over rests
     reset_excuses world later status fails =
-        widened walk laws (kept_itself walk laws world old.walk) (λ order below pairs was. (None, reset_over world order pairs (was.0, was.1), was.2)) later status
-        (subst (λ it. FailsOver walk (IsViewOfEntries walk world new) world it later status) same_walk fails)
+        widened walk laws (kept_itself walk laws world old.walk) (λ order pairs was. (None, reset_over world order pairs was)) later status
+        (subst (λ it. FailsOver walk (IsViewOver walk world new) world it later status) same_walk fails)
 
     pub resets : Resets (IsViewOver walk) (IsViewAt walk) (view_here walk) (FailsView walk) walk.keeps old new
     resets = record {

@@ -1,6 +1,6 @@
 -- Turns in a view, and seeks.
-use Rattle.std.proofs.Common.{◌≡◌, inl, ⊎_elim, ℕ, ◌+◌, ◌<◌, ◌≤◌, ◌^◌, Bool, true, false, List, [], ◌∷◌, ◌++◌, length, take, drop, refl, sym, ◌∙◌, ap, subst, arith, Some, None, Result, Ok, Err, append-nil, length-append}
-use Rattle.std.specs.Prelude.{slice_get, OnOk, IfOk, IfErr, IsErrAnd, Contains}
+use Rattle.std.proofs.Common.{◌≡◌, inl, ⊎_elim, ℕ, ◌<◌, ◌≤◌, ◌^◌, Bool, true, false, List, [], ◌∷◌, ◌++◌, length, take, drop, refl, sym, ◌∙◌, ap, subst, arith, Some, None, Result, Ok, Err, append-nil}
+use Rattle.std.specs.Prelude.{slice_get, OnOk, IfOk, IfErr, Contains}
 use Rattle.std.specs.Str.{bytes_eq}
 use Rattle.std.proofs.lemmas.Bool.{false≢true}
 use Rattle.std.proofs.lemmas.List.Elements.{Contains-append_right, Contains-append_cases}
@@ -14,7 +14,6 @@ use Rattle.leveldb_base.specs.Scan.{IsScanning, count_shown}
 use Rattle.leveldb_base.specs.Types.{Pair, position_within, previous_position, last_position, seek_position, count_before}
 use Rattle.leveldb_base.specs.View.{view_of, shown_in}
 use Rattle.leveldb_base.specs.declared.error.Status.{Status}
-use Rattle.leveldb_base.specs.declared.error.StatusCode.TheVariants.{NotSupported}
 use Rattle.leveldb_base.specs.declared.key_types.ValueType.TheVariants.{TypeValue}
 use Rattle.leveldb_base.specs.declared.types.Direction.{Direction}
 use Rattle.leveldb_base.specs.declared.types.Direction.TheVariants.{Forward, Reverse}
@@ -28,8 +27,8 @@ use Rattle.leveldb_iter.specs.DbIter.{IsAtEntry, IsBeforeEntries, IsPlacedAt, Fa
 use Rattle.leveldb_iter.specs.DbIterSteps.{IsOnScan, IsOnScanBack, IsTurning, IsLeftBack, IsSought, IsWhole, MovesBelow}
 use Rattle.leveldb_iter.specs.MergedEntries.{internal_order}
 use Rattle.leveldb_iter.specs.Walk.{KeyOrder, WalkLaws, StepsBack}
-use Rattle.leveldb_iter.proofs.DbIterLemmas.{at_front, sorted_entries, stayed, joined, uncounted}
-use Rattle.leveldb_iter.proofs.DbIterBackLemmas.{last_of, last_length, before_end, last_before, here_before_all, here_last, back_keeps}
+use Rattle.leveldb_iter.proofs.DbIterLemmas.{at_front, sorted_entries, stayed, joined}
+use Rattle.leveldb_iter.proofs.DbIterBackLemmas.{last_of, before_end, last_before, here_before_all, here_last, back_keeps}
 use Rattle.leveldb_base.specs.CmpLaws.{internal_accepts-internal_key}
 use Rattle.leveldb_base.specs.History.{AreRising}
 use Rattle.leveldb_base.specs.KeyTypes.{internal_key, internal_cmp}
@@ -71,7 +70,7 @@ module _ (cmp : List ℕ → List ℕ → Ordering) (exact : IsExactOrder cmp) (
       omega (arith, none, whole, parts)
 
 module _ {E T M : Type 0} (walk : WalkGhosts M E T) (laws : WalkLaws walk.over walk.is_at walk.here walk.fails walk.keeps) where
-  module _ {world : E × T} {inner : M} {s : ℕ} {key : List ℕ} {passed : ℕ} {order : KeyOrder} {below pairs : List Pair} {n : ℕ} (on : IsTurning walk world inner s key passed order below pairs n) where
+  module _ {world : E × T} {inner : M} {s : ℕ} {key : List ℕ} {order : KeyOrder} {below pairs : List Pair} {n : ℕ} (on : IsTurning walk world inner s key order below pairs n) where
     split_here : entries_of_pairs below ≡ entries_of_pairs on.front ++ entries_of_pairs on.back
     split_here = ap entries_of_pairs on.parted ∙ entries_append on.front on.back
 
@@ -87,7 +86,7 @@ module _ {E T M : Type 0} (walk : WalkGhosts M E T) (laws : WalkLaws walk.over w
 
     module _ {new_world : E × T} {new : M} (at : walk.is_at new_world new (internal_order order) below (previous_position (Some (length on.front)))) where
       -- at another entry of the key it goes on
-      pub turns_on : is_at_key key (walk.here new) ≡ true → IsTurning walk new_world new s key (passed + 1) order below pairs n
+      pub turns_on : is_at_key key (walk.here new) ≡ true → IsTurning walk new_world new s key order below pairs n
       turns_on is = ⊎_elim
           (λ (empty : on.front ≡ []).
           let none : walk.here new ≡ None = here_before_all walk laws new_world new order below on.front at empty in
@@ -111,7 +110,6 @@ module _ {E T M : Type 0} (walk : WalkGhosts M E T) (laws : WalkLaws walk.over w
                 (in_cases (entry_of_pair some.1) entry (entries_of_pairs on.back) c);
             own = (own.0, in_rest (entry_of_pair some.1) own.0 (entries_of_pairs on.back) own.1, own.2);
             shown = on.shown;
-            counted = let size = ap length some.2 ∙ last_length some.0 some.1 in let counted = on.counted in omega (arith, size, counted);
           })
           (last_of on.front)
 
@@ -148,7 +146,7 @@ module _ {E T M : Type 0} (walk : WalkGhosts M E T) (laws : WalkLaws walk.over w
               (last_of on.front)
 
       -- at another key or at none it is before all entries of the key
-      pub turned : is_at_key key (walk.here new) ≡ false → IsOnScanBack walk new_world new s None 0 order below pairs n
+      pub turned : is_at_key key (walk.here new) ≡ false → IsOnScanBack walk new_world new s None order below pairs n
       turned is =
           let count = shown_before order.cmp on.exact key s (entries_of_pairs on.front) (entries_of_pairs on.back) sorted_turning (front_less is) (λ entry c. not_less (order.cmp entry.key key) (on.from entry c)) in
           record {
@@ -163,41 +161,31 @@ module _ {E T M : Type 0} (walk : WalkGhosts M E T) (laws : WalkLaws walk.over w
                 ∙ ap (λ list. count_before order.cmp key (view_of s list)) (sym split_here) ∙ ap (count_before order.cmp key) (sym on.view) ∙ number_is;
             finds = refl;
             after = λ own none. let no : None ≡ Some own = none in absurd cc;
-            counted = let counted = on.counted in omega (arith, counted);
-            left = λ positive. absurd (omega (arith, positive));
           }
 
   -- ---- a whole turn
 
-  module _ {start world : E × T} {old now : M} {s : ℕ} {key : List ℕ} {passed : ℕ}
-      (so_far : MovesBelow walk (IsTurning walk start old s key 0) (λ (u : Unit {0}). IsTurning walk world now s key passed) start old (Ok (tt {0})) world now) where
-    pub turn_too_many : (result : Result (Unit {0}) Status) → 2 ^ 128 ≤ passed + 1 → IsErrAnd result (λ status. status.code ≡ NotSupported)
-        → MovesBelow walk (IsTurning walk start old s key 0) (λ u. IsOnScanBack walk world now s None 0) start old result world now
-    turn_too_many result many is = uncounted walk laws (λ u. IsOnScanBack walk world now s None 0) result so_far.keeps
-        (λ order below pairs n from.
-        let on = so_far.ok order below pairs n from in
-        let counted = on.counted in
-        omega (arith, many, counted)) is
-
+  module _ {start world : E × T} {old now : M} {s : ℕ} {key : List ℕ}
+      (so_far : MovesBelow walk (IsTurning walk start old s key) (λ (u : Unit {0}). IsTurning walk world now s key) start old (Ok (tt {0})) world now) where
     pub turn_fails : {status : Status} {new_world : E × T} {new : M} {To : Unit {0} → KeyOrder → List Pair → List Pair → ℕ → Type 0} → StepsBack walk.over walk.is_at walk.here walk.fails walk.keeps {R = Bool} world now (Err status) new_world new
-        → MovesBelow walk (IsTurning walk start old s key 0) To start old (Err status) new_world new
+        → MovesBelow walk (IsTurning walk start old s key) To start old (Err status) new_world new
     turn_fails {status} {new_world} {new} {To} m =
-        let step : MovesBelow walk (IsTurning walk world now s key passed) To world now (Err status) new_world new = record { ok = tt; keeps = back_keeps walk laws m; cause = inl m.cause } in
+        let step : MovesBelow walk (IsTurning walk world now s key) To world now (Err status) new_world new = record { ok = tt; keeps = back_keeps walk laws m; cause = inl m.cause } in
         joined walk laws so_far step
 
     module _ {valid : Bool} {new_world : E × T} {new : M} (m : StepsBack walk.over walk.is_at walk.here walk.fails walk.keeps world now (Ok valid) new_world new) where
-      pub turn_more : is_at_key key (walk.here new) ≡ true → MovesBelow walk (IsTurning walk start old s key 0) (λ (u : Unit {0}). IsTurning walk new_world new s key (passed + 1)) start old (Ok (tt {0})) new_world new
+      pub turn_more : is_at_key key (walk.here new) ≡ true → MovesBelow walk (IsTurning walk start old s key) (λ (u : Unit {0}). IsTurning walk new_world new s key) start old (Ok (tt {0})) new_world new
       turn_more is =
-          let step : MovesBelow walk (IsTurning walk world now s key passed) (λ (u : Unit {0}). IsTurning walk new_world new s key (passed + 1)) world now (Ok (tt {0})) new_world new = record {
+          let step : MovesBelow walk (IsTurning walk world now s key) (λ (u : Unit {0}). IsTurning walk new_world new s key) world now (Ok (tt {0})) new_world new = record {
             ok = λ order below pairs n on. turns_on on (m.ok (internal_order order) below (Some (length on.front)) on.at) is;
             keeps = back_keeps walk laws m;
             cause = tt;
           } in
           joined walk laws so_far step
 
-      pub turn_ends : is_at_key key (walk.here new) ≡ false → MovesBelow walk (IsTurning walk start old s key 0) (λ (u : Unit {0}). IsOnScanBack walk new_world new s None 0) start old (Ok (tt {0})) new_world new
+      pub turn_ends : is_at_key key (walk.here new) ≡ false → MovesBelow walk (IsTurning walk start old s key) (λ (u : Unit {0}). IsOnScanBack walk new_world new s None) start old (Ok (tt {0})) new_world new
       turn_ends is =
-          let step : MovesBelow walk (IsTurning walk world now s key passed) (λ (u : Unit {0}). IsOnScanBack walk new_world new s None 0) world now (Ok (tt {0})) new_world new = record {
+          let step : MovesBelow walk (IsTurning walk world now s key) (λ (u : Unit {0}). IsOnScanBack walk new_world new s None) world now (Ok (tt {0})) new_world new = record {
             ok = λ order below pairs n on. turned on (m.ok (internal_order order) below (Some (length on.front)) on.at) is;
             keeps = back_keeps walk laws m;
             cause = tt;
@@ -208,8 +196,8 @@ module _ {E T M : Type 0} (walk : WalkGhosts M E T) (laws : WalkLaws walk.over w
 
   module _ {world : E × T} {inner : M} {s : ℕ} {direction : Direction} (saved : Pair) where
     -- it is there
-    pub leaves_back_reverse : direction ≡ Reverse → MovesBelow walk (IsLeftBack walk world inner s direction saved) (λ (u : Unit {0}). IsOnScanBack walk world inner s None 0) world inner (Ok (tt {0})) world inner
-    leaves_back_reverse reverse = stayed walk laws (λ u. IsOnScanBack walk world inner s None 0) world inner (tt {0}) (λ order below pairs n from.
+    pub leaves_back_reverse : direction ≡ Reverse → MovesBelow walk (IsLeftBack walk world inner s direction saved) (λ (u : Unit {0}). IsOnScanBack walk world inner s None) world inner (Ok (tt {0})) world inner
+    leaves_back_reverse reverse = stayed walk laws (λ u. IsOnScanBack walk world inner s None) world inner (tt {0}) (λ order below pairs n from.
         let view = from.0 in
         let b : IsBeforeEntries walk world inner s order saved below pairs n = subst (λ d. IsPlacedAt walk world inner s order d saved below pairs n) reverse from.1 in
         record {
@@ -223,16 +211,14 @@ module _ {E T M : Type 0} (walk : WalkGhosts M E T) (laws : WalkLaws walk.over w
           shown = ap (λ list. count_shown s (entries_of_pairs list)) (append-nil b.front) ∙ b.counted;
           finds = refl;
           after = λ own none. let no : None ≡ Some own = none in absurd cc;
-          counted = let size = ap length b.parted ∙ length-append b.front b.back in omega (arith, size);
-          left = λ positive. absurd (omega (arith, positive));
         })
 
     -- the entry that is shown is one of its key
     pub begins_turn : {mid : M} (key : List ℕ) → mid ≡ inner → direction ≡ Forward → ((pair : Pair) → walk.here inner ≡ Some pair → key ≡ user_part pair.0)
-        → MovesBelow walk (IsLeftBack walk world inner s direction saved) (λ (u : Unit {0}). IsTurning walk world mid s key 0) world inner (Ok (tt {0})) world mid
+        → MovesBelow walk (IsLeftBack walk world inner s direction saved) (λ (u : Unit {0}). IsTurning walk world mid s key) world inner (Ok (tt {0})) world mid
     begins_turn {mid} key same forward own =
-        subst (λ it. MovesBelow walk (IsLeftBack walk world inner s direction saved) (λ (u : Unit {0}). IsTurning walk world it s key 0) world inner (Ok (tt {0})) world it) (sym same)
-        (stayed walk laws (λ u. IsTurning walk world inner s key 0) world inner (tt {0}) (λ order below pairs n from.
+        subst (λ it. MovesBelow walk (IsLeftBack walk world inner s direction saved) (λ (u : Unit {0}). IsTurning walk world it s key) world inner (Ok (tt {0})) world it) (sym same)
+        (stayed walk laws (λ u. IsTurning walk world inner s key) world inner (tt {0}) (λ order below pairs n from.
         let view = from.0 in
         let entry : IsAtEntry walk world inner s order below pairs n = subst (λ d. IsPlacedAt walk world inner s order d saved below pairs n) forward from.1 in
         let here : walk.here inner ≡ Some entry.pair = laws.at_position world inner (internal_order order) below (Some (length entry.front)) entry.at
@@ -254,23 +240,22 @@ module _ {E T M : Type 0} (walk : WalkGhosts M E T) (laws : WalkLaws walk.over w
               (in_cases (entry_of_pair entry.pair) other (entries_of_pairs entry.back) c));
           own = (entry_of_pair entry.pair, in_front (entry_of_pair entry.pair) (entries_of_pairs entry.back), sym key_is);
           shown = (user_pair entry.pair, entry.shown, sym key_is);
-          counted = let size = ap length entry.parted ∙ length-append entry.front (entry.pair ∷ entry.back) in omega (arith, size);
         }))
 
     pub leaves_back_forward : {mid : M} {key : List ℕ} → mid ≡ inner → direction ≡ Forward → ((pair : Pair) → walk.here inner ≡ Some pair → key ≡ user_part pair.0)
         → {number : ℕ} → number ≡ s → {result : Result (Unit {0}) Status} {new_world : E × T} {new : M}
-        → MovesBelow walk (IsTurning walk world mid number key 0) (λ (u : Unit {0}). IsOnScanBack walk new_world new number None 0) world mid result new_world new
-        → MovesBelow walk (IsLeftBack walk world inner s direction saved) (λ (u : Unit {0}). IsOnScanBack walk new_world new s None 0) world inner result new_world new
+        → MovesBelow walk (IsTurning walk world mid number key) (λ (u : Unit {0}). IsOnScanBack walk new_world new number None) world mid result new_world new
+        → MovesBelow walk (IsLeftBack walk world inner s direction saved) (λ (u : Unit {0}). IsOnScanBack walk new_world new s None) world inner result new_world new
     leaves_back_forward {mid} {key} same forward own same_number {result} {new_world} {new} turn =
         joined walk laws (begins_turn key same forward own)
-        (subst (λ k. MovesBelow walk (IsTurning walk world mid k key 0) (λ (u : Unit {0}). IsOnScanBack walk new_world new k None 0) world mid result new_world new) same_number turn)
+        (subst (λ k. MovesBelow walk (IsTurning walk world mid k key) (λ (u : Unit {0}). IsOnScanBack walk new_world new k None) world mid result new_world new) same_number turn)
 
   -- ---- seeks
 
   -- to the first entry of a key at or below a number
   pub key_sought : {world : E × T} {inner : M} {s : ℕ} (key sought : List ℕ) {R : Type 0} {result : Result R Status} {new_world : E × T} {new : M} → s < 2 ^ 56 → sought ≡ internal_key key s TypeValue
       → SeeksKey walk.over walk.is_at walk.here walk.fails walk.keeps sought world inner result new_world new
-      → MovesBelow walk (IsSought walk world inner s key) (λ (r : R). IsOnScan walk new_world new s None 0) world inner result new_world new
+      → MovesBelow walk (IsSought walk world inner s key) (λ (r : R). IsOnScan walk new_world new s None) world inner result new_world new
   key_sought {world} {inner} {s} key sought {result = result} {new_world} {new} small is m = record {
     ok = from_ok result (λ order below pairs n from.
         let view = from.0 in
@@ -281,7 +266,7 @@ module _ {E T M : Type 0} (walk : WalkGhosts M E T) (laws : WalkLaws walk.over w
   }
     where
       from_ok : {R : Type 0} (result : Result R Status) → ((order : KeyOrder) (below pairs : List Pair) (n : ℕ) → IsSought walk world inner s key order below pairs n → OnOk result (walk.is_at new_world new (internal_order order) below (seek_position (internal_cmp order.cmp) below sought)))
-          → IfOk result (λ (r : R). (order : KeyOrder) (below pairs : List Pair) (n : ℕ) → IsSought walk world inner s key order below pairs n → IsOnScan walk new_world new s None 0 order below pairs n)
+          → IfOk result (λ (r : R). (order : KeyOrder) (below pairs : List Pair) (n : ℕ) → IsSought walk world inner s key order below pairs n → IsOnScan walk new_world new s None order below pairs n)
       from_ok (Err status) at = tt
       from_ok (Ok value) at = λ order below pairs n from.
           let view = from.0 in
@@ -298,18 +283,16 @@ module _ {E T M : Type 0} (walk : WalkGhosts M E T) (laws : WalkLaws walk.over w
             scanning = subst (λ k. IsScanning s pairs k None (entries_of_pairs (drop before below))) (ap (count_before order.cmp key) (sym view.view) ∙ sym from.1)
                 (subst (λ list. IsScanning s list (count_before order.cmp key (view_of s (entries_of_pairs below))) None (entries_of_pairs (drop before below))) (sym view.view)
                 (each_seek_of_pairs order.cmp view.exact below sorted.rising key s TypeValue small));
-            counted = omega arith;
-            left = λ positive. absurd (omega (arith, positive));
           }
 
       map_err : {R : Type 0} (result : Result R Status) → IfErr result (walk.fails world inner new_world)
-          → IfErr result (FailsOver walk (λ order below pairs. (n : ℕ) × IsSought walk world inner s key order below pairs n) world inner new_world)
+          → IfErr result (FailsOver walk (λ order pairs. (below : List Pair) × (n : ℕ) × IsSought walk world inner s key order below pairs n) world inner new_world)
       map_err (Ok value) c = tt
       map_err (Err status) c = inl c
 
   -- to the last entry
   pub last_sought : {world : E × T} {inner : M} {s : ℕ} {R : Type 0} {result : Result R Status} {new_world : E × T} {new : M} → SeeksLast walk.over walk.is_at walk.here walk.fails walk.keeps world inner result new_world new
-      → MovesBelow walk (IsWhole walk world inner s) (λ (r : R). IsOnScanBack walk new_world new s None 0) world inner result new_world new
+      → MovesBelow walk (IsWhole walk world inner s) (λ (r : R). IsOnScanBack walk new_world new s None) world inner result new_world new
   last_sought {world} {inner} {s} {result = result} {new_world} {new} m = record {
     ok = from_ok result (λ order below pairs n from. let view = from.0 in m.ok (internal_order order) below None view.over);
     keeps = record { over = m.same; kept = m.kept; excuses = m.excuses };
@@ -317,7 +300,7 @@ module _ {E T M : Type 0} (walk : WalkGhosts M E T) (laws : WalkLaws walk.over w
   }
     where
       from_ok : {R : Type 0} (result : Result R Status) → ((order : KeyOrder) (below pairs : List Pair) (n : ℕ) → IsWhole walk world inner s order below pairs n → OnOk result (walk.is_at new_world new (internal_order order) below (last_position below)))
-          → IfOk result (λ (r : R). (order : KeyOrder) (below pairs : List Pair) (n : ℕ) → IsWhole walk world inner s order below pairs n → IsOnScanBack walk new_world new s None 0 order below pairs n)
+          → IfOk result (λ (r : R). (order : KeyOrder) (below pairs : List Pair) (n : ℕ) → IsWhole walk world inner s order below pairs n → IsOnScanBack walk new_world new s None order below pairs n)
       from_ok (Err status) at = tt
       from_ok (Ok value) at = λ order below pairs n from.
           let view = from.0 in
@@ -332,11 +315,9 @@ module _ {E T M : Type 0} (walk : WalkGhosts M E T) (laws : WalkLaws walk.over w
             shown = ap (λ list. count_shown s (entries_of_pairs list)) (append-nil below) ∙ ap length (sym view.view) ∙ sym from.1;
             finds = refl;
             after = λ own none. let no : None ≡ Some own = none in absurd cc;
-            counted = omega arith;
-            left = λ positive. absurd (omega (arith, positive));
           }
 
       map_err : {R : Type 0} (result : Result R Status) → IfErr result (walk.fails world inner new_world)
-          → IfErr result (FailsOver walk (λ order below pairs. (n : ℕ) × IsWhole walk world inner s order below pairs n) world inner new_world)
+          → IfErr result (FailsOver walk (λ order pairs. (below : List Pair) × (n : ℕ) × IsWhole walk world inner s order below pairs n) world inner new_world)
       map_err (Ok value) c = tt
       map_err (Err status) c = inl c

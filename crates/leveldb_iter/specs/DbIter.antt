@@ -1,5 +1,5 @@
 -- A walk over the view of a store at a sequence number, above a walk over all its entries.
-use Rattle.std.specs.Prelude.{◌≡◌, ◌≢◌, ◌⊎◌, ◌<◌, ◌≤◌, ◌+◌, ◌^◌, ℕ, true, List, ◌∷◌, ◌++◌, length, Option, Some, None, Contains}
+use Rattle.std.specs.Prelude.{◌≡◌, ◌≢◌, ◌⊎◌, ◌≤◌, ◌+◌, ℕ, true, List, ◌∷◌, ◌++◌, length, Option, Some, None, Contains}
 use Rattle.std.specs.Option.{option_map}
 use Rattle.std.specs.declared.cmp.Ordering.TheVariants.{Less}
 use Rattle.leveldb_base.specs.Cmp.{IsExactOrder}
@@ -11,7 +11,7 @@ use Rattle.leveldb_base.specs.Scan.{IsScanning, count_shown}
 use Rattle.leveldb_base.specs.Types.{Pair, pair_at, previous_position}
 use Rattle.leveldb_base.specs.View.{view_of}
 use Rattle.leveldb_base.specs.declared.error.Status.{Status}
-use Rattle.leveldb_base.specs.declared.error.StatusCode.TheVariants.{Corruption, NotSupported}
+use Rattle.leveldb_base.specs.declared.error.StatusCode.TheVariants.{Corruption}
 use Rattle.leveldb_base.specs.declared.types.Direction.{Direction}
 use Rattle.leveldb_base.specs.declared.types.Direction.TheVariants.{Forward, Reverse}
 use Rattle.leveldb_iter.specs.declared.db_iter.DbIterCore.{DbIterCore}
@@ -115,23 +115,13 @@ module _ {E T M : Type 0} (walk : WalkGhosts M E T) where
   abbrev pub view_here : DbIterCore M → Option Pair
   view_here it = view_pair it.at (walk.here it.walk) (it.saved_key.items, it.saved_value.items)
 
-  -- it is over the view of these entries
-  abbrev pub IsViewOfEntries : E × T → DbIterCore M → KeyOrder → List Pair → List Pair → Type 0
-  IsViewOfEntries world it order below pairs =
-      (position : Option ℕ) × (at : IsViewAt world it order pairs position) × (at.below ≡ below)
-
-  -- the errors of a walk below, of memory, of pairs that are no entries, and of more of them than
-  -- 128 bits can count
-  abbrev pub FailsOver : (KeyOrder → List Pair → List Pair → Type 0) → E × T → M → E × T → Status
-      → Type 0
+  -- the errors of a walk below, of memory, and of pairs that are no entries
+  abbrev pub FailsOver : (KeyOrder → List Pair → Type 0) → E × T → M → E × T → Status → Type 0
   FailsOver Over world inner later status = walk.fails world inner later status
       ⊎ IsOutOfMemory status
       ⊎ ((status.code ≡ Corruption)
-      × ((order : KeyOrder) (below pairs : List Pair) → Over order below pairs → ⊥))
-      ⊎ ((status.code ≡ NotSupported)
-      × ((order : KeyOrder) (below pairs : List Pair) → Over order below pairs
-      → 2 ^ 128 ≤ length below))
+      × ((order : KeyOrder) (pairs : List Pair) → Over order pairs → ⊥))
 
-  -- the errors of a view: where it is over one, those below, of memory, and of too many entries
+  -- the errors of a view: where it is over one, those below and of memory
   abbrev pub FailsView : E × T → DbIterCore M → E × T → Status → Type 0
-  FailsView world it = FailsOver (IsViewOfEntries world it) world it.walk
+  FailsView world it = FailsOver (IsViewOver world it) world it.walk

@@ -135,18 +135,12 @@ module _ {E T M : Type 0} {walk : WalkGhosts M E T}
   view_excuses first second kept it later status (inl fails) =
       inl (laws.excuses first second kept it.walk later status fails)
   view_excuses first second kept it later status (inr (inl memory)) = inr (inl memory)
-  view_excuses first second kept it later status (inr (inr (inl corrupt))) =
-      inr (inr (inl (
+  view_excuses first second kept it later status (inr (inr corrupt)) =
+      inr (inr (
         corrupt.0,
-        λ order below pairs over. corrupt.1 order below pairs
-            (over.0, view_at_stays first second kept it order pairs over.0 over.1, over.2),
-      )))
-  view_excuses first second kept it later status (inr (inr (inr many))) =
-      inr (inr (inr (
-        many.0,
-        λ order below pairs over. many.1 order below pairs
-            (over.0, view_at_stays first second kept it order pairs over.0 over.1, over.2),
-      )))
+        λ order pairs over. corrupt.1 order pairs
+            (over.0, view_at_stays first second kept it order pairs over.0 over.1),
+      ))
 
   -- the view of sorted entries is sorted
   view_sorted : (world : E × T) (inner : M) (s : ℕ) (order : KeyOrder) (below pairs : List Pair)

@@ -1,6 +1,6 @@
 -- The steps of a move in a view: situations of the walk below, and moves between them. A situation
 -- is of an order, of the pairs below, of those of the view, and of a number of the latter.
-use Rattle.std.specs.Prelude.{◌≡◌, ◌≢◌, ◌⊎◌, ◌<◌, ◌≤◌, ◌+◌, ◌^◌, ℕ, Bool, true, false, List, ◌++◌, length, Option, Some, None, Result, IfOk, IfErr, Contains}
+use Rattle.std.specs.Prelude.{◌≡◌, ◌≢◌, ◌⊎◌, ◌<◌, ◌≤◌, ◌+◌, ℕ, Bool, true, false, List, ◌++◌, length, Option, Some, None, Result, IfOk, IfErr, Contains}
 use Rattle.std.specs.Borrow.{Bor}
 use Rattle.std.specs.Bool.{then_some}
 use Rattle.std.specs.Option.{option_to_list}
@@ -98,10 +98,9 @@ number_after (Some n) = n + 1
 
 -- Of a walk in a world, below the view at a sequence number.
 module _ {E T M : Type 0} (walk : WalkGhosts M E T) (world : E × T) (inner : M) (s : ℕ) where
-  -- A scan forward is at an entry or at the end, after so many pairs of the view and after `passed`
-  -- entries at least.
-  pub record IsOnScan (skip : Option (List ℕ)) (passed : ℕ) (order : KeyOrder)
-      (below pairs : List Pair) (n : ℕ) : Type 0 where
+  -- A scan forward is at an entry or at the end, after so many pairs of the view.
+  pub record IsOnScan (skip : Option (List ℕ)) (order : KeyOrder) (below pairs : List Pair) (n : ℕ)
+      : Type 0 where
     -- the entries before it
     pub front : List Pair
     -- those from it on
@@ -113,14 +112,10 @@ module _ {E T M : Type 0} (walk : WalkGhosts M E T) (world : E × T) (inner : M)
         (position_within below (length front))
     -- they show the rest of the view
     pub scanning : IsScanning s pairs n skip (entries_of_pairs back)
-    -- so many entries were passed
-    pub counted : passed ≤ length front
-    -- it is at an entry once one was passed
-    pub left : 0 < passed → length front < length below
 
   -- A scan back is at an entry or before all, and looks for the last of so many pairs of the view.
-  pub record IsOnScanBack (found : Option Pair) (passed : ℕ) (order : KeyOrder)
-      (below pairs : List Pair) (n : ℕ) : Type 0 where
+  pub record IsOnScanBack (found : Option Pair) (order : KeyOrder) (below pairs : List Pair) (n : ℕ)
+      : Type 0 where
     -- the entries up to it
     pub front : List Pair
     -- those that it went over
@@ -144,14 +139,10 @@ module _ {E T M : Type 0} (walk : WalkGhosts M E T) (world : E × T) (inner : M)
     pub after : (own : Pair) → found ≡ Some own → (entry : Entry)
         → Contains (entries_of_pairs (over ++ rest)) entry → entry.sequence ≤ s
         → order.cmp entry.key own.0 ≢ Less
-    -- so many entries were passed
-    pub counted : passed + length front ≤ length below
-    -- it is at an entry once one was passed
-    pub left : 0 < passed → 0 < length front
 
   -- On the way back from the entry that shows the pair of this number to before all of its key.
-  pub record IsTurning (key : List ℕ) (passed : ℕ) (order : KeyOrder) (below pairs : List Pair)
-      (n : ℕ) : Type 0 where
+  pub record IsTurning (key : List ℕ) (order : KeyOrder) (below pairs : List Pair) (n : ℕ)
+      : Type 0 where
     -- the entries before the current one
     pub front : List Pair
     -- those from it on
@@ -171,8 +162,6 @@ module _ {E T M : Type 0} (walk : WalkGhosts M E T) (world : E × T) (inner : M)
     pub own : (entry : Entry) × Contains (entries_of_pairs back) entry × (entry.key ≡ key)
     -- and the pair of the number is
     pub shown : (pair : Pair) × (pair_at pairs (Some n) ≡ Some pair) × (pair.0 ≡ key)
-    -- so many entries were passed
-    pub counted : passed + length front < length below
 
   -- the view's position is the one after so many pairs
   abbrev pub IsFoundNext : Option Direction → Pair → KeyOrder → List Pair → List Pair → ℕ → Type 0
@@ -180,12 +169,12 @@ module _ {E T M : Type 0} (walk : WalkGhosts M E T) (world : E × T) (inner : M)
       IsPlaced walk world inner s order direction saved below pairs (position_within pairs n)
 
   -- a scan forward ended there, or goes on
-  abbrev pub IsNextStep : Option Direction → Pair → ℕ → Option Bool → KeyOrder → List Pair
+  abbrev pub IsNextStep : Option Direction → Pair → Option Bool → KeyOrder → List Pair
       → List Pair → ℕ → Type 0
-  IsNextStep direction saved passed None order below pairs n =
+  IsNextStep direction saved None order below pairs n =
       IsFoundNext direction saved order below pairs n
-  IsNextStep direction saved passed (Some skipping) order below pairs n =
-      IsOnScan (then_some skipping saved.0) passed order below pairs n
+  IsNextStep direction saved (Some skipping) order below pairs n =
+      IsOnScan (then_some skipping saved.0) order below pairs n
 
   -- or the last of so many
   abbrev pub IsFoundPrevious : Option Direction → Pair → KeyOrder → List Pair → List Pair → ℕ
@@ -195,12 +184,12 @@ module _ {E T M : Type 0} (walk : WalkGhosts M E T) (world : E × T) (inner : M)
       (previous_position (Some n))
 
   -- a scan back ended there, or goes on
-  abbrev pub IsStepBack : Option Direction → Pair → ℕ → Option Bool → KeyOrder → List Pair
+  abbrev pub IsStepBack : Option Direction → Pair → Option Bool → KeyOrder → List Pair
       → List Pair → ℕ → Type 0
-  IsStepBack direction saved passed None order below pairs n =
+  IsStepBack direction saved None order below pairs n =
       IsFoundPrevious direction saved order below pairs n
-  IsStepBack direction saved passed (Some taken) order below pairs n =
-      IsOnScanBack (then_some taken saved) passed order below pairs n
+  IsStepBack direction saved (Some taken) order below pairs n =
+      IsOnScanBack (then_some taken saved) order below pairs n
 
   -- it is at the position up to which there are so many pairs, or at none
   abbrev pub IsLeft : Option Direction → Pair → KeyOrder → List Pair → List Pair → ℕ → Type 0
@@ -246,7 +235,7 @@ module _ {E T M : Type 0} (walk : WalkGhosts M E T) where
         → From order below pairs n → To value order below pairs n)
     -- this is left of the walk below
     pub keeps : KeepsBelow old_world old new_world new
-    -- the error is one of the walk below, of memory or of too many entries, where it begins in the
-    -- situation
+    -- the error is one of the walk below or of memory, where it begins in the situation
     pub cause : IfErr result (FailsOver walk
-        (λ order below pairs. (n : ℕ) × From order below pairs n) old_world old new_world)
+        (λ order pairs. (below : List Pair) × (n : ℕ) × From order below pairs n) old_world old
+        new_world)

@@ -1,5 +1,5 @@
 //! The view of a store at a sequence number, as a walk above one over all entries.
-ghost use Rattle.std.specs.Prelude.{◌≡◌, ◌<◌, ◌+◌, ◌^◌, ℕ, true, List, None, Some, IfOk, IfErr, OnErr, is_some, IsErrAnd};
+ghost use Rattle.std.specs.Prelude.{◌≡◌, ◌<◌, ◌^◌, ℕ, true, List, None, Some, IfOk, IfErr, OnErr, is_some, IsErrAnd};
 ghost use Rattle.std.specs.Bool.{then_some};
 ghost use Rattle.leveldb_base.specs.Error.{IsOutOfMemory};
 ghost use Rattle.leveldb_base.specs.Types.{Pair};
@@ -8,10 +8,10 @@ ghost use Rattle.leveldb_iter.specs.Walk.{KeyOrder};
 use crate::entry::{Seen, entry_at, keep};
 use crate::walk::Walk;
 use crate::walk_iter::WalkIter;
-use leveldb_base::error::{Result, StatusCode, err};
+use leveldb_base::error::{Result, Status};
 use leveldb_base::key_types::{ValueType, split_sequence, tag_bytes};
 use leveldb_base::types::{Direction, SequenceNumber};
-use std::alloc::Global;
+use std::alloc::{AllocError, Global};
 
 /// The view of a store at a sequence number, as a walk above one over all entries: the keys that
 /// have a value there, each with the newest at or below the number. The order of users' keys is to
@@ -51,7 +51,9 @@ impl<M> DbIterCore<M> {
         ensures none { view_here M.Walk result ≡ None }
         ensures fails { (world later : E × T) (status : Status)
             → FailsView M.Walk world result later status
-            → FailsOver M.Walk (IsViewOf M.Walk world walk sequence) world walk later status }
+            → FailsOver M.Walk (λ order pairs.
+            (below : List Pair) × IsViewOf M.Walk world walk sequence order below pairs)
+            world walk later status }
     {
         DbIterCore {
             walk,
@@ -66,18 +68,13 @@ impl<M> DbIterCore<M> {
 // Scans forward.
 impl<M> DbIterCore<M> {
     ghost use Rattle.leveldb_base.specs.KeyTypes.{user_part};
-    ghost use Rattle.leveldb_base.specs.declared.error.StatusCode.TheVariants.{NotSupported};
     ghost use Rattle.leveldb_iter.specs.DbIterSteps.{IsSeen, IsUnread, MovesBelow, IsOnScan, IsNextStep, IsFoundNext, IsLeft};
 
-    // The error of more entries than can be counted.
-    fn too_many(&self) -> Result<()>
-        ensures { IsErrAnd result (λ status. status.code ≡ NotSupported) }
+    // The error of more entries than any memory holds: out of memory.
+    fn too_long(&self) -> Result<()>
+        ensures { IsErrAnd result IsOutOfMemory }
     {
-        err(
-            *self.saved_key.allocator(),
-            StatusCode::NotSupported,
-            "more than 2^128 entries",
-        )
+        Err(Status::from(AllocError))
     }
 
     // What the entry is that the walk below is at. The key of a deletion is kept.
@@ -139,11 +136,11 @@ impl<M> DbIterCore<M> {
         ensures sequence { self.new.sequence ≡ self.old.sequence }
         ensures at { OnErr result (self.new.at ≡ None) }
         ensures on { IfOk result (λ next. is_some next ≡ true → self.new.at ≡ None) }
-        ensures moves { (passed : ℕ) → MovesBelow M.Walk
+        ensures moves { MovesBelow M.Walk
             (IsOnScan M.Walk (env.old, tables.old) self.old.walk self.old.sequence
-            (then_some skipping self.old.saved_key.items) passed)
+            (then_some skipping self.old.saved_key.items))
             (IsNextStep M.Walk (env.new, tables.new) self.new.walk self.old.sequence self.new.at
-            (self.new.saved_key.items, self.new.saved_value.items) (passed + 1))
+            (self.new.saved_key.items, self.new.saved_value.items))
             (env.old, tables.old) self.old.walk result (env.new, tables.new) self.new.walk }
     {
         let next = match self.look::<E, T>(skipping)? {
@@ -170,19 +167,19 @@ impl<M> DbIterCore<M> {
         ensures at { OnErr result (self.new.at ≡ None) }
         ensures moves { MovesBelow M.Walk
             (IsOnScan M.Walk (env.old, tables.old) self.old.walk self.old.sequence
-            (then_some skipping self.old.saved_key.items) 0)
+            (then_some skipping self.old.saved_key.items))
             (λ _. IsFoundNext M.Walk (env.new, tables.new) self.new.walk self.old.sequence
             self.new.at (self.new.saved_key.items, self.new.saved_value.items))
             (env.old, tables.old) self.old.walk result (env.new, tables.new) self.new.walk }
     {
         let mut skipping = skipping;
-        for passed in 0..u128::MAX {
+        for _ in 0..u128::MAX {
             match self.step_next(env, tables, skipping)? {
                 None => return Ok(()),
                 Some(next) => skipping = next,
             }
         }
-        self.too_many()
+        self.too_long()
     }
 
     // Goes to the entry after the pair that it is at, and from no position to the first entry.
@@ -196,7 +193,7 @@ impl<M> DbIterCore<M> {
             (IsLeft M.Walk (env.old, tables.old) self.old.walk self.old.sequence self.old.at
             (self.old.saved_key.items, self.old.saved_value.items))
             (λ skipping. IsOnScan M.Walk (env.new, tables.new) self.new.walk self.old.sequence
-            (then_some skipping self.new.saved_key.items) 0)
+            (then_some skipping self.new.saved_key.items))
             (env.old, tables.old) self.old.walk result (env.new, tables.new) self.new.walk }
     {
         let at = self.at;
@@ -267,11 +264,11 @@ impl<M> DbIterCore<M> {
         ensures sequence { self.new.sequence ≡ self.old.sequence }
         ensures at { OnErr result (self.new.at ≡ None) }
         ensures on { IfOk result (λ next. is_some next ≡ true → self.new.at ≡ None) }
-        ensures moves { (passed : ℕ) → MovesBelow M.Walk
+        ensures moves { MovesBelow M.Walk
             (IsOnScanBack M.Walk (env.old, tables.old) self.old.walk self.old.sequence
-            (then_some taken (self.old.saved_key.items, self.old.saved_value.items)) passed)
+            (then_some taken (self.old.saved_key.items, self.old.saved_value.items)))
             (IsStepBack M.Walk (env.new, tables.new) self.new.walk self.old.sequence self.new.at
-            (self.new.saved_key.items, self.new.saved_value.items) (passed + 1))
+            (self.new.saved_key.items, self.new.saved_value.items))
             (env.old, tables.old) self.old.walk result (env.new, tables.new) self.new.walk }
     {
         let Some(now) = self.take::<E, T>(taken)? else {
@@ -294,19 +291,19 @@ impl<M> DbIterCore<M> {
         ensures sequence { self.new.sequence ≡ self.old.sequence }
         ensures at { OnErr result (self.new.at ≡ None) }
         ensures moves { MovesBelow M.Walk
-            (IsOnScanBack M.Walk (env.old, tables.old) self.old.walk self.old.sequence None 0)
+            (IsOnScanBack M.Walk (env.old, tables.old) self.old.walk self.old.sequence None)
             (λ _. IsFoundPrevious M.Walk (env.new, tables.new) self.new.walk self.old.sequence
             self.new.at (self.new.saved_key.items, self.new.saved_value.items))
             (env.old, tables.old) self.old.walk result (env.new, tables.new) self.new.walk }
     {
         let mut taken = false;
-        for passed in 0..u128::MAX {
+        for _ in 0..u128::MAX {
             match self.step_back(env, tables, taken)? {
                 None => return Ok(()),
                 Some(now) => taken = now,
             }
         }
-        self.too_many()
+        self.too_long()
     }
 
     // Whether the walk below is at an entry of the saved key.
@@ -329,17 +326,17 @@ impl<M> DbIterCore<M> {
         ensures at { self.new.at ≡ self.old.at }
         ensures moves { MovesBelow M.Walk
             (IsTurning M.Walk (env.old, tables.old) self.old.walk self.old.sequence
-            self.old.saved_key.items 0)
-            (λ _. IsOnScanBack M.Walk (env.new, tables.new) self.new.walk self.old.sequence None 0)
+            self.old.saved_key.items)
+            (λ _. IsOnScanBack M.Walk (env.new, tables.new) self.new.walk self.old.sequence None)
             (env.old, tables.old) self.old.walk result (env.new, tables.new) self.new.walk }
     {
-        for passed in 0..u128::MAX {
+        for _ in 0..u128::MAX {
             self.walk.prev(env, tables)?;
             if !self.is_at_saved::<E, T>() {
                 return Ok(());
             }
         }
-        self.too_many()
+        self.too_long()
     }
 
     // Goes to before all entries of the key of the pair that it is at.
@@ -351,7 +348,7 @@ impl<M> DbIterCore<M> {
         ensures moves { MovesBelow M.Walk
             (IsLeftBack M.Walk (env.old, tables.old) self.old.walk self.old.sequence direction
             (self.old.saved_key.items, self.old.saved_value.items))
-            (λ _. IsOnScanBack M.Walk (env.new, tables.new) self.new.walk self.old.sequence None 0)
+            (λ _. IsOnScanBack M.Walk (env.new, tables.new) self.new.walk self.old.sequence None)
             (env.old, tables.old) self.old.walk result (env.new, tables.new) self.new.walk }
     {
         self.at = None;
@@ -372,7 +369,7 @@ impl<M> DbIterCore<M> {
         ensures at { self.new.at ≡ None }
         ensures moves { MovesBelow M.Walk
             (IsSought M.Walk (env.old, tables.old) self.old.walk self.old.sequence key.now)
-            (λ _. IsOnScan M.Walk (env.new, tables.new) self.new.walk self.old.sequence None 0)
+            (λ _. IsOnScan M.Walk (env.new, tables.new) self.new.walk self.old.sequence None)
             (env.old, tables.old) self.old.walk result (env.new, tables.new) self.new.walk }
     {
         self.at = None;
@@ -390,7 +387,7 @@ impl<M> DbIterCore<M> {
         ensures at { self.new.at ≡ None }
         ensures moves { MovesBelow M.Walk
             (IsWhole M.Walk (env.old, tables.old) self.old.walk self.old.sequence)
-            (λ _. IsOnScanBack M.Walk (env.new, tables.new) self.new.walk self.old.sequence None 0)
+            (λ _. IsOnScanBack M.Walk (env.new, tables.new) self.new.walk self.old.sequence None)
             (env.old, tables.old) self.old.walk result (env.new, tables.new) self.new.walk }
     {
         self.at = None;

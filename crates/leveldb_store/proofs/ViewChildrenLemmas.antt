@@ -44,7 +44,7 @@ use Rattle.leveldb_store.specs.OpenStore.{OpenStoreValue}
 use Rattle.leveldb_store.specs.Read.{in_memory}
 use Rattle.leveldb_store.specs.View.{AreChildrenOf, IsMergeToView, IsOverMemory, any_in_order, waiting_layers}
 use Rattle.leveldb_store.specs.Written.{waiting_entries}
-use Rattle.leveldb_store.proofs.ViewListsLemmas.{each_append, each_at, each_by_index, no_more, pairwise_of}
+use Rattle.leveldb_store.proofs.ViewListsLemmas.{each_append, each_at, each_by_index, pairwise_of}
 
 -- ---- memtables
 
@@ -235,7 +235,6 @@ module _ {E F C FP K M : Type 0} {keys : CmpGhosts (InternalKeyCmp C)} (env : En
     pub is_merge : IsMergeToView child keys (record { 0 = value.cmp }) children world (any_in_order ucmp) merged
     pub entries : MergesEntries ucmp lists merged
     pub exactly : (entry : Entry) → Contains (entries_of_pairs merged) entry ↔ Contains all entry
-    pub no_more : length merged ≤ length all
 
   pub merged_view : (merged : List Pair) × IsMergedView merged
   merged_view =
@@ -244,9 +243,7 @@ module _ {E F C FP K M : Type 0} {keys : CmpGhosts (InternalKeyCmp C)} (env : En
       let exactly : (entry : Entry) → Contains (entries_of_pairs has.0) entry ↔ Contains all entry = λ entry. (
         λ c. to_all entry ((has.2.exactly entry).0 c),
         λ c. (has.2.exactly entry).1 (of_all entry c),
-      ) in
-      let few = no_more ucmp exact (entries_of_pairs has.0) all has.2.sorted (λ entry c. (exactly entry).0 c) in
-      let same = length-map has.0 entry_of_pair in (
+      ) in (
         has.0,
         record {
           is_merge = record {
@@ -256,6 +253,5 @@ module _ {E F C FP K M : Type 0} {keys : CmpGhosts (InternalKeyCmp C)} (env : En
           };
           entries = has.2;
           exactly = exactly;
-          no_more = omega (arith, few, same);
         },
       )

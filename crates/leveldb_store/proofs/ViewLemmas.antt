@@ -33,7 +33,7 @@ use Rattle.leveldb_store.specs.OpenStore.{OpenStoreValue}
 use Rattle.leveldb_store.specs.OpenTables.{AreOpenTablesOf}
 use Rattle.leveldb_store.specs.Read.{HasOpenTables}
 use Rattle.leveldb_store.specs.Room.{HasFailed}
-use Rattle.leveldb_store.specs.View.{CountsErrors, FailsBetween, IsReadingOf, IsUnsupported, IsWorldOf, MakesMoves, MoveFails, ReadsAlone, ShowsIn, ViewsStore, WalksStore, any_in_order, options_in}
+use Rattle.leveldb_store.specs.View.{CountsErrors, FailsBetween, IsOfNoCompressor, IsReadingOf, IsWorldOf, MakesMoves, MoveFails, ReadsAlone, ShowsIn, ViewsStore, WalksStore, any_in_order, options_in}
 use Rattle.leveldb_store.specs.Written.{Shows}
 
 -- a move leads to the same position where only the keys that are accepted differ
@@ -179,18 +179,18 @@ module _ {E F C FP K W : Type 0} {keys : CmpGhosts (InternalKeyCmp C)} (env : Gh
   world : HasOpenTables env by value from tables.cache.now → IsWorldOf env cmp filters codings value (from, tables)
   world has_open = record { order_is = order_is; below_is = below_is; has_open = has_open }
 
-  abbrev Lacks : List LiveTable → Meaning → Status → Type 0
-  Lacks tables meaning = IsUnsupported value tables by.format meaning
+  abbrev Lacks : Meaning → Status → Type 0
+  Lacks meaning = IsOfNoCompressor by.format meaning
 
   -- in the store's order
-  made_in_view : (meaning : Meaning) (history : History) (since : ℕ) → since ≤ sequence → (shown : ShowsIn env cmp filters codings value meaning history since (from, tables))
+  made_in_view : (meaning : Meaning) (history : History) (since : ℕ) → since ≤ sequence → ShowsIn env cmp filters codings value meaning history since (from, tables)
       → (pairs : List Pair) × IsView (cmp.cmp value.cmp) (entries_of history) sequence pairs
-      × MakesMoves (cmp.cmp value.cmp) (Lacks shown.shows.tables meaning) pairs None (env.failures from) moves given (env.failures to)
+      × MakesMoves (cmp.cmp value.cmp) (Lacks meaning) pairs None (env.failures from) moves given (env.failures to)
   made_in_view meaning history since low shows =
       let over = views.over (from, tables) meaning history since low shows in (
         over.0,
         over.1,
-        moves_made env counts walk rises reads.counts views.laws (from, tables) it (Lacks shows.shows.tables meaning)
+        moves_made env counts walk rises reads.counts views.laws (from, tables) it (Lacks meaning)
             (λ status ever. views.lacks (from, tables) meaning history since shows (from, tables) status (ever (from, tables)))
             (any_in_order (cmp.cmp value.cmp)) (λ key. refl) over.0 moves given (from, tables) it (to, left) new None (omega arith) (λ later status fails. fails) over.2 made,
       )
@@ -199,13 +199,13 @@ module _ {E F C FP K W : Type 0} {keys : CmpGhosts (InternalKeyCmp C)} (env : Gh
   pub view_walked : WalksStore env by value from tables.cache.now sequence moves given (Ok tt) to left.cache.now
   view_walked = record {
     walks = λ has_open meaning agrees history since low shows.
-        let shown : (there : Shows (cmp.cmp value.cmp) meaning value (files_at env from) history since) × (there.tables ≡ shows.tables) =
-        subst (λ (order : List ℕ → List ℕ → Ordering). (there : Shows order meaning value (files_at env from) history since) × (there.tables ≡ shows.tables)) order_is (shows, refl) in
         subst (λ (order : List ℕ → List ℕ → Ordering). (pairs : List Pair) × IsView order (entries_of history) sequence pairs
-        × MakesMoves order (Lacks shows.tables meaning) pairs None (env.failures from) moves given (env.failures to)) (sym order_is)
-        (subst (λ (live : List LiveTable). (pairs : List Pair) × IsView (cmp.cmp value.cmp) (entries_of history) sequence pairs
-        × MakesMoves (cmp.cmp value.cmp) (Lacks live meaning) pairs None (env.failures from) moves given (env.failures to)) shown.1
-        (made_in_view meaning history since low (record { is_world = world has_open; agrees = agrees; shows = shown.0 })));
+        × MakesMoves order (Lacks meaning) pairs None (env.failures from) moves given (env.failures to)) (sym order_is)
+        (made_in_view meaning history since low (record {
+          is_world = world has_open;
+          agrees = agrees;
+          shows = subst (λ (order : List ℕ → List ℕ → Ordering). Shows order meaning value (files_at env from) history since) order_is shows;
+        }));
     refused = moves_refused env counts walk rises reads.counts views.laws (from, tables) it (λ e. IsTableFault by.format e.code)
         (λ status ever. views.fault (from, tables) (from, tables) status (ever (from, tables)))
         moves given (from, tables) it (to, left) new (omega arith) (λ later status fails. fails) made;

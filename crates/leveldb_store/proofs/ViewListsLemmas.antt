@@ -1,4 +1,4 @@
--- Lists of entries: how long they are, which come first, and the lists of walks side by side.
+-- Lists side by side, and each element of a list before each later one.
 use Rattle.std.specs.Prelude.{All, AllPairs, Contains, slice_get, slice_index_or}
 use Rattle.std.proofs.Common.{◌≡◌, ◌+◌, ◌≤◌, ◌<◌, ◌⊎◌, inl, inr, ⊎_elim, ℕ, zero, suc, List, [], ◌∷◌, ◌++◌, Option, None, Some, length, map, refl, sym, ◌∙◌, ap, subst, arith}
 use Rattle.std.proofs.lemmas.List.Elements.{All-contains_itself, All-weaker, Contains-append_cases}
@@ -52,48 +52,3 @@ pairwise_of {A} R (x ∷ xs) pairs = (
       subst (R x) c.2 (pairs zero (suc k) y (omega arith) (omega (arith, within))),
   pairwise_of R xs (λ i j d less within. pairs (suc i) (suc j) d (omega (arith, less)) (omega (arith, within))),
 )
-
--- ---- how many
-
--- a list without one of its elements
-without : {A : Type 0} (xs : List A) (x : A) → Contains xs x
-    → (rest : List A) × (length xs ≡ length rest + 1)
-    × ((y : A) → Contains xs y → (x ≡ y) ⊎ Contains rest y)
-without [] x c = absurd (in_none x c)
-without {A} (first ∷ xs) x c = ⊎_elim
-    (λ (same : first ≡ x). (
-      xs,
-      omega arith,
-      λ y d. ⊎_elim (λ (is : first ≡ y). inl (sym same ∙ is)) (λ (later : Contains xs y). inr later) (in_cases first y xs d),
-    ))
-    (λ (there : Contains xs x). (let it = without xs x there in (
-      first ∷ it.0,
-      (let size = it.1 in omega (arith, size)),
-      λ y d. ⊎_elim
-          (λ (is : first ≡ y). inr (subst (Contains (first ∷ it.0)) is (in_front first it.0)))
-          (λ (later : Contains xs y). ⊎_elim (λ (is : x ≡ y). inl is) (λ (rest : Contains it.0 y). inr (in_rest first y it.0 rest)) (it.2 y later))
-          (in_cases first y xs d),
-    )))
-    (in_cases first x xs c)
-
--- no entry is before itself
-not_before_itself : (cmp : List ℕ → List ℕ → Ordering) → IsExactOrder cmp → (entry : Entry) → IsBeforeEntry cmp entry entry → ⊥
-not_before_itself cmp exact entry before = ⊎_elim
-    (λ (less : cmp entry.key entry.key ≡ Less).
-    let never : Less ≡ Greater = sym less ∙ (exact_total exact).antisymm entry.key entry.key ∙ ap ordering_reverse less in cc)
-    (λ (newer : (entry.key ≡ entry.key) × (entry.sequence < entry.sequence)). let less = newer.1 in omega (arith, less))
-    before
-
--- sorted entries that are all among others are no more than these
-pub no_more : (cmp : List ℕ → List ℕ → Ordering) → IsExactOrder cmp → (entries all : List Entry)
-    → AreSorted cmp entries → ((entry : Entry) → Contains entries entry → Contains all entry)
-    → length entries ≤ length all
-no_more cmp exact [] all sorted among = omega arith
-no_more cmp exact (entry ∷ entries) all sorted among =
-    let it = without all entry (among entry (in_front entry entries)) in
-    let size = it.1 in
-    let more = no_more cmp exact entries it.0 sorted.1 (λ other c. ⊎_elim
-    (λ (same : entry ≡ other). absurd (not_before_itself cmp exact entry (subst (IsBeforeEntry cmp entry) (sym same) (sorted.0 other c))))
-    (λ (rest : Contains it.0 other). rest)
-    (it.2 other (among other (in_rest entry other entries c)))) in
-    omega (arith, size, more)

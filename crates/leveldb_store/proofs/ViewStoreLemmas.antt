@@ -13,7 +13,7 @@ use Rattle.leveldb_base.specs.View.{view_of}
 use Rattle.leveldb_base.specs.declared.cmp.Cmp.{Ghosts as CmpGhosts}
 use Rattle.leveldb_base.specs.declared.cmp.internal.InternalKeyCmp.{InternalKeyCmp}
 use Rattle.leveldb_base.specs.declared.error.Status.{Status}
-use Rattle.leveldb_base.specs.declared.error.StatusCode.TheVariants.{Corruption, NotSupported}
+use Rattle.leveldb_base.specs.declared.error.StatusCode.TheVariants.{Corruption}
 use Rattle.leveldb_base.specs.declared.types.LdbIterator.{Ghosts as IteratorGhosts}
 use Rattle.leveldb_env.specs.Compressor.{Codings}
 use Rattle.leveldb_env.specs.declared.env.Env.{Ghosts as EnvGhosts}
@@ -26,7 +26,7 @@ use Rattle.leveldb_iter.specs.declared.merging_iter.MergeCore.{MergeCore}
 use Rattle.leveldb_iter.specs.declared.unlent.Unlent.{Unlent}
 use Rattle.leveldb_iter.specs.declared.walk.Walk.{Ghosts as WalkGhosts}
 use Rattle.leveldb_version.proofs.VersionLayersLemmas.{version_iters_are_layers}
-use Rattle.leveldb_version.specs.Format.{IsTableFault, LacksCompressor, Meaning}
+use Rattle.leveldb_version.specs.Format.{IsTableFault, Meaning}
 use Rattle.leveldb_version.specs.Levels.{table_entries}
 use Rattle.leveldb_version.specs.StoreWalk.{FailsInStore, IsStoreOver}
 use Rattle.leveldb_version.specs.VersionIter.{FailsOr}
@@ -38,7 +38,7 @@ use Rattle.leveldb_version.specs.declared.version_iter.VersionIter.{VersionIter}
 use Rattle.leveldb_store.specs.OpenStore.{AreInLevels, AreNumbersGiven, IsCurrent, OpenStoreValue}
 use Rattle.leveldb_store.specs.Read.{in_memory}
 use Rattle.leveldb_store.specs.Room.{HasFailed}
-use Rattle.leveldb_store.specs.View.{AreChildrenOf, FailsBetween, IsUnsupported, ShowsIn, ViewsMerge, ViewsStore, any_in_order, options_in}
+use Rattle.leveldb_store.specs.View.{AreChildrenOf, FailsBetween, IsOfNoCompressor, ShowsIn, ViewsMerge, ViewsStore, any_in_order, options_in}
 use Rattle.leveldb_store.specs.Written.{waiting_entries}
 use Rattle.leveldb_store.proofs.ViewChildrenLemmas.{IsMergedView, merged_view}
 use Rattle.leveldb_store.proofs.ViewHistoryLemmas.{view_of_history}
@@ -95,7 +95,7 @@ module _ {E F C FP K M : Type 0} {keys : CmpGhosts (InternalKeyCmp C)} (env : En
       → FailsBetween env from to (λ e. IsTableFault (options_in env cmp filters codings from).format e.code) status
   view_fault from to status fails = ⊎_elim
       (λ (any : AnyFails child from children to status). fault_one from to status any.1 (child_fails from any.1 to status any.4))
-      (⊎_elim (λ (out : IsOutOfMemory status). inl out) (⊎_elim (λ corrupt. inr (inr (inl corrupt.0))) (λ many. inr (inr (inr (inl many.0))))))
+      (⊎_elim (λ (out : IsOutOfMemory status). inl out) (λ corrupt. inr (inr (inl corrupt.0))))
       (merge.fails from to status fails)
 
   -- ---- where memory and tables show a history
@@ -115,7 +115,7 @@ module _ {E F C FP K M : Type 0} {keys : CmpGhosts (InternalKeyCmp C)} (env : En
 
     -- an error of a walk over tables
     in_tables : (one : StoreWalk C M keys) → Contains (map Tables are.tables) one → (to : E × ReadTables E C FP K F keys) (status : Status) → FailsInStore env cmp filters codings iterator world one to status
-        → FailsBetween env world to (λ e. (e.code ≡ NotSupported) × LacksCompressor (options_in env cmp filters codings world).format meaning) status
+        → FailsBetween env world to (IsOfNoCompressor (options_in env cmp filters codings world).format meaning) status
     in_tables (Memory walk) c to status fails = absurd (never walk.0 fails.0 status fails.1)
     in_tables (Tables walk) c to status fails =
         let from = in_map Tables are.tables (Tables walk) c in
@@ -125,36 +125,23 @@ module _ {E F C FP K M : Type 0} {keys : CmpGhosts (InternalKeyCmp C)} (env : En
         between world to status (fails.lacks meaning there.0 there.1)
 
     lacks_one : (one : StoreWalk C M keys) → Contains children one → (to : E × ReadTables E C FP K F keys) (status : Status) → FailsInStore env cmp filters codings iterator world one to status
-        → FailsBetween env world to (λ e. (e.code ≡ NotSupported) × LacksCompressor (options_in env cmp filters codings world).format meaning) status
+        → FailsBetween env world to (IsOfNoCompressor (options_in env cmp filters codings world).format meaning) status
     lacks_one one c to status fails = ⊎_elim
         (λ (in_mem : Contains (map Memory are.memory) one). of_memory one in_mem fails)
         (λ (in_tab : Contains (map Tables are.tables) one). in_tables one in_tab to status fails)
         (Contains-append_cases (map Memory are.memory) (map Tables are.tables) one (subst (λ cs. Contains cs one) are.are c))
       where
         of_memory : (one : StoreWalk C M keys) → Contains (map Memory are.memory) one → FailsInStore env cmp filters codings iterator world one to status
-            → FailsBetween env world to (λ e. (e.code ≡ NotSupported) × LacksCompressor (options_in env cmp filters codings world).format meaning) status
+            → FailsBetween env world to (IsOfNoCompressor (options_in env cmp filters codings world).format meaning) status
         of_memory (Memory walk) c fails = absurd (never walk.0 fails.0 status fails.1)
         of_memory (Tables walk) c fails = let from = in_map Memory are.memory (Tables walk) c in let e : Memory from.0 ≡ Tables walk = from.2 in absurd cc
 
-    -- that isn't supported
-    unsupported : (to : E × ReadTables E C FP K F keys) (status : Status)
-        → FailsBetween env world to (λ e. (e.code ≡ NotSupported) × LacksCompressor (options_in env cmp filters codings world).format meaning) status
-        → FailsBetween env world to (IsUnsupported value shows.shows.tables (options_in env cmp filters codings world).format meaning) status
-    unsupported to status fails = ⊎_elim
-        (λ (out : IsOutOfMemory status). inl out)
-        (λ rest. inr (⊎_elim (λ failed. inl failed) (λ lacks. inr (lacks.0, inl lacks.1)) rest))
-        fails
-
     view_lacks : (to : E × ReadTables E C FP K F keys) (status : Status) → walk.fails world it to status
-        → FailsBetween env world to (IsUnsupported value shows.shows.tables (options_in env cmp filters codings world).format meaning) status
+        → FailsBetween env world to (IsOfNoCompressor (options_in env cmp filters codings world).format meaning) status
     view_lacks to status fails = ⊎_elim
-        (λ (any : AnyFails child world children to status). unsupported to status (lacks_one any.1 (any.0, any.2, any.3) to status (child_fails world any.1 to status any.4)))
-        (⊎_elim (λ (out : IsOutOfMemory status). inl out) (⊎_elim
-        (λ corrupt. absurd (corrupt.1 (any_in_order (cmp.cmp value.cmp)) merged.0 merged.1.is_merge))
-        (λ many. inr (inr (
-          many.0,
-          inr (let least = many.1 (any_in_order (cmp.cmp value.cmp)) merged.0 merged.1.is_merge in let most = merged.1.no_more in omega (arith, least, most)),
-        )))))
+        (λ (any : AnyFails child world children to status). lacks_one any.1 (any.0, any.2, any.3) to status (child_fails world any.1 to status any.4))
+        (⊎_elim (λ (out : IsOutOfMemory status). inl out)
+        (λ corrupt. absurd (corrupt.1 (any_in_order (cmp.cmp value.cmp)) merged.0 merged.1.is_merge)))
         (merge.fails world to status fails)
 
     same_view : since ≤ sequence → SameView (in_memory value ++ table_entries shows.shows.tables) (entries_of history) sequence

@@ -1,6 +1,6 @@
 -- A walk over the view of an open store at a sequence number: which pairs it is over, why its moves
 -- fail, and what they leave.
-use Rattle.std.specs.Prelude.{◌≡◌, ◌<◌, ◌≤◌, ◌⊎◌, ◌^◌, ◌++◌, ℕ, length, map, Some, true, List, [], ◌∷◌, Option, None, Result, IfErr, OnOk}
+use Rattle.std.specs.Prelude.{◌≡◌, ◌≤◌, ◌⊎◌, ◌++◌, ℕ, map, Some, true, List, [], ◌∷◌, Option, None, Result, IfErr, OnOk}
 use Rattle.std.specs.declared.cmp.Ordering.{Ordering}
 use Rattle.leveldb_base.specs.Cmp.{IsExactOrder}
 use Rattle.leveldb_base.specs.Entries.{entries_of_pairs, internal_pair}
@@ -32,7 +32,6 @@ use Rattle.leveldb_mem.specs.MemTable.{Kept}
 use Rattle.leveldb_table.specs.TableBlock.{KeepsDisk}
 use Rattle.leveldb_version.specs.Batches.{Each}
 use Rattle.leveldb_version.specs.Format.{Agrees, Format, IsTableFault, LacksCompressor, Meaning}
-use Rattle.leveldb_version.specs.Levels.{LiveTable, table_entries}
 use Rattle.leveldb_version.specs.TableCache.{TableOptions, files_at}
 use Rattle.leveldb_version.specs.VersionIter.{KeepsReading, reading}
 use Rattle.leveldb_version.specs.VersionIters.{AreVersionIters}
@@ -43,7 +42,7 @@ use Rattle.leveldb_version.specs.declared.table_cache.moves.ReadTables.{ReadTabl
 use Rattle.leveldb_version.specs.declared.version_iter.VersionIter.{VersionIter}
 use Rattle.leveldb_store.specs.OpenStore.{OpenStoreValue}
 use Rattle.leveldb_store.specs.OpenTables.{AreOpenTablesOf}
-use Rattle.leveldb_store.specs.Read.{HasOpenTables, in_memory}
+use Rattle.leveldb_store.specs.Read.{HasOpenTables}
 use Rattle.leveldb_store.specs.Room.{HasFailed}
 use Rattle.leveldb_store.specs.Written.{Shows}
 
@@ -64,18 +63,10 @@ module _ {E F T : Type 0} (env : Ghosts E F) where
 abbrev pub any_in_order : (List ℕ → List ℕ → Ordering) → KeyOrder
 any_in_order cmp = record { accepts = λ key. true; cmp = cmp }
 
--- More entries are in memory and in these tables than 128 bits can count, so a move that passes over
--- as many fails. No bound of bytes rules that out: a compressor may decode few bytes to any number of
--- pairs.
-abbrev pub AreTooMany : {C : Type 0} → OpenStoreValue C → List LiveTable → Type 0
-AreTooMany value tables = 2 ^ 128 ≤ length (in_memory value ++ table_entries tables)
-
--- why a move over memory and whole tables isn't supported: the format lacks a compressor, or the
--- entries are too many
-abbrev pub IsUnsupported : {C : Type 0} → OpenStoreValue C → List LiveTable → Format → Meaning
-    → Status → Type 0
-IsUnsupported value tables format meaning status = (status.code ≡ NotSupported)
-    × (LacksCompressor format meaning ⊎ AreTooMany value tables)
+-- why a move over memory and whole tables isn't supported: the format lacks a compressor
+abbrev pub IsOfNoCompressor : Format → Meaning → Status → Type 0
+IsOfNoCompressor format meaning status = (status.code ≡ NotSupported)
+    × LacksCompressor format meaning
 
 -- The open tables of a store as its walks read them, with this order of users' keys, filter
 -- policy and compressors.
@@ -144,13 +135,11 @@ module _ {E F C FP K : Type 0} {keys : CmpGhosts (InternalKeyCmp C)} (env : Ghos
     -- an error that memory and failures don't explain is the fault of a table
     pub fault : (from to : E × ReadTables E C FP K F keys) (status : Status) → walk.fails from it to status
         → FailsBetween env from to (λ e. IsTableFault (options_in from).format e.code) status
-    -- and where memory and tables show a history, it comes since the format lacks a compressor, or
-    -- the entries are too many
+    -- and where memory and tables show a history, it comes since the format lacks a compressor
     pub lacks : (from : E × ReadTables E C FP K F keys) (meaning : Meaning) (history : History)
-        (since : ℕ) (shown : ShowsIn value meaning history since from)
-        (to : E × ReadTables E C FP K F keys) (status : Status) → walk.fails from it to status
-        → FailsBetween env from to
-        (IsUnsupported value shown.shows.tables (options_in from).format meaning) status
+        (since : ℕ) → ShowsIn value meaning history since from
+        → (to : E × ReadTables E C FP K F keys) (status : Status) → walk.fails from it to status
+        → FailsBetween env from to (IsOfNoCompressor (options_in from).format meaning) status
 
 -- ---- moves in the view
 
@@ -180,13 +169,13 @@ pub record WalksStore {E F C FP : Type 0} {keys : CmpGhosts (InternalKeyCmp C)} 
     (result : Result (Unit {0}) Status) (to : E) (left : TableCache E C FP F keys) : Type 0 where
   -- the moves are made in the view at that number of each history that memory and tables show from
   -- there on, or from a number before it; one fails for no fault of a table but that the format
-  -- lacks a compressor, or the entries are too many
+  -- lacks a compressor
   pub walks : HasOpenTables env by value from tables → (meaning : Meaning)
       → Agrees by.format meaning → (history : History) (since : ℕ) → since ≤ sequence
-      → (shows : Shows by.format.order meaning value (files_at env from) history since)
+      → Shows by.format.order meaning value (files_at env from) history since
       → OnOk result ((pairs : List Pair)
       × IsView by.format.order (entries_of history) sequence pairs
-      × MakesMoves by.format.order (IsUnsupported value shows.tables by.format meaning) pairs None
+      × MakesMoves by.format.order (IsOfNoCompressor by.format meaning) pairs None
       (env.failures from) moves given (env.failures to))
   -- over whatever files, each move has a step, and one that failed a cause
   pub refused : OnOk result (Each (λ one step. IsRefusedFor step one
@@ -223,13 +212,11 @@ pub record ViewsMerge {E T I C : Type 0} (child : WalkGhosts I E T) (cmp : CmpGh
   pub none : walk.here it ≡ None
   -- what holds of walks holds of this one
   pub laws : WalkLaws walk.over walk.is_at walk.here walk.fails walk.keeps
-  -- its errors are those of a child, of memory, of pairs that are no entries, and of too many
+  -- its errors are those of a child, of memory, and of pairs that are no entries
   pub fails : (world later : E × T) (status : Status) → walk.fails world it later status
       → AnyFails child world children later status ⊎ IsOutOfMemory status
       ⊎ ((status.code ≡ Corruption) × ((order : KeyOrder) (below : List Pair)
       → IsMergeToView child cmp compares children world order below → ⊥))
-      ⊎ ((status.code ≡ NotSupported) × ((order : KeyOrder) (below : List Pair)
-      → IsMergeToView child cmp compares children world order below → 2 ^ 128 ≤ length below))
 
 -- ---- its children
 

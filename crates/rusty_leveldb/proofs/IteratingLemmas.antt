@@ -15,13 +15,12 @@ use Rattle.leveldb_env.specs.declared.env.Env.{Ghosts}
 use Rattle.leveldb_env.specs.declared.filter.FilterPolicy.{Ghosts as FilterGhosts}
 use Rattle.leveldb_iter.specs.declared.walk.Walk.{Ghosts as WalkGhosts}
 use Rattle.leveldb_version.specs.Format.{Agrees, Format, IsTableFault, Meaning, format_of}
-use Rattle.leveldb_version.specs.Levels.{LiveTable}
 use Rattle.leveldb_version.specs.TableCache.{TableOptions, files_at}
 use Rattle.leveldb_version.specs.declared.table_cache.TableCache.{TableCache}
 use Rattle.leveldb_version.specs.declared.table_cache.moves.ReadTables.{ReadTables}
 use Rattle.leveldb_store.specs.Read.{HasOpenTables}
-use Rattle.leveldb_store.specs.View.{FailsBetween, IsUnsupported, IsWorldOf, ShowsIn, options_in}
-use Rattle.leveldb_store.specs.Written.{HasLiveTables, Shows}
+use Rattle.leveldb_store.specs.View.{FailsBetween, IsOfNoCompressor, IsWorldOf, ShowsIn, options_in}
+use Rattle.leveldb_store.specs.Written.{Shows}
 use Rattle.rusty_leveldb.specs.Boxes.{EngineOf, InternalOrder}
 use Rattle.rusty_leveldb.specs.Causes.{IsNotHeld}
 use Rattle.rusty_leveldb.specs.Engine.{IsClosed, ReadsAt, Recalls, ShowsViews, WalkExcused, held_in, mode_in, options_in as engine_options, tables_by}
@@ -137,13 +136,6 @@ module _ {E C FP F V : Type 0} {B : Boxed} {keys : InternalOrder C} (env : Ghost
       abbrev shows_now : Shows format.order meaning before.store (files_at env it.env.now) state.history shown.since
       shows_now = subst (λ (e : E). Shows format.order meaning before.store (files_at env e) state.history shown.since) (sym now) shows
 
-      abbrev live : List LiveTable
-      live = shows_now.tables
-
-      has_live : HasLiveTables state.format.order meaning before.store (files_at env from) live
-      has_live = subst (λ (f : Format). HasLiveTables f.order meaning before.store (files_at env from) live) same_format
-          (subst (λ (e : E). HasLiveTables format.order meaning before.store (files_at env e) live) now shows_now.has)
-
       abbrev shows_in : ShowsIn env cmp filters codings before.store meaning state.history shown.since (world_in it)
       shows_in = record {
         is_world = is_world;
@@ -152,7 +144,7 @@ module _ {E C FP F V : Type 0} {B : Boxed} {keys : InternalOrder C} (env : Ghost
       }
 
       view : (pairs : List Pair) × IsView format.order (entries_of state.history) sequence pairs
-          × IteratesAt env cmp filters codings walk (shown_store before.store live format meaning) pairs None it
+          × IteratesAt env cmp filters codings walk (shown_store before.store format meaning) pairs None it
       view =
           let over = made.views.over (world_in it) meaning state.history shown.since (reads_in at reads_at).1 shows_in in (
             over.0,
@@ -161,23 +153,20 @@ module _ {E C FP F V : Type 0} {B : Boxed} {keys : InternalOrder C} (env : Ghost
               is_iterator = is_iterator;
               is_at = over.2;
               pair_is = made.views.none;
-              fails = λ to status fails. subst (λ (f : Format). FailsBetween env (world_in it) to (IsUnsupported before.store live f meaning) status) format_is
+              fails = λ to status fails. subst (λ (f : Format). FailsBetween env (world_in it) to (IsOfNoCompressor f meaning) status) format_is
                   (made.views.lacks (world_in it) meaning state.history shown.since shows_in to status fails);
               has_open = is_world;
             },
           )
 
       iterates : (sequence : ℕ) × IsSequenceOf state at sequence × (pairs : List Pair) × IsView state.format.order (entries_of state.history) sequence pairs
-          × (live : List LiveTable) × HasLiveTables state.format.order meaning before.store (files_at env from) live
-          × IteratesAt env cmp filters codings walk (shown_store before.store live state.format meaning) pairs None it
+          × IteratesAt env cmp filters codings walk (shown_store before.store state.format meaning) pairs None it
       iterates = (
         sequence,
         (reads_in at reads_at).0,
         view.0,
         subst (λ (f : Format). IsView f.order (entries_of state.history) sequence view.0) same_format view.1,
-        live,
-        has_live,
-        subst (λ (f : Format). IteratesAt env cmp filters codings walk (shown_store before.store live f meaning) view.0 None it) same_format view.2,
+        subst (λ (f : Format). IteratesAt env cmp filters codings walk (shown_store before.store f meaning) view.0 None it) same_format view.2,
       )
 
     pub made_iterates : EngineIterates env cmp filters codings walk before from at (Ok it)

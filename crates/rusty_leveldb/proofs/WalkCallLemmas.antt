@@ -22,7 +22,7 @@ use Rattle.rusty_leveldb.specs.State.{Request, Snapshot}
 use Rattle.rusty_leveldb.specs.Walks.{EngineWalks, walk_of}
 use Rattle.rusty_leveldb.proofs.Others.{spares_same}
 use Rattle.rusty_leveldb.proofs.RestLemmas.{rest_still}
-use Rattle.rusty_leveldb.proofs.WalkingLemmas.{walk_closed, walk_goes, walk_starved, walk_unheld, walk_unsupported}
+use Rattle.rusty_leveldb.proofs.WalkingLemmas.{walk_closed, walk_goes, walk_starved, walk_unheld}
 
 module _ {E C FP F P : Type 0} {B : Boxed} {keys : InternalOrder C} {key_filters : FilterGhosts P}
     (env : Ghosts E F) (choices : OptionsOf C FP B → TableChoices keys key_filters)
@@ -45,7 +45,6 @@ module _ {E C FP F P : Type 0} {B : Boxed} {keys : InternalOrder C} {key_filters
       cause = unmade status (inl why);
     };
     refused = tt;
-    unsupported = λ modelled store meaning state represents. tt;
     none = refl;
   }
 
@@ -63,7 +62,6 @@ module _ {E C FP F P : Type 0} {B : Boxed} {keys : InternalOrder C} {key_filters
         cause = unmade status (inr (inl (code, unheld)));
       };
       refused = tt;
-      unsupported = λ modelled store meaning state represents. tt;
       none = refl;
     }
 
@@ -80,7 +78,6 @@ module _ {E C FP F P : Type 0} {B : Boxed} {keys : InternalOrder C} {key_filters
         cause = unmade status (inr (inr out));
       };
       refused = tt;
-      unsupported = λ modelled store meaning state represents. tt;
       none = refl;
     }
 
@@ -123,8 +120,6 @@ module _ {E C FP F P : Type 0} {B : Boxed} {keys : InternalOrder C} {key_filters
           cause = (walks.later, caused result walks.none);
         };
         refused = walks.refused;
-        unsupported = λ modelled store meaning state represents. walk_unsupported env (formats_of choices) before at moves usable sequence reads_at from to left given result walks
-            store meaning modelled state represents;
         none = steps_none result walks.none;
       }
 

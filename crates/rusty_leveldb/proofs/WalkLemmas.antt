@@ -1,24 +1,20 @@
 -- Moves in a store's view as the machine's moves.
-use Rattle.std.proofs.Common.{◌≡◌, ◌≤◌, ⊎_elim, inl, inr, arith, ℕ, List, [], ◌∷◌, map, refl, sym, ◌∙◌, ap, Option}
+use Rattle.std.proofs.Common.{◌≡◌, ⊎_elim, ℕ, List, [], ◌∷◌, map, refl, sym, ◌∙◌, ap, Option}
 use Rattle.std.specs.declared.cmp.Ordering.{Ordering}
 use Rattle.leveldb_base.specs.Error.{IsOutOfMemory, text_of}
 use Rattle.leveldb_base.specs.Types.{Pair}
 use Rattle.leveldb_base.specs.declared.error.Status.{Status}
-use Rattle.leveldb_base.specs.declared.error.StatusCode.TheVariants.{InvalidArgument, NotSupported}
+use Rattle.leveldb_base.specs.declared.error.StatusCode.TheVariants.{InvalidArgument}
 use Rattle.leveldb_iter.specs.Moves.{IsRefusedFor, LandsAt, SeeksLongKey, position_moved}
 use Rattle.leveldb_iter.specs.Walk.{KeyOrder}
 use Rattle.leveldb_iter.specs.declared.moves.Move.{Move}
 use Rattle.leveldb_iter.specs.declared.moves.Move.TheVariants.{First, Next, Prev, Seek}
 use Rattle.leveldb_iter.specs.declared.moves.Step.{Step}
 use Rattle.leveldb_iter.specs.declared.moves.Step.TheVariants.{At, Invalid, Refused}
-use Rattle.leveldb_version.specs.Batches.{Each}
-use Rattle.leveldb_version.specs.Format.{LacksCompressor, Meaning}
-use Rattle.leveldb_version.specs.Levels.{LiveTable}
+use Rattle.leveldb_version.specs.Format.{Meaning}
 use Rattle.leveldb_store.specs.Room.{HasFailed}
-use Rattle.leveldb_store.proofs.ViewLemmas.{refused_for, wider}
-use Rattle.leveldb_store.specs.OpenStore.{OpenStoreValue}
-use Rattle.leveldb_store.specs.View.{IsUnsupported, MakesMoves, MoveFails, any_in_order}
-use Rattle.rusty_leveldb.specs.Causes.{Cause, MoveComes, MoveMisfits, Setting, bad_operand, device_failed, lacks_compressor, out_of_memory, used_up}
+use Rattle.leveldb_store.specs.View.{IsOfNoCompressor, MakesMoves, MoveFails, any_in_order}
+use Rattle.rusty_leveldb.specs.Causes.{Cause, MoveComes, MoveMisfits, Setting, bad_operand, device_failed, lacks_compressor, out_of_memory}
 use Rattle.rusty_leveldb.specs.Machine as steps
 use Rattle.rusty_leveldb.specs.Machine.{Moves, position_after}
 use Rattle.rusty_leveldb.specs.Serves.{refusal_of, setting_between}
@@ -60,17 +56,11 @@ module _ (setting : Setting) (old : State) (at : Option Snapshot) (asked : List 
   by_device Prev failed = (device_failed, (tt, failed))
   by_device (Seek key) failed = (device_failed, (tt, failed))
 
-  by_compressor : (one : Move) → (status.code ≡ NotSupported) × LacksCompressor old.format setting.meaning → IsExcused one
+  by_compressor : (one : Move) → IsOfNoCompressor old.format setting.meaning status → IsExcused one
   by_compressor First lacks = (lacks_compressor, (tt, lacks.0, lacks.1))
   by_compressor Next lacks = (lacks_compressor, (tt, lacks.0, lacks.1))
   by_compressor Prev lacks = (lacks_compressor, (tt, lacks.0, lacks.1))
   by_compressor (Seek key) lacks = (lacks_compressor, (tt, lacks.0, lacks.1))
-
-  by_count : (one : Move) → status.code ≡ NotSupported → IsExcused one
-  by_count First code = (used_up, code)
-  by_count Next code = (used_up, code)
-  by_count Prev code = (used_up, code)
-  by_count (Seek key) code = (used_up, code)
 
   by_key : (one : Move) → (status.code ≡ InvalidArgument) × SeeksLongKey one → IsExcused one
   by_key First long = absurd long.1
@@ -81,26 +71,22 @@ module _ (setting : Setting) (old : State) (at : Option Snapshot) (asked : List 
 -- ---- moves
 
 -- moves in a list of pairs are the machine's
-module _ {C : Type 0} (value : OpenStoreValue C) (live : List LiveTable) (cmp : List ℕ → List ℕ → Ordering) (pairs : List Pair) (old : State) (order_is : old.format.order ≡ cmp) (meaning : Meaning)
+module _ (cmp : List ℕ → List ℕ → Ordering) (pairs : List Pair) (old : State) (order_is : old.format.order ≡ cmp) (meaning : Meaning)
     (at : Option Snapshot) (asked : List machine.Move) where
   -- why a move is refused
   why : (one : Move) (from to : ℕ) (status : Status)
-      → MoveFails (IsUnsupported value live old.format meaning) from to one status
+      → MoveFails (IsOfNoCompressor old.format meaning) from to one status
       → IsExcused (setting_between meaning from to) old at asked status one
   why one from to status fails =
       let setting = setting_between meaning from to in
       ⊎_elim (by_memory setting old at asked status one)
       (⊎_elim (by_device setting old at asked status one)
-      (⊎_elim
-      (λ (is : IsUnsupported value live old.format meaning status). ⊎_elim
-      (λ (lacks : LacksCompressor old.format meaning). by_compressor setting old at asked status one (is.0, lacks))
-      (λ many. by_count setting old at asked status one is.0) is.1)
-      (by_key setting old at asked status one))) fails
+      (⊎_elim (by_compressor setting old at asked status one) (by_key setting old at asked status one))) fails
 
   -- a step is the machine's
   lands : (one : Move) (step : Step) (position next : Option ℕ) (from to : ℕ)
       → LandsAt (any_in_order cmp) pairs position one step next
-      → IsRefusedFor step one (MoveFails (IsUnsupported value live old.format meaning) from to one)
+      → IsRefusedFor step one (MoveFails (IsOfNoCompressor old.format meaning) from to one)
       → steps.MovesTo (setting_between meaning from to) old (machine.walk at asked) pairs position (move_of one) (landing_of step) next
   lands one (At key value) position next from to leads short = (
     λ misfits. short (long_of one misfits),
@@ -115,7 +101,7 @@ module _ {C : Type 0} (value : OpenStoreValue C) (live : List LiveTable) (cmp : 
   lands one (Refused status) position next from to leads fails = (why one from to status fails, leads)
 
   pub moves_are : (moves : List Move) (given : List Step) (position : Option ℕ) (from to : ℕ)
-      → MakesMoves cmp (IsUnsupported value live old.format meaning) pairs position from moves given to
+      → MakesMoves cmp (IsOfNoCompressor old.format meaning) pairs position from moves given to
       → Moves (setting_between meaning from to) old (machine.walk at asked) pairs position (map move_of moves) (map landing_of given)
   moves_are [] [] position from to moves = moves
   moves_are [] (step ∷ given) position from to moves = absurd moves
@@ -127,35 +113,3 @@ module _ {C : Type 0} (value : OpenStoreValue C) (live : List LiveTable) (cmp : 
     lands one step position moves.2 from moves.0 moves.3 moves.4,
     moves_are rest given moves.2 moves.0 to moves.5,
   )
-
--- ---- refused moves
-
-module _ (cmp : List ℕ → List ℕ → Ordering) (Why : Status → Type 0) (pairs : List Pair) where
-  -- no failure is forgotten
-  rises : (moves : List Move) (given : List Step) (position : Option ℕ) (from to : ℕ) → MakesMoves cmp Why pairs position from moves given to → from ≤ to
-  rises [] [] position from to made = omega (arith, made)
-  rises [] (step ∷ given) position from to made = absurd made
-  rises (one ∷ rest) [] position from to made = absurd made
-  rises (one ∷ rest) (step ∷ given) position from to made =
-      let first = made.1 in
-      let later = rises rest given made.2 made.0 to made.5 in
-      omega (arith, first, later)
-
-  -- each that is refused has a cause in all of them
-  pub refused_within : (first last : ℕ) (moves : List Move) (given : List Step) (position : Option ℕ) (from to : ℕ) → first ≤ from → to ≤ last
-      → MakesMoves cmp Why pairs position from moves given to → Each (λ one step. IsRefusedFor step one (MoveFails Why first last one)) moves given
-  refused_within first last [] [] position from to low high made = tt
-  refused_within first last [] (step ∷ given) position from to low high made = absurd made
-  refused_within first last (one ∷ rest) [] position from to low high made = absurd made
-  refused_within first last (one ∷ rest) (step ∷ given) position from to low high made =
-      let mid = made.0 in
-      let risen = made.1 in
-      let later = rises rest given made.2 mid to made.5 in (
-        refused_for step one (λ status fails. ⊎_elim
-            (λ (out : IsOutOfMemory status). inl out)
-            (⊎_elim
-            (λ (failed : HasFailed from mid). inr (inl (wider first from mid last low risen (omega (arith, later, high)) failed)))
-            (λ others. inr (inr others)))
-            fails) made.4,
-        refused_within first last rest given made.2 mid to (omega (arith, low, risen)) high made.5,
-      )

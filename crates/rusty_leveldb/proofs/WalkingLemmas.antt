@@ -10,19 +10,16 @@ use Rattle.leveldb_env.specs.Env.{Disk, Files}
 use Rattle.leveldb_env.specs.Options.{Boxed, OptionsOf}
 use Rattle.leveldb_env.specs.declared.env.Env.{Ghosts}
 use Rattle.leveldb_env.proofs.EnvLemmas.{Run-mono}
-use Rattle.leveldb_iter.specs.Moves.{IsRefusedFor}
 use Rattle.leveldb_iter.specs.declared.moves.Move.{Move}
 use Rattle.leveldb_iter.specs.declared.moves.Step.{Step as Landed}
 use Rattle.leveldb_version.specs.Holds.{Holds}
 use Rattle.leveldb_version.specs.Paths.{lock_path}
 use Rattle.leveldb_version.specs.StoreSteps.{AppendedAreBytes}
-use Rattle.leveldb_version.specs.Batches.{Each}
 use Rattle.leveldb_version.specs.Format.{Agrees, Format, Meaning}
-use Rattle.leveldb_version.specs.Levels.{LiveTable}
 use Rattle.leveldb_version.specs.declared.table_cache.TableCache.{TableCache}
 use Rattle.leveldb_store.specs.Read.{HasOpenTables}
-use Rattle.leveldb_store.specs.View.{IsUnsupported, MakesMoves, MoveFails, WalksStore}
-use Rattle.leveldb_store.specs.Written.{HasLiveTables, IsWritten, Shows}
+use Rattle.leveldb_store.specs.View.{IsOfNoCompressor, MakesMoves, WalksStore}
+use Rattle.leveldb_store.specs.Written.{IsWritten, Shows}
 use Rattle.rusty_leveldb.specs.Boxes.{EngineOf, InternalOrder}
 use Rattle.rusty_leveldb.specs.Causes.{IsNotHeld, Setting, bad_operand, out_of_memory}
 use Rattle.rusty_leveldb.specs.Engine.{Answers, AnswersStill, Recalls, RefusedAsClosed, ShowsViews, held_in, mode_in, options_in, scene, tables_by, ReadsAt}
@@ -34,7 +31,7 @@ use Rattle.rusty_leveldb.specs.State.{Answer, Request, Snapshot, State, refused,
 use Rattle.rusty_leveldb.specs.Walks.{landing_of, move_of, walk_of, walked_or}
 use Rattle.rusty_leveldb.proofs.Moments.{moments_none}
 use Rattle.rusty_leveldb.proofs.Others.{spares_same, spares_still}
-use Rattle.rusty_leveldb.proofs.WalkLemmas.{moves_are, refused_within}
+use Rattle.rusty_leveldb.proofs.WalkLemmas.{moves_are}
 
 -- a store that isn't closed responds in either mode
 walk_responds : (mode : machine.Mode) (setting : Setting) (old : State) (at : Option Snapshot) (asked : List machine.Move) (answer : Answer)
@@ -151,13 +148,13 @@ module _ {E C FP F : Type 0} {B : Boxed} {keys : InternalOrder C} (env : Ghosts 
 
         -- the moves of the machine, over its view
         walked_in : (pairs : List Pair) → IsView (formats (options_in before)).order (entries_of old.history) sequence pairs
-            → MakesMoves (formats (options_in before)).order (IsUnsupported before.store shows.tables (formats (options_in before)) meaning) pairs None
+            → MakesMoves (formats (options_in before)).order (IsOfNoCompressor (formats (options_in before)) meaning) pairs None
             (env.failures from) moves given (env.failures to)
             → Responds setting old request (walked (map landing_of given)) old
         walked_in pairs view made =
             let read = reads_in at reads_at in
             let order_is : old.format.order ≡ (formats (options_in before)).order = sym (ap (λ (f : Format). f.order) same_format) in
-            let moves_in = subst (λ (f : Format). MakesMoves (formats (options_in before)).order (IsUnsupported before.store shows.tables f meaning) pairs None
+            let moves_in = subst (λ (f : Format). MakesMoves (formats (options_in before)).order (IsOfNoCompressor f meaning) pairs None
             (env.failures from) moves given (env.failures to)) same_format made in (
               record { operands = read.1; numbers = λ never. never },
               (
@@ -166,7 +163,7 @@ module _ {E C FP F : Type 0} {B : Boxed} {keys : InternalOrder C} (env : Ghosts 
                   at_is = read.0;
                   pairs = pairs;
                   view = subst (λ (f : Format). IsView f.order (entries_of old.history) sequence pairs) same_format view;
-                  moves_are = moves_are before.store shows.tables (formats (options_in before)).order pairs old order_is meaning at (map move_of moves) moves given None (env.failures from) (env.failures to) moves_in;
+                  moves_are = moves_are (formats (options_in before)).order pairs old order_is meaning at (map move_of moves) moves given None (env.failures from) (env.failures to) moves_in;
                 },
                 refl,
               ),
@@ -174,7 +171,7 @@ module _ {E C FP F : Type 0} {B : Boxed} {keys : InternalOrder C} (env : Ghosts 
 
         responds_with : (r : Result (Unit {0}) Status)
             → OnOk r ((pairs : List Pair) × IsView (formats (options_in before)).order (entries_of old.history) sequence pairs
-            × MakesMoves (formats (options_in before)).order (IsUnsupported before.store shows.tables (formats (options_in before)) meaning) pairs None
+            × MakesMoves (formats (options_in before)).order (IsOfNoCompressor (formats (options_in before)) meaning) pairs None
             (env.failures from) moves given (env.failures to))
             → IfErr r IsOutOfMemory → Responds setting old request (walked_or given r) old
         responds_with (Ok done) over out = walked_in over.0 over.1 over.2
@@ -186,27 +183,6 @@ module _ {E C FP F : Type 0} {B : Boxed} {keys : InternalOrder C} (env : Ghosts 
 
         responds : Responds setting old request (walked_or given result) old
         responds = responds_with result (walks.walks has_open meaning agrees old.history shown.since (reads_in at reads_at).2 shows) (memory_only result walks.none)
-
-        -- those that aren't supported are so by the live tables
-        unsupported_in : (r : Result (Unit {0}) Status)
-            → OnOk r ((pairs : List Pair) × IsView (formats (options_in before)).order (entries_of old.history) sequence pairs
-            × MakesMoves (formats (options_in before)).order (IsUnsupported before.store shows.tables (formats (options_in before)) meaning) pairs None
-            (env.failures from) moves given (env.failures to))
-            → OnOk r ((live : List LiveTable) × HasLiveTables (formats (options_in before)).order meaning before.store (env.observed from).disk.files live
-            × Each (λ one step. IsRefusedFor step one (MoveFails (IsUnsupported before.store live (formats (options_in before)) meaning) (env.failures from) (env.failures to) one)) moves given)
-        unsupported_in (Ok done) over = (
-          shows.tables,
-          shows.has,
-          refused_within (formats (options_in before)).order (IsUnsupported before.store shows.tables (formats (options_in before)) meaning) over.0
-              (env.failures from) (env.failures to) moves given None (env.failures from) (env.failures to) (omega arith) (omega arith) over.2,
-        )
-        unsupported_in (Err status) over = tt
-
-        pub walk_unsupported : OnOk result ((live : List LiveTable) × HasLiveTables old.format.order meaning before.store (env.observed from).disk.files live
-            × Each (λ one step. IsRefusedFor step one (MoveFails (IsUnsupported before.store live old.format meaning) (env.failures from) (env.failures to) one)) moves given)
-        walk_unsupported = subst (λ (f : Format). OnOk result ((live : List LiveTable) × HasLiveTables f.order meaning before.store (env.observed from).disk.files live
-            × Each (λ one step. IsRefusedFor step one (MoveFails (IsUnsupported before.store live f meaning) (env.failures from) (env.failures to) one)) moves given)) same_format
-            (unsupported_in result (walks.walks has_open meaning agrees old.history shown.since (reads_in at reads_at).2 shows))
 
         walk_went : Goes store meaning (Recalls env formats store meaning) (scene env (Some before) from) request (walked_or given result)
             (scene env (Some after) to) old

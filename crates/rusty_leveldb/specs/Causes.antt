@@ -157,15 +157,11 @@ Comes setting old request refusal lacks_compressor =
     ReadsTables request × (refusal.code ≡ NotSupported)
     × LacksCompressor old.format setting.meaning
 
--- The same of a move of a walk, which has an operand of its own, and for which numbers are used up
--- where it passes over more entries than can be counted. How many entries tables have isn't in the
--- state: the clauses of an engine's walks and of iterators say it (`AreTooMany`), those of runs
--- don't. A reset is never refused.
+-- the same of a move of a walk, which has an operand of its own; a reset is never refused
 abbrev pub MoveComes : Setting → State → Request → Move → Refusal → Cause → Type 0
 MoveComes setting old request reset refusal cause = ⊥
 MoveComes setting old request move refusal bad_operand =
     (refusal.code ≡ InvalidArgument) × MoveMisfits move
-MoveComes setting old request move refusal used_up = refusal.code ≡ NotSupported
 MoveComes setting old request move refusal cause = Comes setting old request refusal cause
 
 -- the refusal of a closed store

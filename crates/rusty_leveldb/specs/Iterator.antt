@@ -16,14 +16,11 @@ use Rattle.leveldb_env.specs.declared.filter.FilterPolicy.{Ghosts as FilterGhost
 use Rattle.leveldb_iter.specs.Walk.{WalkLaws}
 use Rattle.leveldb_iter.specs.declared.walk.Walk.{Ghosts as WalkGhosts}
 use Rattle.leveldb_version.specs.Format.{Format, IsTableFault, Meaning, format_of}
-use Rattle.leveldb_version.specs.Levels.{LiveTable}
-use Rattle.leveldb_version.specs.TableCache.{files_at}
 use Rattle.leveldb_version.specs.VersionIter.{KeepsReading}
 use Rattle.leveldb_version.specs.declared.table_cache.TableCache.{TableCache}
 use Rattle.leveldb_version.specs.declared.table_cache.moves.ReadTables.{ReadTables}
 use Rattle.leveldb_store.specs.OpenStore.{OpenStoreValue}
-use Rattle.leveldb_store.specs.View.{FailsBetween, IsReadingOf, IsUnsupported, IsWorldOf, ReadsAlone, ViewsStore, any_in_order, options_in}
-use Rattle.leveldb_store.specs.Written.{HasLiveTables}
+use Rattle.leveldb_store.specs.View.{FailsBetween, IsOfNoCompressor, IsReadingOf, IsWorldOf, ReadsAlone, ViewsStore, any_in_order, options_in}
 use Rattle.rusty_leveldb.specs.Boxes.{EngineOf, InternalOrder}
 use Rattle.rusty_leveldb.specs.Causes.{IsNotHeld}
 use Rattle.rusty_leveldb.specs.Engine.{IsClosed, Recalls, WalkExcused, held_in, mode_in, options_in as engine_options}
@@ -62,23 +59,20 @@ abbrev pub FailsMove : {E F C FP K V : Type 0} {keys : InternalOrder C} → Ghos
 FailsMove env Own Unreadable old new =
     FailsBetween env (world_in old) (world_in new) (λ e. Own e ⊎ Unreadable e)
 
--- an open store whose history an iterator shows: its live tables, their format, and what names and
--- ids in them mean
+-- an open store whose history an iterator shows: the format of its tables, and what names and ids in
+-- them mean
 pub record ShownStore (C : Type 0) : Type 0 where
   pub value : OpenStoreValue C
-  pub live : List LiveTable
   pub format : Format
   pub meaning : Meaning
 
 -- the store of this value, with these
-abbrev pub shown_store : {C : Type 0} → OpenStoreValue C → List LiveTable → Format → Meaning
-    → ShownStore C
-shown_store value live format meaning =
-    record { value = value; live = live; format = format; meaning = meaning }
+abbrev pub shown_store : {C : Type 0} → OpenStoreValue C → Format → Meaning → ShownStore C
+shown_store value format meaning = record { value = value; format = format; meaning = meaning }
 
--- a move isn't supported in a store: the format lacks a compressor, or the entries are too many
+-- a move isn't supported in a store: the format lacks a compressor
 abbrev pub IsUnsupportedIn : {C : Type 0} → ShownStore C → Status → Type 0
-IsUnsupportedIn shown = IsUnsupported shown.value shown.live shown.format shown.meaning
+IsUnsupportedIn shown = IsOfNoCompressor shown.format shown.meaning
 
 -- `cmp`, `filters` and `codings` say what comparators, filter policies and compressors mean, and
 -- `walk` over which list a view is.
@@ -184,10 +178,8 @@ module _ {E C FP F V : Type 0} {B : Boxed} {keys : InternalOrder C} (env : Ghost
           (env.observed from).disk state
           → (sequence : ℕ) × IsSequenceOf state at sequence × (pairs : List Pair)
           × IsView state.format.order (entries_of state.history) sequence pairs
-          × (live : List LiveTable)
-          × HasLiveTables state.format.order meaning before.store (files_at env from) live
           × IteratesAt env cmp filters codings walk
-          (shown_store before.store live state.format meaning) pairs None it)
+          (shown_store before.store state.format meaning) pairs None it)
       -- over whatever files it is an iterator, at no pair
       pub is : IfOk result (IsIterator env cmp filters codings walk
           (formats (engine_options before)))

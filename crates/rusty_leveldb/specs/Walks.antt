@@ -1,5 +1,5 @@
 -- Walks of the store as walks of the machine: their moves, and where these lead.
-use Rattle.std.specs.Prelude.{◌≡◌, ℕ, List, [], Option, Some, map, Result, Ok, Err, IsTrue, OnOk, OnErr}
+use Rattle.std.specs.Prelude.{◌≡◌, List, [], Option, map, Result, Ok, Err, OnOk, OnErr}
 use Rattle.leveldb_base.specs.declared.error.Status.{Status}
 use Rattle.leveldb_env.specs.Options.{Boxed, OptionsOf}
 use Rattle.leveldb_env.specs.declared.env.Env.{Ghosts}
@@ -10,17 +10,15 @@ use Rattle.leveldb_iter.specs.declared.moves.Move.TheVariants.{First, Next, Prev
 use Rattle.leveldb_iter.specs.declared.moves.Step.{Step}
 use Rattle.leveldb_iter.specs.declared.moves.Step.TheVariants.{At, Invalid, Refused}
 use Rattle.leveldb_store.specs.BuildTable.{TableChoices}
-use Rattle.leveldb_store.specs.View.{IsUnsupported, MoveFails}
-use Rattle.leveldb_store.specs.Written.{HasLiveTables}
+use Rattle.leveldb_store.specs.View.{MoveFails}
 use Rattle.leveldb_version.specs.Batches.{Each}
-use Rattle.leveldb_version.specs.Format.{IsTableFault, Meaning}
-use Rattle.leveldb_version.specs.Levels.{LiveTable}
+use Rattle.leveldb_version.specs.Format.{IsTableFault}
 use Rattle.rusty_leveldb.specs.Boxes.{EngineOf, InternalOrder}
 use Rattle.rusty_leveldb.specs.Calls.{EngineServes}
-use Rattle.rusty_leveldb.specs.Engine.{Recalls, formats_of, options_in}
+use Rattle.rusty_leveldb.specs.Engine.{formats_of, options_in}
 use Rattle.rusty_leveldb.specs.State as machine
-use Rattle.rusty_leveldb.specs.State.{Answer, Landing, Request, Snapshot, State, move_refused, nowhere, refused, stands_on, walk, walked}
-use Rattle.rusty_leveldb.specs.Serves.{Represents, refusal_of}
+use Rattle.rusty_leveldb.specs.State.{Answer, Landing, Request, Snapshot, move_refused, nowhere, refused, stands_on, walk, walked}
+use Rattle.rusty_leveldb.specs.Serves.{refusal_of}
 
 -- the move as the machine has it
 abbrev pub move_of : Move → machine.Move
@@ -59,15 +57,5 @@ pub record EngineWalks {E C FP F P : Type 0} {B : Boxed} {keys : InternalOrder C
   pub refused : OnOk result (Each (λ one step. IsRefusedFor step one
       (MoveFails (λ e. IsTableFault (formats_of choices (options_in before)) e.code)
       (env.failures from) (env.failures to) one)) moves given)
-  -- where engine and disk represent a state, a move that isn't supported is so by the live tables:
-  -- the format lacks a compressor, or the entries are too many
-  pub unsupported : IsTrue env.models_disk → (store : List ℕ) (meaning : Meaning) (state : State)
-      → Represents store meaning (Recalls env (formats_of choices) store meaning) (Some before)
-      (env.observed from).disk state
-      → OnOk result ((live : List LiveTable)
-      × HasLiveTables state.format.order meaning before.store (env.observed from).disk.files live
-      × Each (λ one step. IsRefusedFor step one
-      (MoveFails (IsUnsupported before.store live state.format meaning) (env.failures from)
-      (env.failures to) one)) moves given)
   -- without a walk there are no steps
   pub none : OnErr result (given ≡ [])

@@ -17,18 +17,11 @@ returns g c =
           (λ own. inl (c.new-merge.ensures.fails world later status own))
           (λ rest. inr (⊎_elim
           (λ out. inl out)
-          (λ lost. inr (⊎_elim
-          (λ corrupt. inl (
+          (λ corrupt. inr (
             corrupt.0,
-            λ order below is. corrupt.1 order below (view_of c.args.sequence (entries_of_pairs below))
-                (view_over g.I.Walk g.C.Cmp world _ c.args.cmp c.args.children.items c.new-merge.result c.args.sequence (λ order pairs over. over) (at world) order below is),
+            λ order below is. corrupt.1 order (view_of c.args.sequence (entries_of_pairs below))
+                (below, view_over g.I.Walk g.C.Cmp world _ c.args.cmp c.args.children.items c.new-merge.result c.args.sequence (λ order pairs over. over) (at world) order below is),
           ))
-          (λ many. inr (
-            many.0,
-            λ order below is. many.1 order below (view_of c.args.sequence (entries_of_pairs below))
-                (view_over g.I.Walk g.C.Cmp world _ c.args.cmp c.args.children.items c.new-merge.result c.args.sequence (λ order pairs over. over) (at world) order below is),
-          ))
-          lost))
           rest))
           (c.new.ensures.fails world later status fails);
     }
