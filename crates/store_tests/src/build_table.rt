@@ -2,14 +2,14 @@
 ghost use Rattle.std.specs.Prelude.{◌≡◌, true};
 
 use crate::stores::failed_with;
-use leveldb_base::cmp::DefaultCmp;
+use leveldb_base::cmp::{DefaultCmp, InternalKeyCmp};
 use leveldb_base::error::{Result, Status, StatusCode, err};
 use leveldb_base::key_types::ValueType;
 use leveldb_base::types::{FileMetaData, LdbIterator};
 use leveldb_env::compressor::Compressor;
 use leveldb_env::env::Env;
 use leveldb_env::env::whole_files::read_file;
-use leveldb_env::filter::BloomPolicy;
+use leveldb_env::filter::{BloomPolicy, InternalFilterPolicy};
 use leveldb_env::mem_env::{Pick, RecordEnv};
 use leveldb_env::options::Options;
 use leveldb_mem::memtable::{MemTable, MemtableIterator};
@@ -18,6 +18,13 @@ use leveldb_table::table_reader::{Table, TableIterator};
 use rusty_leveldb::db_impl::build_memtable;
 use std::alloc::Global;
 use std::process::Abort;
+
+type TablePairs<'a> = TableIterator<
+    'a,
+    RecordEnv,
+    InternalKeyCmp<DefaultCmp>,
+    InternalFilterPolicy<BloomPolicy>,
+>;
 
 const PATH: &str = "db/000005.ldb";
 
@@ -69,7 +76,7 @@ fn build(
 
 /// Whether both have the same pairs, `count` of them, in the same order.
 fn are_alike(
-    found: &mut TableIterator<'_, RecordEnv, DefaultCmp, BloomPolicy>,
+    found: &mut TablePairs<'_>,
     wanted: &mut MemtableIterator<'_, DefaultCmp>,
     options: &Options<DefaultCmp, BloomPolicy>,
     count: usize,
