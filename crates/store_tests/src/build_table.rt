@@ -2,22 +2,29 @@
 ghost use Rattle.std.specs.Prelude.{◌≡◌, true};
 
 use crate::stores::failed_with;
-use leveldb_base::cmp::DefaultCmp;
+use leveldb_base::cmp::{DefaultCmp, InternalKeyCmp};
 use leveldb_base::error::{Result, Status, StatusCode, err};
 use leveldb_base::key_types::ValueType;
 use leveldb_base::types::{FileMetaData, LdbIterator};
 use leveldb_env::compressor::Compressor;
 use leveldb_env::env::Env;
 use leveldb_env::env::whole_files::read_file;
-use leveldb_env::filter::BloomPolicy;
+use leveldb_env::filter::{BloomPolicy, InternalFilterPolicy};
 use leveldb_env::mem_env::{Pick, RecordEnv};
 use leveldb_env::options::Options;
-use leveldb_mem::memtable::MemTable;
+use leveldb_mem::memtable::{MemTable, MemtableIterator};
 use leveldb_table::cache::Cache;
-use leveldb_table::table_reader::Table;
+use leveldb_table::table_reader::{Table, TableIterator};
 use rusty_leveldb::db_impl::build_memtable;
 use std::alloc::Global;
 use std::process::Abort;
+
+type TablePairs<'a> = TableIterator<
+    'a,
+    RecordEnv,
+    InternalKeyCmp<DefaultCmp>,
+    InternalFilterPolicy<BloomPolicy>,
+>;
 
 const PATH: &str = "db/000005.ldb";
 
@@ -67,6 +74,22 @@ fn build(
     build_memtable(alloc, env, "db", options, memtable, 5)
 }
 
+/// Whether both have the same pairs, `count` of them, in the same order.
+fn are_alike(
+    found: &mut TablePairs<'_>,
+    wanted: &mut MemtableIterator<'_, DefaultCmp>,
+    options: &Options<DefaultCmp, BloomPolicy>,
+    count: usize,
+) -> Result<bool> {
+    for _ in 0..=count {
+        let there = found.advance(&options.compressor_list)?;
+        if there != wanted.advance()? || found.current() != wanted.current() {
+            return Ok(false);
+        }
+    }
+    Ok(!found.valid() && !wanted.valid())
+}
+
 /// Whether the file is a table of the memtable's pairs, in their order.
 fn is_table_of(
     alloc: Global,
@@ -75,18 +98,11 @@ fn is_table_of(
     size: usize,
     memtable: &MemTable<DefaultCmp>,
 ) -> Result<bool> {
-    let mut cache = Cache::new(alloc, 4)?;
     let file = env.open_random_access_file(PATH)?;
+    let mut cache = Cache::new(alloc, 4)?;
     let table = Table::new(alloc, options, env, &mut cache, file, size)?;
     let mut found = table.iter(alloc, env, &mut cache)?;
-    let mut wanted = memtable.iter();
-    for _ in 0..=memtable.len() {
-        let there = found.advance(&options.compressor_list)?;
-        if there != wanted.advance()? || found.current() != wanted.current() {
-            return Ok(false);
-        }
-    }
-    Ok(!found.valid() && !wanted.valid())
+    are_alike(&mut found, &mut memtable.iter(), options, memtable.len())
 }
 
 /// Builds a table by three calls, asserts that it has the memtable's pairs from its first key to its last, and returns its size.
@@ -253,19 +269,27 @@ impl Compressor for Refusing {
     }
 }
 
+/// Whether a table of one entry, made with these options, fails with this code before any call of the device.
+fn fails_before_any_call(
+    alloc: Global,
+    options: &Options<DefaultCmp, BloomPolicy>,
+    code: StatusCode,
+) -> Result<bool> {
+    let mut env = RecordEnv::new(alloc);
+    let built = build(alloc, &mut env, options, &one_entry(alloc)?);
+    Ok(failed_with(built, code)? && env.moment() == 0)
+}
+
 /// Where the compressor fails, or none is set under the id, no call is made.
 #[test]
 fn a_compressor_fails_before_any_call(rt: HostRuntime) -> Result<()> {
-    let alloc = rt.alloc();
-    let mut env = RecordEnv::new(alloc);
-    let memtable = one_entry(alloc)?;
     let mut options = small_blocks();
     options.compressor = 9;
-    let unset = build(alloc, &mut env, &options, &memtable);
-    assert!(rt; failed_with(unset, StatusCode::NotSupported)? && env.moment() == 0);
-    let refusing = Box::new(alloc, Refusing)?;
-    options.compressor_list.set_with_id(alloc, 9, refusing)?;
-    let refused = build(alloc, &mut env, &options, &memtable);
-    assert!(rt; failed_with(refused, StatusCode::CompressionError)? && env.moment() == 0);
+    assert!(rt; fails_before_any_call(rt.alloc(), &options, StatusCode::NotSupported)?);
+    let refusing = Box::new(rt.alloc(), Refusing)?;
+    options
+        .compressor_list
+        .set_with_id(rt.alloc(), 9, refusing)?;
+    assert!(rt; fails_before_any_call(rt.alloc(), &options, StatusCode::CompressionError)?);
     Ok(())
 }

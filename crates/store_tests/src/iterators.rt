@@ -1,6 +1,13 @@
 //! Iterators over a store: in memory, over tables, and at a snapshot.
-use leveldb_base::error::Result;
-use rusty_leveldb::{DB, MemEnv, Options};
+use leveldb_base::cmp::DefaultCmp;
+use leveldb_base::error::{Result, StatusCode};
+use leveldb_env::filter::BloomPolicy;
+use rusty_leveldb::{DB, DBIterator, MemEnv, Options, Snapshot};
+use std::alloc::Global;
+
+type Store<'a> = DB<'a, MemEnv, DefaultCmp, BloomPolicy>;
+
+type Places<'a> = DBIterator<'a, MemEnv, DefaultCmp, BloomPolicy>;
 
 /// Three entries fill the memtable.
 const WRITE_BUFFER_SIZE: usize = 300;
@@ -30,25 +37,32 @@ fn is_pair(pair: Option<(&[u8], &[u8])>, key: &[u8], value: &[u8]) -> bool {
     }
 }
 
+/// Puts three keys, and deletes the second.
+fn put_and_delete(db: &mut Store) -> Result<()> {
+    db.put(b"a", b"1")?;
+    db.put(b"b", b"2")?;
+    db.put(b"c", b"3")?;
+    db.delete(b"b")
+}
+
+/// Whether it finds c, goes back over a, stays before it, and comes to it again.
+fn turns_at_both_ends(it: &mut Places) -> Result<bool> {
+    it.seek(b"c")?;
+    let last = is_pair(it.current(), b"c", b"3");
+    let back = it.prev()? && is_pair(it.current(), b"a", b"1");
+    let before = it.prev()? || it.prev()? || it.valid();
+    let on = it.advance()? && is_pair(it.current(), b"a", b"1");
+    Ok(last && back && !before && on)
+}
+
 #[test]
 fn moves_turn_at_both_ends(rt: HostRuntime) -> Result<()> {
     let alloc = rt.alloc();
     let mut env = MemEnv::new(alloc);
     let mut db = DB::open(alloc, "db", &mut env, Options::default())?;
-    db.put(b"a", b"1")?;
-    db.put(b"b", b"2")?;
-    db.put(b"c", b"3")?;
-    db.delete(b"b")?;
+    put_and_delete(&mut db)?;
     let mut it = db.new_iter()?;
-    it.seek(b"c")?;
-    assert!(rt; is_pair(it.current(), b"c", b"3"));
-    let back = it.prev()?;
-    assert!(rt; back && is_pair(it.current(), b"a", b"1"));
-    let before = it.prev()?;
-    let still_before = it.prev()?;
-    assert!(rt; !before && !still_before && !it.valid());
-    let on = it.advance()?;
-    assert!(rt; on && is_pair(it.current(), b"a", b"1"));
+    assert!(rt; turns_at_both_ends(&mut it)?);
     Ok(())
 }
 
@@ -68,17 +82,16 @@ fn empty_key_and_value(rt: HostRuntime) -> Result<()> {
     Ok(())
 }
 
-#[test]
-fn next_over_tables_and_memory(rt: HostRuntime) -> Result<()> {
-    let alloc = rt.alloc();
-    let mut env = MemEnv::new(alloc);
-    let mut options = Options::default();
-    options.write_buffer_size = WRITE_BUFFER_SIZE;
-    let mut db = DB::open(alloc, "db", &mut env, options)?;
+/// Puts all of `PUTS`.
+fn put_all(db: &mut Store) -> Result<()> {
     for (key, value) in PUTS {
         db.put(key, value)?;
     }
-    let mut it = db.new_iter()?;
+    Ok(())
+}
+
+/// The pairs after the place, one after another, of one move more than there are keys.
+fn pairs_after(alloc: Global, it: &mut Places) -> Result<Vec<u8>> {
     let mut found = Vec::new(alloc);
     for _ in 0..COUNT + 1 {
         if let Some((key, value)) = it.next()? {
@@ -86,7 +99,18 @@ fn next_over_tables_and_memory(rt: HostRuntime) -> Result<()> {
             found.extend_from_slice(value.as_slice())?;
         }
     }
-    assert!(rt; found.as_slice() == b"a9b4c7d6e3f8g0".as_slice());
+    Ok(found)
+}
+
+#[test]
+fn next_over_tables_and_memory(rt: HostRuntime) -> Result<()> {
+    let mut env = MemEnv::new(rt.alloc());
+    let mut options = Options::default();
+    options.write_buffer_size = WRITE_BUFFER_SIZE;
+    let mut db = DB::open(rt.alloc(), "db", &mut env, options)?;
+    put_all(&mut db)?;
+    let mut it = db.new_iter()?;
+    assert!(rt; pairs_after(rt.alloc(), &mut it)?.as_slice() == b"a9b4c7d6e3f8g0".as_slice());
     assert!(rt; !it.valid());
     Ok(())
 }
@@ -103,5 +127,43 @@ fn iterator_at_a_snapshot(rt: HostRuntime) -> Result<()> {
     let mut it = db.new_iter_at(&snapshot)?;
     it.seek_to_last()?;
     assert!(rt; is_pair(it.current(), b"a", b"1"));
+    Ok(())
+}
+
+/// Whether an iterator at the snapshot is `InvalidArgument`.
+fn is_not_held(db: &mut Store, snapshot: &Snapshot) -> Result<bool> {
+    match iterate_at(db, snapshot) {
+        Ok(()) => Ok(false),
+        Err(status) => Ok(status.code == StatusCode::InvalidArgument),
+    }
+}
+
+fn iterate_at(db: &mut Store, snapshot: &Snapshot) -> Result<()> {
+    let mut it = db.new_iter_at(snapshot)?;
+    it.seek_to_first()
+}
+
+/// A snapshot that was released, and the value of a after it was refused to an iterator.
+fn refused_at_a_released_snapshot(db: &mut Store) -> Result<bool> {
+    db.put(b"a", b"1")?;
+    let snapshot = db.get_snapshot()?;
+    db.release_snapshot(snapshot)?;
+    let is_refused = is_not_held(db, &snapshot)?;
+    db.put(b"a", b"2")?;
+    Ok(is_refused)
+}
+
+/// A store that refused an iterator goes on, and is found as it was left when it is opened again.
+#[test]
+fn refused_iterator_leaves_the_store(rt: HostRuntime) -> Result<()> {
+    let mut env = MemEnv::new(rt.alloc());
+    let mut db = DB::open(rt.alloc(), "db", &mut env, Options::default())?;
+    assert!(rt; refused_at_a_released_snapshot(&mut db)?);
+    db.close()?;
+    drop(db);
+    let mut db = DB::open(rt.alloc(), "db", &mut env, Options::default())?;
+    let mut it = db.new_iter()?;
+    it.seek_to_first()?;
+    assert!(rt; is_pair(it.current(), b"a", b"2"));
     Ok(())
 }

@@ -148,18 +148,21 @@ fn left_over_files(rt: HostRuntime) -> Result<()> {
     play(&rt, rt.alloc(), LEFT_OVER_FILES)
 }
 
-/// What `CURRENT` names after a crash without tails at this moment, and then the value of k.
-fn crash_in_opening(alloc: Global, env: &RecordEnv, moment: u64) -> Result<Vec<u8>> {
-    let side = Side {
-        moment,
-        after: false,
-    };
-    let mut left = crash(alloc, env, side, Tails::Nothing)?;
-    let mut found = file_bytes(alloc, &mut left, "CURRENT")?;
-    let mut engine = DefaultEngine::open(alloc, STORE, &mut left, Options::default())?;
-    if let Some(value) = engine.get(&mut left, b"k")? {
+/// The value of k, after these bytes.
+fn append_value(alloc: Global, env: &mut RecordEnv, found: &mut Vec<u8>) -> Result<()> {
+    let mut engine = DefaultEngine::open(alloc, STORE, env, Options::default())?;
+    if let Some(value) = engine.get(env, b"k")? {
         found.extend_from_slice(value.as_slice())?;
     }
+    Ok(())
+}
+
+/// What `CURRENT` names after a crash without tails at this moment, and then the value of k.
+fn crash_in_opening(alloc: Global, env: &RecordEnv, moment: u64) -> Result<Vec<u8>> {
+    let after = false;
+    let mut left = crash(alloc, env, Side { moment, after }, Tails::Nothing)?;
+    let mut found = file_bytes(alloc, &mut left, "CURRENT")?;
+    append_value(alloc, &mut left, &mut found)?;
     Ok(found)
 }
 
@@ -176,12 +179,17 @@ fn count_crashes(alloc: Global, env: &RecordEnv, from: u64) -> Result<(u64, u64,
     Ok((first, fourth, others))
 }
 
+/// Puts 1 for k in a store that is closed then.
+fn put_and_close(alloc: Global, env: &mut RecordEnv) -> Result<()> {
+    let mut engine = DefaultEngine::open(alloc, STORE, env, Options::default())?;
+    engine.put(env, b"k", b"1")?;
+    engine.close(env)
+}
+
 /// A device with a store that was closed, whose key k has the value 1.
 fn closed_store(alloc: Global) -> Result<RecordEnv> {
     let mut env = RecordEnv::new(alloc);
-    let mut engine = DefaultEngine::open(alloc, STORE, &mut env, Options::default())?;
-    engine.put(&mut env, b"k", b"1")?;
-    engine.close(&mut env)?;
+    put_and_close(alloc, &mut env)?;
     Ok(env)
 }
 

@@ -330,19 +330,42 @@ const LOG_DELETED: &[Act] = &[
     ),
 ];
 
+/// Puts twice, where the first call that lists or deletes a file fails: that is a line, and the next switch deletes what is left.
+fn leave_and_delete(
+    rt: &impl Abort,
+    alloc: Global,
+    env: &mut RecordEnv,
+    engine: &mut RecordEngine,
+    lines: &Cell<usize>,
+) -> Result<()> {
+    play_on(rt, alloc, env, engine, LOG_LEFT)?;
+    assert!(rt; lines.get() == 1);
+    play_on(rt, alloc, env, engine, LOG_DELETED)?;
+    assert!(rt; lines.get() == 1);
+    Ok(())
+}
+
+/// An engine on this device, one key put, whose nth call from now on fails.
+fn failing_later(
+    alloc: Global,
+    env: &mut RecordEnv,
+    options: DefaultOptions,
+    nth: u64,
+) -> Result<RecordEngine> {
+    let mut engine = DefaultEngine::open(alloc, STORE, env, options)?;
+    engine.put(env, b"a", b"1")?;
+    env.fail(nth, false);
+    Ok(engine)
+}
+
 /// A folder that can't be listed, or an obsolete log that can't be deleted, is a line for the sink and no error; the next switch
 /// deletes what is left.
 fn leave_a_log(rt: &impl Abort, alloc: Global, nth: u64) -> Result<()> {
     let lines = Rc::new(alloc, Cell::new(0))?;
+    let options = counted(alloc, &lines)?;
     let mut env = RecordEnv::new(alloc);
-    let mut engine = DefaultEngine::open(alloc, STORE, &mut env, counted(alloc, &lines)?)?;
-    engine.put(&mut env, b"a", b"1")?;
-    env.fail(nth, false);
-    play_on(rt, alloc, &mut env, &mut engine, LOG_LEFT)?;
-    assert!(rt; lines.get() == 1);
-    play_on(rt, alloc, &mut env, &mut engine, LOG_DELETED)?;
-    assert!(rt; lines.get() == 1);
-    Ok(())
+    let mut engine = failing_later(alloc, &mut env, options, nth)?;
+    leave_and_delete(rt, alloc, &mut env, &mut engine, &lines)
 }
 
 #[test]

@@ -1,9 +1,14 @@
 //! Snapshots: what is read at them, and those that aren't held.
 use crate::stores::{DefaultEngine, STORE, buffered};
+use leveldb_base::cmp::DefaultCmp;
 use leveldb_base::error::{Result, StatusCode};
+use leveldb_env::filter::BloomPolicy;
 use leveldb_env::mem_env::MemEnv;
 use rusty_leveldb::{DB, Options, Snapshot};
+use std::alloc::Global;
 use std::process::Abort;
+
+type Store<'a> = DB<'a, MemEnv, DefaultCmp, BloomPolicy>;
 
 /// The value of `k` at a snapshot, or `-`; or `!` where that is `InvalidArgument`.
 fn seen_at(engine: &mut DefaultEngine<MemEnv>, env: &mut MemEnv, snapshot: Snapshot) -> Result<u8> {
@@ -37,55 +42,71 @@ fn all_seen(
     Ok(())
 }
 
-/// Each snapshot sees the value as of its own time, in memory and in tables, until it is released.
+/// Snapshots before a put, after it, and after a deletion, that two more puts follow.
+fn three_snapshots(engine: &mut DefaultEngine<MemEnv>, env: &mut MemEnv) -> Result<[Snapshot; 3]> {
+    let first = engine.get_snapshot()?;
+    engine.put(env, b"k", b"1")?;
+    let second = engine.get_snapshot()?;
+    engine.delete(env, b"k")?;
+    let third = engine.get_snapshot()?;
+    engine.put(env, b"k", b"2")?;
+    engine.put(env, b"l", b"3")?;
+    Ok([first, second, third])
+}
+
+/// Each snapshot sees the value as of its own time until it is released, or the store is closed.
+fn see_until_released(
+    rt: &impl Abort,
+    engine: &mut DefaultEngine<MemEnv>,
+    env: &mut MemEnv,
+) -> Result<()> {
+    let all = three_snapshots(engine, env)?;
+    all_seen(rt, engine, env, &all, b"-1-")?;
+    engine.release_snapshot(all[1])?;
+    all_seen(rt, engine, env, &all, b"-!-")?;
+    assert!(rt; is_refused(engine.release_snapshot(all[1])));
+    engine.close(env)?;
+    all_seen(rt, engine, env, &all, b"!!!")?;
+    assert!(rt; is_refused(engine.release_snapshot(all[0])) && engine.get_snapshot().is_err());
+    Ok(())
+}
+
+/// Snapshots of a store with a memtable of so many bytes.
+fn see_in_a_store(rt: &impl Abort, alloc: Global, size: usize) -> Result<()> {
+    let mut env = MemEnv::new(alloc);
+    let mut engine = DefaultEngine::open(alloc, STORE, &mut env, buffered(size))?;
+    see_until_released(rt, &mut engine, &mut env)
+}
+
+/// In memory and in tables.
 #[test]
 fn values_over_time(rt: HostRuntime) -> Result<()> {
-    let alloc = rt.alloc();
-    for size in [1, 1 << 20] {
-        let mut env = MemEnv::new(alloc);
-        let mut engine = DefaultEngine::open(alloc, STORE, &mut env, buffered(size))?;
-        let first = engine.get_snapshot()?;
-        engine.put(&mut env, b"k", b"1")?;
-        let second = engine.get_snapshot()?;
-        engine.delete(&mut env, b"k")?;
-        let third = engine.get_snapshot()?;
-        engine.put(&mut env, b"k", b"2")?;
-        engine.put(&mut env, b"l", b"3")?;
-        let all = [first, second, third];
-        all_seen(&rt, &mut engine, &mut env, &all, b"-1-")?;
-        engine.release_snapshot(second)?;
-        all_seen(&rt, &mut engine, &mut env, &all, b"-!-")?;
-        assert!(rt; is_refused(engine.release_snapshot(second)));
-        engine.close(&mut env)?;
-        all_seen(&rt, &mut engine, &mut env, &all, b"!!!")?;
-        assert!(rt; is_refused(engine.release_snapshot(first)));
-        assert!(rt; engine.get_snapshot().is_err());
-    }
-    Ok(())
+    see_in_a_store(&rt, rt.alloc(), 1)?;
+    see_in_a_store(&rt, rt.alloc(), 1 << 20)
+}
+
+/// A snapshot between two puts of k, and whether the first is found at it, of a store that is closed then.
+fn closed_after_a_snapshot(db: &mut Store) -> Result<(Snapshot, bool)> {
+    db.put(b"k", b"1")?;
+    let snapshot = db.get_snapshot()?;
+    db.put(b"k", b"2")?;
+    let is_seen = match db.get_at(&snapshot, b"k")? {
+        Some(value) => value.as_slice() == b"1".as_slice(),
+        None => false,
+    };
+    db.close()?;
+    Ok((snapshot, is_seen))
 }
 
 /// A snapshot of an opening isn't held in the next one.
 #[test]
 fn opened_again(rt: HostRuntime) -> Result<()> {
-    let alloc = rt.alloc();
-    let mut env = MemEnv::new(alloc);
-    let mut db = DB::open(alloc, STORE, &mut env, Options::default())?;
-    db.put(b"k", b"1")?;
-    let snapshot = db.get_snapshot()?;
-    db.put(b"k", b"2")?;
-    let seen = db.get_at(&snapshot, b"k")?;
-    db.close()?;
+    let mut env = MemEnv::new(rt.alloc());
+    let mut db = DB::open(rt.alloc(), STORE, &mut env, Options::default())?;
+    let (snapshot, is_seen) = closed_after_a_snapshot(&mut db)?;
+    assert!(rt; is_seen);
     drop(db);
-    let mut db = DB::open(alloc, STORE, &mut env, Options::default())?;
-    let lost = db.get_at(&snapshot, b"k");
-    db.close()?;
-
-    assert!(rt;
-        match seen {
-            Some(value) => value.as_slice() == b"1".as_slice(),
-            None => false,
-        }
-    );
-    assert!(rt; lost.is_err());
-    Ok(())
+    let mut db = DB::open(rt.alloc(), STORE, &mut env, Options::default())?;
+    assert!(rt; db.get_at(&snapshot, b"k").is_err());
+    db.close()
 }
