@@ -121,10 +121,18 @@ fn is_right(alloc: Global, env: &mut MemEnv, act: &Act) -> Result<bool> {
 }
 
 /// Does and asks all this, one after another, of a disk that is empty at first.
-pub fn play(rt: &impl Abort, alloc: Global, acts: &[Act]) -> Result<()> {
+fn play(rt: &impl Abort, alloc: Global, what: &str, acts: &[Act]) -> Result<()> {
     let mut env = MemEnv::new(alloc);
     for (at, act) in acts.iter().enumerate() {
-        assert!(rt; is_right(alloc, &mut env, act)?, "row {at}");
+        assert!(rt; is_right(alloc, &mut env, act)?, "{what}, row {at}");
+    }
+    Ok(())
+}
+
+/// Plays each of these, which have names.
+pub fn play_each(rt: &impl Abort, alloc: Global, all: &[(&str, &[Act])]) -> Result<()> {
+    for (what, acts) in all {
+        play(rt, alloc, what, acts)?;
     }
     Ok(())
 }

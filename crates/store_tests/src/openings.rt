@@ -1,5 +1,5 @@
 //! Which files openings leave, and what they hold.
-use crate::acts::{Act, Setting, play};
+use crate::acts::{Act, Setting, play_each};
 use crate::crash_disks::{Side, Tails, crash};
 use crate::stores::{
     DefaultEngine, STORE, contents_of, file_bytes, has_files, reopen, reusing, store_of,
@@ -21,12 +21,7 @@ const NEW_STORE: &[Act] = &[
     Act::Holds("0:"),
 ];
 
-#[test]
-fn new_store(rt: HostRuntime) -> Result<()> {
-    assert!(rt; NEW_MANIFEST.len() == 34);
-    play(&rt, rt.alloc(), NEW_STORE)
-}
-
+/// Where the last log and the manifest are used on, an opening changes no file.
 const USED_ON: &[Act] = &[
     Act::Put(Setting::Defaults, &[("a", "1")]),
     Act::Open(Setting::Defaults),
@@ -35,12 +30,7 @@ const USED_ON: &[Act] = &[
     Act::Holds("2: 1a 2b"),
 ];
 
-/// Where the last log and the manifest are used on, an opening changes no file.
-#[test]
-fn used_on(rt: HostRuntime) -> Result<()> {
-    play(&rt, rt.alloc(), USED_ON)
-}
-
+/// Where neither is, the new manifest's number is given first, then the table's, then the log's.
 const NEITHER_USED_ON: &[Act] = &[
     Act::Put(Setting::Defaults, &[("a", "1")]),
     Act::Open(Setting::Reuses(false, false)),
@@ -50,12 +40,7 @@ const NEITHER_USED_ON: &[Act] = &[
     Act::Holds("2: 1a 2b"),
 ];
 
-/// Where neither is, the new manifest's number is given first, then the table's, then the log's.
-#[test]
-fn neither_used_on(rt: HostRuntime) -> Result<()> {
-    play(&rt, rt.alloc(), NEITHER_USED_ON)
-}
-
+/// A log that isn't used on becomes a table, and a manifest of `max_file_size` bytes or more is made anew.
 const ONE_USED_ON: &[Act] = &[
     Act::Put(Setting::Defaults, &[("a", "1")]),
     Act::Open(Setting::Reuses(false, true)),
@@ -64,12 +49,7 @@ const ONE_USED_ON: &[Act] = &[
     Act::HasFiles("000004.ldb:177 000005.log:0 CURRENT:16 LOCK:0 MANIFEST-000007:75 "),
 ];
 
-/// A log that isn't used on becomes a table, and a manifest of `max_file_size` bytes or more is made anew.
-#[test]
-fn one_used_on(rt: HostRuntime) -> Result<()> {
-    play(&rt, rt.alloc(), ONE_USED_ON)
-}
-
+/// The last log is used on, and all entries of those before it come to tables, one for each.
 const SEVERAL_LOGS: &[Act] = &[
     Act::Put(Setting::Defaults, &[("a", "1")]),
     Act::Log("000004.log", &[(2, "b"), (3, "a")]),
@@ -81,12 +61,7 @@ const SEVERAL_LOGS: &[Act] = &[
     Act::Holds("6: 1a 3a 2b 5c 6d"),
 ];
 
-/// The last log is used on, and all entries of those before it come to tables, one for each.
-#[test]
-fn several_logs(rt: HostRuntime) -> Result<()> {
-    play(&rt, rt.alloc(), SEVERAL_LOGS)
-}
-
+/// A log that ends badly isn't used on.
 const TORN_LOG: &[Act] = &[
     Act::Put(Setting::Defaults, &[("a", "1"), ("b", "2")]),
     Act::Cut("000003.log", 47),
@@ -95,12 +70,7 @@ const TORN_LOG: &[Act] = &[
     Act::Holds("1: 1a"),
 ];
 
-/// A log that ends badly isn't used on.
-#[test]
-fn torn_log(rt: HostRuntime) -> Result<()> {
-    play(&rt, rt.alloc(), TORN_LOG)
-}
-
+/// A log that fills a memtable goes to tables.
 const SMALL_MEMTABLE: &[Act] = &[
     Act::Put(Setting::Defaults, &[("a", "1"), ("b", "2"), ("c", "3")]),
     Act::Open(Setting::Buffer(250)),
@@ -109,12 +79,6 @@ const SMALL_MEMTABLE: &[Act] = &[
     ),
     Act::Holds("3: 1a 2b 3c"),
 ];
-
-/// A log that fills a memtable goes to tables.
-#[test]
-fn small_memtable(rt: HostRuntime) -> Result<()> {
-    play(&rt, rt.alloc(), SMALL_MEMTABLE)
-}
 
 /// What a crash without tails leaves of a store that was opened, and not synced before.
 fn crash_after_opening(alloc: Global, reuses: bool) -> Result<String> {
@@ -135,6 +99,7 @@ fn found_is_durable(rt: HostRuntime) -> Result<()> {
     Ok(())
 }
 
+/// A folder with a manifest and a temporary file alone has no store: one is made, and the temporary file is deleted.
 const LEFT_OVER_FILES: &[Act] = &[
     Act::Make("MANIFEST-000001", b"x"),
     Act::Make("000007.dbtmp", b"x"),
@@ -142,10 +107,21 @@ const LEFT_OVER_FILES: &[Act] = &[
     Act::HasFiles("000008.log:0 CURRENT:16 LOCK:0 MANIFEST-000001:41 "),
 ];
 
-/// A folder with a manifest and a temporary file alone has no store: one is made, and the temporary file is deleted.
+const OPENINGS: &[(&str, &[Act])] = &[
+    ("new store", NEW_STORE),
+    ("used on", USED_ON),
+    ("neither used on", NEITHER_USED_ON),
+    ("one used on", ONE_USED_ON),
+    ("several logs", SEVERAL_LOGS),
+    ("torn log", TORN_LOG),
+    ("small memtable", SMALL_MEMTABLE),
+    ("left over files", LEFT_OVER_FILES),
+];
+
 #[test]
-fn left_over_files(rt: HostRuntime) -> Result<()> {
-    play(&rt, rt.alloc(), LEFT_OVER_FILES)
+fn openings(rt: HostRuntime) -> Result<()> {
+    assert!(rt; NEW_MANIFEST.len() == 34);
+    play_each(&rt, rt.alloc(), OPENINGS)
 }
 
 /// The value of k, after these bytes.

@@ -1,10 +1,11 @@
 //! What isn't opened: an opening fails, changes no file but the lock's, and gives back the lock.
-use crate::acts::{Act, Setting, is_damaged, play};
+use crate::acts::{Act, Setting, is_damaged, play_each};
 use crate::stores::{Row, put_file};
 use leveldb_base::error::{Result, StatusCode};
 use leveldb_env::mem_env::MemEnv;
 use std::alloc::Global;
 
+/// A store that must not be.
 const UNWANTED: &[Act] = &[
     Act::Put(Setting::Defaults, &[("a", "1")]),
     Act::HasFiles("000003.log:24 CURRENT:16 LOCK:0 MANIFEST-000001:41 "),
@@ -12,22 +13,11 @@ const UNWANTED: &[Act] = &[
     Act::HasFiles("000003.log:24 CURRENT:16 LOCK:0 MANIFEST-000001:41 "),
 ];
 
-/// A store that must not be.
-#[test]
-fn unwanted(rt: HostRuntime) -> Result<()> {
-    play(&rt, rt.alloc(), UNWANTED)
-}
-
+/// A store that must be.
 const MISSING: &[Act] = &[
     Act::Fails(Setting::MustExist, StatusCode::InvalidArgument),
     Act::HasFiles("LOCK:0 "),
 ];
-
-/// A store that must be.
-#[test]
-fn missing(rt: HostRuntime) -> Result<()> {
-    play(&rt, rt.alloc(), MISSING)
-}
 
 /// Whether a folder with this file and a lock alone is damaged.
 fn is_damaged_beside(alloc: Global, name: &str) -> Result<bool> {
@@ -46,6 +36,7 @@ fn without_current(rt: HostRuntime) -> Result<()> {
     Ok(())
 }
 
+/// A live table that is missing, or there under another name.
 const WITHOUT_A_TABLE: &[Act] = &[
     Act::Put(Setting::Defaults, &[("a", "1")]),
     Act::Open(Setting::Reuses(false, true)),
@@ -55,12 +46,7 @@ const WITHOUT_A_TABLE: &[Act] = &[
     Act::IsDamaged,
 ];
 
-/// A live table that is missing, or there under another name.
-#[test]
-fn without_a_table(rt: HostRuntime) -> Result<()> {
-    play(&rt, rt.alloc(), WITHOUT_A_TABLE)
-}
-
+/// A log under another name of its number, which counts where that number is replayed; elsewhere it is an obsolete file.
 const MISNAMED_LOGS: &[Act] = &[
     Act::Put(Setting::Defaults, &[("a", "1")]),
     Act::Make("0004.log", b""),
@@ -72,17 +58,12 @@ const MISNAMED_LOGS: &[Act] = &[
     Act::HasFiles("000004.ldb:177 000005.log:0 CURRENT:16 LOCK:0 MANIFEST-000001:81 "),
 ];
 
-/// A log under another name of its number, which counts where that number is replayed; elsewhere it is an obsolete file.
-#[test]
-fn misnamed_logs(rt: HostRuntime) -> Result<()> {
-    play(&rt, rt.alloc(), MISNAMED_LOGS)
-}
-
 /// The rows of a log.
 const A: Row = (1, "a");
 
 const B: Row = (2, "b");
 
+/// A log after one that ends badly: it must be empty. A refused opening may leave a table that it made.
 const AFTER_A_BAD_END: &[Act] = &[
     Act::Open(Setting::Defaults),
     Act::Log("000003.log", &[A, B]),
@@ -95,12 +76,7 @@ const AFTER_A_BAD_END: &[Act] = &[
     Act::Holds("1: 1a"),
 ];
 
-/// A log after one that ends badly: it must be empty. A refused opening may leave a table that it made.
-#[test]
-fn after_a_bad_end(rt: HostRuntime) -> Result<()> {
-    play(&rt, rt.alloc(), AFTER_A_BAD_END)
-}
-
+/// Batches that don't rise from log to log.
 const OUT_OF_ORDER: &[Act] = &[
     Act::Open(Setting::Defaults),
     Act::Log("000003.log", &[B]),
@@ -108,12 +84,7 @@ const OUT_OF_ORDER: &[Act] = &[
     Act::Fails(Setting::Defaults, StatusCode::Corruption),
 ];
 
-/// Batches that don't rise from log to log.
-#[test]
-fn out_of_order(rt: HostRuntime) -> Result<()> {
-    play(&rt, rt.alloc(), OUT_OF_ORDER)
-}
-
+/// A manifest that is damaged from its first byte on, and one that is empty.
 const DAMAGED_MANIFESTS: &[Act] = &[
     Act::Put(Setting::Defaults, &[("a", "1")]),
     Act::Cut("MANIFEST-000001", 40),
@@ -122,8 +93,17 @@ const DAMAGED_MANIFESTS: &[Act] = &[
     Act::IsDamaged,
 ];
 
-/// A manifest that is damaged from its first byte on, and one that is empty.
+const REFUSALS: &[(&str, &[Act])] = &[
+    ("unwanted", UNWANTED),
+    ("missing", MISSING),
+    ("without a table", WITHOUT_A_TABLE),
+    ("misnamed logs", MISNAMED_LOGS),
+    ("after a bad end", AFTER_A_BAD_END),
+    ("out of order", OUT_OF_ORDER),
+    ("damaged manifests", DAMAGED_MANIFESTS),
+];
+
 #[test]
-fn damaged_manifests(rt: HostRuntime) -> Result<()> {
-    play(&rt, rt.alloc(), DAMAGED_MANIFESTS)
+fn refusals(rt: HostRuntime) -> Result<()> {
+    play_each(&rt, rt.alloc(), REFUSALS)
 }
