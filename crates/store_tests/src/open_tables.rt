@@ -1,6 +1,6 @@
 //! The tables that a store has open: with room for one of three, and for all of them.
-use crate::rooms::{Act, play_on};
-use crate::stores::{DefaultEngine, DefaultOptions, STORE, buffered};
+use crate::rooms::{self, Act};
+use crate::stores::{DefaultEngine, STORE, buffered};
 use leveldb_base::error::Result;
 use leveldb_env::mem_env::RecordEnv;
 use std::alloc::Global;
@@ -29,26 +29,25 @@ const THREE_TABLES: &[Act] = &[
     ),
 ];
 
-/// Plays this on a store of three tables.
-fn play_on_three(
+/// Plays this on a store of three tables that may have so many files open.
+fn play_on(
     rt: &impl Abort,
     alloc: Global,
     env: &mut RecordEnv,
-    options: DefaultOptions,
+    max_open_files: usize,
     acts: &[Act],
 ) -> Result<()> {
+    let mut options = buffered(1);
+    options.max_open_files = max_open_files;
     let mut engine = DefaultEngine::open(alloc, STORE, env, options)?;
-    play_on(rt, alloc, env, &mut engine, THREE_TABLES)?;
-    play_on(rt, alloc, env, &mut engine, acts)?;
+    rooms::play_on(rt, alloc, env, &mut engine, THREE_TABLES)?;
+    rooms::play_on(rt, alloc, env, &mut engine, acts)?;
     engine.abandon(env)
 }
 
-/// Plays this on a store of three tables that may have so many files open.
+/// Plays this on a device of its own.
 fn play(rt: &impl Abort, alloc: Global, max_open_files: usize, acts: &[Act]) -> Result<()> {
-    let mut options = buffered(1);
-    options.max_open_files = max_open_files;
-    let mut env = RecordEnv::new(alloc);
-    play_on_three(rt, alloc, &mut env, options, acts)
+    play_on(rt, alloc, &mut RecordEnv::new(alloc), max_open_files, acts)
 }
 
 const IN_ANY_ORDER: &[Act] = &[
