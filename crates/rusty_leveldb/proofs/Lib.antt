@@ -43,6 +43,7 @@ pub mod SnapshotLemmas
 pub mod CallsLemmas
 pub mod WalkCallLemmas
 mod IteratorLemmas
+mod IteratorLawsLemmas
 mod IteratingLemmas
 mod ScanLemmas
 pub mod WriteCallLemmas

@@ -125,16 +125,23 @@ is_one pairs (Some n) pair there = (n, refl)
 within_is : (pairs : List Pair) (n m : ℕ) → position_within pairs n ≡ Some m → m ≡ n
 within_is pairs n m is = grind (arith, common_steps)
 
-turned_back : (pairs : List Pair) (first second : Option ℕ) (here there : Pair) → pair_at pairs first ≡ Some here
+back_one : (n : ℕ) → previous_position (Some (n + 1)) ≡ Some n
+back_one n = grind (arith, common_steps)
+
+-- a step back from the pair after a position, where there is one, leads to it
+pub stepped_back : (pairs : List Pair) (position : Option ℕ) (there : Pair)
+    → pair_at pairs (next_position pairs position) ≡ Some there → previous_position (next_position pairs position) ≡ position
+stepped_back pairs None there at_there =
+    let m = is_one pairs (next_position pairs None) there at_there in
+    ap previous_position (m.1 ∙ ap Some (within_is pairs 0 m.0 m.1))
+stepped_back pairs (Some n) there at_there =
+    let m = is_one pairs (next_position pairs (Some n)) there at_there in
+    ap previous_position (m.1 ∙ ap Some (within_is pairs (n + 1) m.0 m.1)) ∙ back_one n
+
+turned_back : (pairs : List Pair) (first second : Option ℕ) (there : Pair)
     → second ≡ next_position pairs first → pair_at pairs second ≡ Some there → previous_position second ≡ first
-turned_back pairs first second here there at_here is at_there =
-    let n = is_one pairs first here at_here in
-    let m = is_one pairs second there at_there in
-    let after : m.0 ≡ n.0 + 1 = within_is pairs (n.0 + 1) m.0 (sym (is ∙ ap (next_position pairs) n.1) ∙ m.1) in
-    ap previous_position (m.1 ∙ ap Some after) ∙ back_one n.0 ∙ sym n.1
-  where
-    back_one : (n : ℕ) → previous_position (Some (n + 1)) ≡ Some n
-    back_one n = grind (arith, common_steps)
+turned_back pairs first second there is at_there =
+    ap previous_position is ∙ stepped_back pairs first there (ap (pair_at pairs) (sym is) ∙ at_there)
 
 back_at : (old : State) (request : Request) (pairs : List Pair) (setting : Setting) (position : Option ℕ) (one : Move) (here there : Pair) (back : Landing)
     → Moves setting old request pairs position (one ∷ advance ∷ prev ∷ []) (stands_on here ∷ stands_on there ∷ back ∷ [])
@@ -142,12 +149,12 @@ back_at : (old : State) (request : Request) (pairs : List Pair) (setting : Setti
 back_at old request pairs setting position one here there (stands_on pair) moves landed =
     let second = moves.4 in
     let third = second.4 in
-    let turned : third.2 ≡ moves.2 = third.3.1 ∙ turned_back pairs moves.2 second.2 here there moves.3.2 second.3.1 second.3.2 in
+    let turned : third.2 ≡ moves.2 = third.3.1 ∙ turned_back pairs moves.2 second.2 there second.3.1 second.3.2 in
     ap stands_on (one_some (sym third.3.2 ∙ ap (pair_at pairs) turned ∙ moves.3.2))
 back_at old request pairs setting position one here there nowhere moves landed =
     let second = moves.4 in
     let third = second.4 in
-    let turned : None ≡ moves.2 = sym third.3.1 ∙ turned_back pairs moves.2 second.2 here there moves.3.2 second.3.1 second.3.2 in
+    let turned : None ≡ moves.2 = sym third.3.1 ∙ turned_back pairs moves.2 second.2 there second.3.1 second.3.2 in
     absurd (some_is_not_none (sym moves.3.2 ∙ sym (ap (pair_at pairs) turned)))
 back_at old request pairs setting position one here there (move_refused refusal) moves landed = absurd landed
 

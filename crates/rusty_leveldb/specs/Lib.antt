@@ -12,6 +12,7 @@ pub mod Calls
 pub mod Views
 pub mod Walks
 pub mod Iterator
+pub mod IteratorLaws
 pub mod Shell
 pub mod Lives
 pub mod Language

@@ -1,6 +1,7 @@
 //! The laws of the store's machine, as contracts of functions that do nothing.
 
 ghost use Rattle.rusty_leveldb.specs.Iterator.{ScanGivesPairs};
+ghost use Rattle.rusty_leveldb.specs.IteratorLaws.{PrevUndoesNext};
 ghost use Rattle.rusty_leveldb.specs.Laws.{OneReading, NothingStands, CrashBetween, CrashInside, CrashSince, RefusalHasCause, StepFits, CrashFits, CrashInsideFits, LivesFit, DurableStays, SyncedStays, EachAnswerParts, HistoryIsAsked, MoreIsAsked, SyncedIsRead, ViewsStay, HeldStays, SnapshotIsRead, ForwardWalkGivesView, PrevUndoesAdvance, SyncedCanBeFound};
 
 use leveldb_base::cmp::{Cmp, UserCmp};
@@ -97,6 +98,18 @@ pub fn scans_give_the_pairs<
     V: Walk<E, ReadTables<'a, E, C, FP, K>>,
 >()
     ensures { ScanGivesPairs E.Env C.Cmp FP.FilterPolicy K.codings V.Walk }
+{}
+
+/// A move of an iterator forward and then one back lead to where it was.
+pub fn moves_back_undo_moves_forward<
+    'a,
+    E: Env + 'a,
+    C: UserCmp + Copy + Drop + 'a,
+    FP: FilterPolicy + Copy + Drop + 'a,
+    K: ReadsTables<E, C, FP> + 'a,
+    V: Walk<E, ReadTables<'a, E, C, FP, K>>,
+>()
+    ensures { PrevUndoesNext E.Env C.Cmp FP.FilterPolicy K.codings V.Walk }
 {}
 
 /// The machine's rows can be met: there are lives in which a value that was written with a sync
