@@ -1,6 +1,6 @@
 -- Moves of an iterator that undo one another.
-use Rattle.std.proofs.Common.{◌∙◌, ap, sym, subst}
-use Rattle.leveldb_base.specs.Types.{Pair, next_position, pair_at}
+use Rattle.std.proofs.Common.{◌∙◌, sym, subst}
+use Rattle.leveldb_base.specs.Types.{next_position}
 use Rattle.leveldb_base.specs.declared.cmp.Cmp.{Ghosts as CmpGhosts}
 use Rattle.leveldb_env.specs.Compressor.{Codings}
 use Rattle.leveldb_env.specs.declared.env.Env.{Ghosts}

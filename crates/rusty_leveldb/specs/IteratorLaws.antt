@@ -1,5 +1,5 @@
 -- What follows of moves of an iterator, one after another.
-use Rattle.std.specs.Prelude.{◌≡◌, Bool, true, List, Option, Some, Ok}
+use Rattle.std.specs.Prelude.{◌≡◌, Bool, true, List, Option, Some, Ok, ℕ}
 use Rattle.leveldb_base.specs.Types.{Pair, next_position, previous_position}
 use Rattle.leveldb_base.specs.declared.cmp.Cmp.{Ghosts as CmpGhosts}
 use Rattle.leveldb_env.specs.Compressor.{Codings}
