@@ -1,4 +1,5 @@
 //! Batches one after another: what is then found, and the numbers in the log.
+use crate::stores::opened;
 use leveldb_base::cmp::DefaultCmp;
 use leveldb_base::error::{Result, StatusCode};
 use leveldb_base::key_types::ValueType;
@@ -109,11 +110,11 @@ fn write_one(
 
 /// Gives a store these batches, one after another.
 fn write_all(rt: &impl Abort, alloc: Global, env: &mut MemEnv, steps: &[Step]) -> Result<()> {
-    let mut engine = Engine::open(alloc, "db", env, Options::default())?;
+    let mut engine = opened(alloc, env, Options::default())?;
     for step in steps {
         write_one(rt, alloc, env, &mut engine, step)?;
     }
-    engine.abandon(env)
+    Box::into_inner(engine).abandon(env)
 }
 
 /// Makes a store whose one batch begins at this number.

@@ -1,11 +1,12 @@
 //! Iterators over a store: in memory, over tables, and at a snapshot.
+use crate::stores::{DefaultDB, opened_db};
 use leveldb_base::cmp::DefaultCmp;
 use leveldb_base::error::{Result, StatusCode};
 use leveldb_env::filter::BloomPolicy;
-use rusty_leveldb::{DB, DBIterator, MemEnv, Options, Snapshot};
+use rusty_leveldb::{DBIterator, MemEnv, Options, Snapshot};
 use std::alloc::Global;
 
-type Store<'a> = DB<'a, MemEnv, DefaultCmp, BloomPolicy>;
+type Store<'a> = DefaultDB<'a, MemEnv>;
 
 type Places<'a> = DBIterator<'a, MemEnv, DefaultCmp, BloomPolicy>;
 
@@ -37,6 +38,11 @@ fn is_pair(pair: Option<(&[u8], &[u8])>, key: &[u8], value: &[u8]) -> bool {
     }
 }
 
+/// An iterator over the store, in a box: what owns it drops it by one call.
+fn iterate<'a>(alloc: Global, db: &'a mut Store) -> Result<Box<Places<'a>>> {
+    Ok(Box::new(alloc, db.new_iter()?)?)
+}
+
 /// Puts three keys, and deletes the second.
 fn put_and_delete(db: &mut Store) -> Result<()> {
     db.put(b"a", b"1")?;
@@ -59,9 +65,9 @@ fn turns_at_both_ends(it: &mut Places) -> Result<bool> {
 fn moves_turn_at_both_ends(rt: HostRuntime) -> Result<()> {
     let alloc = rt.alloc();
     let mut env = MemEnv::new(alloc);
-    let mut db = DB::open(alloc, "db", &mut env, Options::default())?;
+    let mut db = opened_db(alloc, &mut env, Options::default())?;
     put_and_delete(&mut db)?;
-    let mut it = db.new_iter()?;
+    let mut it = iterate(alloc, &mut db)?;
     assert!(rt; turns_at_both_ends(&mut it)?);
     Ok(())
 }
@@ -70,9 +76,9 @@ fn moves_turn_at_both_ends(rt: HostRuntime) -> Result<()> {
 fn empty_key_and_value(rt: HostRuntime) -> Result<()> {
     let alloc = rt.alloc();
     let mut env = MemEnv::new(alloc);
-    let mut db = DB::open(alloc, "db", &mut env, Options::default())?;
+    let mut db = opened_db(alloc, &mut env, Options::default())?;
     db.put(b"", b"")?;
-    let mut it = db.new_iter()?;
+    let mut it = iterate(alloc, &mut db)?;
     it.seek(b"")?;
     assert!(rt; is_pair(it.current(), b"", b""));
     it.reset();
@@ -107,9 +113,9 @@ fn next_over_tables_and_memory(rt: HostRuntime) -> Result<()> {
     let mut env = MemEnv::new(rt.alloc());
     let mut options = Options::default();
     options.write_buffer_size = WRITE_BUFFER_SIZE;
-    let mut db = DB::open(rt.alloc(), "db", &mut env, options)?;
+    let mut db = opened_db(rt.alloc(), &mut env, options)?;
     put_all(&mut db)?;
-    let mut it = db.new_iter()?;
+    let mut it = iterate(rt.alloc(), &mut db)?;
     assert!(rt; pairs_after(rt.alloc(), &mut it)?.as_slice() == b"a9b4c7d6e3f8g0".as_slice());
     assert!(rt; !it.valid());
     Ok(())
@@ -119,7 +125,7 @@ fn next_over_tables_and_memory(rt: HostRuntime) -> Result<()> {
 fn iterator_at_a_snapshot(rt: HostRuntime) -> Result<()> {
     let alloc = rt.alloc();
     let mut env = MemEnv::new(alloc);
-    let mut db = DB::open(alloc, "db", &mut env, Options::default())?;
+    let mut db = opened_db(alloc, &mut env, Options::default())?;
     db.put(b"a", b"1")?;
     let snapshot = db.get_snapshot()?;
     db.put(b"a", b"2")?;
@@ -157,12 +163,12 @@ fn refused_at_a_released_snapshot(db: &mut Store) -> Result<bool> {
 #[test]
 fn refused_iterator_leaves_the_store(rt: HostRuntime) -> Result<()> {
     let mut env = MemEnv::new(rt.alloc());
-    let mut db = DB::open(rt.alloc(), "db", &mut env, Options::default())?;
+    let mut db = opened_db(rt.alloc(), &mut env, Options::default())?;
     assert!(rt; refused_at_a_released_snapshot(&mut db)?);
     db.close()?;
     drop(db);
-    let mut db = DB::open(rt.alloc(), "db", &mut env, Options::default())?;
-    let mut it = db.new_iter()?;
+    let mut db = opened_db(rt.alloc(), &mut env, Options::default())?;
+    let mut it = iterate(rt.alloc(), &mut db)?;
     it.seek_to_first()?;
     assert!(rt; is_pair(it.current(), b"a", b"2"));
     Ok(())

@@ -1,6 +1,6 @@
 //! The tables that a store has open: with room for one of three, and for all of them.
 use crate::rooms::{self, Act};
-use crate::stores::{DefaultEngine, STORE, buffered};
+use crate::stores::{buffered, opened};
 use leveldb_base::error::Result;
 use leveldb_env::mem_env::RecordEnv;
 use std::alloc::Global;
@@ -39,10 +39,10 @@ fn play_on(
 ) -> Result<()> {
     let mut options = buffered(1);
     options.max_open_files = max_open_files;
-    let mut engine = DefaultEngine::open(alloc, STORE, env, options)?;
+    let mut engine = opened(alloc, env, options)?;
     rooms::play_on(rt, alloc, env, &mut engine, THREE_TABLES)?;
     rooms::play_on(rt, alloc, env, &mut engine, acts)?;
-    engine.abandon(env)
+    Box::into_inner(engine).abandon(env)
 }
 
 /// Plays this on a device of its own.

@@ -1,9 +1,7 @@
 //! Which files openings leave, and what they hold.
 use crate::acts::{Act, Setting, play_each};
 use crate::crash_disks::{Side, Tails, crash};
-use crate::stores::{
-    DefaultEngine, STORE, contents_of, file_bytes, has_files, reopen, reusing, store_of,
-};
+use crate::stores::{STORE, contents_of, file_bytes, has_files, opened, reopen, reusing, store_of};
 use leveldb_base::error::Result;
 use leveldb_env::mem_env::{Pick, RecordEnv};
 use leveldb_env::options::Options;
@@ -126,7 +124,7 @@ fn openings(rt: HostRuntime) -> Result<()> {
 
 /// The value of k, after these bytes.
 fn append_value(alloc: Global, env: &mut RecordEnv, found: &mut Vec<u8>) -> Result<()> {
-    let mut engine = DefaultEngine::open(alloc, STORE, env, Options::default())?;
+    let mut engine = opened(alloc, env, Options::default())?;
     if let Some(value) = engine.get(env, b"k")? {
         found.extend_from_slice(value.as_slice())?;
     }
@@ -157,7 +155,7 @@ fn count_crashes(alloc: Global, env: &RecordEnv, from: u64) -> Result<(u64, u64,
 
 /// Puts 1 for k in a store that is closed then.
 fn put_and_close(alloc: Global, env: &mut RecordEnv) -> Result<()> {
-    let mut engine = DefaultEngine::open(alloc, STORE, env, Options::default())?;
+    let mut engine = opened(alloc, env, Options::default())?;
     engine.put(env, b"k", b"1")?;
     engine.close(env)
 }

@@ -1,8 +1,8 @@
 //! A store with a memtable of one byte: each write but the first makes a table of the batch before.
 use crate::steps::Change;
 use crate::stores::{
-    DefaultEngine, DefaultOptions, STORE, batch_of, buffered, damage_file, failed_with, has_files,
-    has_levels, holds, put_all, reopen,
+    DefaultEngine, DefaultOptions, batch_of, buffered, damage_file, failed_with, has_files,
+    has_levels, holds, opened, put_all, reopen,
 };
 use leveldb_base::error::{Result, StatusCode};
 use leveldb_env::env::Env;
@@ -50,9 +50,9 @@ fn finds_in_memory(
 
 /// Whether these are the bytes of the keys a, b and c in a store that is opened for that.
 fn finds_again(alloc: Global, env: &mut RecordEnv, wanted: &str) -> Result<bool> {
-    let mut engine = DefaultEngine::open(alloc, STORE, env, Options::default())?;
+    let mut engine = opened(alloc, env, Options::default())?;
     let is_right = finds(env, &mut engine, "abc", wanted)?;
-    engine.abandon(env)?;
+    Box::into_inner(engine).abandon(env)?;
     Ok(is_right)
 }
 
@@ -147,9 +147,9 @@ pub fn play_on(
 /// The device of a store with a memtable of one byte, for which all this was done, and which gave back its lock.
 fn played(rt: &impl Abort, alloc: Global, acts: &[Act]) -> Result<RecordEnv> {
     let mut env = RecordEnv::new(alloc);
-    let mut engine = DefaultEngine::open(alloc, STORE, &mut env, buffered(1))?;
+    let mut engine = opened(alloc, &mut env, buffered(1))?;
     play_on(rt, alloc, &mut env, &mut engine, acts)?;
-    engine.abandon(&mut env)?;
+    Box::into_inner(engine).abandon(&mut env)?;
     Ok(env)
 }
 
@@ -351,8 +351,8 @@ fn failing_later(
     env: &mut RecordEnv,
     options: DefaultOptions,
     nth: u64,
-) -> Result<RecordEngine> {
-    let mut engine = DefaultEngine::open(alloc, STORE, env, options)?;
+) -> Result<Box<RecordEngine>> {
+    let mut engine = opened(alloc, env, options)?;
     engine.put(env, b"a", b"1")?;
     env.fail(nth, false);
     Ok(engine)

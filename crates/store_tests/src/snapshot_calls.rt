@@ -1,14 +1,12 @@
 //! Snapshots: what is read at them, and those that aren't held.
-use crate::stores::{DefaultEngine, STORE, buffered};
-use leveldb_base::cmp::DefaultCmp;
+use crate::stores::{DefaultDB, DefaultEngine, buffered, opened, opened_db};
 use leveldb_base::error::{Result, StatusCode};
-use leveldb_env::filter::BloomPolicy;
 use leveldb_env::mem_env::MemEnv;
-use rusty_leveldb::{DB, Options, Snapshot};
+use rusty_leveldb::{Options, Snapshot};
 use std::alloc::Global;
 use std::process::Abort;
 
-type Store<'a> = DB<'a, MemEnv, DefaultCmp, BloomPolicy>;
+type Store<'a> = DefaultDB<'a, MemEnv>;
 
 /// The value of `k` at a snapshot, or `-`; or `!` where that is `InvalidArgument`.
 fn seen_at(engine: &mut DefaultEngine<MemEnv>, env: &mut MemEnv, snapshot: Snapshot) -> Result<u8> {
@@ -74,7 +72,7 @@ fn see_until_released(
 /// Snapshots of a store with a memtable of so many bytes.
 fn see_in_a_store(rt: &impl Abort, alloc: Global, size: usize) -> Result<()> {
     let mut env = MemEnv::new(alloc);
-    let mut engine = DefaultEngine::open(alloc, STORE, &mut env, buffered(size))?;
+    let mut engine = opened(alloc, &mut env, buffered(size))?;
     see_until_released(rt, &mut engine, &mut env)
 }
 
@@ -102,11 +100,11 @@ fn closed_after_a_snapshot(db: &mut Store) -> Result<(Snapshot, bool)> {
 #[test]
 fn opened_again(rt: HostRuntime) -> Result<()> {
     let mut env = MemEnv::new(rt.alloc());
-    let mut db = DB::open(rt.alloc(), STORE, &mut env, Options::default())?;
+    let mut db = opened_db(rt.alloc(), &mut env, Options::default())?;
     let (snapshot, is_seen) = closed_after_a_snapshot(&mut db)?;
     assert!(rt; is_seen);
     drop(db);
-    let mut db = DB::open(rt.alloc(), STORE, &mut env, Options::default())?;
+    let mut db = opened_db(rt.alloc(), &mut env, Options::default())?;
     assert!(rt; db.get_at(&snapshot, b"k").is_err());
     db.close()
 }

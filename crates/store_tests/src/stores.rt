@@ -11,6 +11,7 @@ use leveldb_env::options::Options;
 use leveldb_mem::log::LogWriter;
 use leveldb_mem::write_batch::WriteBatch;
 use leveldb_version::version_set::VersionSet;
+use rusty_leveldb::DB;
 use rusty_leveldb::db_impl::Engine;
 use slow_history::Entry;
 use slow_store::read_store;
@@ -22,6 +23,8 @@ pub const STORE: &str = "db";
 pub type DefaultOptions = Options<DefaultCmp, BloomPolicy>;
 
 pub type DefaultEngine<E> = Engine<E, DefaultCmp, BloomPolicy>;
+
+pub type DefaultDB<'e, E> = DB<'e, E, DefaultCmp, BloomPolicy>;
 
 /// Options that use on, or not, the last log and the manifest.
 pub fn reusing(logs: bool, manifest: bool) -> DefaultOptions {
@@ -36,6 +39,24 @@ pub fn buffered(write_buffer_size: usize) -> DefaultOptions {
     let mut options = Options::default();
     options.write_buffer_size = write_buffer_size;
     options
+}
+
+/// An engine on this device, in a box: what owns one drops it by one call, and not by one for each of its parts, so its proof is short.
+pub fn opened<E: Env>(
+    alloc: Global,
+    env: &mut E,
+    options: DefaultOptions,
+) -> Result<Box<DefaultEngine<E>>> {
+    Ok(Box::new(alloc, Engine::open(alloc, STORE, env, options)?)?)
+}
+
+/// A store on this device, in a box for the same reason.
+pub fn opened_db<E: Env>(
+    alloc: Global,
+    env: &mut E,
+    options: DefaultOptions,
+) -> Result<Box<DefaultDB<'_, E>>> {
+    Ok(Box::new(alloc, DB::open(alloc, STORE, env, options)?)?)
 }
 
 /// Opens the store, and gives back its lock at once.
