@@ -3,10 +3,13 @@ import importlib.machinery
 import importlib.util
 import os
 import pathlib
+import re
 import shutil
 
 TOP = pathlib.Path(__file__).resolve().parent.parent
 FLAGS = ["--jobs", "1"]
+# a check's line on a function: its name, its state, and more of it
+STATE = re.compile(r"^fn (\S+): (proved|not proved|no proof)(.*)$", re.MULTILINE)
 
 
 def load_rt():
@@ -28,3 +31,17 @@ def crate_named(rt, name):
 def build_below(crate):
     """Builds the libraries below the crate that aren't built, and returns whether all are."""
     return not any(it.build_rlib(FLAGS, anew=False) for it in crate.below())
+
+
+def read_edits(file):
+    """Returns the lines of each edit of a file by its name, or raises ValueError where two have one name."""
+    edits, name = {}, None
+    for line in file.read_text(encoding="utf-8").splitlines():
+        if line.startswith("== "):
+            name = line[3:].strip()
+            if name in edits:
+                raise ValueError(f"{file}: two edits have the name {name}")
+            edits[name] = ""
+        elif name and line and not line.startswith("#"):
+            edits[name] += line + "\n"
+    return edits
