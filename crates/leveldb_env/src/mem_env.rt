@@ -22,7 +22,6 @@ use std::alloc::{AllocError, Global};
 use std::collections::{BTreeMap, BTreeSet};
 
 /// A disk in memory. Each call is done at once or, if it is out of memory, not at all.
-#[derive(Drop)]
 pub struct MemEnv {
     alloc: Global,
     files: FileMap,
@@ -30,6 +29,19 @@ pub struct MemEnv {
     locks: BTreeSet<String>,
     // the time that it returns, in microseconds
     micros: u64,
+}
+
+impl Drop for MemEnv {
+    fn drop(self) {
+        let MemEnv {
+            alloc: _,
+            files,
+            locks,
+            micros: _,
+        } = self;
+        drop(files);
+        drop(locks);
+    }
 }
 
 /// An open file of a `MemEnv`.

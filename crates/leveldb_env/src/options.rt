@@ -13,7 +13,6 @@ use leveldb_base::error::{Result, StatusCode, err};
 use std::alloc::Global;
 
 /// What a store is opened with: its comparator, its filter policy, its compressors and its choices.
-#[derive(Drop)]
 pub struct Options<C, FP> {
     /// The order of users' keys.
     pub cmp: C,
@@ -62,6 +61,34 @@ pub struct Options<C, FP> {
 
     /// Whether the manifest goes on to be used, if its end is clean and it isn't long.
     pub reuse_manifest: bool,
+}
+
+impl<C: Drop, FP: Drop> Drop for Options<C, FP> {
+    // One call for whoever drops them, in place of one for each of them.
+    fn drop(self) {
+        let Options {
+            cmp,
+            filter_policy,
+            log,
+            create_if_missing: _,
+            error_if_exists: _,
+            paranoid_checks: _,
+            write_buffer_size: _,
+            max_open_files: _,
+            max_file_size: _,
+            block_cache_capacity_bytes: _,
+            block_size: _,
+            block_restart_interval: _,
+            compressor: _,
+            compressor_list,
+            reuse_logs: _,
+            reuse_manifest: _,
+        } = self;
+        drop(cmp);
+        drop(filter_policy);
+        drop(log);
+        drop(compressor_list);
+    }
 }
 
 impl Options<DefaultCmp, BloomPolicy> {

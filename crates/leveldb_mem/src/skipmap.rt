@@ -34,12 +34,20 @@ const SEED: u64 = 0xdeadbeef;
 /// Pairs whose keys rise strictly. Each of them is accepted by the comparator, and none is empty.
 /// It is a skip list, so a search, an insertion and a step back take a number of comparisons that
 /// grows with the logarithm of the number of pairs.
-#[derive(Drop)]
 pub struct SkipMap<C: Cmp> {
     cmp: C,
     pairs: PlacedPairs,
     // what the heights of towers are drawn from
     rng: Xoshiro256PlusPlus,
+}
+
+impl<C: Cmp + Drop> Drop for SkipMap<C> {
+    // One call for whoever drops one, in place of one for each part of it.
+    fn drop(self) {
+        let SkipMap { cmp, pairs, rng: _ } = self;
+        drop(cmp);
+        drop(pairs);
+    }
 }
 
 impl<C: Cmp> Model for SkipMap<C> {

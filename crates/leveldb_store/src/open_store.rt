@@ -31,7 +31,6 @@ pub(crate) struct OpenLog<E: Env> {
 }
 
 /// A store that is open, without its lock and its environment, which each call is given.
-#[derive(Drop)]
 pub struct OpenStore<E: Env, C: Cmp> {
     pub(crate) alloc: Global,
     // The store's path.
@@ -45,6 +44,29 @@ pub struct OpenStore<E: Env, C: Cmp> {
     pub(crate) recent: MemTable<C>,
     // Those of the logs before it, until they are in a table.
     pub(crate) waiting: Option<MemTable<C>>,
+}
+
+impl<E: Env, C: Cmp + Drop> Drop for OpenStore<E, C> {
+    // One call for whoever drops one, in place of one for each part of it.
+    fn drop(self) {
+        let OpenStore {
+            alloc: _,
+            name,
+            cmp,
+            versions,
+            current,
+            log,
+            recent,
+            waiting,
+        } = self;
+        drop(name);
+        drop(cmp);
+        drop(versions);
+        drop(current);
+        drop(log);
+        drop(recent);
+        drop(waiting);
+    }
 }
 
 impl<E: Env, C: Cmp> Model for OpenStore<E, C> {

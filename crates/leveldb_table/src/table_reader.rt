@@ -41,7 +41,6 @@ pub use iter::TableIterator;
 pub use walk::{TableCore, TableStep};
 
 /// An open table: its file, its index, and its filters where it has some under the policy's name.
-#[derive(Drop)]
 pub struct Table<E: Env, C: Cmp, FP: FilterPolicy> {
     cmp: C,
     file: E::File,
@@ -51,6 +50,24 @@ pub struct Table<E: Env, C: Cmp, FP: FilterPolicy> {
     footer: Footer,
     index: Block<C>,
     filters: Option<FilterBlockReader<FP>>,
+}
+
+impl<E: Env, C: Cmp + Drop, FP: FilterPolicy + Drop> Drop for Table<E, C, FP> {
+    // One call for whoever drops one, in place of one for each part of it.
+    fn drop(self) {
+        let Table {
+            cmp,
+            file,
+            id: _,
+            footer: _,
+            index,
+            filters,
+        } = self;
+        drop(cmp);
+        drop(file);
+        drop(index);
+        drop(filters);
+    }
 }
 
 impl<E: Env, C: UserCmp + Copy + Drop, FP: FilterPolicy + Copy + Drop> Table<

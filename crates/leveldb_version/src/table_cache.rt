@@ -33,7 +33,6 @@ const OTHER_FILES: usize = 10;
 /// environment and the options. Each table that is opened gets an id, under which its blocks are
 /// kept; where ids are used up, the cache begins anew, with no table open and no block in memory.
 /// It keeps the key of the pair that was found last.
-#[derive(Drop)]
 pub struct TableCache<E: Env, C: UserCmp + Copy + Drop, FP: FilterPolicy + Copy + Drop>
 where
     InternalKeyCmp<C>: Cmp,
@@ -43,6 +42,26 @@ where
     tables: Cache<Table<E, InternalKeyCmp<C>, InternalFilterPolicy<FP>>>,
     blocks: BlockCache<InternalKeyCmp<C>>,
     finder: Finder,
+}
+
+impl<E: Env, C: UserCmp + Copy + Drop, FP: FilterPolicy + Copy + Drop> Drop for TableCache<E, C, FP>
+where
+    InternalKeyCmp<C>: Cmp,
+{
+    // One call for whoever drops one, in place of one for each part of it.
+    fn drop(self) {
+        let TableCache {
+            alloc: _,
+            store,
+            tables,
+            blocks,
+            finder,
+        } = self;
+        drop(store);
+        drop(tables);
+        drop(blocks);
+        drop(finder);
+    }
 }
 
 impl<E: Env, C: UserCmp + Copy + Drop, FP: FilterPolicy + Copy + Drop> TableCache<E, C, FP> {

@@ -12,7 +12,6 @@ use std::collections::BTreeSet;
 /// A disk in memory that counts its calls and keeps a journal of those that ask for a change. A
 /// call that is chosen before fails, with its change made or not. Calls past the first 2^62 - 1
 /// fail, are not counted and change nothing.
-#[derive(Drop)]
 pub struct RecordEnv {
     alloc: Global,
     journal: Journal,
@@ -25,6 +24,22 @@ pub struct RecordEnv {
     // how many calls the device has failed
     failures: u64,
     ghost counted: { failures < 2 ^ 64 },
+}
+
+impl Drop for RecordEnv {
+    // One call for whoever drops one, in place of one for each part of it.
+    fn drop(self) {
+        let RecordEnv {
+            alloc: _,
+            journal,
+            locks,
+            fails_in: _,
+            fails_done: _,
+            failures: _,
+        } = self;
+        drop(journal);
+        drop(locks);
+    }
 }
 
 const STILL_TO_COME: &str = "that moment is still to come";

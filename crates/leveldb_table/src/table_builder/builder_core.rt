@@ -38,7 +38,6 @@ const BLOCK_SPARE: usize = 64;
 
 /// What a builder knows of its table, without the sink that the table moves to and the list of
 /// compressors: each call is given these. A call that fails breaks the builder.
-#[derive(Drop)]
 pub struct BuilderCore<C: Cmp, FP: FilterPolicy> {
     alloc: Global,
     block_size: usize,
@@ -66,6 +65,26 @@ pub struct BuilderCore<C: Cmp, FP: FilterPolicy> {
             IsSound-prop (C.accepts block.cmp) (C.cmp block.cmp) (C.cmp index.cmp)
             (stage_of filter offset (pairs_of None index.built.0)
             (pairs_of None block.built.0) count block.interval index.interval) (u h) (v h) i },
+}
+
+impl<C: Cmp + Drop, FP: FilterPolicy + Drop> Drop for BuilderCore<C, FP> {
+    // One call for whoever drops one, in place of one for each part of it.
+    fn drop(self) {
+        let BuilderCore {
+            alloc: _,
+            block_size: _,
+            compressor: _,
+            block,
+            index,
+            filter,
+            offset: _,
+            count: _,
+            broken: _,
+        } = self;
+        drop(block);
+        drop(index);
+        drop(filter);
+    }
 }
 
 impl<C: Cmp + Copy, FP: FilterPolicy> BuilderCore<C, FP> {

@@ -29,7 +29,6 @@ use std::mem;
 
 /// A position in a table, or none. Each move is given the table, always the same one, the `Env`
 /// that has its file, the cache of blocks and the compressors.
-#[derive(Drop)]
 pub struct TableCore<C: Cmp> {
     alloc: Global,
 
@@ -39,6 +38,21 @@ pub struct TableCore<C: Cmp> {
 
     // the room for a key of the next block
     room: Vec<u8>,
+}
+
+impl<C: Cmp + Drop> Drop for TableCore<C> {
+    // One call for whoever drops one, in place of one for each part of it.
+    fn drop(self) {
+        let TableCore {
+            alloc: _,
+            index,
+            inner,
+            room,
+        } = self;
+        drop(index);
+        drop(inner);
+        drop(room);
+    }
 }
 
 /// A move that may leave the block where a walk over a table is.
