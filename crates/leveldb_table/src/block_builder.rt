@@ -17,6 +17,7 @@ use leveldb_env::options::Options;
 use std::alloc::Global;
 
 /// Pairs in strictly rising order, put into the bytes of a block.
+#[derive(Drop)]
 pub struct BlockBuilder<C: Cmp> {
     cmp: C,
     interval: usize,
@@ -32,25 +33,6 @@ pub struct BlockBuilder<C: Cmp> {
     pub ghost built: { HasEntriesBuilt (C.cmp cmp) interval buffer.items points.items
         last_key.items count begun } by { HasEntriesBuilt-prop
             (C.cmp cmp) interval buffer.items points.items last_key.items count begun },
-}
-
-impl<C: Cmp + Drop> Drop for BlockBuilder<C> {
-    // One call for whoever drops one, in place of one for each part of it.
-    fn drop(self) {
-        let BlockBuilder {
-            cmp,
-            interval: _,
-            buffer,
-            points,
-            last_key,
-            count: _,
-            begun: _,
-        } = self;
-        drop(cmp);
-        drop(buffer);
-        drop(points);
-        drop(last_key);
-    }
 }
 
 impl<C: Cmp> BlockBuilder<C> {
