@@ -2,7 +2,7 @@
 -- fails.
 use Rattle.std.specs.Prelude.{IfErr, Result, codes, IfSome, string_bytes, String}
 use Rattle.std.specs.declared.alloc.Global.{Global}
-use Rattle.std.proofs.Common.{◌≡◌, ◌⊎◌, ◌∙◌, ⊎_elim, inl, inr, ℕ, true, false, List, [], refl, sym, ap, subst, arith, Option, Some, None, Ok, Err}
+use Rattle.std.proofs.Common.{◌≡◌, ◌⊎◌, ◌∙◌, ⊎_elim, inl, inr, ℕ, false, List, [], refl, sym, ap, subst, arith, Option, Some, None, Ok, Err}
 use Rattle.leveldb_base.specs.Error.{IsOutOfMemory, text_of}
 use Rattle.leveldb_base.specs.declared.error.Status.{Status}
 use Rattle.leveldb_base.specs.declared.error.StatusCode.TheVariants.{InvalidArgument, NotSupported}

@@ -1,7 +1,7 @@
 -- What an engine's memory has to do with the disk and the state: its mode, and how what the calls on
 -- its store leave is a step of the machine.
 use Rattle.std.specs.Prelude.{Contains}
-use Rattle.std.proofs.Common.{◌≡◌, ◌≢◌, ◌≤◌, ◌+◌, ◌⊎◌, ◌∙◌, ⊎_elim, inl, inr, ℕ, Bool, true, false, List, length, refl, sym, ap, subst, arith, Option, Some, None, IsTrue}
+use Rattle.std.proofs.Common.{◌≡◌, ◌≤◌, ◌+◌, ◌∙◌, ⊎_elim, inl, inr, ℕ, true, false, List, length, refl, sym, ap, subst, arith, Option, Some, None, IsTrue}
 use Rattle.std.specs.declared.cmp.Ordering.{Ordering}
 use Rattle.leveldb_base.specs.History.{Entry, History, count_of, entries_of, greatest, with_batch}
 use Rattle.leveldb_env.specs.Env.{Files, Observed, Run}

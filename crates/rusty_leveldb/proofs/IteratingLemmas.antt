@@ -18,6 +18,7 @@ use Rattle.leveldb_version.specs.Format.{Agrees, Format, IsTableFault, Meaning, 
 use Rattle.leveldb_version.specs.TableCache.{TableOptions, files_at}
 use Rattle.leveldb_version.specs.declared.table_cache.TableCache.{TableCache}
 use Rattle.leveldb_version.specs.declared.table_cache.moves.ReadTables.{ReadTables}
+use Rattle.leveldb_store.specs.OpenStore.{OpenStoreValue}
 use Rattle.leveldb_store.specs.Read.{HasOpenTables}
 use Rattle.leveldb_store.specs.View.{FailsBetween, IsOfNoCompressor, IsWorldOf, ShowsIn, options_in}
 use Rattle.leveldb_store.specs.Written.{Shows}
@@ -30,6 +31,18 @@ use Rattle.rusty_leveldb.specs.Serves.{Represents}
 use Rattle.rusty_leveldb.specs.State as machine
 use Rattle.rusty_leveldb.specs.State.{Snapshot, State}
 use Rattle.rusty_leveldb.specs.declared.db_iter.StoreIterator.{StoreIterator}
+
+-- what an iterator borrows is the environment that it was given
+pub made_reference : {E C FP F K V : Type 0} {keys : InternalOrder C} (env : Ghosts E F)
+    (cmp : CmpGhosts C) (filters : FilterGhosts FP) (codings : K → Codings)
+    (walk : WalkGhosts V E (ReadTables E C FP K F keys)) (value : OpenStoreValue C) (policy : FP)
+    (compressors : K) (environment : MutBor E) (tables : TableCache E C FP F keys) (sequence : ℕ)
+    (r : Result (StoreIterator E C FP K V F keys) Status)
+    → IfOk r (IsMadeOver env cmp filters codings walk value policy compressors environment tables sequence)
+    → IfOk r (λ it. it.env.ghost_name ≡ environment.ghost_name)
+made_reference env cmp filters codings walk value policy compressors environment tables sequence (Ok it) made =
+    made.reference
+made_reference env cmp filters codings walk value policy compressors environment tables sequence (Err e) made = tt
 
 module _ {E C FP F V : Type 0} {B : Boxed} {keys : InternalOrder C} (env : Ghosts E F) (cmp : CmpGhosts C) (filters : FilterGhosts FP)
     (codings : CompressorList B.compressors B.compressor → Codings)
@@ -179,13 +192,6 @@ module _ {E C FP F V : Type 0} {B : Boxed} {keys : InternalOrder C} (env : Ghost
       refused = λ why. never usable sequence reads_at why;
       cause = tt;
     }
-
-  -- what it borrows is the environment that it was given
-  pub made_reference : (policy : FP) (compressors : CompressorList B.compressors B.compressor) (environment : MutBor E) (tables : TableCache E C FP F keys) (sequence : ℕ)
-      (r : Result It Status) → IfOk r (IsMadeOver env cmp filters codings walk before.store policy compressors environment tables sequence)
-      → IfOk r (λ it. it.env.ghost_name ≡ environment.ghost_name)
-  made_reference policy compressors environment tables sequence (Ok it) made = made.reference
-  made_reference policy compressors environment tables sequence (Err e) made = tt
 
   -- one that is made, or no memory for it
   pub iterates_by : (IsClosed before.mode → ⊥) → (sequence : ℕ) → ReadsAt before at sequence

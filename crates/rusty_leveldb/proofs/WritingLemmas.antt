@@ -734,7 +734,8 @@ module _ {E C FP F P : Type 0} {B : Boxed} {keys : InternalOrder C} {key_filters
 
       unwritten : (new : State)
           → SameSnapshots env formats store meaning before from old was opened new
-          → end_mode ≡ new.mode → new.store ≡ old.store → new.format ≡ old.format → new.history ≡ old.history
+          → end_mode ≡ new.mode → new.store ≡ old.store → new.format ≡ old.format
+          → new.history ≡ old.history
           → new.last ≡ old.last → new.durable ≡ old.durable → new.pending ≡ leaves.0
           → new.locked ≡ old.locked
           → (new.mode ≡ open_mode → IsUnbroken value)

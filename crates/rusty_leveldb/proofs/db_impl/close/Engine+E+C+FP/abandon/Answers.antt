@@ -1,5 +1,5 @@
 -- Closed before, or what giving back the lock returned.
-use Rattle.std.proofs.Common.{◌≡◌, refl, ap, arith}
+use Rattle.std.proofs.Common.{◌≡◌, ◌∙◌, refl, sym, ap, arith}
 use Rattle.rusty_leveldb.specs.declared.db_impl.engine.Mode.{Mode}
 use Rattle.rusty_leveldb.specs.declared.db_impl.engine.Mode.TheVariants.{Open, Broken, Closed}
 use Rattle.rusty_leveldb.specs.EngineValue.{mode_of}
@@ -19,33 +19,36 @@ when_closed Closed is = refl
 pub returns-then-eq : goal.returns-then-eq
 returns-then-eq g c =
     let is : c.self.inside.mode ≡ Closed = grind arith in
-    let closed_is : mode_of c.self.inside.mode ≡ closed = ap mode_of is in
-    rw (← c.self.view_is) (record {
+    let closed_is : c.args.self.mode ≡ closed =
+    sym (ap (λ v. v.mode) c.self.view_is) ∙ ap mode_of is in
+    record {
       halted = λ closed. (refl, tt);
-      step = abandoned_closed g.E.Env _ _ c.args.env.now closed_is;
-      others = λ modelled own. spares_still c.self.inside.store.set.store (λ path. ⊥)
+      step = abandoned_closed g.E.Env _ c.args.self c.args.env.now closed_is;
+      others = λ modelled own. spares_still c.args.self.store.set.store (λ path. ⊥)
           (g.E.Env.observed c.args.env.now).disk;
       lock = λ modelled usable. absurd (usable closed_is);
       time = λ modelled. omega arith;
       cause = record { later = omega arith; ok = refl; uncounted = tt; cause = tt };
-    })
+    }
 
 pub returns : goal.returns
 returns g c =
     let differs : c.self.inside.mode ≡ Closed → ⊥ = λ is. grind arith in
-    let open_still : mode_of c.self.inside.mode ≡ closed → ⊥ =
-    λ is. differs (when_closed c.self.inside.mode is) in
-    rw (← c.self.view_is) (record {
+    let open_still : c.args.self.mode ≡ closed → ⊥ =
+    λ is. differs (when_closed c.self.inside.mode (ap (λ v. v.mode) c.self.view_is ∙ is)) in
+    let lock : c.deref.result.now ≡ c.args.self.lock =
+    c.deref.ensures ∙ ap (λ v. v.lock) c.self.view_is in
+    record {
       halted = λ closed. absurd (open_still closed);
-      step = abandon_answers g.E.Env _ _ c.args.env.now c.give_back.new.env open_still
-          c.deref.result.now c.deref.ensures c.give_back.result c.give_back.ensures.does
+      step = abandon_answers g.E.Env _ c.args.self c.args.env.now c.give_back.new.env open_still
+          c.deref.result.now lock c.give_back.result c.give_back.ensures.does
           c.give_back.ensures.locks c.give_back.ensures.cause;
-      others = abandon_others g.E.Env _ c.args.env.now c.give_back.new.env
-          c.give_back.result c.give_back.ensures.does c.deref.result.now c.deref.ensures
+      others = abandon_others g.E.Env c.args.self c.args.env.now c.give_back.new.env
+          c.give_back.result c.give_back.ensures.does c.deref.result.now lock
           c.give_back.ensures.locks;
-      lock = λ modelled usable. abandon_lock g.E.Env _ c.args.env.now c.give_back.new.env
-          c.give_back.result c.give_back.ensures.does c.deref.result.now c.deref.ensures
+      lock = λ modelled usable. abandon_lock g.E.Env c.args.self c.args.env.now c.give_back.new.env
+          c.give_back.result c.give_back.ensures.does c.deref.result.now lock
           c.give_back.ensures.locks modelled;
       time = λ modelled. c.give_back.ensures.does.time.later;
       cause = c.give_back.ensures.cause;
-    })
+    }

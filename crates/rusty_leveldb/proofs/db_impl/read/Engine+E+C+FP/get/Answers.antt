@@ -22,7 +22,7 @@ returns-in_err-check_key g c =
 pub returns : goal.returns
 returns g c = rw (← c.self.view_is) (get_serves_in g.E.Env _ _ None c.args.key.now c.args.env.now
     (λ closed. c.in_ok-check_not_closed.ensures.ok (sym (ap (λ v. v.mode) c.self.view_is) ∙ closed))
-    c.cmp-self.result c.cmp-self.ensures c.last_sequence-last.result c.last_sequence-last.ensures
+    c.cmp-self-inside.result c.cmp-self-inside.ensures c.last_sequence-last.result c.last_sequence-last.ensures
     c.in_ok-check_key.ensures.ok c.get.new.env c.get.result c.get.new.self c.get.new.tables
     c.get.ensures)
 

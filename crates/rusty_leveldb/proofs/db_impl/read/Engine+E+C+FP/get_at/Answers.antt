@@ -38,9 +38,11 @@ pub returns : goal.returns
 returns g c = rw (← c.self.view_is) (get_serves_in g.E.Env _ _ (Some (snapshot_of c.args.snapshot))
     c.args.key.now c.args.env.now
     (λ closed. c.in_ok-check_not_closed.ensures.ok (sym (ap (λ v. v.mode) c.self.view_is) ∙ closed))
-    c.cmp-self.result c.cmp-self.ensures c.sequence-sequence.result
-    (subst (λ e. Contains (held_in e) (snapshot_of c.args.snapshot)) (sym c.self.view_is)
-    c.in_ok-check_held.ensures.ok, c.sequence-sequence.ensures)
+    c.cmp-self-inside.result c.cmp-self-inside.ensures c.sequence-sequence.result (
+      subst (λ e. Contains (held_in e) (snapshot_of c.args.snapshot)) (sym c.self.view_is)
+          c.in_ok-check_held.ensures.ok,
+      c.sequence-sequence.ensures,
+    )
     c.in_ok-check_key.ensures.ok c.get.new.env c.get.result c.get.new.self c.get.new.tables
     c.get.ensures)
 

@@ -46,7 +46,7 @@ returns g c =
       rw (← c.self.view_is)
           (walk_serves_in g.E.Env _ _ (option_map snapshot_of c.args.at) c.args.moves.now c.args.env.now
           (λ closed. c.in_ok-check_not_closed.ensures.ok (sym (ap (λ v. v.mode) c.self.view_is) ∙ closed))
-          c.cmp-self.result c.cmp-self.ensures c.in_ok-sequence.sequence
+          c.cmp-self-inside.result c.cmp-self-inside.ensures c.in_ok-sequence.sequence
           (subst (λ e. ReadsAt e (option_map snapshot_of c.args.at) c.in_ok-sequence.sequence) (sym c.self.view_is)
           c.in_ok-sequence.ensures.ok) c.walk.new.env c.walk.new.tables walks.0 c.walk.result walks.2),
     )

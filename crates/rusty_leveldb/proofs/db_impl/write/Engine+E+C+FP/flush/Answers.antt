@@ -18,9 +18,9 @@ returns g c =
     let opened : mode_of c.self.inside.mode ≡ open_mode =
     ap (λ v. v.mode) c.self.view_is ∙ c.in_ok-check_open.ensures.ok in
     rw (← c.self.view_is) (flush_serves g.E.Env _ _ c.args.env.now opened
-    c.sync-synced.new.self c.sync-synced.new.env (c.self.invariant opened) _ c.mode_by.ensures
+    c.sync-synced.new.self c.sync-synced.new.env (c.self.invariant opened) _ c.mode_by-self-inside.ensures
     c.sync-synced.result c.sync-synced.ensures.syncs c.sync-synced.ensures.batches
     c.sync-synced.ensures.sound)
 
 pub invariant_of-self : goal.invariant_of-self
-invariant_of-self g c = follows_unbroken _ _ c.mode_by.ensures
+invariant_of-self g c = follows_unbroken _ _ c.mode_by-self-inside.ensures

@@ -1,7 +1,10 @@
 -- Refused by the mode, no room in the memtable, or what writing the batch returned.
-use Rattle.std.proofs.Common.{ap, subst, sym}
+use Rattle.std.proofs.Common.{Ok, ap, subst, sym}
 use Rattle.std.proofs.lemmas.Result.{err_from_is_err_and}
+use Rattle.leveldb_base.specs.contracts.cmp.internal.InternalKeyCmpCmp.TheImpl.{ghosts as key_order}
 use Rattle.leveldb_env.specs.contracts.compressor.CompressorListCompressors.TheImpl.{ghosts as compressors}
+use Rattle.leveldb_env.specs.contracts.filter.internal.InternalFilterPolicyFilterPolicy.TheImpl.{ghosts as key_policy}
+use Rattle.leveldb_store.specs.BuildTable.{choices_of}
 use Rattle.leveldb_version.specs.Format.{format_of}
 use Rattle.rusty_leveldb.specs.State.{write}
 use Rattle.rusty_leveldb.proofs.WriteCallLemmas.{batch_serves, room_fails_serves}
@@ -33,20 +36,25 @@ returns-in_err-make_room g c =
     }))
 
 pub returns : goal.returns
-returns g c = batch_serves g.E.Env _ c.args.self.now c.args.env.now
+returns g c =
+    let keys = key_order g.row.C g.C.UserCmp g.C.UserCmp-dict g.C.Cmp g.C.Cmp-dict in
+    let key_filters = key_policy g.row.FP g.FP.FilterPolicy g.FP.FilterPolicy-dict in
+    let choices =
+    choices_of g.C.Cmp g.FP.FilterPolicy keys key_filters (compressors g.dyn-2).codings in
+    batch_serves g.E.Env choices c.args.self.now c.args.env.now
     c.in_ok-check_open.ensures.ok c.args.batch.items c.args.sync
     (λ a b is. ap (format_of g.C.Cmp g.FP.FilterPolicy (compressors g.dyn-2).codings) is.rest)
-    _ c.make_room.new.env (subst (λ e. EngineMakesRoom g.E.Env _ c.args.self.now c.args.env.now
-    _ e c.make_room.new.env) (sym c.self.view_is) (record {
+    _ c.make_room.new.env (subst (λ e. EngineMakesRoom g.E.Env choices c.args.self.now
+    c.args.env.now (Ok tt) e c.make_room.new.env) (sym c.self.view_is) (record {
       makes = c.in_ok-make_room.ensures.makes;
       sound = c.in_ok-make_room.ensures.sound;
       closes = c.in_ok-make_room.ensures.closes;
       rest = c.in_ok-make_room.ensures.rest;
       sink = c.in_ok-make_room.ensures.sink;
       mode = c.in_ok-make_room.ensures.mode;
-    })) c.write_batch-written.new.self _ c.mode_by.ensures
+    })) c.write_batch-written.new.self _ c.mode_by-self-inside.ensures
     c.write_batch-written.new.env c.write_batch-written.result c.write_batch-written.ensures.short
     c.write_batch-written.ensures.writes c.write_batch-written.ensures.sound
 
 pub invariant_of-self : goal.invariant_of-self
-invariant_of-self g c = follows_unbroken _ _ c.mode_by.ensures
+invariant_of-self g c = follows_unbroken _ _ c.mode_by-self-inside.ensures
