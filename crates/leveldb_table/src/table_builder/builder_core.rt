@@ -357,12 +357,16 @@ impl<C: Cmp + Copy, FP: FilterPolicy> BuilderCore<C, FP> {
     {
         let BuilderCore {
             alloc,
+            block_size: _,
             compressor,
+            block,
             index,
             filter,
             offset,
-            ..
+            count: _,
+            broken: _,
         } = self;
+        drop(block);
         let name = filter.filter_name();
         let filters = put_stored(alloc, sink, NoneCompressor::ID, offset, filter.finish()?)?;
         let meta = metaindex(alloc, index.interval(), name, filters.handle)?;

@@ -313,10 +313,10 @@ impl<C: Cmp + Copy + Drop> TableCore<C> {
         ensures cause { IfErr result IsOutOfMemory }
     {
         let TableCore {
+            alloc: _,
             index,
             inner,
             room,
-            ..
         } = self;
         let Some(inner) = inner else {
             finder.keep(index.into_key(), room);
