@@ -32,7 +32,7 @@ pub struct CompactionPointer {
 
 /// What a record of the manifest changes: the single values that it sets, if it sets them, and what
 /// it changes in levels.
-#[derive(Debug)]
+#[derive(Debug, Drop)]
 pub struct VersionEdit {
     pub comparator: Option<String>,
     pub log_number: Option<FileNum>,
@@ -46,26 +46,6 @@ pub struct VersionEdit {
 
     /// Levels and files that they gain.
     pub new_files: Vec<(usize, FileMetaData)>,
-}
-
-impl Drop for VersionEdit {
-    // One call for whoever drops one, in place of one for each part of it.
-    fn drop(self) {
-        let VersionEdit {
-            comparator,
-            log_number: _,
-            prev_log_number: _,
-            next_file_number: _,
-            last_seq: _,
-            compaction_ptrs,
-            deleted,
-            new_files,
-        } = self;
-        drop(comparator);
-        drop(compaction_ptrs);
-        drop(deleted);
-        drop(new_files);
-    }
 }
 
 impl VersionEdit {
