@@ -28,10 +28,9 @@ use Rattle.leveldb_env.specs.declared.filter.FilterPolicy.{Ghosts as FilterGhost
 use Rattle.leveldb_table.proofs.TableBuilderLemmas.{internal_separated}
 use Rattle.leveldb_table.specs.BlockBuilder.{last_added}
 use Rattle.leveldb_table.specs.Table.{IsTable}
-use Rattle.leveldb_table.specs.TableBuilder.{AddsPair, IsBegun, IsBuiltTable, IsMeaningOf, KeepsChoices, last_of, order_of, policy_of}
+use Rattle.leveldb_table.specs.TableBuilder.{TableBuilt, AddsPair, IsBegun, IsBuiltTable, IsMeaningOf, KeepsChoices, last_of, order_of, policy_of}
 use Rattle.leveldb_table.specs.TableBuilderAdd.{TakesPair}
 use Rattle.leveldb_table.specs.TableBuilderFinish.{IsFinished}
-use Rattle.leveldb_table.specs.declared.table_builder.builder_core.BuilderCore.{BuilderCore}
 use Rattle.leveldb_version.specs.Batches.{Each}
 use Rattle.leveldb_version.specs.Paths.{table_path}
 use Rattle.leveldb_version.specs.Store.{IsFirstKey, IsInternalPair, IsLastKey, IsStoreTable, any_user_key}
@@ -176,7 +175,7 @@ module _ {S : Type 0} (puts : S → List ℕ → Result (Unit {0}) Status → S 
   }
 
 module _ {C FP : Type 0} {order : CmpGhosts C} {filters : FilterGhosts FP} where
-  KeepsChoices-trans : {old mid new : BuilderCore C FP order filters} → KeepsChoices old mid → KeepsChoices mid new → KeepsChoices old new
+  KeepsChoices-trans : {old mid new : TableBuilt C FP} → KeepsChoices old mid → KeepsChoices mid new → KeepsChoices old new
   KeepsChoices-trans first second = record {
     same_order = second.same_order ∙ first.same_order;
     same_policy = second.same_policy ∙ first.same_policy;
@@ -186,12 +185,12 @@ module _ {C FP : Type 0} {order : CmpGhosts C} {filters : FilterGhosts FP} where
   }
 
   -- the next pair may be added
-  pub next_accepted : {core mid : BuilderCore C FP order filters} (pairs : List Pair) (count : ℕ) (pair : Pair) → CanBeTabled (order.accepts (order_of core)) (order.cmp (order_of core)) pairs → KeepsChoices core mid
+  pub next_accepted : {core mid : TableBuilt C FP} (pairs : List Pair) (count : ℕ) (pair : Pair) → CanBeTabled (order.accepts (order_of core)) (order.cmp (order_of core)) pairs → KeepsChoices core mid
       → slice_get pairs count ≡ Some pair → order.accepts (order_of mid) pair.0 ≡ true
   next_accepted {core} {mid} pairs count pair can kept there =
       subst (λ c. order.accepts c pair.0 ≡ true) (sym kept.same_order) (accepted_at (λ (p : Pair). order.accepts (order_of core) p.0 ≡ true) pairs count pair can.accepted there)
 
-  pub next_rises : {core mid : BuilderCore C FP order filters} (pairs : List Pair) (count : ℕ) (pair : Pair) → CanBeTabled (order.accepts (order_of core)) (order.cmp (order_of core)) pairs → KeepsChoices core mid
+  pub next_rises : {core mid : TableBuilt C FP} (pairs : List Pair) (count : ℕ) (pair : Pair) → CanBeTabled (order.accepts (order_of core)) (order.cmp (order_of core)) pairs → KeepsChoices core mid
       → slice_get pairs count ≡ Some pair → last_of mid ≡ last_added (take count pairs) → mid.count ≡ count → 0 < mid.count → order.cmp (order_of mid) (last_of mid) pair.0 ≡ Less
   next_rises {core} {mid} pairs count pair can kept there last counted some =
       let less = rises_next (order.cmp (order_of core)) pairs count pair can.rising there (omega (arith, counted, some)) in
@@ -210,7 +209,7 @@ IsTableUnder-same order filters codings {c = c} {d = d} {p = p} {q = q} {id = id
 module _ {C FP : Type 0} {order : CmpGhosts C} {filters : FilterGhosts FP} (codings : Codings) where
   module _ {S : Type 0} (puts : S → List ℕ → Result (Unit {0}) Status → S → Type 0) where
     -- a builder that has taken no pair yet
-    pub HasTaken-none : (core : BuilderCore C FP order filters) (from : S) → core.broken ≡ false → HasTaken codings puts core from [] core from
+    pub HasTaken-none : (core : TableBuilt C FP) (from : S) → core.broken ≡ false → HasTaken order filters codings puts core from [] core from
     HasTaken-none core from unbroken = record {
       adds = AddsPairs-none puts _ from;
       choices = record { same_order = refl; same_policy = refl; same_compressor = refl; same_size = refl; same_intervals = (refl, refl) };
@@ -218,20 +217,20 @@ module _ {C FP : Type 0} {order : CmpGhosts C} {filters : FilterGhosts FP} (codi
     }
 
     -- and one that takes the next
-    pub HasTaken-more : {core mid new : BuilderCore C FP order filters} {from at to : S} (pairs : List Pair) (count : ℕ) (pair : Pair) → slice_get pairs count ≡ Some pair
-        → HasTaken codings puts core from (take count pairs) mid at → TakesPair codings puts mid new pair at to → KeepsChoices mid new → HasTaken codings puts core from (take (count + 1) pairs) new to
+    pub HasTaken-more : {core mid new : TableBuilt C FP} {from at to : S} (pairs : List Pair) (count : ℕ) (pair : Pair) → slice_get pairs count ≡ Some pair
+        → HasTaken order filters codings puts core from (take count pairs) mid at → TakesPair order filters codings puts mid new pair at to → KeepsChoices mid new → HasTaken order filters codings puts core from (take (count + 1) pairs) new to
     HasTaken-more {core} {mid} {new} {from} {at} {to} pairs count pair there taken takes kept =
-        subst (λ ps. HasTaken codings puts core from ps new to) (sym (taken_next pairs count pair there))
+        subst (λ ps. HasTaken order filters codings puts core from ps new to) (sym (taken_next pairs count pair there))
         (record { adds = AddsPairs-more puts taken.adds takes.added; choices = KeepsChoices-trans taken.choices kept; unbroken = takes.unbroken.1 })
 
     -- the key that was added last
-    pub last_taken : {mid new : BuilderCore C FP order filters} {at to : S} (pairs : List Pair) (count : ℕ) (pair : Pair) → slice_get pairs count ≡ Some pair → TakesPair codings puts mid new pair at to
+    pub last_taken : {mid new : TableBuilt C FP} {at to : S} (pairs : List Pair) (count : ℕ) (pair : Pair) → slice_get pairs count ≡ Some pair → TakesPair order filters codings puts mid new pair at to
         → last_of new ≡ last_added (take (count + 1) pairs)
     last_taken pairs count pair there takes = takes.last ∙ sym (ap last_added (taken_next pairs count pair there) ∙ last_pushed (take count pairs) pair)
 
   -- from nothing in memory the builder makes the table
-  pub built_in_memory : {core mid : BuilderCore C FP order filters} {from at to : Vec ℕ} {pairs : List Pair} {size : ℕ} → from.items ≡ [] → IsBegun codings order.accepts order.cmp order.shortest_sep filters.matches core [] []
-      → HasTaken codings puts_in_memory core from pairs mid at → IsFinished codings mid puts_in_memory flushes_in_memory at size to
+  pub built_in_memory : {core mid : TableBuilt C FP} {from at to : Vec ℕ} {pairs : List Pair} {size : ℕ} → from.items ≡ [] → IsBegun codings order filters core [] []
+      → HasTaken order filters codings puts_in_memory core from pairs mid at → IsFinished order filters codings mid puts_in_memory flushes_in_memory at size to
       → IsTableUnder order filters codings (order_of core) (policy_of core) core.compressor core.block.interval core.index.interval to.items pairs
   built_in_memory {core} {mid} {from} {at} {to} {pairs} none begun taken finished =
       let built = finished.finishes in

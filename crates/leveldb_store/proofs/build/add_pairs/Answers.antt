@@ -49,7 +49,7 @@ adding-preserved g c =
     ap (passed pairs) (c.in_ok-advance.ensures.ok ∙ ap (λ ps. next_position ps position) so_far.same.same_pairs) ∙ passed_next pairs position pair here in
     record {
       same = SameWalk-trans so_far.same c.advance.ensures.keeps;
-      taken = subst (λ n. HasTaken codings g.S.Sink.puts c.args.core.now c.args.sink.now (take n pairs) c.add.new.self c.add.new.sink) (sym next)
+      taken = subst (λ n. HasTaken g.C.Cmp g.FP.FilterPolicy codings g.S.Sink.puts c.args.core.now c.args.sink.now (take n pairs) c.add.new.self c.add.new.sink) (sym next)
           (HasTaken-more codings g.S.Sink.puts pairs count pair there so_far.taken c.in_ok-add.ensures.ok c.add.ensures.choices);
       last = last_taken codings g.S.Sink.puts pairs count pair there c.in_ok-add.ensures.ok ∙ ap (λ n. last_added (take n pairs)) (sym next);
       count_is = c.in_ok-add.ensures.ok.count ∙ ap (λ n. n + 1) so_far.count_is ∙ sym next;
@@ -63,7 +63,7 @@ returns-clause-takes g c =
     let position = g.I.LdbIterator.position c.adding.from in
     let within : IsPosition pairs position = subst (λ ps. IsPosition ps position) so_far.same.same_pairs (g.met.I.LdbIterator.in_range c.adding.from) in
     let none : None ≡ pair_at pairs position = c.in_default.ensures ∙ ap (λ ps. pair_at ps position) so_far.same.same_pairs in
-    subst (λ ps. HasTaken codings g.S.Sink.puts c.args.core.now c.args.sink.now ps c.adding.core c.adding.sink) (taken_all pairs position within none) so_far.taken
+    subst (λ ps. HasTaken g.C.Cmp g.FP.FilterPolicy codings g.S.Sink.puts c.args.core.now c.args.sink.now ps c.adding.core c.adding.sink) (taken_all pairs position within none) so_far.taken
 
 pub returns-clause-last : goal.returns-clause-last
 returns-clause-last g c =

@@ -70,8 +70,7 @@ invariant_of-self-inside-3 g c =
     (λ h. c.put_point.ensures.others h ∙ ap (λ z. z ++ points_more restart c.len-3.result) c.reserve-3.ensures.items ∙ ap (λ z. c.self.inside.points.items ++ points_more restart z) size)
     c.put_entry.new.buffer.items put in
     let last = (rw c.unwrap.ensures at c.extend_from_slice.ensures.items) ∙ ap (λ z. z ++ key) c.clear.ensures.items in
-    let entries = c.self.inside.built.0 ++ new_entry built restart key value shared refl within same c.shared_with-shared.ensures.none fit.1 fit.2 c.shared_with-shared.ensures.within_key offset_fits requires ∷ [] in
-    (
+    let entries = c.self.inside.built.0 ++ new_entry built restart key value shared refl within same c.shared_with-shared.ensures.none fit.1 fit.2 c.shared_with-shared.ensures.within_key offset_fits requires ∷ [] in (
       (
         entries,
         subst (λ z. AreEntriesBuilt (g.C.Cmp.cmp c.self.inside.cmp) c.self.inside.interval c.put_entry.new.buffer.items c.put_point.new.points.items z (c.self.inside.count + 1) true entries) (sym last) more,

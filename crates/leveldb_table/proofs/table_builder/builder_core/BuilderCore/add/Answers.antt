@@ -33,8 +33,7 @@ invariant_of-self-inside-2 g c =
     let same = c.self-2.view_is in
     let after = c.self-2.inside in
     let mid : TableBuilt g.row.C.Denot g.row.FP.Denot = record { block = after.block; index = after.index; filter = after.filter; offset = after.offset; count = after.count; broken = after.broken; compressor = after.compressor; block_size = after.block_size } in
-    let made = rw (← same) at c.in_ok-make_room.ensures in
-    (
+    let made = rw (← same) at c.in_ok-make_room.ensures in (
       (c.in_ok-add.ensures.ok.1, after.started.1),
       (
         λ _. rw (c.in_ok-add.ensures.order, c.in_ok-add.ensures.interval, c.in_ok-add.ensures.ok.0.pairs, c.in_ok-add_key.ensures.ok, c.in_ok-self-inside.ensures.ok)
