@@ -95,8 +95,8 @@ HasEntriesBuilt cmp interval bytes points last count begun =
     × AreEntriesBuilt cmp interval bytes points last count begun entries
 
 -- What a block builder is to its callers: its order, after how many entries restart points come,
--- the entries of the pairs that were added, whether the first restart point is set, and for how many
--- bytes of entries it has room.
+-- the entries of the pairs that were added, whether the first restart point is set, and for how
+-- many bytes of entries it has room.
 pub record BlockBuilt (C : Type 0) : Type 0 where
   pub cmp : C
   pub interval : ℕ

@@ -79,7 +79,8 @@ module _ {C FP : Type 0} (order : CmpGhosts C) (policy : PolicyGhosts FP) (codin
   ClosesRest last from to =
       (((stage core).open_pairs ≡ []) × (last ≡ stage core) × (to ≡ from))
       ⊎ (((stage core).open_pairs ≢ []) × (bytes : List ℕ) × puts from bytes (Ok tt) to
-      × ClosesOpen order policy codings core (order.short_succ core.block.cmp (last_of core)) bytes last)
+      × ClosesOpen order policy codings core (order.short_succ core.block.cmp (last_of core)) bytes
+      last)
 
   -- there is an open block, and it wasn't closed so
   abbrev pub IsLeftOpen : S → Status → S → Type 0

@@ -116,8 +116,9 @@ impl<C: Cmp + Copy, FP: FilterPolicy> BuilderCore<C, FP> {
     pub fn new(alloc: Global, options: &Options<C, FP>) -> BuilderCore<C, FP>
     where
         FP: Copy,
-        ensures { IsNewBuilder C.Cmp FP.FilterPolicy options.now.cmp options.now.filter_policy options.now.compressor
-            options.now.block_size options.now.block_restart_interval result }
+        ensures { IsNewBuilder C.Cmp FP.FilterPolicy options.now.cmp options.now.filter_policy
+            options.now.compressor options.now.block_size options.now.block_restart_interval
+            result }
     {
         BuilderCore::under(alloc, options.cmp, options.filter_policy, options)
     }
@@ -129,8 +130,8 @@ impl<C: Cmp + Copy, FP: FilterPolicy> BuilderCore<C, FP> {
         policy: FP,
         options: &Options<D, E>,
     ) -> BuilderCore<C, FP>
-        ensures { IsNewBuilder C.Cmp FP.FilterPolicy cmp policy options.now.compressor options.now.block_size
-            options.now.block_restart_interval result }
+        ensures { IsNewBuilder C.Cmp FP.FilterPolicy cmp policy options.now.compressor
+            options.now.block_size options.now.block_restart_interval result }
     {
         let interval = options.block_restart_interval.max(1);
         BuilderCore {
@@ -194,11 +195,11 @@ impl<C: Cmp + Copy, FP: FilterPolicy> BuilderCore<C, FP> {
         requires rising { self.old.broken ≡ false → 0 < self.old.count
             → C.cmp (order_of self.old) (last_of self.old) key.now ≡ Less }
         ensures ok { let codings = ⟦<CompressorList as Compressors>⟧.codings compressors.now in
-            OnOk result (TakesPair C.Cmp FP.FilterPolicy codings S.puts self.old self.new (key.now, value.now) sink.old
-            sink.new) }
+            OnOk result (TakesPair C.Cmp FP.FilterPolicy codings S.puts self.old self.new
+            (key.now, value.now) sink.old sink.new) }
         ensures err { let codings = ⟦<CompressorList as Compressors>⟧.codings compressors.now in
-            IfErr result (λ status. TakesNoPair C.Cmp FP.FilterPolicy codings S.puts self.old self.new
-            (key.now, value.now) sink.old status sink.new) }
+            IfErr result (λ status. TakesNoPair C.Cmp FP.FilterPolicy codings S.puts self.old
+            self.new (key.now, value.now) sink.old status sink.new) }
         ensures choices { KeepsChoices self.old self.new }
     {
         self.check_unbroken()?;
@@ -218,12 +219,13 @@ impl<C: Cmp + Copy, FP: FilterPolicy> BuilderCore<C, FP> {
         C: Drop,
         FP: Drop,
         ensures ok { let codings = ⟦<CompressorList as Compressors>⟧.codings compressors.now in
-            IfOk result (λ size. IsFinished C.Cmp FP.FilterPolicy codings self S.puts S.flushes sink.old size sink.new) }
+            IfOk result (λ size. IsFinished C.Cmp FP.FilterPolicy codings self S.puts S.flushes
+            sink.old size sink.new) }
         ensures cause { IfErr result (λ status. IsFinishError C.Cmp FP.FilterPolicy
             (⟦<CompressorList as Compressors>⟧.codings compressors.now) self S.puts S.flushes
             sink.old status sink.new) }
-        ensures cannot { CannotFinish C.Cmp FP.FilterPolicy (⟦<CompressorList as Compressors>⟧.codings compressors.now)
-            self S.puts sink.old result sink.new }
+        ensures cannot { let codings = ⟦<CompressorList as Compressors>⟧.codings compressors.now in
+            CannotFinish C.Cmp FP.FilterPolicy codings self S.puts sink.old result sink.new }
     {
         self.check_unbroken()?;
         self.broken = true;
@@ -252,18 +254,19 @@ impl<C: Cmp + Copy, FP: FilterPolicy> BuilderCore<C, FP> {
         requires sound { IsReadyFor C.accepts C.cmp self.old next.now }
         requires some { (stage self.old).open_pairs ≡ [] → (stage self.old).lines ≡ [] }
         ensures ok { let codings = ⟦<CompressorList as Compressors>⟧.codings compressors.now in
-            OnOk result (MakesRoom S.puts (IsBegun codings C.Cmp FP.FilterPolicy self.old) (Decodes codings) (C.accepts (order_of self.old))
-            (C.cmp (order_of self.old)) (C.shortest_sep (order_of self.old))
-            (FP.matches (policy_of self.old)) (FP.filter_for (policy_of self.old))
-            self.old.compressor (stage self.new) next.now sink.old sink.new) }
-        ensures room { OnOk result (HasRoom C.Cmp FP.FilterPolicy (⟦<CompressorList as Compressors>⟧.codings
-            compressors.now) self.old S.puts next.now self.new sink.old sink.new
-            × IsReadyFor C.accepts C.cmp self.new next.now) }
+            OnOk result (MakesRoom S.puts (IsBegun codings C.Cmp FP.FilterPolicy self.old)
+            (Decodes codings) (C.accepts (order_of self.old)) (C.cmp (order_of self.old))
+            (C.shortest_sep (order_of self.old)) (FP.matches (policy_of self.old))
+            (FP.filter_for (policy_of self.old)) self.old.compressor (stage self.new) next.now
+            sink.old sink.new) }
+        ensures room { let codings = ⟦<CompressorList as Compressors>⟧.codings compressors.now in
+            OnOk result (HasRoom C.Cmp FP.FilterPolicy codings self.old S.puts next.now self.new
+            sink.old sink.new × IsReadyFor C.accepts C.cmp self.new next.now) }
         ensures choices { KeepsChoices self.old self.new }
         ensures still { StaysUnfinished self.old self.new }
         ensures cause { IfErr result (λ status. IsFull self.old
-            × IsNotClosed C.Cmp FP.FilterPolicy (⟦<CompressorList as Compressors>⟧.codings compressors.now) self.old
-            S.puts next.now sink.old status sink.new) }
+            × IsNotClosed C.Cmp FP.FilterPolicy (⟦<CompressorList as Compressors>⟧.codings
+            compressors.now) self.old S.puts next.now sink.old status sink.new) }
         ensures unset { IsFull self.old → ⟦<CompressorList as Compressors>⟧.codings compressors.now
             self.old.compressor ≡ None → IsErrAnd result (λ status.
             IsUnset self.old.compressor status ⊎ IsOutOfMemory status) × (sink.new ≡ sink.old) }
@@ -280,17 +283,19 @@ impl<C: Cmp + Copy, FP: FilterPolicy> BuilderCore<C, FP> {
         requires sound { IsReady C.accepts C.cmp self.old }
         requires some { (stage self.old).open_pairs ≡ [] → (stage self.old).lines ≡ [] }
         ensures ok { let codings = ⟦<CompressorList as Compressors>⟧.codings compressors.now in
-            OnOk result (ClosesLast S.puts (IsBegun codings C.Cmp FP.FilterPolicy self.old) (Decodes codings) (C.accepts (order_of self.old))
-            (C.cmp (order_of self.old)) (C.shortest_sep (order_of self.old))
-            (C.short_succ (order_of self.old)) (FP.matches (policy_of self.old))
-            (FP.filter_for (policy_of self.old)) self.old.compressor
-            (stage self.new) sink.old sink.new) }
+            OnOk result (ClosesLast S.puts (IsBegun codings C.Cmp FP.FilterPolicy self.old)
+            (Decodes codings) (C.accepts (order_of self.old)) (C.cmp (order_of self.old))
+            (C.shortest_sep (order_of self.old)) (C.short_succ (order_of self.old))
+            (FP.matches (policy_of self.old)) (FP.filter_for (policy_of self.old))
+            self.old.compressor (stage self.new) sink.old sink.new) }
         ensures order { OnOk result (C.cmp self.new.index.cmp ≡ C.cmp (order_of self.old)) }
         ensures choices { KeepsChoices self.old self.new }
-        ensures rest { OnOk result (ClosesRest C.Cmp FP.FilterPolicy (⟦<CompressorList as Compressors>⟧.codings
-            compressors.now) self.old S.puts (stage self.new) sink.old sink.new) }
+        ensures rest { let codings = ⟦<CompressorList as Compressors>⟧.codings compressors.now in
+            OnOk result (ClosesRest C.Cmp FP.FilterPolicy codings self.old S.puts
+            (stage self.new) sink.old sink.new) }
         ensures cause { let codings = ⟦<CompressorList as Compressors>⟧.codings compressors.now in
-            IfErr result (λ status. IsLeftOpen C.Cmp FP.FilterPolicy codings self.old S.puts sink.old status sink.new) }
+            IfErr result (λ status. IsLeftOpen C.Cmp FP.FilterPolicy codings self.old S.puts
+            sink.old status sink.new) }
         ensures unset { (stage self.old).open_pairs ≢ []
             → ⟦<CompressorList as Compressors>⟧.codings compressors.now self.old.compressor ≡ None
             → IsErrAnd result (λ status. IsUnset self.old.compressor status ⊎ IsOutOfMemory status)
@@ -324,8 +329,8 @@ impl<C: Cmp + Copy, FP: FilterPolicy> BuilderCore<C, FP> {
         ensures choices { KeepsChoices self.old self.new }
         ensures still { StaysUnfinished self.old self.new }
         ensures cause { let codings = ⟦<CompressorList as Compressors>⟧.codings compressors.now in
-            IfErr result (λ status. IsNotClosed C.Cmp FP.FilterPolicy codings self.old S.puts next.now sink.old status
-            sink.new) }
+            IfErr result (λ status. IsNotClosed C.Cmp FP.FilterPolicy codings self.old S.puts
+            next.now sink.old status sink.new) }
         ensures unset { ⟦<CompressorList as Compressors>⟧.codings compressors.now
             self.old.compressor ≡ None → IsErrAnd result (λ status.
             IsUnset self.old.compressor status ⊎ IsOutOfMemory status) × (sink.new ≡ sink.old) }
