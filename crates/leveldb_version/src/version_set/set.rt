@@ -195,9 +195,11 @@ impl<E: Env> VersionSet<E> {
         Ok(())
     }
 
-    /// The live files with their levels, in the order in which they were added.
+    /// The live files with their levels, in the order in which they were added. The number that is
+    /// given next has 64 bits, as each number has.
     pub fn files(&self) -> &[(usize, FileMetaData)]
-        ensures { map new_file_of result.now ≡ self.now.full.added }
+        ensures files { map new_file_of result.now ≡ self.now.full.added }
+        ensures next { self.now.next_file < 2 ^ 64 }
     {
         self.full.new_files.as_slice()
     }
