@@ -1,10 +1,10 @@
 -- How a builder gets the pairs of a walk, what its table is to a store, and what the file's calls leave.
-use Rattle.std.proofs.Common.{◌≡◌, ◌≢◌, ◌⊎◌, inl, inr, ⊎_elim, ℕ, zero, suc, ◌+◌, ◌^◌, ◌<◌, ◌≤◌, Bool, true, false, List, [], ◌∷◌, ◌++◌, length, take, map, nat_lt, Option, None, Some, Result, Ok, Err, refl, sym, ◌∙◌, ap, subst, append_assoc, arith}
+use Rattle.std.proofs.Common.{◌≡◌, ◌≢◌, ◌⊎◌, inl, inr, ⊎_elim, ℕ, zero, suc, ◌+◌, ◌^◌, ◌<◌, ◌≤◌, Bool, true, false, List, [], ◌∷◌, ◌++◌, length, take, map, flat_map, nat_lt, Option, None, Some, Result, Ok, Err, refl, sym, ◌∙◌, ap, subst, append_assoc, arith}
 use Rattle.std.specs.Prelude.{All, IsTrue, OnOk, slice_get, slice_index_or, if◌then◌else◌, ◌&&◌}
 use Rattle.std.specs.Global.{Vec}
 use Rattle.std.specs.Option.{option_map}
 use Rattle.std.proofs.lemmas.Bool.{cases_lt, le-leb, lt-ltb}
-use Rattle.std.proofs.lemmas.List.{append-nil, take_all}
+use Rattle.std.proofs.lemmas.List.{nil_from_length, length-append, append-nil, take_all}
 use Rattle.std.proofs.lemmas.List.Elements.{All-cons, All-head, All-nil, All-tail}
 use Rattle.std.specs.declared.cmp.Ordering.{Ordering}
 use Rattle.std.specs.declared.cmp.Ordering.TheVariants.{Equal, Greater, Less}
@@ -28,14 +28,14 @@ use Rattle.leveldb_env.specs.declared.filter.FilterPolicy.{Ghosts as FilterGhost
 use Rattle.leveldb_table.proofs.TableBuilderLemmas.{internal_separated}
 use Rattle.leveldb_table.specs.BlockBuilder.{last_added}
 use Rattle.leveldb_table.specs.Table.{IsTable}
-use Rattle.leveldb_table.specs.TableBuilder.{TableBuilt, AddsPair, IsBegun, IsBuiltTable, IsMeaningOf, KeepsChoices, last_of, order_of, policy_of}
+use Rattle.leveldb_table.specs.TableBuilder.{TableBuilt, AddsPair, stage, IsBegun, IsBuiltTable, IsMeaningOf, KeepsChoices, last_of, order_of, policy_of}
 use Rattle.leveldb_table.specs.TableBuilderAdd.{TakesPair}
 use Rattle.leveldb_table.specs.TableBuilderFinish.{IsFinished}
 use Rattle.leveldb_version.specs.Batches.{Each}
 use Rattle.leveldb_version.specs.Paths.{table_path}
 use Rattle.leveldb_version.specs.Store.{IsFirstKey, IsInternalPair, IsLastKey, IsStoreTable, any_user_key}
 use Rattle.leveldb_version.specs.StoreSteps.{AppendedAreBytes}
-use Rattle.leveldb_store.specs.BuildTable.{AddsPairs, CanBeTabled, HasTaken, IsNotTabled, IsTableBuilt, IsTableFile, IsTableOfStore, IsTableUnder, MakesTable, TableChoices, flushes_in_memory, passed, puts_in_memory}
+use Rattle.leveldb_store.specs.BuildTable.{IsUnused, AddsPairs, CanBeTabled, HasTaken, IsNotTabled, IsTableBuilt, IsTableFile, IsTableOfStore, IsTableUnder, MakesTable, TableChoices, flushes_in_memory, passed, puts_in_memory}
 
 -- ---- pairs in turn
 
@@ -174,16 +174,16 @@ module _ {S : Type 0} (puts : S → List ℕ → Result (Unit {0}) Status → S 
         (subst (new ((written ++ all.bytes) ++ one.bytes)) (append_assoc before pairs (pair ∷ [])) (one.begun (written ++ all.bytes) (before ++ pairs) (all.begun written before so_far)));
   }
 
-module _ {C FP : Type 0} {order : CmpGhosts C} {filters : FilterGhosts FP} where
-  KeepsChoices-trans : {old mid new : TableBuilt C FP} → KeepsChoices old mid → KeepsChoices mid new → KeepsChoices old new
-  KeepsChoices-trans first second = record {
-    same_order = second.same_order ∙ first.same_order;
-    same_policy = second.same_policy ∙ first.same_policy;
-    same_compressor = second.same_compressor ∙ first.same_compressor;
-    same_size = second.same_size ∙ first.same_size;
-    same_intervals = (second.same_intervals.0 ∙ first.same_intervals.0, second.same_intervals.1 ∙ first.same_intervals.1);
-  }
+KeepsChoices-trans : {C FP : Type 0} {old mid new : TableBuilt C FP} → KeepsChoices old mid → KeepsChoices mid new → KeepsChoices old new
+KeepsChoices-trans first second = record {
+  same_order = second.same_order ∙ first.same_order;
+  same_policy = second.same_policy ∙ first.same_policy;
+  same_compressor = second.same_compressor ∙ first.same_compressor;
+  same_size = second.same_size ∙ first.same_size;
+  same_intervals = (second.same_intervals.0 ∙ first.same_intervals.0, second.same_intervals.1 ∙ first.same_intervals.1);
+}
 
+module _ {C FP : Type 0} (order : CmpGhosts C) where
   -- the next pair may be added
   pub next_accepted : {core mid : TableBuilt C FP} (pairs : List Pair) (count : ℕ) (pair : Pair) → CanBeTabled (order.accepts (order_of core)) (order.cmp (order_of core)) pairs → KeepsChoices core mid
       → slice_get pairs count ≡ Some pair → order.accepts (order_of mid) pair.0 ≡ true
@@ -207,6 +207,13 @@ IsTableUnder-same order filters codings {c = c} {d = d} {p = p} {q = q} {id = id
     (subst (λ z. IsTableUnder order filters codings z p id interval index_interval bytes pairs) same_order built))))
 
 module _ {C FP : Type 0} {order : CmpGhosts C} {filters : FilterGhosts FP} (codings : Codings) where
+  -- no key was added to a builder that is unused
+  pub unused_last : {core : TableBuilt C FP} → IsUnused order filters codings core → last_of core ≡ []
+  unused_last {core} unused =
+      let laid = unused.begun in
+      let none = ap length laid.pairs_are ∙ length-append (flat_map (λ part. part.pairs) laid.parts) (stage core).open_pairs in
+      ap last_added (nil_from_length (stage core).open_pairs (omega (arith, none)))
+
   module _ {S : Type 0} (puts : S → List ℕ → Result (Unit {0}) Status → S → Type 0) where
     -- a builder that has taken no pair yet
     pub HasTaken-none : (core : TableBuilt C FP) (from : S) → core.broken ≡ false → HasTaken order filters codings puts core from [] core from

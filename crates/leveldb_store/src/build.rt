@@ -161,8 +161,8 @@ fn add_pairs<S: Sink, I: LdbIterator, C: Cmp + Copy, FP: FilterPolicy>(
     compressors: &CompressorList,
     from: &mut I,
 ) -> Result<()>
-    requires unbroken { core.old.broken ≡ false }
-    requires none { core.old.count ≡ 0 }
+    requires unused { IsUnused C.Cmp FP.FilterPolicy (⟦<CompressorList as Compressors>⟧.codings
+        compressors.now) core.old }
     requires pairs { CanBeTabled (C.accepts (order_of core.old)) (C.cmp (order_of core.old))
         (I.pairs from.old) }
     requires first { I.position from.old ≡ position_within (I.pairs from.old) 0 }
