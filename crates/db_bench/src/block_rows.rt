@@ -24,8 +24,8 @@ const BITS_PER_KEY: u32 = 10;
 
 // Whether a key is after all keys of a block.
 fn is_after(builder: &BlockBuilder<DefaultCmp>, key: &[u8]) -> bool
-    ensures { IsTrue result → 0 < length builder.now.built.0
-        → bytewise (last_added (pairs_of None builder.now.built.0)) key.now ≡ Less }
+    ensures { IsTrue result → 0 < length builder.now.entries
+        → bytewise (last_added (pairs_of None builder.now.entries)) key.now ≡ Less }
 {
     builder.entries() == 0 || DefaultCmp.cmp(builder.last_key(), key).is_lt()
 }

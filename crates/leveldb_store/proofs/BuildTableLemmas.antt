@@ -1,10 +1,10 @@
 -- How a builder gets the pairs of a walk, what its table is to a store, and what the file's calls leave.
-use Rattle.std.proofs.Common.{◌≡◌, ◌≢◌, ◌⊎◌, inl, inr, ⊎_elim, ℕ, zero, suc, ◌+◌, ◌^◌, ◌<◌, ◌≤◌, Bool, true, false, List, [], ◌∷◌, ◌++◌, length, take, map, nat_lt, Option, None, Some, Result, Ok, Err, refl, sym, ◌∙◌, ap, subst, append_assoc, arith}
+use Rattle.std.proofs.Common.{◌≡◌, ◌≢◌, ◌⊎◌, inl, inr, ⊎_elim, ℕ, zero, suc, ◌+◌, ◌^◌, ◌<◌, ◌≤◌, Bool, true, false, List, [], ◌∷◌, ◌++◌, length, take, map, flat_map, nat_lt, Option, None, Some, Result, Ok, Err, refl, sym, ◌∙◌, ap, subst, append_assoc, arith}
 use Rattle.std.specs.Prelude.{All, IsTrue, OnOk, slice_get, slice_index_or, if◌then◌else◌, ◌&&◌}
 use Rattle.std.specs.Global.{Vec}
 use Rattle.std.specs.Option.{option_map}
 use Rattle.std.proofs.lemmas.Bool.{cases_lt, le-leb, lt-ltb}
-use Rattle.std.proofs.lemmas.List.{append-nil, take_all}
+use Rattle.std.proofs.lemmas.List.{nil_from_length, length-append, append-nil, take_all}
 use Rattle.std.proofs.lemmas.List.Elements.{All-cons, All-head, All-nil, All-tail}
 use Rattle.std.specs.declared.cmp.Ordering.{Ordering}
 use Rattle.std.specs.declared.cmp.Ordering.TheVariants.{Equal, Greater, Less}
@@ -28,15 +28,14 @@ use Rattle.leveldb_env.specs.declared.filter.FilterPolicy.{Ghosts as FilterGhost
 use Rattle.leveldb_table.proofs.TableBuilderLemmas.{internal_separated}
 use Rattle.leveldb_table.specs.BlockBuilder.{last_added}
 use Rattle.leveldb_table.specs.Table.{IsTable}
-use Rattle.leveldb_table.specs.TableBuilder.{AddsPair, IsBegun, IsBuiltTable, IsMeaningOf, KeepsChoices, last_of, order_of, policy_of}
+use Rattle.leveldb_table.specs.TableBuilder.{TableBuilt, AddsPair, stage, IsBegun, IsBuiltTable, IsMeaningOf, KeepsChoices, last_of, order_of, policy_of}
 use Rattle.leveldb_table.specs.TableBuilderAdd.{TakesPair}
 use Rattle.leveldb_table.specs.TableBuilderFinish.{IsFinished}
-use Rattle.leveldb_table.specs.declared.table_builder.builder_core.BuilderCore.{BuilderCore}
 use Rattle.leveldb_version.specs.Batches.{Each}
 use Rattle.leveldb_version.specs.Paths.{table_path}
 use Rattle.leveldb_version.specs.Store.{IsFirstKey, IsInternalPair, IsLastKey, IsStoreTable, any_user_key}
 use Rattle.leveldb_version.specs.StoreSteps.{AppendedAreBytes}
-use Rattle.leveldb_store.specs.BuildTable.{AddsPairs, CanBeTabled, HasTaken, IsNotTabled, IsTableBuilt, IsTableFile, IsTableOfStore, IsTableUnder, MakesTable, TableChoices, flushes_in_memory, passed, puts_in_memory}
+use Rattle.leveldb_store.specs.BuildTable.{IsUnused, AddsPairs, CanBeTabled, HasTaken, IsNotTabled, IsTableBuilt, IsTableFile, IsTableOfStore, IsTableUnder, MakesTable, TableChoices, flushes_in_memory, passed, puts_in_memory}
 
 -- ---- pairs in turn
 
@@ -175,23 +174,23 @@ module _ {S : Type 0} (puts : S → List ℕ → Result (Unit {0}) Status → S 
         (subst (new ((written ++ all.bytes) ++ one.bytes)) (append_assoc before pairs (pair ∷ [])) (one.begun (written ++ all.bytes) (before ++ pairs) (all.begun written before so_far)));
   }
 
-module _ {C FP : Type 0} {order : CmpGhosts C} {filters : FilterGhosts FP} where
-  KeepsChoices-trans : {old mid new : BuilderCore C FP order filters} → KeepsChoices old mid → KeepsChoices mid new → KeepsChoices old new
-  KeepsChoices-trans first second = record {
-    same_order = second.same_order ∙ first.same_order;
-    same_policy = second.same_policy ∙ first.same_policy;
-    same_compressor = second.same_compressor ∙ first.same_compressor;
-    same_size = second.same_size ∙ first.same_size;
-    same_intervals = (second.same_intervals.0 ∙ first.same_intervals.0, second.same_intervals.1 ∙ first.same_intervals.1);
-  }
+KeepsChoices-trans : {C FP : Type 0} {old mid new : TableBuilt C FP} → KeepsChoices old mid → KeepsChoices mid new → KeepsChoices old new
+KeepsChoices-trans first second = record {
+  same_order = second.same_order ∙ first.same_order;
+  same_policy = second.same_policy ∙ first.same_policy;
+  same_compressor = second.same_compressor ∙ first.same_compressor;
+  same_size = second.same_size ∙ first.same_size;
+  same_intervals = (second.same_intervals.0 ∙ first.same_intervals.0, second.same_intervals.1 ∙ first.same_intervals.1);
+}
 
+module _ {C FP : Type 0} (order : CmpGhosts C) where
   -- the next pair may be added
-  pub next_accepted : {core mid : BuilderCore C FP order filters} (pairs : List Pair) (count : ℕ) (pair : Pair) → CanBeTabled (order.accepts (order_of core)) (order.cmp (order_of core)) pairs → KeepsChoices core mid
+  pub next_accepted : {core mid : TableBuilt C FP} (pairs : List Pair) (count : ℕ) (pair : Pair) → CanBeTabled (order.accepts (order_of core)) (order.cmp (order_of core)) pairs → KeepsChoices core mid
       → slice_get pairs count ≡ Some pair → order.accepts (order_of mid) pair.0 ≡ true
   next_accepted {core} {mid} pairs count pair can kept there =
       subst (λ c. order.accepts c pair.0 ≡ true) (sym kept.same_order) (accepted_at (λ (p : Pair). order.accepts (order_of core) p.0 ≡ true) pairs count pair can.accepted there)
 
-  pub next_rises : {core mid : BuilderCore C FP order filters} (pairs : List Pair) (count : ℕ) (pair : Pair) → CanBeTabled (order.accepts (order_of core)) (order.cmp (order_of core)) pairs → KeepsChoices core mid
+  pub next_rises : {core mid : TableBuilt C FP} (pairs : List Pair) (count : ℕ) (pair : Pair) → CanBeTabled (order.accepts (order_of core)) (order.cmp (order_of core)) pairs → KeepsChoices core mid
       → slice_get pairs count ≡ Some pair → last_of mid ≡ last_added (take count pairs) → mid.count ≡ count → 0 < mid.count → order.cmp (order_of mid) (last_of mid) pair.0 ≡ Less
   next_rises {core} {mid} pairs count pair can kept there last counted some =
       let less = rises_next (order.cmp (order_of core)) pairs count pair can.rising there (omega (arith, counted, some)) in
@@ -208,9 +207,16 @@ IsTableUnder-same order filters codings {c = c} {d = d} {p = p} {q = q} {id = id
     (subst (λ z. IsTableUnder order filters codings z p id interval index_interval bytes pairs) same_order built))))
 
 module _ {C FP : Type 0} {order : CmpGhosts C} {filters : FilterGhosts FP} (codings : Codings) where
+  -- no key was added to a builder that is unused
+  pub unused_last : {core : TableBuilt C FP} → IsUnused order filters codings core → last_of core ≡ []
+  unused_last {core} unused =
+      let laid = unused.begun in
+      let none = ap length laid.pairs_are ∙ length-append (flat_map (λ part. part.pairs) laid.parts) (stage core).open_pairs in
+      ap last_added (nil_from_length (stage core).open_pairs (omega (arith, none)))
+
   module _ {S : Type 0} (puts : S → List ℕ → Result (Unit {0}) Status → S → Type 0) where
     -- a builder that has taken no pair yet
-    pub HasTaken-none : (core : BuilderCore C FP order filters) (from : S) → core.broken ≡ false → HasTaken codings puts core from [] core from
+    pub HasTaken-none : (core : TableBuilt C FP) (from : S) → core.broken ≡ false → HasTaken order filters codings puts core from [] core from
     HasTaken-none core from unbroken = record {
       adds = AddsPairs-none puts _ from;
       choices = record { same_order = refl; same_policy = refl; same_compressor = refl; same_size = refl; same_intervals = (refl, refl) };
@@ -218,20 +224,20 @@ module _ {C FP : Type 0} {order : CmpGhosts C} {filters : FilterGhosts FP} (codi
     }
 
     -- and one that takes the next
-    pub HasTaken-more : {core mid new : BuilderCore C FP order filters} {from at to : S} (pairs : List Pair) (count : ℕ) (pair : Pair) → slice_get pairs count ≡ Some pair
-        → HasTaken codings puts core from (take count pairs) mid at → TakesPair codings puts mid new pair at to → KeepsChoices mid new → HasTaken codings puts core from (take (count + 1) pairs) new to
+    pub HasTaken-more : {core mid new : TableBuilt C FP} {from at to : S} (pairs : List Pair) (count : ℕ) (pair : Pair) → slice_get pairs count ≡ Some pair
+        → HasTaken order filters codings puts core from (take count pairs) mid at → TakesPair order filters codings puts mid new pair at to → KeepsChoices mid new → HasTaken order filters codings puts core from (take (count + 1) pairs) new to
     HasTaken-more {core} {mid} {new} {from} {at} {to} pairs count pair there taken takes kept =
-        subst (λ ps. HasTaken codings puts core from ps new to) (sym (taken_next pairs count pair there))
+        subst (λ ps. HasTaken order filters codings puts core from ps new to) (sym (taken_next pairs count pair there))
         (record { adds = AddsPairs-more puts taken.adds takes.added; choices = KeepsChoices-trans taken.choices kept; unbroken = takes.unbroken.1 })
 
     -- the key that was added last
-    pub last_taken : {mid new : BuilderCore C FP order filters} {at to : S} (pairs : List Pair) (count : ℕ) (pair : Pair) → slice_get pairs count ≡ Some pair → TakesPair codings puts mid new pair at to
+    pub last_taken : {mid new : TableBuilt C FP} {at to : S} (pairs : List Pair) (count : ℕ) (pair : Pair) → slice_get pairs count ≡ Some pair → TakesPair order filters codings puts mid new pair at to
         → last_of new ≡ last_added (take (count + 1) pairs)
     last_taken pairs count pair there takes = takes.last ∙ sym (ap last_added (taken_next pairs count pair there) ∙ last_pushed (take count pairs) pair)
 
   -- from nothing in memory the builder makes the table
-  pub built_in_memory : {core mid : BuilderCore C FP order filters} {from at to : Vec ℕ} {pairs : List Pair} {size : ℕ} → from.items ≡ [] → IsBegun codings order.accepts order.cmp order.shortest_sep filters.matches core [] []
-      → HasTaken codings puts_in_memory core from pairs mid at → IsFinished codings mid puts_in_memory flushes_in_memory at size to
+  pub built_in_memory : {core mid : TableBuilt C FP} {from at to : Vec ℕ} {pairs : List Pair} {size : ℕ} → from.items ≡ [] → IsBegun codings order filters core [] []
+      → HasTaken order filters codings puts_in_memory core from pairs mid at → IsFinished order filters codings mid puts_in_memory flushes_in_memory at size to
       → IsTableUnder order filters codings (order_of core) (policy_of core) core.compressor core.block.interval core.index.interval to.items pairs
   built_in_memory {core} {mid} {from} {at} {to} {pairs} none begun taken finished =
       let built = finished.finishes in

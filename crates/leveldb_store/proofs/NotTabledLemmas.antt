@@ -14,9 +14,9 @@ use Rattle.leveldb_env.specs.declared.filter.FilterPolicy.{Ghosts as FilterGhost
 use Rattle.leveldb_table.specs.Block.{BlockEntry}
 use Rattle.leveldb_table.specs.Footer.{footer_bytes}
 use Rattle.leveldb_table.specs.PutBlock.{IsNoMetaindex, IsNotPut, IsPutError, StopsAtFooter, StopsFrom}
+use Rattle.leveldb_table.specs.TableBuilder.{TableBuilt}
 use Rattle.leveldb_table.specs.TableBuilderAdd.{IsAddError, IsNotAdded, IsNotClosed, IsNotLined}
 use Rattle.leveldb_table.specs.TableBuilderFinish.{IsFinishError, StopsFromFilters, StopsFromIndex}
-use Rattle.leveldb_table.specs.declared.table_builder.builder_core.BuilderCore.{BuilderCore}
 use Rattle.leveldb_store.specs.BuildTable.{IsNotTabled, TableChoices, flushes_in_memory, puts_in_memory}
 use Rattle.leveldb_version.specs.Format.{HasCompressorError}
 
@@ -88,24 +88,24 @@ module _ (codings : Codings) (status : Status) where
   footer_fault bytes offset from to (inr (inr flushed)) =
       let never : Err status ≡ Ok tt = flushed.2.ok in absurd (cc never)
 
-  module _ {C FP : Type 0} {order : CmpGhosts C} {filters : FilterGhosts FP} where
-    lined_fault : (core : BuilderCore C FP order filters) (next : List ℕ) (handle : Handle)
-        → IsNotLined codings core next handle status → Fault
+  module _ {C FP : Type 0} (order : CmpGhosts C) (filters : FilterGhosts FP) where
+    lined_fault : (core : TableBuilt C FP) (next : List ℕ) (handle : Handle)
+        → IsNotLined order filters codings core next handle status → Fault
     lined_fault core next handle (inl memory) = memory_fault memory
     lined_fault core next handle (inr (inl large)) = unsupported_fault large.0
     lined_fault core next handle (inr (inr due)) =
         filter_fault (filters.too_large core.filter.policy)
         (filters.filter_for core.filter.policy) core.filter.filters core.filter.keys due.1
 
-    closed_fault : (core : BuilderCore C FP order filters) (next : List ℕ) (from to : Vec ℕ)
-        → IsNotClosed codings core puts_in_memory next from status to → Fault
+    closed_fault : (core : TableBuilt C FP) (next : List ℕ) (from to : Vec ℕ)
+        → IsNotClosed order filters codings core puts_in_memory next from status to → Fault
     closed_fault core next from to (inl memory) = memory_fault memory.1
     closed_fault core next from to (inr (inl put)) =
         not_put_fault core.compressor put.0 core.offset from to put.2
     closed_fault core next from to (inr (inr lined)) = lined_fault core next lined.0 lined.2
 
-    add_fault : (core : BuilderCore C FP order filters) (pair : Pair) (from to : Vec ℕ)
-        → core.broken ≡ false → IsAddError codings core puts_in_memory pair from status to → Fault
+    add_fault : (core : TableBuilt C FP) (pair : Pair) (from to : Vec ℕ)
+        → core.broken ≡ false → IsAddError order filters codings core puts_in_memory pair from status to → Fault
     add_fault core pair from to usable (inl broke) =
         let never : false ≡ true = sym usable ∙ broke.0 in absurd (cc never)
     add_fault core pair from to usable (inr (_, inl room)) = not_added_fault _ _ pair room.2
@@ -114,8 +114,8 @@ module _ (codings : Codings) (status : Status) where
     add_fault core pair from to usable (inr (_, inr (inr next))) =
         not_added_fault [] core.count pair next.3
 
-    finish_fault : (core : BuilderCore C FP order filters) (from to : Vec ℕ) → core.broken ≡ false
-        → IsFinishError codings core puts_in_memory flushes_in_memory from status to → Fault
+    finish_fault : (core : TableBuilt C FP) (from to : Vec ℕ) → core.broken ≡ false
+        → IsFinishError order filters codings core puts_in_memory flushes_in_memory from status to → Fault
     finish_fault core from to usable (inl broke) =
         let never : false ≡ true = sym usable ∙ broke.0 in absurd (cc never)
     finish_fault core from to usable (inr (inl left)) = closed_fault core _ from to left.1.1
@@ -157,12 +157,13 @@ pub not_tabled_causes : {C FP : Type 0} {order : CmpGhosts C} {filters : FilterG
     → IsOutOfMemory status ⊎ (status.code ≡ NotSupported)
     ⊎ HasCompressorError choices.format status.code
 not_tabled_causes choices pairs status (inl memory) = inl memory
-not_tabled_causes choices pairs status (inr (core, new, stops)) = ⊎_elim (λ memory. inl memory)
+not_tabled_causes {order = order} {filters = filters} choices pairs status
+    (inr (core, new, stops)) = ⊎_elim (λ memory. inl memory)
     (λ other. inr (⊎_elim (λ code. inl code)
     (λ is. inr (record { id = is.0; coding = is.1; is_set = is.2; block = is.3; fails = is.4 }))
     other))
     (⊎_elim
-    (λ at_pair. add_fault choices.format.codings status at_pair.mid at_pair.pair at_pair.at
-    at_pair.to at_pair.taken.unbroken at_pair.cause)
-    (λ at_end. finish_fault choices.format.codings status at_end.mid at_end.at at_end.to
+    (λ at_pair. add_fault choices.format.codings status order filters at_pair.mid at_pair.pair
+    at_pair.at at_pair.to at_pair.taken.unbroken at_pair.cause)
+    (λ at_end. finish_fault choices.format.codings status order filters at_end.mid at_end.at at_end.to
     at_end.taken.unbroken at_end.cause) stops.2)

@@ -17,10 +17,9 @@ use Rattle.leveldb_env.specs.Sink.{AppendsBytes, FlushesNothing, PutsAll}
 use Rattle.leveldb_env.specs.declared.compressor.CompressorList.{CompressorList}
 use Rattle.leveldb_env.specs.declared.env.Env.{Ghosts as EnvGhosts}
 use Rattle.leveldb_env.specs.declared.filter.FilterPolicy.{Ghosts as FilterGhosts}
-use Rattle.leveldb_table.specs.TableBuilder.{IsBegun, IsBuiltTable, IsMeaningOf, IsNewBuilder, KeepsChoices}
+use Rattle.leveldb_table.specs.TableBuilder.{TableBuilt, IsBegun, IsBuiltTable, IsMeaningOf, IsNewBuilder, KeepsChoices}
 use Rattle.leveldb_table.specs.TableBuilderAdd.{IsAddError}
 use Rattle.leveldb_table.specs.TableBuilderFinish.{IsFinishError}
-use Rattle.leveldb_table.specs.declared.table_builder.builder_core.BuilderCore.{BuilderCore}
 use Rattle.leveldb_version.specs.Batches.{Each}
 use Rattle.leveldb_version.specs.Opening.{FitsEdit}
 use Rattle.leveldb_version.specs.Paths.{table_path}
@@ -67,50 +66,47 @@ puts_in_memory old bytes result new = AppendsBytes old.items bytes result new.it
 abbrev pub flushes_in_memory : Vec ℕ → Result (Unit {0}) Status → Vec ℕ → Type 0
 flushes_in_memory old result new = FlushesNothing old.items result new.items
 
-module _ {C FP : Type 0} {order : CmpGhosts C} {filters : FilterGhosts FP} (codings : Codings) where
+module _ {C FP : Type 0} (order : CmpGhosts C) (filters : FilterGhosts FP) (codings : Codings) where
   -- nothing is put, no pair is added and no call has failed
-  pub record IsUnused (core : BuilderCore C FP order filters) : Type 0 where
-    pub begun : IsBegun codings order.accepts order.cmp order.shortest_sep filters.matches core
-        [] []
+  pub record IsUnused (core : TableBuilt C FP) : Type 0 where
+    pub begun : IsBegun codings order filters core [] []
     pub unbroken : core.broken ≡ false
     pub none : core.count ≡ 0
 
   -- The builder has taken these pairs, by its calls alone.
   pub record HasTaken {S : Type 0} (puts : S → List ℕ → Result (Unit {0}) Status → S → Type 0)
-      (core : BuilderCore C FP order filters) (from : S) (pairs : List Pair)
-      (mid : BuilderCore C FP order filters) (to : S) : Type 0 where
-    pub adds : AddsPairs puts
-        (IsBegun codings order.accepts order.cmp order.shortest_sep filters.matches core)
-        (IsBegun codings order.accepts order.cmp order.shortest_sep filters.matches mid)
-        from pairs to
+      (core : TableBuilt C FP) (from : S) (pairs : List Pair)
+      (mid : TableBuilt C FP) (to : S) : Type 0 where
+    pub adds : AddsPairs puts (IsBegun codings order filters core)
+        (IsBegun codings order filters mid) from pairs to
     pub choices : KeepsChoices core mid
     pub unbroken : mid.broken ≡ false
 
   module _ {S : Type 0} (puts : S → List ℕ → Result (Unit {0}) Status → S → Type 0)
-      (core : BuilderCore C FP order filters) (from : S) (pairs : List Pair) where
+      (core : TableBuilt C FP) (from : S) (pairs : List Pair) where
     -- The builder took the first of these pairs and not the next one, for a cause of its own.
     pub record StopsAtPair (status : Status) : Type 0 where
       pub count : ℕ
       pub pair : Pair
       pub next : slice_get pairs count ≡ Some pair
-      pub mid : BuilderCore C FP order filters
+      pub mid : TableBuilt C FP
       pub at : S
       pub taken : HasTaken puts core from (take count pairs) mid at
       pub to : S
-      pub cause : IsAddError codings mid puts pair at status to
+      pub cause : IsAddError order filters codings mid puts pair at status to
 
     -- The builder took all of them and didn't finish the table, for a cause of its own.
     pub record StopsAtEnd (flushes : S → Result (Unit {0}) Status → S → Type 0) (status : Status)
         : Type 0 where
-      pub mid : BuilderCore C FP order filters
+      pub mid : TableBuilt C FP
       pub at : S
       pub taken : HasTaken puts core from pairs mid at
       pub to : S
-      pub cause : IsFinishError codings mid puts flushes at status to
+      pub cause : IsFinishError order filters codings mid puts flushes at status to
 
   -- Into no bytes in memory the builder takes some of the pairs, and fails at the next one or at the
   -- end.
-  abbrev pub StopsInMemory : BuilderCore C FP order filters → List Pair → Status → Type 0
+  abbrev pub StopsInMemory : TableBuilt C FP → List Pair → Status → Type 0
   StopsInMemory core pairs status =
       (empty : Vec ℕ) × (empty.items ≡ []) × (StopsAtPair puts_in_memory core empty pairs status
       ⊎ StopsAtEnd puts_in_memory core empty pairs flushes_in_memory status)
@@ -152,9 +148,10 @@ module _ {C FP : Type 0} {order : CmpGhosts C} {filters : FilterGhosts FP}
   abbrev pub IsNotTabled : Status → Type 0
   IsNotTabled status =
       IsOutOfMemory status
-      ⊎ ((core : BuilderCore C FP order filters)
-      × IsNewBuilder choices.cmp choices.policy choices.id choices.block_size choices.restarts core
-      × StopsInMemory choices.format.codings core pairs status)
+      ⊎ ((core : TableBuilt C FP)
+      × IsNewBuilder order filters choices.cmp choices.policy choices.id choices.block_size
+      choices.restarts core
+      × StopsInMemory order filters choices.format.codings core pairs status)
 
   -- these bytes are the table that a builder of these choices makes of the pairs
   abbrev pub IsTableBuilt : List ℕ → Type 0

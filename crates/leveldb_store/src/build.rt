@@ -110,7 +110,8 @@ fn build_in_memory<I: LdbIterator, C: Cmp + Copy + Drop, FP: FilterPolicy + Drop
     compressors: &CompressorList,
     from: &mut I,
 ) -> Result<Option<BuiltTable>>
-    requires unused { IsUnused (⟦<CompressorList as Compressors>⟧.codings compressors.now) core }
+    requires unused { IsUnused C.Cmp FP.FilterPolicy (⟦<CompressorList as Compressors>⟧.codings
+        compressors.now) core }
     requires pairs { CanBeTabled (C.accepts (order_of core)) (C.cmp (order_of core))
         (I.pairs from.old) }
     ensures none { IfOk result (λ table. IfNone table (I.pairs from.old ≡ [])) }
@@ -125,7 +126,7 @@ fn build_in_memory<I: LdbIterator, C: Cmp + Copy + Drop, FP: FilterPolicy + Drop
     ensures walk { SameWalk I.pairs I.order I.fails from.old from.new }
     ensures cause { let codings = ⟦<CompressorList as Compressors>⟧.codings compressors.now in
         IfErr result (λ status. IsOutOfMemory status ⊎ I.fails from.old from.new status
-        ⊎ StopsInMemory codings core (I.pairs from.old) status) }
+        ⊎ StopsInMemory C.Cmp FP.FilterPolicy codings core (I.pairs from.old) status) }
 {
     from.seek_to_first()?;
     let Some((first, _)) = from.current() else {
@@ -160,19 +161,20 @@ fn add_pairs<S: Sink, I: LdbIterator, C: Cmp + Copy, FP: FilterPolicy>(
     compressors: &CompressorList,
     from: &mut I,
 ) -> Result<()>
-    requires unbroken { core.old.broken ≡ false }
-    requires none { core.old.count ≡ 0 }
+    requires unused { IsUnused C.Cmp FP.FilterPolicy (⟦<CompressorList as Compressors>⟧.codings
+        compressors.now) core.old }
     requires pairs { CanBeTabled (C.accepts (order_of core.old)) (C.cmp (order_of core.old))
         (I.pairs from.old) }
     requires first { I.position from.old ≡ position_within (I.pairs from.old) 0 }
     ensures takes { let codings = ⟦<CompressorList as Compressors>⟧.codings compressors.now in
-        OnOk result (HasTaken codings S.puts core.old sink.old (I.pairs from.old) core.new
-        sink.new) }
+        OnOk result (HasTaken C.Cmp FP.FilterPolicy codings S.puts core.old sink.old
+        (I.pairs from.old) core.new sink.new) }
     ensures last { OnOk result (last_of core.new ≡ last_added (I.pairs from.old)) }
     ensures walk { SameWalk I.pairs I.order I.fails from.old from.new }
     ensures cause { let codings = ⟦<CompressorList as Compressors>⟧.codings compressors.now in
         IfErr result (λ status. I.fails from.old from.new status
-        ⊎ StopsAtPair codings S.puts core.old sink.old (I.pairs from.old) status) }
+        ⊎ StopsAtPair C.Cmp FP.FilterPolicy codings S.puts core.old sink.old (I.pairs from.old)
+        status) }
 {
     'adding: while let Some((key, value)) = from.current() {
         core.add(sink, compressors, key, value)?;

@@ -94,6 +94,16 @@ HasEntriesBuilt cmp interval bytes points last count begun =
     (entries : List BlockEntry)
     × AreEntriesBuilt cmp interval bytes points last count begun entries
 
+-- What a block builder is to its callers: its order, after how many entries restart points come,
+-- the entries of the pairs that were added, whether the first restart point is set, and for how
+-- many bytes of entries it has room.
+pub record BlockBuilt (C : Type 0) : Type 0 where
+  pub cmp : C
+  pub interval : ℕ
+  pub entries : List BlockEntry
+  pub begun : Bool
+  pub room : ℕ
+
 -- a pair was added to some entries: with the entry that it gets after them it is the last of their
 -- pairs
 pub record AddsEntry (interval : ℕ) (old new : List BlockEntry) (key value : List ℕ) : Type 0 where

@@ -11,48 +11,60 @@ use Rattle.leveldb_base.specs.Types.{Pair}
 use Rattle.leveldb_base.specs.declared.cmp.Cmp.{Ghosts as CmpGhosts}
 use Rattle.leveldb_env.specs.Sink.{PutsAll, PutsEach}
 use Rattle.leveldb_env.specs.Compressor.{Codings, Decodes}
-use Rattle.leveldb_env.specs.FilterBlock.{IsFilterBlock, finished}
+use Rattle.leveldb_env.specs.FilterBlock.{FiltersBuilt, IsFilterBlock, finished}
 use Rattle.leveldb_env.specs.declared.filter.FilterPolicy.{Ghosts as PolicyGhosts}
 use Rattle.leveldb_table.specs.Block.{pairs_of}
-use Rattle.leveldb_table.specs.BlockBuilder.{last_added, block_made, IsMade, estimate}
+use Rattle.leveldb_table.specs.BlockBuilder.{BlockBuilt, last_added, block_made, IsMade, estimate}
 use Rattle.leveldb_table.specs.Footer.{footer_bytes}
 use Rattle.leveldb_table.specs.Table.{Part, HasBlockAt, index_pair, IsTable, IsWritten, HasFiltersAt, filters_for, filter_key, with_trailer}
 use Rattle.leveldb_table.specs.TableBuilderStage.{Stage, stage_of, IsLaidOut, AreSeparated, AreReady, Follows, first_key}
-use Rattle.leveldb_table.specs.declared.table_builder.builder_core.BuilderCore.{BuilderCore}
+
+-- What a table builder is to its callers: the builders of its open block and of its index, its
+-- filters, how many bytes it has put, how many pairs were added, whether a call failed, and under
+-- which compressor's id and of which size blocks are stored.
+pub record TableBuilt (C FP : Type 0) : Type 0 where
+  pub block : BlockBuilt C
+  pub index : BlockBuilt C
+  pub filter : FiltersBuilt FP
+  pub offset : ℕ
+  pub count : ℕ
+  pub broken : Bool
+  pub compressor : ℕ
+  pub block_size : ℕ
 
 -- how far a builder's table is built
-abbrev pub stage : {C FP : Type 0} {order : CmpGhosts C} {policy : PolicyGhosts FP}
-    → BuilderCore C FP order policy → Stage FP
+abbrev pub stage : {C FP : Type 0}
+    → TableBuilt C FP → Stage FP
 stage core =
-    stage_of core.filter core.offset (pairs_of None core.index.built.0)
-    (pairs_of None core.block.built.0) core.count core.block.interval core.index.interval
+    stage_of core.filter core.offset (pairs_of None core.index.entries)
+    (pairs_of None core.block.entries) core.count core.block.interval core.index.interval
 
 -- the key that was added last
-abbrev pub last_of : {C FP : Type 0} {order : CmpGhosts C} {policy : PolicyGhosts FP}
-    → BuilderCore C FP order policy → List ℕ
-last_of core = last_added (pairs_of None core.block.built.0)
+abbrev pub last_of : {C FP : Type 0}
+    → TableBuilt C FP → List ℕ
+last_of core = last_added (pairs_of None core.block.entries)
 
 -- its comparator, and its filter policy
-abbrev pub order_of : {C FP : Type 0} {order : CmpGhosts C} {policy : PolicyGhosts FP}
-    → BuilderCore C FP order policy → C
+abbrev pub order_of : {C FP : Type 0}
+    → TableBuilt C FP → C
 order_of core = core.block.cmp
 
 -- the filter policy of a table that is built
-abbrev pub policy_of : {C FP : Type 0} {order : CmpGhosts C} {policy : PolicyGhosts FP}
-    → BuilderCore C FP order policy → FP
+abbrev pub policy_of : {C FP : Type 0}
+    → TableBuilt C FP → FP
 policy_of core = core.filter.policy
 
 -- the index's keys and after them those of the open block rise, and the open block's filter is
 -- open
-abbrev pub IsReady : {C FP : Type 0} {order : CmpGhosts C} {policy : PolicyGhosts FP}
-    → (C → List ℕ → Bool) → (C → List ℕ → List ℕ → Ordering) → BuilderCore C FP order policy
+abbrev pub IsReady : {C FP : Type 0}
+    → (C → List ℕ → Bool) → (C → List ℕ → List ℕ → Ordering) → TableBuilt C FP
     → Type 0
 IsReady accepts cmp core =
     AreReady (accepts core.block.cmp) (cmp core.block.cmp) (cmp core.index.cmp) (stage core)
 
 -- and this key is after them
-abbrev pub IsReadyFor : {C FP : Type 0} {order : CmpGhosts C} {policy : PolicyGhosts FP}
-    → (C → List ℕ → Bool) → (C → List ℕ → List ℕ → Ordering) → BuilderCore C FP order policy
+abbrev pub IsReadyFor : {C FP : Type 0}
+    → (C → List ℕ → Bool) → (C → List ℕ → List ℕ → Ordering) → TableBuilt C FP
     → List ℕ → Type 0
 IsReadyFor accepts cmp core next =
     IsReady accepts cmp core
@@ -60,17 +72,17 @@ IsReadyFor accepts cmp core next =
 
 -- the open block can be closed before this key: it has a pair, and the key is accepted and at or
 -- after the last one
-pub record IsClosable {C FP : Type 0} {order : CmpGhosts C} {policy : PolicyGhosts FP}
+pub record IsClosable {C FP : Type 0}
     (accepts : C → List ℕ → Bool) (cmp : C → List ℕ → List ℕ → Ordering)
-    (core : BuilderCore C FP order policy) (next : List ℕ) : Type 0 where
+    (core : TableBuilt C FP) (next : List ℕ) : Type 0 where
   pub ready : IsReady accepts cmp core
   pub some : (stage core).open_pairs ≢ []
   pub accepted : accepts (order_of core) next ≡ true
   pub after : cmp (order_of core) (last_of core) next ≢ Greater
 
 -- the comparator, the policy, the compressor and the sizes stay
-pub record KeepsChoices {C FP : Type 0} {order : CmpGhosts C} {policy : PolicyGhosts FP}
-    (old new : BuilderCore C FP order policy) : Type 0 where
+pub record KeepsChoices {C FP : Type 0}
+    (old new : TableBuilt C FP) : Type 0 where
   pub same_order : order_of new ≡ order_of old
   pub same_policy : policy_of new ≡ policy_of old
   pub same_compressor : new.compressor ≡ old.compressor
@@ -79,29 +91,25 @@ pub record KeepsChoices {C FP : Type 0} {order : CmpGhosts C} {policy : PolicyGh
       × (new.index.interval ≡ old.index.interval)
 
 -- no pair was added, and the builder counts as broken until the call is done
-abbrev pub StaysUnfinished : {C FP : Type 0} {order : CmpGhosts C} {policy : PolicyGhosts FP}
-    → BuilderCore C FP order policy → BuilderCore C FP order policy → Type 0
+abbrev pub StaysUnfinished : {C FP : Type 0}
+    → TableBuilt C FP → TableBuilt C FP → Type 0
 StaysUnfinished old new = (new.count ≡ old.count) × (new.broken ≡ true)
 
--- The builder has put these bytes, and these pairs were added. What its comparator accepts, how
--- that orders and separates keys, and what its policy matches, are given for the comparator and
--- the policy that it has.
-abbrev pub IsBegun : {C FP : Type 0} {order : CmpGhosts C} {policy : PolicyGhosts FP}
-    → Codings → (C → List ℕ → Bool) → (C → List ℕ → List ℕ → Ordering)
-    → (C → List ℕ → List ℕ → List ℕ) → (FP → List ℕ → List ℕ → Bool)
-    → BuilderCore C FP order policy → List ℕ → List Pair → Type 0
-IsBegun {policy = policy} codings accepts cmp sep matches core written pairs =
-    IsLaidOut (Decodes codings) (accepts core.block.cmp) (cmp core.block.cmp) (sep core.block.cmp)
-    (matches core.filter.policy) (policy.filter_for core.filter.policy) core.compressor
+-- The builder has put these bytes, and these pairs were added.
+abbrev pub IsBegun : {C FP : Type 0} → Codings → CmpGhosts C → PolicyGhosts FP → TableBuilt C FP
+    → List ℕ → List Pair → Type 0
+IsBegun codings order filters core written pairs =
+    IsLaidOut (Decodes codings) (order.accepts core.block.cmp) (order.cmp core.block.cmp)
+    (order.shortest_sep core.block.cmp) (filters.matches core.filter.policy)
+    (filters.filter_for core.filter.policy) core.compressor
     (stage core) (first_key (stage core).open_pairs) written pairs
 
 -- What a new builder is: nothing is put, no pair is added, no call has failed, and it has this
 -- comparator, this policy, this compressor's id and these sizes.
-pub record IsNewBuilder {C FP : Type 0} {ordered : CmpGhosts C} {filters : PolicyGhosts FP}
+pub record IsNewBuilder {C FP : Type 0} (ordered : CmpGhosts C) (filters : PolicyGhosts FP)
     (cmp : C) (chosen : FP) (id block_size restarts : ℕ)
-    (core : BuilderCore C FP ordered filters) : Type 0 where
-  pub begun : (codings : Codings) → IsBegun codings ordered.accepts ordered.cmp
-      ordered.shortest_sep filters.matches core [] []
+    (core : TableBuilt C FP) : Type 0 where
+  pub begun : (codings : Codings) → IsBegun codings ordered filters core [] []
   pub unbroken : core.broken ≡ false
   pub none : core.count ≡ 0
   pub order : order_of core ≡ cmp
@@ -113,16 +121,16 @@ pub record IsNewBuilder {C FP : Type 0} {ordered : CmpGhosts C} {filters : Polic
 
 -- The open block has an entry, and more bytes than a block shall have: the next pair goes into
 -- another.
-abbrev pub IsFull : {C FP : Type 0} {order : CmpGhosts C} {policy : PolicyGhosts FP}
-    → BuilderCore C FP order policy → Type 0
-IsFull core = (core.block.built.0 ≢ []) × (core.block_size < estimate core.block.built.0 true)
+abbrev pub IsFull : {C FP : Type 0}
+    → TableBuilt C FP → Type 0
+IsFull core = (core.block.entries ≢ []) × (core.block_size < estimate core.block.entries true)
 
 -- how many bytes the table would have: the estimates of the open block, the index and the filters,
 -- what was put, and a footer
-abbrev pub table_estimate : {C FP : Type 0} {order : CmpGhosts C} {policy : PolicyGhosts FP}
-    → BuilderCore C FP order policy → ℕ
+abbrev pub table_estimate : {C FP : Type 0}
+    → TableBuilt C FP → ℕ
 table_estimate core =
-    estimate core.block.built.0 true + estimate core.index.built.0 true
+    estimate core.block.entries true + estimate core.index.entries true
     + (length (concat core.filter.filters) + 4 * length core.filter.filters + 5) + core.offset
     + 48
 

@@ -15,8 +15,7 @@ use Rattle.leveldb_table.specs.BlockBuilder.{IsMade, IsEntryTooLarge}
 use Rattle.leveldb_table.specs.Table.{with_trailer}
 use Rattle.leveldb_table.specs.PutBlock.{PutsBlock, IsNotPut, IsTooLong}
 use Rattle.leveldb_table.specs.TableBuilderStage.{Stage, with_pair, Closes}
-use Rattle.leveldb_table.specs.TableBuilder.{stage, last_of, IsBegun, IsFull, IsBroken, AddsPair}
-use Rattle.leveldb_table.specs.declared.table_builder.builder_core.BuilderCore.{BuilderCore}
+use Rattle.leveldb_table.specs.TableBuilder.{TableBuilt, stage, last_of, IsBegun, IsFull, IsBroken, AddsPair}
 
 -- why a pair wasn't added after these entries: out of memory, or it would be one pair too many, or
 -- it is too large for the block
@@ -32,8 +31,8 @@ pub record IsStored (codings : Codings) (id : ℕ) (cmp : List ℕ → List ℕ 
   pub made : IsMade cmp interval pairs text
   pub decoded : Decodes codings id stored text
 
-module _ {C FP : Type 0} {order : CmpGhosts C} {policy : PolicyGhosts FP} (codings : Codings)
-    (core : BuilderCore C FP order policy) where
+module _ {C FP : Type 0} (order : CmpGhosts C) (policy : PolicyGhosts FP) (codings : Codings)
+    (core : TableBuilt C FP) where
   -- the open block is put as these bytes before this key, and gets its line in the index
   abbrev pub ClosesOpen : List ℕ → List ℕ → Stage FP → Type 0
   ClosesOpen next bytes new =
@@ -45,7 +44,7 @@ module _ {C FP : Type 0} {order : CmpGhosts C} {policy : PolicyGhosts FP} (codin
   abbrev pub IsNotLined : List ℕ → Handle → Status → Type 0
   IsNotLined next handle status =
       IsOutOfMemory status
-      ⊎ ((status.code ≡ NotSupported) × IsEntryTooLarge core.index.built.0
+      ⊎ ((status.code ≡ NotSupported) × IsEntryTooLarge core.index.entries
       (order.shortest_sep core.block.cmp (last_of core) next) (handle_bytes handle))
       ⊎ ((length core.filter.filters < (handle.offset + handle.size + 5) / 2048)
       × IsFilterNotMade (policy.too_large core.filter.policy)
@@ -54,7 +53,7 @@ module _ {C FP : Type 0} {order : CmpGhosts C} {policy : PolicyGhosts FP} (codin
   module _ {S : Type 0} (puts : S → List ℕ → Result (Unit {0}) Status → S → Type 0) where
     -- the open block was put in one put and got its line, and the pair is the first of the next
     -- block
-    pub record ClosesBlock (pair : Pair) (new : BuilderCore C FP order policy)
+    pub record ClosesBlock (pair : Pair) (new : TableBuilt C FP)
         (from to : S) : Type 0 where
       pub bytes : List ℕ
       pub mid : Stage FP
@@ -64,11 +63,11 @@ module _ {C FP : Type 0} {order : CmpGhosts C} {policy : PolicyGhosts FP} (codin
 
     -- there is room for a pair: the open block had it, or it was full and was put in one put, and
     -- is empty now
-    abbrev pub HasRoom : List ℕ → BuilderCore C FP order policy → S → S → Type 0
+    abbrev pub HasRoom : List ℕ → TableBuilt C FP → S → S → Type 0
     HasRoom next new from to =
-        ((IsFull core → ⊥) × (stage new ≡ stage core) × (new.block.built.0 ≡ core.block.built.0)
+        ((IsFull core → ⊥) × (stage new ≡ stage core) × (new.block.entries ≡ core.block.entries)
         × (to ≡ from))
-        ⊎ (IsFull core × (new.block.built.0 ≡ []) × (bytes : List ℕ) × puts from bytes (Ok tt) to
+        ⊎ (IsFull core × (new.block.entries ≡ []) × (bytes : List ℕ) × puts from bytes (Ok tt) to
         × ClosesOpen next bytes (stage new))
 
     -- nothing was put, or the open block's put was tried, whatever came of it
@@ -101,7 +100,7 @@ module _ {C FP : Type 0} {order : CmpGhosts C} {policy : PolicyGhosts FP} (codin
     -- added to the next one.
     abbrev pub IsNotTaken : Pair → S → Status → S → Type 0
     IsNotTaken pair from status to =
-        ((IsFull core → ⊥) × (to ≡ from) × IsNotAdded core.block.built.0 core.count pair status)
+        ((IsFull core → ⊥) × (to ≡ from) × IsNotAdded core.block.entries core.count pair status)
         ⊎ (IsFull core × IsNotClosed pair.0 from status to)
         ⊎ (IsFull core × (handle : Handle) × PutsOpen from handle to
         × IsNotAdded [] core.count pair status)
@@ -114,19 +113,19 @@ module _ {C FP : Type 0} {order : CmpGhosts C} {policy : PolicyGhosts FP} (codin
 
 -- ---- what a call says that adds a pair
 
-module _ {C FP S : Type 0} {order : CmpGhosts C} {policy : PolicyGhosts FP} (codings : Codings)
+module _ {C FP S : Type 0} (order : CmpGhosts C) (policy : PolicyGhosts FP) (codings : Codings)
     (puts : S → List ℕ → Result (Unit {0}) Status → S → Type 0)
-    (old new : BuilderCore C FP order policy) (pair : Pair) where
+    (old new : TableBuilt C FP) (pair : Pair) where
   -- the pair was added
   pub record TakesPair (from to : S) : Type 0 where
     pub added : AddsPair puts
-        (IsBegun codings order.accepts order.cmp order.shortest_sep policy.matches old)
-        (IsBegun codings order.accepts order.cmp order.shortest_sep policy.matches new)
+        (IsBegun codings order policy old)
+        (IsBegun codings order policy new)
         from pair to
     -- a block that was full was put before, in one put, and the pair is the first of the next; for
     -- that the id has a compressor
     pub full : IsFull old → (stage new).open_pairs ≡ pair ∷ []
-    pub closed : IsFull old → ClosesBlock codings old puts pair new from to
+    pub closed : IsFull old → ClosesBlock order policy codings old puts pair new from to
     pub stored : IsFull old → codings old.compressor ≢ None
     -- else nothing was put
     pub room : (IsFull old → ⊥) → (stage new ≡ with_pair pair (stage old)) × (to ≡ from)
@@ -138,8 +137,8 @@ module _ {C FP S : Type 0} {order : CmpGhosts C} {policy : PolicyGhosts FP} (cod
   pub record TakesNoPair (from : S) (status : Status) (to : S) : Type 0 where
     pub refused : new.broken ≡ true
     pub still : new.count ≡ old.count
-    pub cause : IsAddError codings old puts pair from status to
-    pub sink : TriesOpen codings old puts from to
+    pub cause : IsAddError order policy codings old puts pair from status to
+    pub sink : TriesOpen order policy codings old puts from to
     -- a full block whose id has no compressor isn't put
     pub unset : old.broken ≡ false → IsFull old → codings old.compressor ≡ None
         → (IsUnset old.compressor status ⊎ IsOutOfMemory status) × (to ≡ from)

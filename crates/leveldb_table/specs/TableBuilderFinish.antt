@@ -15,9 +15,8 @@ use Rattle.leveldb_table.specs.Footer.{footer_bytes}
 use Rattle.leveldb_table.specs.Table.{with_trailer, filter_key}
 use Rattle.leveldb_table.specs.PutBlock.{PutsBlock, IsPutError, IsNoMetaindex, StopsFrom, StopsAtFooter}
 use Rattle.leveldb_table.specs.TableBuilderStage.{Stage}
-use Rattle.leveldb_table.specs.TableBuilder.{stage, last_of, order_of, policy_of, IsBegun, IsBroken, IsBuiltTable, FinishesTable, PutsEnd}
+use Rattle.leveldb_table.specs.TableBuilder.{TableBuilt, stage, last_of, order_of, policy_of, IsBegun, IsBroken, IsBuiltTable, FinishesTable, PutsEnd}
 use Rattle.leveldb_table.specs.TableBuilderAdd.{ClosesOpen, IsNotClosed}
-use Rattle.leveldb_table.specs.declared.table_builder.builder_core.BuilderCore.{BuilderCore}
 
 -- The filters of a stage whose blocks are all closed weren't made, or they weren't put after the
 -- data blocks; or they were, and then came what is said of their handle, their end and the sink.
@@ -72,20 +71,21 @@ module _ {FP : Type 0} (codings : Codings) (cmp : List ℕ → List ℕ → Orde
   StopsFromFilters from status to =
       StopsAtFilters too_large make last puts StopsFromMetaindex from status to
 
-module _ {C FP : Type 0} {order : CmpGhosts C} {policy : PolicyGhosts FP} (codings : Codings)
-    (core : BuilderCore C FP order policy)
+module _ {C FP : Type 0} (order : CmpGhosts C) (policy : PolicyGhosts FP) (codings : Codings)
+    (core : TableBuilt C FP)
     {S : Type 0} (puts : S → List ℕ → Result (Unit {0}) Status → S → Type 0) where
   -- no block is open; or the open one is closed before the successor of its last key, in one put
   abbrev pub ClosesRest : Stage FP → S → S → Type 0
   ClosesRest last from to =
       (((stage core).open_pairs ≡ []) × (last ≡ stage core) × (to ≡ from))
       ⊎ (((stage core).open_pairs ≢ []) × (bytes : List ℕ) × puts from bytes (Ok tt) to
-      × ClosesOpen codings core (order.short_succ core.block.cmp (last_of core)) bytes last)
+      × ClosesOpen order policy codings core (order.short_succ core.block.cmp (last_of core)) bytes
+      last)
 
   -- there is an open block, and it wasn't closed so
   abbrev pub IsLeftOpen : S → Status → S → Type 0
   IsLeftOpen from status to =
-      ((stage core).open_pairs ≢ []) × IsNotClosed codings core puts
+      ((stage core).open_pairs ≢ []) × IsNotClosed order policy codings core puts
       (order.short_succ core.block.cmp (last_of core)) from status to
 
   -- Why a table wasn't finished: its builder was broken; or the open block wasn't closed; or no
@@ -112,8 +112,8 @@ module _ {C FP : Type 0} {order : CmpGhosts C} {policy : PolicyGhosts FP} (codin
         (policy.filter_for core.filter.policy) core.compressor (policy.name core.filter.policy)
         (stage core) puts from status to)
 
-module _ {C FP : Type 0} {order : CmpGhosts C} {policy : PolicyGhosts FP} (codings : Codings)
-    (core : BuilderCore C FP order policy)
+module _ {C FP : Type 0} (order : CmpGhosts C) (policy : PolicyGhosts FP) (codings : Codings)
+    (core : TableBuilt C FP)
     {S : Type 0} (puts : S → List ℕ → Result (Unit {0}) Status → S → Type 0)
     (flushes : S → Result (Unit {0}) Status → S → Type 0) where
   -- The table was finished by these puts and no others: one of the open block, where there is one,
@@ -122,7 +122,7 @@ module _ {C FP : Type 0} {order : CmpGhosts C} {policy : PolicyGhosts FP} (codin
   pub record PutsRest (from : S) (size : ℕ) (to : S) : Type 0 where
     pub last : Stage FP
     pub mid : S
-    pub closed : ClosesRest codings core puts last from mid
+    pub closed : ClosesRest order policy codings core puts last from mid
     pub ended : PutsEnd puts flushes (Decodes codings) (order.cmp core.block.cmp)
         (policy.filter_for core.filter.policy) core.compressor (policy.name core.filter.policy) last
         mid size to
@@ -130,7 +130,7 @@ module _ {C FP : Type 0} {order : CmpGhosts C} {policy : PolicyGhosts FP} (codin
   -- the table was finished: it is the one of the pairs that were added, by these puts
   pub record IsFinished (from : S) (size : ℕ) (to : S) : Type 0 where
     pub finishes : FinishesTable puts flushes
-        (IsBegun codings order.accepts order.cmp order.shortest_sep policy.matches core)
+        (IsBegun codings order policy core)
         (IsBuiltTable codings (order.accepts (order_of core)) (order.cmp (order_of core))
         (order.shortest_sep (order_of core)) (order.short_succ (order_of core))
         (policy.matches (policy_of core)) (policy.filter_for (policy_of core)) core.compressor

@@ -15,6 +15,7 @@ use leveldb_base::error::{Result, StatusCode, err};
 use leveldb_base::varint::encode_varint64;
 use leveldb_env::options::Options;
 use std::alloc::Global;
+use std::marker::Model;
 
 /// Pairs in strictly rising order, put into the bytes of a block.
 #[derive(Drop)]
@@ -30,9 +31,24 @@ pub struct BlockBuilder<C: Cmp> {
 
     // whether the first restart point is set
     begun: bool,
-    pub ghost built: { HasEntriesBuilt (C.cmp cmp) interval buffer.items points.items
+    ghost built: { HasEntriesBuilt (C.cmp cmp) interval buffer.items points.items
         last_key.items count begun } by { HasEntriesBuilt-prop
             (C.cmp cmp) interval buffer.items points.items last_key.items count begun },
+}
+
+impl<C: Cmp> Model for BlockBuilder<C> {
+    ghost use Rattle.std.specs.Prelude.{vec_capacity};
+    ghost use Rattle.leveldb_table.specs.BlockBuilder.{BlockBuilt};
+
+    ghost Value = { BlockBuilt C };
+
+    ghost view = { λ it. record {
+      cmp = it.cmp;
+      interval = it.interval;
+      entries = it.built.0;
+      begun = it.begun;
+      room = vec_capacity it.buffer;
+    } };
 }
 
 impl<C: Cmp> BlockBuilder<C> {
@@ -41,7 +57,7 @@ impl<C: Cmp> BlockBuilder<C> {
     pub fn new<FP>(alloc: Global, options: &Options<C, FP>) -> BlockBuilder<C>
     where
         C: Copy,
-        ensures none { result.built.0 ≡ [] }
+        ensures none { result.entries ≡ [] }
         ensures begun { result.begun ≡ true }
         ensures order { result.cmp ≡ options.now.cmp }
         ensures interval { result.interval ≡ max 1 options.now.block_restart_interval }
@@ -52,7 +68,7 @@ impl<C: Cmp> BlockBuilder<C> {
     // A builder under this order, with a restart point every `interval` entries.
     pub(crate) fn spaced(alloc: Global, cmp: C, interval: usize) -> BlockBuilder<C>
         requires { 1 ≤ interval }
-        ensures none { result.built.0 ≡ [] }
+        ensures none { result.entries ≡ [] }
         ensures begun { result.begun ≡ true }
         ensures order { result.cmp ≡ cmp }
         ensures interval { result.interval ≡ interval }
@@ -72,11 +88,11 @@ impl<C: Cmp> BlockBuilder<C> {
     pub(crate) fn fresh(&self, room: usize) -> Result<BlockBuilder<C>>
     where
         C: Copy,
-        ensures none { IfOk result (λ builder. builder.built.0 ≡ []) }
+        ensures none { IfOk result (λ builder. builder.entries ≡ []) }
         ensures begun { IfOk result (λ builder. builder.begun ≡ true) }
         ensures order { IfOk result (λ builder. builder.cmp ≡ self.now.cmp) }
         ensures interval { IfOk result (λ builder. builder.interval ≡ self.now.interval) }
-        ensures room { IfOk result (λ builder. room ≤ vec_capacity builder.buffer) }
+        ensures room { IfOk result (λ builder. room ≤ builder.room) }
         ensures memory { IfErr result IsOutOfMemory }
     {
         let alloc = *self.buffer.allocator();
@@ -108,14 +124,14 @@ impl<C: Cmp> BlockBuilder<C> {
 
     /// How many pairs were added.
     pub fn entries(&self) -> usize
-        ensures { result ≡ length self.now.built.0 }
+        ensures { result ≡ length self.now.entries }
     {
         self.count
     }
 
     /// The key that was added last, empty where there is none.
     pub fn last_key(&self) -> &[u8]
-        ensures { result.now ≡ last_added (pairs_of None self.now.built.0) }
+        ensures { result.now ≡ last_added (pairs_of None self.now.entries) }
     {
         self.last_key.as_slice()
     }
@@ -123,7 +139,7 @@ impl<C: Cmp> BlockBuilder<C> {
     /// How many bytes the block would have: those of the entries, four for each restart point that
     /// is set, and four.
     pub fn size_estimate(&self) -> usize
-        ensures { result ≡ estimate self.now.built.0 self.now.begun }
+        ensures { result ≡ estimate self.now.entries self.now.begun }
     {
         let points = if self.begun { self.points.len() + 1 } else { 0 };
         self.buffer.len() + 4 * points + 4
@@ -132,7 +148,7 @@ impl<C: Cmp> BlockBuilder<C> {
     /// Takes all pairs out, and the first restart point too, which the next `add` or `finish` sets
     /// again.
     pub fn reset(&mut self)
-        ensures none { self.new.built.0 ≡ [] }
+        ensures none { self.new.entries ≡ [] }
         ensures begun { self.new.begun ≡ false }
         ensures order { self.new.cmp ≡ self.old.cmp }
         ensures interval { self.new.interval ≡ self.old.interval }
@@ -148,15 +164,15 @@ impl<C: Cmp> BlockBuilder<C> {
     /// offset, or have a length, of more than 32 bits.
     pub fn add(&mut self, key: &[u8], value: &[u8]) -> Result<()>
         requires { KeysRise (C.cmp self.old.cmp)
-            (pairs_of None self.old.built.0 ++ (key.now, value.now) ∷ []) }
-        ensures ok { OnOk result (AddsEntry self.old.interval self.old.built.0 self.new.built.0
+            (pairs_of None self.old.entries ++ (key.now, value.now) ∷ []) }
+        ensures ok { OnOk result (AddsEntry self.old.interval self.old.entries self.new.entries
             key.now value.now × (self.new.begun ≡ true)) }
-        ensures err { OnErr result ((self.new.built.0 ≡ self.old.built.0)
+        ensures err { OnErr result ((self.new.entries ≡ self.old.entries)
             × (self.new.begun ≡ self.old.begun)) }
         ensures order { self.new.cmp ≡ self.old.cmp }
         ensures interval { self.new.interval ≡ self.old.interval }
         ensures too_large { IsErrAnd result (λ status. status.code ≡ NotSupported)
-            ↔ IsEntryTooLarge self.old.built.0 key.now value.now }
+            ↔ IsEntryTooLarge self.old.entries key.now value.now }
         ensures cause { IfErr result
             (λ status. (status.code ≡ NotSupported) ⊎ IsOutOfMemory status) }
     {
@@ -188,13 +204,13 @@ impl<C: Cmp> BlockBuilder<C> {
     where
         C: Drop,
         ensures ok { IfOk result
-            (λ contents. IsBlock (C.cmp self.cmp) contents (pairs_of None self.built.0)) }
+            (λ contents. IsBlock (C.cmp self.cmp) contents (pairs_of None self.entries)) }
         ensures encoded { IfOk result
-            (λ contents. HasEntries (C.cmp self.cmp) contents self.built.0) }
+            (λ contents. HasEntries (C.cmp self.cmp) contents self.entries) }
         ensures exact { IfOk result
-            (λ contents. contents ≡ block_made self.interval (pairs_of None self.built.0)) }
-        ensures size { IfOk result (λ contents. length contents ≡ estimate self.built.0 true) }
-        ensures spaced { AreSpaced self.interval 0 self.built.0 }
+            (λ contents. contents ≡ block_made self.interval (pairs_of None self.entries)) }
+        ensures size { IfOk result (λ contents. length contents ≡ estimate self.entries true) }
+        ensures spaced { AreSpaced self.interval 0 self.entries }
         ensures memory { IfErr result IsOutOfMemory }
     {
         Ok(Bytes::from_vec(self.into_bytes()?)?)
@@ -205,10 +221,10 @@ impl<C: Cmp> BlockBuilder<C> {
     where
         C: Drop,
         ensures ok { IfOk result (λ block. IsMade (C.cmp self.cmp) self.interval
-            (pairs_of None self.built.0) block.items) }
+            (pairs_of None self.entries) block.items) }
         ensures encoded { IfOk result
-            (λ block. HasEntries (C.cmp self.cmp) block.items self.built.0) }
-        ensures size { IfOk result (λ block. length block.items ≡ estimate self.built.0 true) }
+            (λ block. HasEntries (C.cmp self.cmp) block.items self.entries) }
+        ensures size { IfOk result (λ block. length block.items ≡ estimate self.entries true) }
         ensures memory { IfErr result IsOutOfMemory }
     {
         let mut buffer = self.buffer;

@@ -49,9 +49,10 @@ impl<Dst: Sink, C: UserCmp + Copy, FP: FilterPolicy + Copy> TableBuilder<Dst, C,
         options: &Options<C, FP>,
         dst: Dst,
     ) -> TableBuilder<Dst, InternalKeyCmp<C>, InternalFilterPolicy<FP>>
-        ensures new { IsNewBuilder (record { 0 = options.now.cmp }) options.now.filter_policy
-            options.now.compressor options.now.block_size options.now.block_restart_interval
-            result.core }
+        ensures new { IsNewBuilder ⟦<InternalKeyCmp<C> as Cmp>⟧
+            ⟦<InternalFilterPolicy<FP> as FilterPolicy>⟧ (record { 0 = options.now.cmp })
+            options.now.filter_policy options.now.compressor options.now.block_size
+            options.now.block_restart_interval result.core }
         ensures dst { result.dst ≡ dst }
     {
         TableBuilder {
@@ -72,9 +73,10 @@ impl<Dst: Sink, C: UserCmp + Copy, FP: FilterPolicy + Copy> TableBuilder<Dst, C,
         options: &Options<C, FP>,
         dst: Dst,
     ) -> TableBuilder<Dst, InternalKeyCmp<C>, NoFilterPolicy>
-        ensures new { IsNewBuilder (record { 0 = options.now.cmp }) (policy_of result.core)
-            options.now.compressor options.now.block_size options.now.block_restart_interval
-            result.core }
+        ensures new { IsNewBuilder ⟦<InternalKeyCmp<C> as Cmp>⟧
+            ⟦<NoFilterPolicy as FilterPolicy>⟧ (record { 0 = options.now.cmp })
+            (policy_of result.core) options.now.compressor options.now.block_size
+            options.now.block_restart_interval result.core }
         ensures dst { result.dst ≡ dst }
     {
         TableBuilder {
@@ -92,7 +94,7 @@ impl<Dst: Sink, C: UserCmp + Copy, FP: FilterPolicy + Copy> TableBuilder<Dst, C,
 impl<Dst: Sink, C: Cmp + Copy, FP: FilterPolicy + Copy> TableBuilder<Dst, C, FP> {
     /// A builder under the options' order and policy as they are. It takes no memory.
     pub fn new_raw(alloc: Global, options: &Options<C, FP>, dst: Dst) -> TableBuilder<Dst, C, FP>
-        ensures new { IsNewBuilder options.now.cmp options.now.filter_policy
+        ensures new { IsNewBuilder C.Cmp FP.FilterPolicy options.now.cmp options.now.filter_policy
             options.now.compressor options.now.block_size options.now.block_restart_interval
             result.core }
         ensures dst { result.dst ≡ dst }
@@ -145,11 +147,11 @@ impl<Dst: Sink, C: Cmp + Copy, FP: FilterPolicy + Copy> TableBuilder<Dst, C, FP>
         requires rising { self.old.core.broken ≡ false → 0 < self.old.core.count
             → C.cmp (order_of self.old.core) (last_of self.old.core) key.now ≡ Less }
         ensures ok { let codings = ⟦<CompressorList as Compressors>⟧.codings compressors.now in
-            OnOk result (TakesPair codings Dst.puts self.old.core self.new.core
-            (key.now, value.now) self.old.dst self.new.dst) }
+            OnOk result (TakesPair C.Cmp FP.FilterPolicy codings Dst.puts self.old.core
+            self.new.core (key.now, value.now) self.old.dst self.new.dst) }
         ensures err { let codings = ⟦<CompressorList as Compressors>⟧.codings compressors.now in
-            IfErr result (λ status. TakesNoPair codings Dst.puts self.old.core self.new.core
-            (key.now, value.now) self.old.dst status self.new.dst) }
+            IfErr result (λ status. TakesNoPair C.Cmp FP.FilterPolicy codings Dst.puts self.old.core
+            self.new.core (key.now, value.now) self.old.dst status self.new.dst) }
         ensures choices { KeepsChoices self.old.core self.new.core }
     {
         self.core.add(&mut self.dst, compressors, key, value)
@@ -160,13 +162,14 @@ impl<Dst: Sink, C: Cmp + Copy, FP: FilterPolicy + Copy> TableBuilder<Dst, C, FP>
     /// as `add` does, and where the sink can't be flushed.
     pub fn finish(self, compressors: &CompressorList) -> (Dst, Result<usize>)
         ensures ok { let codings = ⟦<CompressorList as Compressors>⟧.codings compressors.now in
-            IfOk result.1 (λ size. IsFinished codings self.core Dst.puts Dst.flushes self.dst size
-            result.0) }
-        ensures cause { IfErr result.1 (λ status. IsFinishError
+            IfOk result.1 (λ size. IsFinished C.Cmp FP.FilterPolicy codings self.core Dst.puts
+            Dst.flushes self.dst size result.0) }
+        ensures cause { IfErr result.1 (λ status. IsFinishError C.Cmp FP.FilterPolicy
             (⟦<CompressorList as Compressors>⟧.codings compressors.now) self.core Dst.puts
             Dst.flushes self.dst status result.0) }
-        ensures cannot { CannotFinish (⟦<CompressorList as Compressors>⟧.codings compressors.now)
-            self.core Dst.puts self.dst result.1 result.0 }
+        ensures cannot { let codings = ⟦<CompressorList as Compressors>⟧.codings compressors.now in
+            CannotFinish C.Cmp FP.FilterPolicy codings self.core Dst.puts self.dst result.1
+            result.0 }
     {
         let TableBuilder { core, mut dst } = self;
         let size = core.finish(&mut dst, compressors);

@@ -114,7 +114,7 @@ fn write_all(rt: &impl Abort, alloc: Global, env: &mut MemEnv, steps: &[Step]) -
     for step in steps {
         write_one(rt, alloc, env, &mut engine, step)?;
     }
-    Box::into_inner(engine).abandon(env)
+    engine.abandon(env)
 }
 
 /// Makes a store whose one batch begins at this number.

@@ -38,11 +38,6 @@ fn is_pair(pair: Option<(&[u8], &[u8])>, key: &[u8], value: &[u8]) -> bool {
     }
 }
 
-/// An iterator over the store, in a box: what owns it drops it by one call.
-fn iterate<'a>(alloc: Global, db: &'a mut Store) -> Result<Box<Places<'a>>> {
-    Ok(Box::new(alloc, db.new_iter()?)?)
-}
-
 /// Puts three keys, and deletes the second.
 fn put_and_delete(db: &mut Store) -> Result<()> {
     db.put(b"a", b"1")?;
@@ -67,7 +62,7 @@ fn moves_turn_at_both_ends(rt: HostRuntime) -> Result<()> {
     let mut env = MemEnv::new(alloc);
     let mut db = opened_db(alloc, &mut env, Options::default())?;
     put_and_delete(&mut db)?;
-    let mut it = iterate(alloc, &mut db)?;
+    let mut it = db.new_iter()?;
     assert!(rt; turns_at_both_ends(&mut it)?);
     Ok(())
 }
@@ -78,7 +73,7 @@ fn empty_key_and_value(rt: HostRuntime) -> Result<()> {
     let mut env = MemEnv::new(alloc);
     let mut db = opened_db(alloc, &mut env, Options::default())?;
     db.put(b"", b"")?;
-    let mut it = iterate(alloc, &mut db)?;
+    let mut it = db.new_iter()?;
     it.seek(b"")?;
     assert!(rt; is_pair(it.current(), b"", b""));
     it.reset();
@@ -115,7 +110,7 @@ fn next_over_tables_and_memory(rt: HostRuntime) -> Result<()> {
     options.write_buffer_size = WRITE_BUFFER_SIZE;
     let mut db = opened_db(rt.alloc(), &mut env, options)?;
     put_all(&mut db)?;
-    let mut it = iterate(rt.alloc(), &mut db)?;
+    let mut it = db.new_iter()?;
     assert!(rt; pairs_after(rt.alloc(), &mut it)?.as_slice() == b"a9b4c7d6e3f8g0".as_slice());
     assert!(rt; !it.valid());
     Ok(())
@@ -168,7 +163,7 @@ fn refused_iterator_leaves_the_store(rt: HostRuntime) -> Result<()> {
     db.close()?;
     drop(db);
     let mut db = opened_db(rt.alloc(), &mut env, Options::default())?;
-    let mut it = iterate(rt.alloc(), &mut db)?;
+    let mut it = db.new_iter()?;
     it.seek_to_first()?;
     assert!(rt; is_pair(it.current(), b"a", b"2"));
     Ok(())

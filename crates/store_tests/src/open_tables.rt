@@ -42,7 +42,7 @@ fn play_on(
     let mut engine = opened(alloc, env, options)?;
     rooms::play_on(rt, alloc, env, &mut engine, THREE_TABLES)?;
     rooms::play_on(rt, alloc, env, &mut engine, acts)?;
-    Box::into_inner(engine).abandon(env)
+    engine.abandon(env)
 }
 
 /// Plays this on a device of its own.

@@ -52,7 +52,7 @@ fn finds_in_memory(
 fn finds_again(alloc: Global, env: &mut RecordEnv, wanted: &str) -> Result<bool> {
     let mut engine = opened(alloc, env, Options::default())?;
     let is_right = finds(env, &mut engine, "abc", wanted)?;
-    Box::into_inner(engine).abandon(env)?;
+    engine.abandon(env)?;
     Ok(is_right)
 }
 
@@ -149,7 +149,7 @@ fn played(rt: &impl Abort, alloc: Global, acts: &[Act]) -> Result<RecordEnv> {
     let mut env = RecordEnv::new(alloc);
     let mut engine = opened(alloc, &mut env, buffered(1))?;
     play_on(rt, alloc, &mut env, &mut engine, acts)?;
-    Box::into_inner(engine).abandon(&mut env)?;
+    engine.abandon(&mut env)?;
     Ok(env)
 }
 
@@ -351,7 +351,7 @@ fn failing_later(
     env: &mut RecordEnv,
     options: DefaultOptions,
     nth: u64,
-) -> Result<Box<RecordEngine>> {
+) -> Result<RecordEngine> {
     let mut engine = opened(alloc, env, options)?;
     engine.put(env, b"a", b"1")?;
     env.fail(nth, false);

@@ -41,27 +41,27 @@ pub fn buffered(write_buffer_size: usize) -> DefaultOptions {
     options
 }
 
-/// An engine on this device, in a box: what owns one drops it by one call, and not by one for each of its parts, so its proof is short.
+/// An engine on this device.
 pub fn opened<E: Env>(
     alloc: Global,
     env: &mut E,
     options: DefaultOptions,
-) -> Result<Box<DefaultEngine<E>>> {
-    Ok(Box::new(alloc, Engine::open(alloc, STORE, env, options)?)?)
+) -> Result<DefaultEngine<E>> {
+    Engine::open(alloc, STORE, env, options)
 }
 
-/// A store on this device, in a box for the same reason.
+/// A store on this device.
 pub fn opened_db<E: Env>(
     alloc: Global,
     env: &mut E,
     options: DefaultOptions,
-) -> Result<Box<DefaultDB<'_, E>>> {
-    Ok(Box::new(alloc, DB::open(alloc, STORE, env, options)?)?)
+) -> Result<DefaultDB<'_, E>> {
+    DB::open(alloc, STORE, env, options)
 }
 
 /// Opens the store, and gives back its lock at once.
 pub fn reopen<E: Env>(alloc: Global, env: &mut E, options: DefaultOptions) -> Result<()> {
-    Engine::open(alloc, STORE, env, options)?.abandon(env)
+    opened(alloc, env, options)?.abandon(env)
 }
 
 /// Opens the store, puts each of these pairs in a batch of its own, and gives back its lock.

@@ -45,8 +45,8 @@ fn add_pairs<S: Sink, C: Cmp + Copy, FP: FilterPolicy>(
     requires none { core.old.count ≡ 0 }
     requires order { order_of core.old ≡ cmp.now }
     ensures adds { let codings = ⟦<CompressorList as Compressors>⟧.codings compressors.now in
-        OnOk result (AddsAll S.puts (IsBegun codings C.accepts C.cmp C.shortest_sep FP.matches
-        core.old) (IsBegun codings C.accepts C.cmp C.shortest_sep FP.matches core.new) sink.old
+        OnOk result (AddsAll S.puts (IsBegun codings C.Cmp FP.FilterPolicy
+        core.old) (IsBegun codings C.Cmp FP.FilterPolicy core.new) sink.old
         (given pairs.now) sink.new) }
     ensures choices { KeepsChoices core.old core.new }
 {

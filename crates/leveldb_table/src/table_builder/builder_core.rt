@@ -27,6 +27,7 @@ use leveldb_env::filter::FilterPolicy;
 use leveldb_env::filter_block::FilterBlockBuilder;
 use leveldb_env::options::Options;
 use std::alloc::Global;
+use std::marker::Model;
 use std::mem::replace;
 
 // How many lines of the index lie between the starts of two restart points: each has its own, so
@@ -59,12 +60,29 @@ pub struct BuilderCore<C: Cmp, FP: FilterPolicy> {
 
     // both blocks have their first restart point
     ghost started: { (block.begun ≡ true) × (index.begun ≡ true) },
-    pub ghost sound: { broken ≡ false → IsSound (C.accepts block.cmp) (C.cmp block.cmp)
-        (C.cmp index.cmp) (stage_of filter offset (pairs_of None index.built.0)
-        (pairs_of None block.built.0) count block.interval index.interval) } by { λ u v. λ i h.
+    ghost sound: { broken ≡ false → IsSound (C.accepts block.cmp) (C.cmp block.cmp)
+        (C.cmp index.cmp) (stage_of filter offset (pairs_of None index.entries)
+        (pairs_of None block.entries) count block.interval index.interval) } by { λ u v. λ i h.
             IsSound-prop (C.accepts block.cmp) (C.cmp block.cmp) (C.cmp index.cmp)
-            (stage_of filter offset (pairs_of None index.built.0)
-            (pairs_of None block.built.0) count block.interval index.interval) (u h) (v h) i },
+            (stage_of filter offset (pairs_of None index.entries)
+            (pairs_of None block.entries) count block.interval index.interval) (u h) (v h) i },
+}
+
+impl<C: Cmp, FP: FilterPolicy> Model for BuilderCore<C, FP> {
+    ghost use Rattle.leveldb_table.specs.TableBuilder.{TableBuilt};
+
+    ghost Value = { TableBuilt C FP };
+
+    ghost view = { λ it. record {
+      block = it.block;
+      index = it.index;
+      filter = it.filter;
+      offset = it.offset;
+      count = it.count;
+      broken = it.broken;
+      compressor = it.compressor;
+      block_size = it.block_size;
+    } };
 }
 
 impl<C: Cmp + Drop, FP: FilterPolicy + Drop> Drop for BuilderCore<C, FP> {
@@ -98,8 +116,9 @@ impl<C: Cmp + Copy, FP: FilterPolicy> BuilderCore<C, FP> {
     pub fn new(alloc: Global, options: &Options<C, FP>) -> BuilderCore<C, FP>
     where
         FP: Copy,
-        ensures { IsNewBuilder options.now.cmp options.now.filter_policy options.now.compressor
-            options.now.block_size options.now.block_restart_interval result }
+        ensures { IsNewBuilder C.Cmp FP.FilterPolicy options.now.cmp options.now.filter_policy
+            options.now.compressor options.now.block_size options.now.block_restart_interval
+            result }
     {
         BuilderCore::under(alloc, options.cmp, options.filter_policy, options)
     }
@@ -111,8 +130,8 @@ impl<C: Cmp + Copy, FP: FilterPolicy> BuilderCore<C, FP> {
         policy: FP,
         options: &Options<D, E>,
     ) -> BuilderCore<C, FP>
-        ensures { IsNewBuilder cmp policy options.now.compressor options.now.block_size
-            options.now.block_restart_interval result }
+        ensures { IsNewBuilder C.Cmp FP.FilterPolicy cmp policy options.now.compressor
+            options.now.block_size options.now.block_restart_interval result }
     {
         let interval = options.block_restart_interval.max(1);
         BuilderCore {
@@ -176,11 +195,11 @@ impl<C: Cmp + Copy, FP: FilterPolicy> BuilderCore<C, FP> {
         requires rising { self.old.broken ≡ false → 0 < self.old.count
             → C.cmp (order_of self.old) (last_of self.old) key.now ≡ Less }
         ensures ok { let codings = ⟦<CompressorList as Compressors>⟧.codings compressors.now in
-            OnOk result (TakesPair codings S.puts self.old self.new (key.now, value.now) sink.old
-            sink.new) }
+            OnOk result (TakesPair C.Cmp FP.FilterPolicy codings S.puts self.old self.new
+            (key.now, value.now) sink.old sink.new) }
         ensures err { let codings = ⟦<CompressorList as Compressors>⟧.codings compressors.now in
-            IfErr result (λ status. TakesNoPair codings S.puts self.old self.new
-            (key.now, value.now) sink.old status sink.new) }
+            IfErr result (λ status. TakesNoPair C.Cmp FP.FilterPolicy codings S.puts self.old
+            self.new (key.now, value.now) sink.old status sink.new) }
         ensures choices { KeepsChoices self.old self.new }
     {
         self.check_unbroken()?;
@@ -200,12 +219,13 @@ impl<C: Cmp + Copy, FP: FilterPolicy> BuilderCore<C, FP> {
         C: Drop,
         FP: Drop,
         ensures ok { let codings = ⟦<CompressorList as Compressors>⟧.codings compressors.now in
-            IfOk result (λ size. IsFinished codings self S.puts S.flushes sink.old size sink.new) }
-        ensures cause { IfErr result (λ status. IsFinishError
+            IfOk result (λ size. IsFinished C.Cmp FP.FilterPolicy codings self S.puts S.flushes
+            sink.old size sink.new) }
+        ensures cause { IfErr result (λ status. IsFinishError C.Cmp FP.FilterPolicy
             (⟦<CompressorList as Compressors>⟧.codings compressors.now) self S.puts S.flushes
             sink.old status sink.new) }
-        ensures cannot { CannotFinish (⟦<CompressorList as Compressors>⟧.codings compressors.now)
-            self S.puts sink.old result sink.new }
+        ensures cannot { let codings = ⟦<CompressorList as Compressors>⟧.codings compressors.now in
+            CannotFinish C.Cmp FP.FilterPolicy codings self S.puts sink.old result sink.new }
     {
         self.check_unbroken()?;
         self.broken = true;
@@ -234,19 +254,19 @@ impl<C: Cmp + Copy, FP: FilterPolicy> BuilderCore<C, FP> {
         requires sound { IsReadyFor C.accepts C.cmp self.old next.now }
         requires some { (stage self.old).open_pairs ≡ [] → (stage self.old).lines ≡ [] }
         ensures ok { let codings = ⟦<CompressorList as Compressors>⟧.codings compressors.now in
-            OnOk result (MakesRoom S.puts (IsBegun codings C.accepts C.cmp C.shortest_sep
-            FP.matches self.old) (Decodes codings) (C.accepts (order_of self.old))
-            (C.cmp (order_of self.old)) (C.shortest_sep (order_of self.old))
-            (FP.matches (policy_of self.old)) (FP.filter_for (policy_of self.old))
-            self.old.compressor (stage self.new) next.now sink.old sink.new) }
-        ensures room { OnOk result (HasRoom (⟦<CompressorList as Compressors>⟧.codings
-            compressors.now) self.old S.puts next.now self.new sink.old sink.new
-            × IsReadyFor C.accepts C.cmp self.new next.now) }
+            OnOk result (MakesRoom S.puts (IsBegun codings C.Cmp FP.FilterPolicy self.old)
+            (Decodes codings) (C.accepts (order_of self.old)) (C.cmp (order_of self.old))
+            (C.shortest_sep (order_of self.old)) (FP.matches (policy_of self.old))
+            (FP.filter_for (policy_of self.old)) self.old.compressor (stage self.new) next.now
+            sink.old sink.new) }
+        ensures room { let codings = ⟦<CompressorList as Compressors>⟧.codings compressors.now in
+            OnOk result (HasRoom C.Cmp FP.FilterPolicy codings self.old S.puts next.now self.new
+            sink.old sink.new × IsReadyFor C.accepts C.cmp self.new next.now) }
         ensures choices { KeepsChoices self.old self.new }
         ensures still { StaysUnfinished self.old self.new }
         ensures cause { IfErr result (λ status. IsFull self.old
-            × IsNotClosed (⟦<CompressorList as Compressors>⟧.codings compressors.now) self.old
-            S.puts next.now sink.old status sink.new) }
+            × IsNotClosed C.Cmp FP.FilterPolicy (⟦<CompressorList as Compressors>⟧.codings
+            compressors.now) self.old S.puts next.now sink.old status sink.new) }
         ensures unset { IsFull self.old → ⟦<CompressorList as Compressors>⟧.codings compressors.now
             self.old.compressor ≡ None → IsErrAnd result (λ status.
             IsUnset self.old.compressor status ⊎ IsOutOfMemory status) × (sink.new ≡ sink.old) }
@@ -263,18 +283,19 @@ impl<C: Cmp + Copy, FP: FilterPolicy> BuilderCore<C, FP> {
         requires sound { IsReady C.accepts C.cmp self.old }
         requires some { (stage self.old).open_pairs ≡ [] → (stage self.old).lines ≡ [] }
         ensures ok { let codings = ⟦<CompressorList as Compressors>⟧.codings compressors.now in
-            OnOk result (ClosesLast S.puts (IsBegun codings C.accepts C.cmp C.shortest_sep
-            FP.matches self.old) (Decodes codings) (C.accepts (order_of self.old))
-            (C.cmp (order_of self.old)) (C.shortest_sep (order_of self.old))
-            (C.short_succ (order_of self.old)) (FP.matches (policy_of self.old))
-            (FP.filter_for (policy_of self.old)) self.old.compressor
-            (stage self.new) sink.old sink.new) }
+            OnOk result (ClosesLast S.puts (IsBegun codings C.Cmp FP.FilterPolicy self.old)
+            (Decodes codings) (C.accepts (order_of self.old)) (C.cmp (order_of self.old))
+            (C.shortest_sep (order_of self.old)) (C.short_succ (order_of self.old))
+            (FP.matches (policy_of self.old)) (FP.filter_for (policy_of self.old))
+            self.old.compressor (stage self.new) sink.old sink.new) }
         ensures order { OnOk result (C.cmp self.new.index.cmp ≡ C.cmp (order_of self.old)) }
         ensures choices { KeepsChoices self.old self.new }
-        ensures rest { OnOk result (ClosesRest (⟦<CompressorList as Compressors>⟧.codings
-            compressors.now) self.old S.puts (stage self.new) sink.old sink.new) }
+        ensures rest { let codings = ⟦<CompressorList as Compressors>⟧.codings compressors.now in
+            OnOk result (ClosesRest C.Cmp FP.FilterPolicy codings self.old S.puts
+            (stage self.new) sink.old sink.new) }
         ensures cause { let codings = ⟦<CompressorList as Compressors>⟧.codings compressors.now in
-            IfErr result (λ status. IsLeftOpen codings self.old S.puts sink.old status sink.new) }
+            IfErr result (λ status. IsLeftOpen C.Cmp FP.FilterPolicy codings self.old S.puts
+            sink.old status sink.new) }
         ensures unset { (stage self.old).open_pairs ≢ []
             → ⟦<CompressorList as Compressors>⟧.codings compressors.now self.old.compressor ≡ None
             → IsErrAnd result (λ status. IsUnset self.old.compressor status ⊎ IsOutOfMemory status)
@@ -304,12 +325,12 @@ impl<C: Cmp + Copy, FP: FilterPolicy> BuilderCore<C, FP> {
             (FP.filter_for (policy_of self.old)) self.old.compressor next.now
             (stage self.old) bytes (stage self.new)) }
         ensures ready { OnOk result
-            (IsReady C.accepts C.cmp self.new × (self.new.block.built.0 ≡ [])) }
+            (IsReady C.accepts C.cmp self.new × (self.new.block.entries ≡ [])) }
         ensures choices { KeepsChoices self.old self.new }
         ensures still { StaysUnfinished self.old self.new }
         ensures cause { let codings = ⟦<CompressorList as Compressors>⟧.codings compressors.now in
-            IfErr result (λ status. IsNotClosed codings self.old S.puts next.now sink.old status
-            sink.new) }
+            IfErr result (λ status. IsNotClosed C.Cmp FP.FilterPolicy codings self.old S.puts
+            next.now sink.old status sink.new) }
         ensures unset { ⟦<CompressorList as Compressors>⟧.codings compressors.now
             self.old.compressor ≡ None → IsErrAnd result (λ status.
             IsUnset self.old.compressor status ⊎ IsOutOfMemory status) × (sink.new ≡ sink.old) }
@@ -396,15 +417,15 @@ fn one_more(alloc: Global, count: usize) -> Result<usize>
 // Adds a pair with a handle's bytes for its value.
 fn add_handle<C: Cmp>(index: &mut BlockBuilder<C>, key: &[u8], handle: BlockHandle) -> Result<()>
     requires rise { KeysRise (C.cmp index.old.cmp)
-        (pairs_of None index.old.built.0 ++ (key.now, handle_bytes handle) ∷ []) }
+        (pairs_of None index.old.entries ++ (key.now, handle_bytes handle) ∷ []) }
     requires fits { HandleFits handle }
-    ensures ok { OnOk result (pairs_of None index.new.built.0
-        ≡ pairs_of None index.old.built.0 ++ (key.now, handle_bytes handle) ∷ []) }
+    ensures ok { OnOk result (pairs_of None index.new.entries
+        ≡ pairs_of None index.old.entries ++ (key.now, handle_bytes handle) ∷ []) }
     ensures begun { index.old.begun ≡ true → index.new.begun ≡ true }
     ensures order { index.new.cmp ≡ index.old.cmp }
     ensures interval { index.new.interval ≡ index.old.interval }
     ensures too_large { IsErrAnd result (λ status. status.code ≡ NotSupported)
-        → IsEntryTooLarge index.old.built.0 key.now (handle_bytes handle) }
+        → IsEntryTooLarge index.old.entries key.now (handle_bytes handle) }
     ensures cause { IfErr result (λ status. (status.code ≡ NotSupported) ⊎ IsOutOfMemory status) }
 {
     let mut bytes = [0; 20];

@@ -19,6 +19,7 @@ use std::marker::Model;
 /// The files of a store with their levels, its compaction pointers and its numbers, as the edits of
 /// its manifest leave them; and the manifest, to which more edits are appended. The calls that use
 /// the disk are given the environment.
+#[derive(Drop)]
 pub struct VersionSet<E: Env> {
     pub(super) alloc: Global,
     pub(super) store: String,
@@ -39,28 +40,6 @@ pub struct VersionSet<E: Env> {
 
     // Whether a call on the manifest has failed.
     pub(super) broken: bool,
-}
-
-impl<E: Env> Drop for VersionSet<E> {
-    // One call for whoever drops one, in place of one for each part of it.
-    fn drop(self) {
-        let VersionSet {
-            alloc: _,
-            store,
-            full,
-            next_file: _,
-            given: _,
-            manifest_number: _,
-            last_sequence: _,
-            log_number: _,
-            previous_log: _,
-            manifest,
-            broken: _,
-        } = self;
-        drop(store);
-        drop(full);
-        drop(manifest);
-    }
 }
 
 impl<E: Env> Model for VersionSet<E> {

@@ -13,7 +13,7 @@ invariant-adding g l =
     let count = passed (walk.pairs l.fn.from) (walk.position l.from) in
     record {
       same : SameWalk walk.pairs walk.order walk.fails l.fn.from l.from;
-      taken : HasTaken ((compressors g.dyn-1).codings l.compressors) g.S.Sink.puts l.fn.core l.fn.sink (take count (walk.pairs l.fn.from)) l.core l.sink;
+      taken : HasTaken g.C.Cmp g.FP.FilterPolicy ((compressors g.dyn-1).codings l.compressors) g.S.Sink.puts l.fn.core l.fn.sink (take count (walk.pairs l.fn.from)) l.core l.sink;
       last : last_of l.core ≡ last_added (take count (walk.pairs l.fn.from));
       count_is : l.core.count ≡ count;
     }

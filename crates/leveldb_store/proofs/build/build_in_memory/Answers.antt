@@ -55,7 +55,7 @@ returns-clause-some g c =
     let pair : Pair = (c.in-Some.first.now, c.in-Some.field-0-1.now) in
     let here : Some pair ≡ pair_at pairs (position_within pairs 0) = c.in-Some.ensures ∙ at_first in
     let last : c.in_ok-largest.largest ≡ last_added pairs = c.in_ok-largest.ensures.ok ∙ c.last_key.ensures ∙ c.in_ok-add_pairs.ensures.last ∙ ap last_added kept.same_pairs in
-    let taken : HasTaken codings puts_in_memory c.args.core c.new-bytes.result pairs c.add_pairs.new.core c.add_pairs.new.sink = rw (← kept.same_pairs) c.in_ok-add_pairs.ensures.takes in (
+    let taken : HasTaken g.C.Cmp g.FP.FilterPolicy codings puts_in_memory c.args.core c.new-bytes.result pairs c.add_pairs.new.core c.add_pairs.new.sink = rw (← kept.same_pairs) c.in_ok-add_pairs.ensures.takes in (
       built_in_memory codings c.new-bytes.ensures.items c.requires.unused.begun taken c.in_ok-finish.ensures.ok,
       subst (λ k. IsFirstKey k pairs) (sym c.in_ok-smallest.ensures.ok) (first_key_is pairs pair here),
       subst (λ k. IsLastKey k pairs) (sym last) (last_key_is pairs pair here),

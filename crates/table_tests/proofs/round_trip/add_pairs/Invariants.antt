@@ -9,6 +9,6 @@ invariant-loop-key g l = record {
   order : order_of l.core ≡ l.cmp;
   last : 0 < l.core.count → last_of l.core ≡ l.last;
   choices : KeepsChoices l.initial.core l.core;
-  adds : AddsAll g.S.Sink.puts (IsBegun ((compressors g.dyn-1).codings l.compressors) g.C.Cmp.accepts g.C.Cmp.cmp g.C.Cmp.shortest_sep g.FP.FilterPolicy.matches l.initial.core)
-      (IsBegun ((compressors g.dyn-1).codings l.compressors) g.C.Cmp.accepts g.C.Cmp.cmp g.C.Cmp.shortest_sep g.FP.FilterPolicy.matches l.core) l.initial.sink (take l.key-index (given l.pairs)) l.sink;
+  adds : AddsAll g.S.Sink.puts (IsBegun ((compressors g.dyn-1).codings l.compressors) g.C.Cmp g.FP.FilterPolicy l.initial.core)
+      (IsBegun ((compressors g.dyn-1).codings l.compressors) g.C.Cmp g.FP.FilterPolicy l.core) l.initial.sink (take l.key-index (given l.pairs)) l.sink;
 }

@@ -2,32 +2,33 @@ use Rattle.std.proofs.Common.{◌≡◌, ◌+◌, ◌^◌, ◌≤◌, true, fals
 use Rattle.std.proofs.lemmas.List.{take_rest}
 use Rattle.leveldb_table.specs.Block.{parts_bytes}
 use Rattle.leveldb_table.specs.BlockBuilder.{AreEntriesBuilt, points_more, shared_len}
+use Rattle.leveldb_table.specs.BlockBuilderLaws.{HasEntriesBuilt-prop}
 use Rattle.leveldb_table.proofs.BlockBuilderLemmas.{built_are, entries_are, pairs_are, OnErr-always, parts_room, count_small, built_more, new_entry, new_pairs, entry_is}
 use Rattle.leveldb_table.proofs.block_builder.BlockBuilder.add.Goals as goal
 
 pub returns-then-not-fits-clause-err : goal.returns-then-not-fits-clause-err
 returns-then-not-fits-clause-err g c =
-    let encoded = c.args.self.now.built.1.encoded in
-    let pointed = c.args.self.now.built.1.pointed in
-    OnErr-always c.err.result (search (built_are, rules), refl)
+    let encoded = c.self.inside.built.1.encoded in
+    let pointed = c.self.inside.built.1.pointed in
+    rw (← c.self.view_is) (OnErr-always c.err.result (search rules, refl))
 
 pub returns-in_err-reserve-clause-err : goal.returns-in_err-reserve-clause-err
 returns-in_err-reserve-clause-err g c =
-    let encoded = c.reserve.ensures.items ∙ c.args.self.now.built.1.encoded in
-    let pointed = c.args.self.now.built.1.pointed in
-    OnErr-always c.from_residual.result (search (built_are, rules), refl)
+    let encoded = c.reserve.ensures.items ∙ c.self.inside.built.1.encoded in
+    let pointed = c.self.inside.built.1.pointed in
+    rw (← c.self.view_is) (OnErr-always c.from_residual.result (search (built_are, rules), refl))
 
 pub returns-in_err-reserve-2-clause-err : goal.returns-in_err-reserve-2-clause-err
 returns-in_err-reserve-2-clause-err g c =
-    let encoded = c.reserve.ensures.items ∙ c.args.self.now.built.1.encoded in
-    let pointed = c.args.self.now.built.1.pointed in
-    OnErr-always c.from_residual-in_err-reserve-2.result (search (built_are, rules), refl)
+    let encoded = c.reserve.ensures.items ∙ c.self.inside.built.1.encoded in
+    let pointed = c.self.inside.built.1.pointed in
+    rw (← c.self.view_is) (OnErr-always c.from_residual-in_err-reserve-2.result (search (built_are, rules), refl))
 
 pub returns-in_err-reserve-3-clause-err : goal.returns-in_err-reserve-3-clause-err
 returns-in_err-reserve-3-clause-err g c =
-    let encoded = c.reserve.ensures.items ∙ c.args.self.now.built.1.encoded in
-    let pointed = ap (λ z. 0 ∷ z) c.reserve-3.ensures.items ∙ c.args.self.now.built.1.pointed in
-    OnErr-always c.from_residual-in_err-reserve-3.result (search (built_are, rules), refl)
+    let encoded = c.reserve.ensures.items ∙ c.self.inside.built.1.encoded in
+    let pointed = ap (λ z. 0 ∷ z) c.reserve-3.ensures.items ∙ c.self.inside.built.1.pointed in
+    rw (← c.self.view_is) (OnErr-always c.from_residual-in_err-reserve-3.result (search (built_are, rules), refl))
 
 pub put_entry-requires : goal.put_entry-requires
 put_entry-requires g c =
@@ -42,63 +43,79 @@ put_entry-requires g c =
 pub overflow_add-self : goal.overflow_add-self
 overflow_add-self g c =
     let fit = c.fits.ensures.0 c.if-not-fits.false in
-    let built = c.args.self.now.built.1 in
+    let built = c.self.inside.built.1 in
     let small = fit.0 in
-    omega (arith, small, built.counted, count_small c.args.self.now.built.0, ap length built.encoded, c.len.ensures, c.args.self.now.buffer.ok.0)
+    omega (arith, small, built.counted, count_small c.self.inside.built.0, ap length built.encoded, c.len.ensures, c.self.inside.buffer.ok.0)
 
-pub invariant_of-self-3 : goal.invariant_of-self-3
-invariant_of-self-3 g c =
+pub invariant_of-self-inside-3 : goal.invariant_of-self-inside-3
+invariant_of-self-inside-3 g c =
+    let requires = rw (← c.self.view_is) at c.requires in
     let fit = c.fits.ensures.0 c.if-not-fits.false in
-    let built = c.args.self.now.built.1 in
-    let restart = nat_eq (c.args.self.now.count % c.args.self.now.interval) 0 in
+    let built = c.self.inside.built.1 in
+    let restart = nat_eq (c.self.inside.count % c.self.inside.interval) 0 in
     let shared = c.shared_with-shared.result in
     let key = c.args.key.now in
     let value = c.args.value.now in
     let within = subst (λ z. shared ≤ length z) c.as_slice.ensures.value c.shared_with-shared.ensures.within_last in
     let same = subst (λ z. take shared z ≡ take shared key) c.as_slice.ensures.value c.shared_with-shared.ensures.same in
     let here = fit.0 in
-    let offset_fits : length c.args.self.now.buffer.items < 2 ^ 32 = omega (arith, here, c.len.ensures, c.args.self.now.buffer.ok.0) in
-    let size : c.len-3.result ≡ length c.args.self.now.buffer.items = omega (arith, c.len-3.ensures, c.reserve.ensures.len, c.args.self.now.buffer.ok.0) in
+    let offset_fits : length c.self.inside.buffer.items < 2 ^ 32 = omega (arith, here, c.len.ensures, c.self.inside.buffer.ok.0) in
+    let size : c.len-3.result ≡ length c.self.inside.buffer.items = omega (arith, c.len-3.ensures, c.reserve.ensures.len, c.self.inside.buffer.ok.0) in
     let written = rw take_rest at c.put_entry.ensures in
     let put = written ∙ ap (λ z. z ++ parts_bytes shared (drop shared key) value) c.reserve.ensures.items in
     let longest = λ (no : restart ≡ false). c.shared_with-shared.ensures.longest no ∙ ap (λ z. shared_len z key) c.as_slice.ensures.value in
     let more =
-    built_more built restart key value shared refl within same c.shared_with-shared.ensures.none fit.1 fit.2 c.shared_with-shared.ensures.within_key offset_fits c.requires
+    built_more built restart key value shared refl within same c.shared_with-shared.ensures.none fit.1 fit.2 c.shared_with-shared.ensures.within_key offset_fits requires
     longest c.put_point.new.points.items (λ h. c.put_point.ensures.first h ∙ c.reserve-3.ensures.items)
-    (λ h. c.put_point.ensures.others h ∙ ap (λ z. z ++ points_more restart c.len-3.result) c.reserve-3.ensures.items ∙ ap (λ z. c.args.self.now.points.items ++ points_more restart z) size)
+    (λ h. c.put_point.ensures.others h ∙ ap (λ z. z ++ points_more restart c.len-3.result) c.reserve-3.ensures.items ∙ ap (λ z. c.self.inside.points.items ++ points_more restart z) size)
     c.put_entry.new.buffer.items put in
     let last = (rw c.unwrap.ensures at c.extend_from_slice.ensures.items) ∙ ap (λ z. z ++ key) c.clear.ensures.items in
-    let entries = c.args.self.now.built.0 ++ new_entry built restart key value shared refl within same c.shared_with-shared.ensures.none fit.1 fit.2 c.shared_with-shared.ensures.within_key offset_fits c.requires ∷ [] in
-    record {
-      built = (
+    let entries = c.self.inside.built.0 ++ new_entry built restart key value shared refl within same c.shared_with-shared.ensures.none fit.1 fit.2 c.shared_with-shared.ensures.within_key offset_fits requires ∷ [] in (
+      (
         entries,
-        subst (λ z. AreEntriesBuilt (g.C.Cmp.cmp c.args.self.now.cmp) c.args.self.now.interval c.put_entry.new.buffer.items c.put_point.new.points.items z (c.args.self.now.count + 1) true entries) (sym last) more,
-      );
-    }
+        subst (λ z. AreEntriesBuilt (g.C.Cmp.cmp c.self.inside.cmp) c.self.inside.interval c.put_entry.new.buffer.items c.put_point.new.points.items z (c.self.inside.count + 1) true entries) (sym last) more,
+      ),
+      tt,
+    )
 
 pub returns-clause-ok : goal.returns-clause-ok
 returns-clause-ok g c =
+    let requires = rw (← c.self.view_is) at c.requires in
     let fit = c.fits.ensures.0 c.if-not-fits.false in
-    let built = c.args.self.now.built.1 in
-    let restart = nat_eq (c.args.self.now.count % c.args.self.now.interval) 0 in
+    let built = c.self.inside.built.1 in
+    let restart = nat_eq (c.self.inside.count % c.self.inside.interval) 0 in
     let shared = c.shared_with-shared.result in
     let key = c.args.key.now in
     let value = c.args.value.now in
     let within = subst (λ z. shared ≤ length z) c.as_slice.ensures.value c.shared_with-shared.ensures.within_last in
     let same = subst (λ z. take shared z ≡ take shared key) c.as_slice.ensures.value c.shared_with-shared.ensures.same in
     let here = fit.0 in
-    let offset_fits : length c.args.self.now.buffer.items < 2 ^ 32 = omega (arith, here, c.len.ensures, c.args.self.now.buffer.ok.0) in
-    let size : c.len-3.result ≡ length c.args.self.now.buffer.items = omega (arith, c.len-3.ensures, c.reserve.ensures.len, c.args.self.now.buffer.ok.0) in
+    let offset_fits : length c.self.inside.buffer.items < 2 ^ 32 = omega (arith, here, c.len.ensures, c.self.inside.buffer.ok.0) in
+    let size : c.len-3.result ≡ length c.self.inside.buffer.items = omega (arith, c.len-3.ensures, c.reserve.ensures.len, c.self.inside.buffer.ok.0) in
     let written = rw take_rest at c.put_entry.ensures in
     let put = written ∙ ap (λ z. z ++ parts_bytes shared (drop shared key) value) c.reserve.ensures.items in
     let longest = λ (no : restart ≡ false). c.shared_with-shared.ensures.longest no ∙ ap (λ z. shared_len z key) c.as_slice.ensures.value in
     let more =
-    built_more built restart key value shared refl within same c.shared_with-shared.ensures.none fit.1 fit.2 c.shared_with-shared.ensures.within_key offset_fits c.requires
+    built_more built restart key value shared refl within same c.shared_with-shared.ensures.none fit.1 fit.2 c.shared_with-shared.ensures.within_key offset_fits requires
     longest c.put_point.new.points.items (λ h. c.put_point.ensures.first h ∙ c.reserve-3.ensures.items)
-    (λ h. c.put_point.ensures.others h ∙ ap (λ z. z ++ points_more restart c.len-3.result) c.reserve-3.ensures.items ∙ ap (λ z. c.args.self.now.points.items ++ points_more restart z) size)
+    (λ h. c.put_point.ensures.others h ∙ ap (λ z. z ++ points_more restart c.len-3.result) c.reserve-3.ensures.items ∙ ap (λ z. c.self.inside.points.items ++ points_more restart z) size)
     c.put_entry.new.buffer.items put in
     let encoded = more.encoded in
     let pointed = more.pointed in
-    let pairs = new_pairs built restart key value shared refl within same c.shared_with-shared.ensures.none fit.1 fit.2 c.shared_with-shared.ensures.within_key offset_fits c.requires in
-    let entry = ap (λ z. c.args.self.now.built.0 ++ z ∷ []) (entry_is c.args.self.now.count built key value shared c.shared_with-shared.ensures.none longest) in
-    (record { pairs = search (pairs_are, rules); entry = search (entries_are, rules) }, refl)
+    let pairs = new_pairs built restart key value shared refl within same c.shared_with-shared.ensures.none fit.1 fit.2 c.shared_with-shared.ensures.within_key offset_fits requires in
+    let entry = ap (λ z. c.self.inside.built.0 ++ z ∷ []) (entry_is c.self.inside.count built key value shared c.shared_with-shared.ensures.none longest) in
+    rw (← c.self.view_is) ((record { pairs = search (pairs_are, rules); entry = search (entries_are, rules) }, refl))
+
+pub same-self : goal.same-self
+same-self g c =
+    let it = c.self.inside in
+    ap (λ built. record {
+      cmp = it.cmp;
+      interval = it.interval;
+      buffer = it.buffer;
+      points = it.points;
+      last_key = it.last_key;
+      count = it.count;
+      begun = it.begun;
+      built = built;
+    }) (HasEntriesBuilt-prop (g.C.Cmp.cmp it.cmp) it.interval it.buffer.items it.points.items it.last_key.items it.count it.begun _ _)

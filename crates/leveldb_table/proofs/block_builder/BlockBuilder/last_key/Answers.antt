@@ -1,6 +1,8 @@
-use Rattle.std.proofs.Common.{◌∙◌}
+use Rattle.std.proofs.Common.{◌∙◌, ap, None}
+use Rattle.leveldb_table.specs.Block.{pairs_of}
+use Rattle.leveldb_table.specs.BlockBuilder.{last_added}
 use Rattle.leveldb_table.proofs.BlockBuilderLemmas.{last_there}
 use Rattle.leveldb_table.proofs.block_builder.BlockBuilder.last_key.Goals as goal
 
 pub returns : goal.returns
-returns g c = c.as_slice.ensures.value ∙ last_there c.args.self.now.count c.args.self.now.built.1
+returns g c = c.as_slice.ensures.value ∙ last_there c.self.inside.count c.self.inside.built.1 ∙ ap (λ builder. last_added (pairs_of None builder.entries)) c.self.view_is

@@ -15,7 +15,7 @@ returns-clause-ok g c =
     let used = c.encode_to-used.result in
     let text : take used c.encode_to-used.new.dst ≡ handle_bytes c.args.handle =
     ap (take used) c.encode_to-used.ensures.written ∙ take_at (handle_bytes c.args.handle) _ used (sym c.encode_to-used.ensures.used) in
-    OnOk-with c.add.result _ _ (λ added. added.0.pairs ∙ ap (λ value. pairs_of None c.args.index.now.built.0 ++ (c.args.key.now, value) ∷ []) text) c.add.ensures.ok
+    OnOk-with c.add.result _ _ (λ added. added.0.pairs ∙ ap (λ value. pairs_of None c.args.index.now.entries ++ (c.args.key.now, value) ∷ []) text) c.add.ensures.ok
 
 pub returns-clause-begun : goal.returns-clause-begun
 returns-clause-begun g c = begun_kept _ _ c.add.result c.add.ensures.ok c.add.ensures.err

@@ -4,7 +4,7 @@ use Rattle.std.proofs.lemmas.Result.{err_from_is_err_and, IfOk-weaker}
 use Rattle.leveldb_env.proofs.SinkLemmas.{PutsAll-trans}
 use Rattle.leveldb_env.specs.contracts.compressor.CompressorListCompressors.TheImpl.{ghosts as compressors}
 use Rattle.leveldb_env.proofs.FilterBlockLemmas.{keeps_keys}
-use Rattle.leveldb_table.specs.TableBuilder.{stage}
+use Rattle.leveldb_table.specs.TableBuilder.{TableBuilt, stage}
 use Rattle.leveldb_table.proofs.TableLemmas.{IfErr-with}
 use Rattle.leveldb_table.proofs.TableBuilderFinishLemmas.{refused_with, stops_unset_at, table_made, PutsEnd-all, PutsEnd-same}
 use Rattle.leveldb_table.proofs.table_builder.builder_core.BuilderCore.finish.Goals as goal
@@ -16,13 +16,15 @@ returns-in_err-check_unbroken-clause-cause g c =
 
 pub returns-in_err-close_last-clause-cause : goal.returns-in_err-close_last-clause-cause
 returns-in_err-close_last-clause-cause g c =
+    let unbroken = rw (← c.self.view_is) at c.in_ok-check_unbroken.ensures.ok in
     let p = err_from_is_err_and c.from_residual-in_err-close_last.result c.from_residual-in_err-close_last.ensures.1 in
-    rw (p.1, p.2) (inr (inl (c.in_ok-check_unbroken.ensures.ok, c.in_err-close_last.ensures.cause)))
+    rw (← c.self.view_is, p.1, p.2) (inr (inl (unbroken, c.in_err-close_last.ensures.cause)))
 
 pub returns-clause-cause : goal.returns-clause-cause
 returns-clause-cause g c =
+    let unbroken = rw (← c.self.view_is) at c.in_ok-check_unbroken.ensures.ok in
     let cause = rw (c.in_ok-close_last.ensures.order, c.close_last.ensures.choices.same_policy, c.close_last.ensures.choices.same_compressor) at c.put_end.ensures.cause in
-    IfErr-with c.put_end.result _ _ (λ status why. inr (inr (c.in_ok-check_unbroken.ensures.ok, stage c.close_last.new.self, c.close_last.new.sink, c.in_ok-close_last.ensures.rest, why))) cause
+    rw (← c.self.view_is) (IfErr-with c.put_end.result _ _ (λ status why. inr (inr (unbroken, stage c.close_last.new.self, c.close_last.new.sink, c.in_ok-close_last.ensures.rest, why))) cause)
 
 pub returns-in_err-check_unbroken-clause-cannot : goal.returns-in_err-check_unbroken-clause-cannot
 returns-in_err-check_unbroken-clause-cannot g c =
@@ -36,37 +38,42 @@ returns-in_err-check_unbroken-clause-cannot g c =
 
 pub returns-in_err-close_last-clause-cannot : goal.returns-in_err-close_last-clause-cannot
 returns-in_err-close_last-clause-cannot g c =
+    let unbroken = rw (← c.self.view_is) at c.in_ok-check_unbroken.ensures.ok in
     let p = err_from_is_err_and c.from_residual-in_err-close_last.result c.from_residual-in_err-close_last.ensures.1 in
     let failed = c.in_err-close_last.ensures in
-    rw (p.1, p.2) (record {
-      broken = λ broken. absurd (true≢false (sym broken ∙ c.in_ok-check_unbroken.ensures.ok));
+    rw (← c.self.view_is, p.1, p.2) (record {
+      broken = λ broken. absurd (true≢false (sym broken ∙ unbroken));
       unset = λ unbroken some unset. failed.unset some unset;
       unset_rest = λ unbroken none unset. absurd (failed.cause.0 none);
     })
 
 pub returns-clause-cannot : goal.returns-clause-cannot
 returns-clause-cannot g c =
-    let self = c.args.self in
+    let unbroken = rw (← c.self.view_is) at c.in_ok-check_unbroken.ensures.ok in
+    let it = c.self.inside in
+    let core : TableBuilt g.row.C.Denot g.row.FP.Denot = record { block = it.block; index = it.index; filter = it.filter; offset = it.offset; count = it.count; broken = it.broken; compressor = it.compressor; block_size = it.block_size } in
+    let self = c.self.inside in
     let cause = rw (c.in_ok-close_last.ensures.order, c.close_last.ensures.choices.same_policy, c.close_last.ensures.choices.same_compressor) at c.put_end.ensures.cause in
-    record {
-      broken = λ broken. absurd (true≢false (sym broken ∙ c.in_ok-check_unbroken.ensures.ok));
+    rw (← c.self.view_is) (record {
+      broken = λ broken. absurd (true≢false (sym broken ∙ unbroken));
       unset = λ unbroken some unset. absurd (c.in_ok-close_last.ensures.unset some unset).0;
       unset_rest = λ unbroken none unset. elim c.in_ok-close_last.ensures.rest [
         | inl (left, same, still) ↦
             refused_with c.put_end.result _ _ (λ status. stops_unset_at ((compressors g.dyn-1).codings c.args.compressors.now) (g.C.Cmp.cmp self.block.cmp) (g.FP.FilterPolicy.too_large self.filter.policy) (g.FP.FilterPolicy.filter_for self.filter.policy)
-            self.compressor (g.FP.FilterPolicy.name self.filter.policy) (stage c.close_last.new.self) g.S.Sink.puts g.S.Sink.flushes unset (stage self) c.close_last.new.sink c.args.sink.now status c.put_end.new.sink same still)
+            self.compressor (g.FP.FilterPolicy.name self.filter.policy) (stage c.close_last.new.self) g.S.Sink.puts g.S.Sink.flushes unset (stage core) c.close_last.new.sink c.args.sink.now status c.put_end.new.sink same still)
             (c.put_end.ensures.unset (rw c.close_last.ensures.choices.same_compressor unset)) cause
         | inr closed ↦ absurd (closed.0 none)
       ];
-    }
+    })
 
 pub returns-clause-ok : goal.returns-clause-ok
 returns-clause-ok g c =
-    let self = c.args.self in
+    let unbroken = rw (← c.self.view_is) at c.in_ok-check_unbroken.ensures.ok in
+    let self = c.self.inside in
     let mid = c.close_last.new.self in
     let last = c.in_ok-close_last.ensures.ok in
     let keeps = keeps_keys g.FP.FilterPolicy.filter_for g.FP.FilterPolicy.matches g.met.FP.FilterPolicy.finds in
-    IfOk-weaker c.put_end.result _ _ (λ size end. record {
+    rw (← c.self.view_is) (IfOk-weaker c.put_end.result _ _ (λ size end. record {
       finishes = record {
         bytes = last.bytes ++ end.bytes;
         mid = end.mid;
@@ -84,5 +91,5 @@ returns-clause-ok g c =
         closed = c.in_ok-close_last.ensures.rest;
         ended = PutsEnd-same g.S.Sink.puts g.S.Sink.flushes g.FP.FilterPolicy.filter_for g.FP.FilterPolicy.name c.in_ok-close_last.ensures.order c.close_last.ensures.choices.same_policy c.close_last.ensures.choices.same_compressor end;
       };
-      unbroken = c.in_ok-check_unbroken.ensures.ok;
-    }) c.put_end.ensures.ok
+      unbroken = unbroken;
+    }) c.put_end.ensures.ok)

@@ -1,8 +1,9 @@
-use Rattle.std.proofs.Common.{◌≡◌, [], ◌∙◌, sym, subst, arith, refl, inl, inr, None}
+use Rattle.std.proofs.Common.{◌≡◌, [], true, length, ◌∙◌, sym, ap, subst, arith, refl, inl, inr, None}
 use Rattle.std.specs.declared.cmp.Ordering.TheVariants.{Less, Greater}
 use Rattle.leveldb_env.proofs.SinkLemmas.{PutsAll-one, PutsAll-none}
 use Rattle.leveldb_env.proofs.FilterBlockLemmas.{keeps_keys}
 use Rattle.leveldb_table.specs.Block.{pairs_of}
+use Rattle.leveldb_table.specs.BlockBuilder.{estimate}
 use Rattle.leveldb_table.specs.TableBuilderStage.{Follows, first_key}
 use Rattle.leveldb_table.specs.TableBuilder.{stage, IsFull}
 use Rattle.leveldb_table.proofs.TableLemmas.{OnOk-with, OnOk-both, IfErr-with, is_line}
@@ -13,8 +14,8 @@ use Rattle.leveldb_table.proofs.table_builder.builder_core.BuilderCore.make_room
 
 pub close_block-requires-clause-closable : goal.close_block-requires-clause-closable
 close_block-requires-clause-closable g c =
-    let some = some_pairs c.args.self.now.block.built.0 (omega (arith, c.if-entries-gt0.true, c.entries.ensures)) in
-    let less = after_open (g.C.Cmp.cmp c.args.self.now.block.cmp) (pairs_of None c.args.self.now.index.built.0) (pairs_of None c.args.self.now.block.built.0) c.args.next.now some c.requires.sound.1.after in
+    let some = some_pairs c.args.self.now.block.entries (omega (arith, c.if-entries-gt0.true, c.entries.ensures, ap (λ builder. length builder.block.entries) c.self.view_is)) in
+    let less = after_open (g.C.Cmp.cmp c.args.self.now.block.cmp) (pairs_of None c.args.self.now.index.entries) (pairs_of None c.args.self.now.block.entries) c.args.next.now some c.requires.sound.1.after in
     record {
       ready = c.requires.sound.0;
       some = some;
@@ -24,7 +25,7 @@ close_block-requires-clause-closable g c =
 
 pub returns-then-size_estimate-self-clause-ok : goal.returns-then-size_estimate-self-clause-ok
 returns-then-size_estimate-self-clause-ok g c =
-    let some = some_pairs c.args.self.now.block.built.0 (omega (arith, c.if-entries-gt0.true, c.entries.ensures)) in
+    let some = some_pairs c.args.self.now.block.entries (omega (arith, c.if-entries-gt0.true, c.entries.ensures, ap (λ builder. length builder.block.entries) c.self.view_is)) in
     let keeps = keeps_keys g.FP.FilterPolicy.filter_for g.FP.FilterPolicy.matches g.met.FP.FilterPolicy.finds in
     let cmp = g.C.Cmp.cmp c.args.self.now.block.cmp in
     OnOk-with c.close_block.result _ _ (λ closed. record {
@@ -55,13 +56,13 @@ returns-clause-ok g c =
 
 pub returns-then-size_estimate-self-clause-room : goal.returns-then-size_estimate-self-clause-room
 returns-then-size_estimate-self-clause-room g c =
-    let full = is_full c.args.self.now (omega (arith, c.if-entries-gt0.true, c.entries.ensures)) (omega (arith, c.if-size_estimate-self.true, rw c.args.self.now.started.0 at c.size_estimate.ensures)) in
-    let some = some_pairs c.args.self.now.block.built.0 (omega (arith, c.if-entries-gt0.true, c.entries.ensures)) in
+    let full = is_full c.args.self.now (omega (arith, c.if-entries-gt0.true, c.entries.ensures, ap (λ builder. length builder.block.entries) c.self.view_is)) (omega (arith, c.if-size_estimate-self.true, rw c.self.inside.started.0 at c.size_estimate.ensures, ap (λ builder. builder.block_size) c.self.view_is, ap (λ builder. estimate builder.block.entries true) c.self.view_is)) in
+    let some = some_pairs c.args.self.now.block.entries (omega (arith, c.if-entries-gt0.true, c.entries.ensures, ap (λ builder. length builder.block.entries) c.self.view_is)) in
     let keeps = keeps_keys g.FP.FilterPolicy.filter_for g.FP.FilterPolicy.matches g.met.FP.FilterPolicy.finds in
     let cmp = g.C.Cmp.cmp c.args.self.now.block.cmp in
-    let less = after_open cmp (pairs_of None c.args.self.now.index.built.0) (pairs_of None c.args.self.now.block.built.0) c.args.next.now some c.requires.sound.1.after in
+    let less = after_open cmp (pairs_of None c.args.self.now.index.entries) (pairs_of None c.args.self.now.block.entries) c.args.next.now some c.requires.sound.1.after in
     let line = is_line (g.met.C.Cmp.preorder c.args.self.now.block.cmp) (g.C.Cmp.shortest_sep c.args.self.now.block.cmp) (g.met.C.Cmp.separates c.args.self.now.block.cmp)
-    (pairs_of None c.args.self.now.index.built.0) (pairs_of None c.args.self.now.block.built.0) c.args.next.now [] some c.requires.sound.0.rise c.requires.sound.0.accepted c.requires.sound.1.accepted
+    (pairs_of None c.args.self.now.index.entries) (pairs_of None c.args.self.now.block.entries) c.args.next.now [] some c.requires.sound.0.rise c.requires.sound.0.accepted c.requires.sound.1.accepted
     (λ e. let clash : Less ≡ Greater = sym less ∙ e in cc) in
     OnOk-both c.close_block.result _ _ _ (λ closed ready. (
       inr (full, ready.1, closed.0, closed.1, closed.2),
@@ -76,14 +77,14 @@ returns-then-size_estimate-self-clause-room g c =
 
 pub returns-then-size_estimate-self-clause-cause : goal.returns-then-size_estimate-self-clause-cause
 returns-then-size_estimate-self-clause-cause g c =
-    let full = is_full c.args.self.now (omega (arith, c.if-entries-gt0.true, c.entries.ensures)) (omega (arith, c.if-size_estimate-self.true, rw c.args.self.now.started.0 at c.size_estimate.ensures)) in
+    let full = is_full c.args.self.now (omega (arith, c.if-entries-gt0.true, c.entries.ensures, ap (λ builder. length builder.block.entries) c.self.view_is)) (omega (arith, c.if-size_estimate-self.true, rw c.self.inside.started.0 at c.size_estimate.ensures, ap (λ builder. builder.block_size) c.self.view_is, ap (λ builder. estimate builder.block.entries true) c.self.view_is)) in
     IfErr-with c.close_block.result _ _ (λ status why. (full, why)) c.close_block.ensures.cause
 
 pub returns-clause-room : goal.returns-clause-room
 returns-clause-room g c =
     let room : IsFull c.args.self.now → ⊥ =
     elim c.else-entries-gt0.branch [
-      | else-entries-gt0-via-then-entries-gt0+else-size_estimate-self w ↦ not_full c.args.self.now (inr (omega (arith, w.if-size_estimate-self.false, rw c.args.self.now.started.0 at w.size_estimate.ensures)))
-      | else-entries-gt0-via-else-entries-gt0 w ↦ not_full c.args.self.now (inl (omega (arith, w.if-entries-gt0.false, c.entries.ensures)))
+      | else-entries-gt0-via-then-entries-gt0+else-size_estimate-self w ↦ not_full c.args.self.now (inr (omega (arith, w.if-size_estimate-self.false, rw c.self.inside.started.0 at w.size_estimate.ensures, ap (λ builder. builder.block_size) c.self.view_is, ap (λ builder. estimate builder.block.entries true) c.self.view_is)))
+      | else-entries-gt0-via-else-entries-gt0 w ↦ not_full c.args.self.now (inl (omega (arith, w.if-entries-gt0.false, c.entries.ensures, ap (λ builder. length builder.block.entries) c.self.view_is)))
     ]
     in (inl (room, refl, refl, refl), c.requires.sound)

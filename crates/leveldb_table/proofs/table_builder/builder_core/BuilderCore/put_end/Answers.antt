@@ -8,24 +8,24 @@ use Rattle.leveldb_table.proofs.table_builder.builder_core.BuilderCore.put_end.G
 pub returns-in_err-finish-clause-cause : goal.returns-in_err-finish-clause-cause
 returns-in_err-finish-clause-cause g c =
     let p = err_from_is_err_and c.from_residual.result c.from_residual.ensures.1 in
-    rw (p.1, p.2) (inl (refl, c.in_err-finish.ensures.cause))
+    rw (← c.self.view_is, p.1, p.2) (inl (refl, c.in_err-finish.ensures.cause))
 
 pub returns-in_err-filters-clause-cause : goal.returns-in_err-filters-clause-cause
 returns-in_err-filters-clause-cause g c =
     let p = err_from_is_err_and c.from_residual-in_err-filters.result c.from_residual-in_err-filters.ensures.1 in
-    rw (p.1, p.2) (inr (c.in_ok-finish.field-0.items, c.in_ok-finish.ensures.ok, inl c.in_err-filters.ensures.err))
+    rw (← c.self.view_is, p.1, p.2) (inr (c.in_ok-finish.field-0.items, c.in_ok-finish.ensures.ok, inl c.in_err-filters.ensures.err))
 
 pub returns-in_err-meta-clause-cause : goal.returns-in_err-meta-clause-cause
 returns-in_err-meta-clause-cause g c =
     let placed = c.in_ok-filters.filters in
     let p = err_from_is_err_and c.from_residual-in_err-meta.result c.from_residual-in_err-meta.ensures.1 in
-    rw (p.1, p.2) (inr (c.in_ok-finish.field-0.items, c.in_ok-finish.ensures.ok, inr (placed.handle, placed.end, _, c.in_ok-filters.ensures.ok, inl (refl, rw (sym c.filter_name-name.ensures) c.in_err-meta.ensures.cause))))
+    rw (← c.self.view_is, p.1, p.2) (inr (c.in_ok-finish.field-0.items, c.in_ok-finish.ensures.ok, inr (placed.handle, placed.end, _, c.in_ok-filters.ensures.ok, inl (refl, rw (sym c.filter_name-name.ensures) c.in_err-meta.ensures.cause))))
 
 pub returns-in_err-meta-2-clause-cause : goal.returns-in_err-meta-2-clause-cause
 returns-in_err-meta-2-clause-cause g c =
     let placed = c.in_ok-filters.filters in
     let p = err_from_is_err_and c.from_residual-in_err-meta-2.result c.from_residual-in_err-meta-2.ensures.1 in
-    rw (p.1, p.2) (
+    rw (← c.self.view_is, p.1, p.2) (
     inr (
       c.in_ok-finish.field-0.items,
       c.in_ok-finish.ensures.ok,
@@ -38,7 +38,7 @@ returns-in_err-lines-clause-cause g c =
     let placed = c.in_ok-filters.filters in
     let meta = c.in_ok-meta-2.ensures.ok in
     let p = err_from_is_err_and c.from_residual-in_err-lines.result c.from_residual-in_err-lines.ensures.1 in
-    rw (p.1, p.2) (
+    rw (← c.self.view_is, p.1, p.2) (
     inr (
       c.in_ok-finish.field-0.items,
       c.in_ok-finish.ensures.ok,
@@ -61,7 +61,7 @@ returns-in_err-index-clause-cause g c =
     let placed = c.in_ok-filters.filters in
     let meta = c.in_ok-meta-2.ensures.ok in
     let p = err_from_is_err_and c.from_residual-in_err-index.result c.from_residual-in_err-index.ensures.1 in
-    rw (p.1, p.2) (
+    rw (← c.self.view_is, p.1, p.2) (
     inr (
       c.in_ok-finish.field-0.items,
       c.in_ok-finish.ensures.ok,
@@ -84,7 +84,7 @@ returns-clause-cause g c =
     let placed = c.in_ok-filters.filters in
     let meta = c.in_ok-meta-2.ensures.ok in
     let index = c.in_ok-index.ensures.ok in
-    IfErr-with c.put_footer.result _ _ (λ status why.
+    rw (← c.self.view_is) (IfErr-with c.put_footer.result _ _ (λ status why.
     inr (
       c.in_ok-finish.field-0.items,
       c.in_ok-finish.ensures.ok,
@@ -111,10 +111,10 @@ returns-clause-cause g c =
           ),
         ),
       ),
-    )) c.put_footer.ensures.cause
+    )) c.put_footer.ensures.cause)
 
 pub returns-clause-unset : goal.returns-clause-unset
-returns-clause-unset g c = λ unset. let clash = rw unset at c.in_ok-meta-2.ensures.ok.1 in cc
+returns-clause-unset g c = rw (← c.self.view_is) (λ unset. let clash = rw unset at c.in_ok-meta-2.ensures.ok.1 in cc)
 
 pub returns-clause-ok : goal.returns-clause-ok
 returns-clause-ok g c =
@@ -122,7 +122,7 @@ returns-clause-ok g c =
     let filters = c.in_ok-filters.ensures.ok in
     let meta = c.in_ok-meta-2.ensures.ok in
     let index = c.in_ok-index.ensures.ok in
-    IfOk-weaker c.put_footer.result _ _ (λ size footer. record {
+    rw (← c.self.view_is) (IfOk-weaker c.put_footer.result _ _ (λ size footer. record {
       bytes = _;
       mid = footer.mid;
       ended = record {
@@ -147,4 +147,4 @@ returns-clause-ok g c =
       };
       put = (_, filters.put, (_, meta.2.put, (_, index.2.put, (_, rw c.new-footer.ensures at footer.put, refl))));
       flushed = footer.flushed;
-    }) c.put_footer.ensures.ok
+    }) c.put_footer.ensures.ok)
