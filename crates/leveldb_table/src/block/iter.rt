@@ -16,8 +16,8 @@ use std::alloc::Global;
 pub struct BlockIter<'a, C: Cmp> {
     block: &'a Block<C>,
     core: BlockCore,
-    pub ghost within: { IsWithin block.now.contents block.now.entries.0 core.key.items
-        core.spot } by { IsWithin-prop block.now.contents block.now.entries.0 core.key.items
+    pub ghost within: { IsWithin block.now.contents block.now.entries core.key.items
+        core.spot } by { IsWithin-prop block.now.contents block.now.entries core.key.items
             core.spot },
 }
 
@@ -35,9 +35,9 @@ impl<'a, C: Cmp> BlockIter<'a, C> {
 }
 
 impl<'a, C: Cmp> LdbIterator for BlockIter<'a, C> {
-    ghost pairs = { λ it. pairs_of None it.block.now.entries.0 };
+    ghost pairs = { λ it. pairs_of None it.block.now.entries };
 
-    ghost position = { λ it. position_of it.block.now.entries.0 it.core.spot };
+    ghost position = { λ it. position_of it.block.now.entries it.core.spot };
 
     ghost order = { λ it. C.cmp it.block.now.cmp };
 
@@ -71,6 +71,6 @@ impl<'a, C: Cmp> LdbIterator for BlockIter<'a, C> {
         self.core.valid()
     }
 
-    ghost in_range = { λ it. IsWithin-position it.block.now.contents it.block.now.entries.0
+    ghost in_range = { λ it. IsWithin-position it.block.now.contents it.block.now.entries
         it.core.key.items it.core.spot it.within };
 }

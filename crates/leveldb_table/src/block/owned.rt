@@ -18,8 +18,8 @@ use std::alloc::Global;
 pub struct BlockWalk<C: Cmp> {
     block: Block<C>,
     core: BlockCore,
-    pub ghost within: { IsWithin block.contents block.entries.0 core.key.items
-        core.spot } by { IsWithin-prop block.contents block.entries.0 core.key.items
+    pub ghost within: { IsWithin block.contents block.entries core.key.items
+        core.spot } by { IsWithin-prop block.contents block.entries core.key.items
             core.spot },
 }
 
@@ -53,8 +53,8 @@ impl<C: Cmp> BlockWalk<C> {
     /// The value of the pair at which it is, whose bytes are shared with the block.
     pub(crate) fn shared_value(&self) -> Result<Option<Bytes>>
         ensures ok { IfOk result (λ value. pair_with self.now.core.key.items value
-            ≡ pair_at (pairs_of None self.now.block.entries.0)
-            (position_of self.now.block.entries.0 self.now.core.spot)) }
+            ≡ pair_at (pairs_of None self.now.block.entries)
+            (position_of self.now.block.entries self.now.core.spot)) }
         ensures cause { IfErr result IsOutOfMemory }
     {
         self.core.shared_value(&self.block)
@@ -74,8 +74,8 @@ impl<C: Cmp> BlockWalk<C> {
     pub fn into_pair(self) -> Result<Option<(Bytes, Bytes)>>
     where
         C: Drop,
-        ensures ok { IfOk result (λ pair. pair ≡ pair_at (pairs_of None self.block.entries.0)
-            (position_of self.block.entries.0 self.core.spot)) }
+        ensures ok { IfOk result (λ pair. pair ≡ pair_at (pairs_of None self.block.entries)
+            (position_of self.block.entries self.core.spot)) }
         ensures cause { IfErr result IsOutOfMemory }
     {
         self.core.into_pair(&self.block)
@@ -83,9 +83,9 @@ impl<C: Cmp> BlockWalk<C> {
 }
 
 impl<C: Cmp> LdbIterator for BlockWalk<C> {
-    ghost pairs = { λ it. pairs_of None it.block.entries.0 };
+    ghost pairs = { λ it. pairs_of None it.block.entries };
 
-    ghost position = { λ it. position_of it.block.entries.0 it.core.spot };
+    ghost position = { λ it. position_of it.block.entries it.core.spot };
 
     ghost order = { λ it. C.cmp it.block.cmp };
 
@@ -93,13 +93,13 @@ impl<C: Cmp> LdbIterator for BlockWalk<C> {
 
     fn advance(&mut self) -> Result<bool>
         ensures block { self.new.block ≡ self.old.block }
-        ensures ok { OnOk result (position_of self.new.block.entries.0 self.new.core.spot
-            ≡ next_position (pairs_of None self.old.block.entries.0)
-            (position_of self.old.block.entries.0 self.old.core.spot)) }
+        ensures ok { OnOk result (position_of self.new.block.entries self.new.core.spot
+            ≡ next_position (pairs_of None self.old.block.entries)
+            (position_of self.old.block.entries self.old.core.spot)) }
         ensures there { IfOk result
-            (λ there. there ≡ is_some (position_of self.new.block.entries.0 self.new.core.spot)) }
+            (λ there. there ≡ is_some (position_of self.new.block.entries self.new.core.spot)) }
         ensures err { OnErr result
-            (position_of self.new.block.entries.0 self.new.core.spot ≡ None) }
+            (position_of self.new.block.entries self.new.core.spot ≡ None) }
         ensures cause { IfErr result IsOutOfMemory }
     {
         self.core.advance(&self.block)
@@ -107,12 +107,12 @@ impl<C: Cmp> LdbIterator for BlockWalk<C> {
 
     fn prev(&mut self) -> Result<bool>
         ensures block { self.new.block ≡ self.old.block }
-        ensures ok { OnOk result (position_of self.new.block.entries.0 self.new.core.spot
-            ≡ previous_position (position_of self.old.block.entries.0 self.old.core.spot)) }
+        ensures ok { OnOk result (position_of self.new.block.entries self.new.core.spot
+            ≡ previous_position (position_of self.old.block.entries self.old.core.spot)) }
         ensures there { IfOk result
-            (λ there. there ≡ is_some (position_of self.new.block.entries.0 self.new.core.spot)) }
+            (λ there. there ≡ is_some (position_of self.new.block.entries self.new.core.spot)) }
         ensures err { OnErr result
-            (position_of self.new.block.entries.0 self.new.core.spot ≡ None) }
+            (position_of self.new.block.entries self.new.core.spot ≡ None) }
         ensures cause { IfErr result IsOutOfMemory }
     {
         self.core.prev(&self.block)
@@ -120,11 +120,11 @@ impl<C: Cmp> LdbIterator for BlockWalk<C> {
 
     fn seek(&mut self, key: &[u8]) -> Result<()>
         ensures block { self.new.block ≡ self.old.block }
-        ensures ok { OnOk result (position_of self.new.block.entries.0 self.new.core.spot
+        ensures ok { OnOk result (position_of self.new.block.entries self.new.core.spot
             ≡ seek_position (C.cmp self.old.block.cmp)
-            (pairs_of None self.old.block.entries.0) key.now) }
+            (pairs_of None self.old.block.entries) key.now) }
         ensures err { OnErr result
-            (position_of self.new.block.entries.0 self.new.core.spot ≡ None) }
+            (position_of self.new.block.entries self.new.core.spot ≡ None) }
         ensures cause { IfErr result IsOutOfMemory }
     {
         self.core.seek(&self.block, key)
@@ -132,10 +132,10 @@ impl<C: Cmp> LdbIterator for BlockWalk<C> {
 
     fn seek_to_last(&mut self) -> Result<()>
         ensures block { self.new.block ≡ self.old.block }
-        ensures ok { OnOk result (position_of self.new.block.entries.0 self.new.core.spot
-            ≡ last_position (pairs_of None self.old.block.entries.0)) }
+        ensures ok { OnOk result (position_of self.new.block.entries self.new.core.spot
+            ≡ last_position (pairs_of None self.old.block.entries)) }
         ensures err { OnErr result
-            (position_of self.new.block.entries.0 self.new.core.spot ≡ None) }
+            (position_of self.new.block.entries self.new.core.spot ≡ None) }
         ensures cause { IfErr result IsOutOfMemory }
     {
         self.core.seek_to_last(&self.block)
@@ -147,7 +147,7 @@ impl<C: Cmp> LdbIterator for BlockWalk<C> {
 
     fn reset(&mut self)
         ensures block { self.new.block ≡ self.old.block }
-        ensures no_position { position_of self.new.block.entries.0 self.new.core.spot ≡ None }
+        ensures no_position { position_of self.new.block.entries self.new.core.spot ≡ None }
     {
         self.core.reset();
     }
@@ -156,6 +156,6 @@ impl<C: Cmp> LdbIterator for BlockWalk<C> {
         self.core.valid()
     }
 
-    ghost in_range = { λ it. IsWithin-position it.block.contents it.block.entries.0
+    ghost in_range = { λ it. IsWithin-position it.block.contents it.block.entries
         it.core.key.items it.core.spot it.within };
 }

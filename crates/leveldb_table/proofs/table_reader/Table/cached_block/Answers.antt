@@ -17,6 +17,6 @@ returns-clause-ok g c =
       found = ap (λ key. value_of key c.args.cache.now.pairs) (sym key_is) ∙ sym c.get.ensures.value ∙ ap option_copied c.in-Some.is;
       fits = omega (arith, c.offset.ensures);
       size = sym c.size.ensures ∙ c.if-size.false ∙ c.size-2.ensures;
-      contents = c.in_ok-clone.ensures.cases.0;
-      ordered = c.in_ok-clone.ensures.cases.1;
+      contents = ap (λ block. block.contents) c.in_ok-clone.ensures.cases.0;
+      ordered = ap (λ block. block.cmp) c.in_ok-clone.ensures.cases.0;
     }

@@ -29,8 +29,8 @@ returns-clause-ok g c = λ bytes has holds. (c.in_ok-block.ensures.ok bytes has,
 pub returns-clause-gathers : goal.returns-clause-gathers
 returns-clause-gathers g c =
     let copied = c.in_ok-copy.ensures.cases in
-    let held : CachedBlock g.row.C.Denot g.C.Cmp = record { handle = c.args.handle; block = c.in_ok-copy.copy } in
+    let held : CachedBlock g.row.C.Denot = record { handle = c.args.handle; block = c.in_ok-copy.copy } in
     let key_is = c.cache_key.ensures ∙ ap (cache_key c.args.self.now.id) c.offset.ensures in
     GainsBlocks-trans (GainsBlocks-look_up (cache_key c.args.self.now.id c.args.handle.offset) c.cached_block.ensures.cache)
     (GainsBlocks-put c.args.handle.offset held (c.in_ok-insert.ensures.ok ∙ ap (λ key. after_put key held c.cached_block.new.cache) key_is)
-    (λ bytes has. IsBlockOfFile-copy c.args.handle c.in_ok-block.block c.in_ok-copy.copy copied.0 copied.1 (ap g.C.Cmp.cmp c.in_ok-block.ensures.order) (c.in_ok-block.ensures.ok bytes has)))
+    (λ bytes has. IsBlockOfFile-copy c.args.handle c.in_ok-block.block c.in_ok-copy.copy (ap (λ block. block.contents) copied.0) (ap (λ block. block.cmp) copied.0) (ap g.C.Cmp.cmp c.in_ok-block.ensures.order) (c.in_ok-block.ensures.ok bytes has)))

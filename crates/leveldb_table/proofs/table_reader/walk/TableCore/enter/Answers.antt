@@ -43,12 +43,12 @@ returns-then-branch g c =
     let new = c.seek_inside.new.self in
     let read = c.in_ok-load.ensures in
     let step = c.in_ok-seek_inside.ensures in
-    let sought : (bytes : List ℕ) → FileHas g.E.Env c.args.env.now c.args.table.now.file bytes → HoldsOnlyOf codings cmp c.args.table.now.id bytes c.args.cache.now → IsSought codings cmp bytes c.args.key.now old new = λ bytes has holds.
+    let sought : (bytes : List ℕ) → FileHas g.E.Env c.args.env.now c.args.table.now.file bytes → HoldsOnlyOf g.C.Cmp codings cmp c.args.table.now.id bytes c.args.cache.now → IsSought codings cmp bytes c.args.key.now old new = λ bytes has holds.
     is_sought codings cmp bytes c.args.key.now old c.load.new.self new c.args.handle c.requires.fits c.requires.names read.index (read.block bytes has holds) step.index step.block step.pairs step.ok in
     record {
       enters = record {
         reads = reads_ok g.E.Env read.reads.kept_disk read.reads.cause.ok;
-        ok = λ bytes has parts position right fit holds indexed. subst (IsAtPosition cmp parts new) (sym fit.1)
+        ok = λ bytes has parts position right fit holds indexed. subst (IsAtPosition g.C.Cmp cmp parts new) (sym fit.1)
             (sought_in c.args.key.now right indexed c.requires.line (g.met.C.Cmp.preorder c.args.table.now.cmp) fit.0 new (line_there (pairs_over old.index) (position_over old.index) c.args.handle c.requires.names) (sought bytes has holds)
             (sym step.there ∙ c.if-branch.true));
         steps = λ bytes has holds. sought_inside codings cmp bytes c.args.key.now old new c.requires.line (line_there (pairs_over old.index) (position_over old.index) c.args.handle c.requires.names) (sought bytes has holds) (sym step.there ∙ c.if-branch.true);

@@ -20,7 +20,7 @@ returns-in_default-clause-enters g c =
     let none = none_at c.seek.new.self (sym c.current.ensures ∙ ap pair_of c.in_default.is) in
     enters_ends old _ false (block_lines c.seek.new.self old.index found.block) (ap (λ z. z.cmp) found.block) (ap inner_position c.leave.ensures)
     (λ bytes parts position right fit indexed. fit.1 ∙ let_none (g.C.Cmp.cmp c.args.table.now.cmp) (lets g.FP.FilterPolicy.matches c.args.table.now) key parts (index_line parts old.index key _ indexed.lines indexed.ordered found.ok ∙ none))
-    (λ bytes. looks_none ((TheImpl.ghosts g.dyn-1).codings c.args.compressors.now) (g.C.Cmp.cmp c.args.table.now.cmp) bytes (pairs_over old.index) (lets g.FP.FilterPolicy.matches c.args.table.now) key (line_for key old) _ (sym found.ok ∙ none) found.ok (ap inner_position c.leave.ensures))
+    (λ bytes. looks_none ((TheImpl.ghosts g.dyn-1).codings c.args.compressors.now) (g.C.Cmp.cmp c.args.table.now.cmp) bytes (pairs_over old.index) (lets g.FP.FilterPolicy.matches c.args.table.now) key (line_for g.C.Cmp key old) _ (sym found.ok ∙ none) found.ok (ap inner_position c.leave.ensures))
 
 pub returns-in_err-handle-clause-enters : goal.returns-in_err-handle-clause-enters
 returns-in_err-handle-clause-enters g c =
@@ -35,7 +35,7 @@ returns-in_err-handle-clause-enters g c =
       code,
       λ bytes. (
         λ parts position right fit indexed. line_lacks {status = status} c.seek.new.self right (lines ∙ indexed.lines) (unnamed (names_none line c.in_err-handle.ensures.err.1) code),
-        looks_unnamed ((TheImpl.ghosts g.dyn-1).codings c.args.compressors.now) (g.C.Cmp.cmp c.args.table.now.cmp) bytes (pairs_over old.index) (lets g.FP.FilterPolicy.matches c.args.table.now) key (line_for key old) status (names_none (line_by lines found.ok line) c.in_err-handle.ensures.err.1) code,
+        looks_unnamed ((TheImpl.ghosts g.dyn-1).codings c.args.compressors.now) (g.C.Cmp.cmp c.args.table.now.cmp) bytes (pairs_over old.index) (lets g.FP.FilterPolicy.matches c.args.table.now) key (line_for g.C.Cmp key old) status (names_none (line_by lines found.ok line) c.in_err-handle.ensures.err.1) code,
       ),
     ))
 
@@ -49,7 +49,7 @@ returns-then-not-lets-clause-enters g c =
     enters_ends old _ false lines (ap (λ z. z.cmp) found.block) (ap inner_position c.leave.ensures)
     (λ bytes parts position right fit indexed. fit.1 ∙ let_by c.seek.new.self key c.in-Some.field-0-0.now c.in-Some.value.now c.in_ok-handle.handle (lets g.FP.FilterPolicy.matches c.args.table.now) false right (lines ∙ indexed.lines)
     (index_line parts old.index key (position_over c.seek.new.self) indexed.lines indexed.ordered found.ok) (sym c.current.ensures ∙ ap pair_of c.in-Some.is) c.in_ok-handle.ensures.ok.1 refuses)
-    (λ bytes. looks_refused ((TheImpl.ghosts g.dyn-1).codings c.args.compressors.now) (g.C.Cmp.cmp c.args.table.now.cmp) bytes (pairs_over old.index) (lets g.FP.FilterPolicy.matches c.args.table.now) key (line_for key old) _ c.in_ok-handle.handle c.in_ok-handle.ensures.ok.0 (names_one c.in_ok-handle.handle (line_by lines found.ok (sym c.current.ensures ∙ ap pair_of c.in-Some.is)) c.in_ok-handle.ensures.ok.1) refuses (ap inner_position c.leave.ensures))
+    (λ bytes. looks_refused ((TheImpl.ghosts g.dyn-1).codings c.args.compressors.now) (g.C.Cmp.cmp c.args.table.now.cmp) bytes (pairs_over old.index) (lets g.FP.FilterPolicy.matches c.args.table.now) key (line_for g.C.Cmp key old) _ c.in_ok-handle.handle c.in_ok-handle.ensures.ok.0 (names_one c.in_ok-handle.handle (line_by lines found.ok (sym c.current.ensures ∙ ap pair_of c.in-Some.is)) c.in_ok-handle.ensures.ok.1) refuses (ap inner_position c.leave.ensures))
 
 pub returns-in_err-enter-clause-enters : goal.returns-in_err-enter-clause-enters
 returns-in_err-enter-clause-enters g c =

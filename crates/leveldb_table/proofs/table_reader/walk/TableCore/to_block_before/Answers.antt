@@ -45,7 +45,7 @@ returns-then-not-branch-2-clause-enters g c =
     let step = c.in_ok-to_last.ensures in
     let there = sym c.in_ok-prev.ensures.there ∙ c.if-not-branch.false in
     let index : new.index ≡ c.prev.new.self = step.index ∙ read.index in
-    let into : (bytes : List ℕ) → FileHas g.E.Env c.args.env.now c.args.table.now.file bytes → HoldsOnlyOf codings cmp c.args.table.now.id bytes c.args.cache.now
+    let into : (bytes : List ℕ) → FileHas g.E.Env c.args.env.now c.args.table.now.file bytes → HoldsOnlyOf g.C.Cmp codings cmp c.args.table.now.id bytes c.args.cache.now
     → IsInto codings cmp bytes (previous_position (position_over old.index)) last_position old new = λ bytes has holds.
     is_into codings cmp bytes (previous_position (position_over old.index)) last_position old loaded new c.prev.new.self c.in_ok-prev.ensures.block c.in_ok-prev.ensures.ok there
     read.index (read.block bytes has holds) step.index step.block step.pairs step.ok in
@@ -78,7 +78,7 @@ returns-clause-enters g c =
     let step = c.in_ok-to_last.ensures in
     let there = sym c.in_ok-prev.ensures.there ∙ c.if-not-branch.false in
     let index : new.index ≡ c.prev.new.self = step.index ∙ read.index in
-    let into : (bytes : List ℕ) → FileHas g.E.Env c.args.env.now c.args.table.now.file bytes → HoldsOnlyOf codings cmp c.args.table.now.id bytes c.args.cache.now
+    let into : (bytes : List ℕ) → FileHas g.E.Env c.args.env.now c.args.table.now.file bytes → HoldsOnlyOf g.C.Cmp codings cmp c.args.table.now.id bytes c.args.cache.now
     → IsInto codings cmp bytes (previous_position (position_over old.index)) last_position old new = λ bytes has holds.
     is_into codings cmp bytes (previous_position (position_over old.index)) last_position old loaded new c.prev.new.self c.in_ok-prev.ensures.block c.in_ok-prev.ensures.ok there
     read.index (read.block bytes has holds) step.index step.block step.pairs step.ok in

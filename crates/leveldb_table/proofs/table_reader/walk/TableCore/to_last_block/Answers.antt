@@ -48,7 +48,7 @@ returns g c =
     let step = c.in_ok-to_last.ensures in
     let there = sym c.valid.ensures ∙ c.if-not-valid.false in
     let index : new.index ≡ c.seek_to_last.new.self = step.index ∙ read.index in
-    let into : (bytes : List ℕ) → FileHas g.E.Env c.args.env.now c.args.table.now.file bytes → HoldsOnlyOf codings cmp c.args.table.now.id bytes c.args.cache.now
+    let into : (bytes : List ℕ) → FileHas g.E.Env c.args.env.now c.args.table.now.file bytes → HoldsOnlyOf g.C.Cmp codings cmp c.args.table.now.id bytes c.args.cache.now
     → IsInto codings cmp bytes (last_position (pairs_over old.index)) last_position old new = λ bytes has holds.
     is_into codings cmp bytes (last_position (pairs_over old.index)) last_position old loaded new c.seek_to_last.new.self c.in_ok-seek_to_last.ensures.block c.in_ok-seek_to_last.ensures.ok there
     read.index (read.block bytes has holds) step.index step.block step.pairs step.ok in
@@ -83,14 +83,14 @@ returns-then-branch g c =
     let step = c.in_ok-to_last.ensures in
     let there = sym c.valid.ensures ∙ c.if-not-valid.false in
     let index : new.index ≡ c.seek_to_last.new.self = step.index ∙ read.index in
-    let into : (bytes : List ℕ) → FileHas g.E.Env c.args.env.now c.args.table.now.file bytes → HoldsOnlyOf codings cmp c.args.table.now.id bytes c.args.cache.now
+    let into : (bytes : List ℕ) → FileHas g.E.Env c.args.env.now c.args.table.now.file bytes → HoldsOnlyOf g.C.Cmp codings cmp c.args.table.now.id bytes c.args.cache.now
     → IsInto codings cmp bytes (last_position (pairs_over old.index)) last_position old new = λ bytes has holds.
     is_into codings cmp bytes (last_position (pairs_over old.index)) last_position old loaded new c.seek_to_last.new.self c.in_ok-seek_to_last.ensures.block c.in_ok-seek_to_last.ensures.ok there
     read.index (read.block bytes has holds) step.index step.block step.pairs step.ok in
     record {
       enters = record {
         reads = reads_ok g.E.Env read.reads.kept_disk read.reads.cause.ok;
-        ok = λ bytes has parts position right fit holds indexed. subst (IsAtPosition cmp parts new) (sym fit) (last_is_there right indexed new (into bytes has holds)).1;
+        ok = λ bytes has parts position right fit holds indexed. subst (IsAtPosition g.C.Cmp cmp parts new) (sym fit) (last_is_there right indexed new (into bytes has holds)).1;
         steps = λ bytes has holds. into_at codings cmp bytes old new (into bytes has holds) (sym step.there ∙ c.if-branch.true);
         err = tt;
         gathers = read.gathers;

@@ -45,7 +45,7 @@ returns-then-not-branch-2-clause-enters g c =
     let step = c.in_ok-step_forward.ensures in
     let there = sym c.in_ok-advance.ensures.there ∙ c.if-not-branch.false in
     let index : new.index ≡ c.advance.new.self = step.index ∙ read.index in
-    let into : (bytes : List ℕ) → FileHas g.E.Env c.args.env.now c.args.table.now.file bytes → HoldsOnlyOf codings cmp c.args.table.now.id bytes c.args.cache.now
+    let into : (bytes : List ℕ) → FileHas g.E.Env c.args.env.now c.args.table.now.file bytes → HoldsOnlyOf g.C.Cmp codings cmp c.args.table.now.id bytes c.args.cache.now
     → IsInto codings cmp bytes (next_position (pairs_over old.index) (position_over old.index)) (λ pairs. position_within pairs 0) old new = λ bytes has holds.
     is_into codings cmp bytes (next_position (pairs_over old.index) (position_over old.index)) (λ pairs. position_within pairs 0) old loaded new c.advance.new.self c.in_ok-advance.ensures.block c.in_ok-advance.ensures.ok there
     read.index (read.block bytes has holds) step.index step.block step.pairs (step.ok ∙ ap (next_position (inner_pairs loaded.inner)) read.position) in
@@ -78,7 +78,7 @@ returns-clause-enters g c =
     let step = c.in_ok-step_forward.ensures in
     let there = sym c.in_ok-advance.ensures.there ∙ c.if-not-branch.false in
     let index : new.index ≡ c.advance.new.self = step.index ∙ read.index in
-    let into : (bytes : List ℕ) → FileHas g.E.Env c.args.env.now c.args.table.now.file bytes → HoldsOnlyOf codings cmp c.args.table.now.id bytes c.args.cache.now
+    let into : (bytes : List ℕ) → FileHas g.E.Env c.args.env.now c.args.table.now.file bytes → HoldsOnlyOf g.C.Cmp codings cmp c.args.table.now.id bytes c.args.cache.now
     → IsInto codings cmp bytes (next_position (pairs_over old.index) (position_over old.index)) (λ pairs. position_within pairs 0) old new = λ bytes has holds.
     is_into codings cmp bytes (next_position (pairs_over old.index) (position_over old.index)) (λ pairs. position_within pairs 0) old loaded new c.advance.new.self c.in_ok-advance.ensures.block c.in_ok-advance.ensures.ok there
     read.index (read.block bytes has holds) step.index step.block step.pairs (step.ok ∙ ap (next_position (inner_pairs loaded.inner)) read.position) in
