@@ -258,7 +258,7 @@ module _ {C : Type 0} {order : CmpGhosts C} where
 
   -- no line is at no position alone
   pub none_at : (index : BlockWalk C order) → pair_at (pairs_over index) (position_over index) ≡ None → position_over index ≡ None
-  none_at index is = position_none_at (pairs_over index) (position_over index) (IsWithin-position index.block.contents index.block.entries index.core.key.items index.core.spot index.within) is
+  none_at index is = position_none_at (pairs_over index) (position_over index) (IsWithin-position index.block.contents index.block.entries index.core.key index.core.spot index.within) is
 
   -- the line for a key, by the order and the lines of the data blocks
   pub index_line : {cmp : List ℕ → List ℕ → Ordering} (parts : List Part) (index : BlockWalk C order) (key : List ℕ) (position : Option ℕ) → pairs_over index ≡ map index_pair parts → order.cmp index.block.cmp ≡ cmp
@@ -501,7 +501,7 @@ module _ {C : Type 0} {order : CmpGhosts C} where
   some_pairs (Some walk) there =
       let at = some_there (position_over walk) there in
       let P : Option ℕ → Type 0 = IsPosition (pairs_over walk) in
-      no_position_in (pairs_over walk) at.0 (subst P at.1 (IsWithin-position walk.block.contents walk.block.entries walk.core.key.items walk.core.spot walk.within))
+      no_position_in (pairs_over walk) at.0 (subst P at.1 (IsWithin-position walk.block.contents walk.block.entries walk.core.key walk.core.spot walk.within))
 
 module _ {C : Type 0} {order : CmpGhosts C} (codings : Codings) (cmp : List ℕ → List ℕ → Ordering) (bytes : List ℕ) where
   -- the block of a line has the walk's pairs

@@ -648,7 +648,7 @@ module _ {C : Type 0} {order : CmpGhosts C} where
   block_lines walk other e = ap (λ (b : BlockRead C). pairs_of None b.entries) e
 
   within_lines : (index : BlockWalk C order) (i : ℕ) → position_over index ≡ Some i → i < length (pairs_over index)
-  within_lines index i e = let P : Option ℕ → Type 0 = IsPosition (pairs_over index) in subst P e (IsWithin-position index.block.contents index.block.entries index.core.key.items index.core.spot index.within)
+  within_lines index i e = let P : Option ℕ → Type 0 = IsPosition (pairs_over index) in subst P e (IsWithin-position index.block.contents index.block.entries index.core.key index.core.spot index.within)
 
   pub line_is_of : {codings : Codings} {accepts : List ℕ → Bool} {cmp : List ℕ → List ℕ → Ordering} {bytes : List ℕ} {parts : List Part} (index : BlockWalk C order) → HasParts codings accepts cmp bytes parts → pairs_over index ≡ map index_pair parts
       → is_some (position_over index) ≡ true → IsLineOf codings cmp bytes parts index

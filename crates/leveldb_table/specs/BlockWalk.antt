@@ -62,6 +62,12 @@ pub record IsSpot (bytes : List ℕ) (entries : List BlockEntry) (key : List ℕ
   pub ends : spot.next ≡ start_of entries (suc (entries_before spot.start entries))
   pub ordered : spot.value ≤ spot.next
 
+-- What a position in a block is to its callers: the bytes in its room for a key, which are the key
+-- of the entry where it is at one, and where that entry lies.
+pub record BlockPlace : Type 0 where
+  pub key : List ℕ
+  pub spot : Option Spot
+
 -- no position, or one of the block
 abbrev pub IsWithin : List ℕ → List BlockEntry → List ℕ → Option Spot → Type 0
 IsWithin bytes entries key spot = IfSome spot (IsSpot bytes entries key)

@@ -16,8 +16,8 @@ use std::alloc::Global;
 pub struct BlockIter<'a, C: Cmp> {
     block: &'a Block<C>,
     core: BlockCore,
-    pub ghost within: { IsWithin block.now.contents block.now.entries core.key.items
-        core.spot } by { IsWithin-prop block.now.contents block.now.entries core.key.items
+    pub ghost within: { IsWithin block.now.contents block.now.entries core.key
+        core.spot } by { IsWithin-prop block.now.contents block.now.entries core.key
             core.spot },
 }
 
@@ -72,5 +72,5 @@ impl<'a, C: Cmp> LdbIterator for BlockIter<'a, C> {
     }
 
     ghost in_range = { λ it. IsWithin-position it.block.now.contents it.block.now.entries
-        it.core.key.items it.core.spot it.within };
+        it.core.key it.core.spot it.within };
 }

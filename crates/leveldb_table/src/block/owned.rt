@@ -18,8 +18,8 @@ use std::alloc::Global;
 pub struct BlockWalk<C: Cmp> {
     block: Block<C>,
     core: BlockCore,
-    pub ghost within: { IsWithin block.contents block.entries core.key.items
-        core.spot } by { IsWithin-prop block.contents block.entries core.key.items
+    pub ghost within: { IsWithin block.contents block.entries core.key
+        core.spot } by { IsWithin-prop block.contents block.entries core.key
             core.spot },
 }
 
@@ -52,7 +52,7 @@ impl<C: Cmp> BlockWalk<C> {
 
     /// The value of the pair at which it is, whose bytes are shared with the block.
     pub(crate) fn shared_value(&self) -> Result<Option<Bytes>>
-        ensures ok { IfOk result (λ value. pair_with self.now.core.key.items value
+        ensures ok { IfOk result (λ value. pair_with self.now.core.key value
             ≡ pair_at (pairs_of None self.now.block.entries)
             (position_of self.now.block.entries self.now.core.spot)) }
         ensures cause { IfErr result IsOutOfMemory }
@@ -64,7 +64,7 @@ impl<C: Cmp> BlockWalk<C> {
     pub(crate) fn into_key(self) -> Vec<u8>
     where
         C: Drop,
-        ensures { result ≡ self.core.key }
+        ensures { result.items ≡ self.core.key }
     {
         self.core.into_key()
     }
@@ -157,5 +157,5 @@ impl<C: Cmp> LdbIterator for BlockWalk<C> {
     }
 
     ghost in_range = { λ it. IsWithin-position it.block.contents it.block.entries
-        it.core.key.items it.core.spot it.within };
+        it.core.key it.core.spot it.within };
 }

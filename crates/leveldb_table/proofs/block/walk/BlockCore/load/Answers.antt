@@ -29,5 +29,6 @@ returns-clause-ok g c =
     let slice = take (c.block.inside.limit - c.args.start) (drop c.args.start c.block.inside.contents) in
     let read = subst (λ z. ReadsEntry (take (c.block.inside.limit - c.args.start) (drop c.args.start z)) c.take_entry.result) c.as_slice.ensures c.take_entry.ensures in
     let at = is_loaded (fronts c.block.inside.entries.1) requires c.unwrap.result.0 c.unwrap.result.1 (subst (λ z. ReadsEntry slice z) c.unwrap.ensures read) in
-    let key = c.in_ok-extend_from_slice.ensures.items ∙ ap (λ z. z ++ c.unwrap.result.0.rest.now) c.truncate.ensures.items in
+    let key = c.in_ok-extend_from_slice.ensures.items ∙ ap (λ z. z ++ c.unwrap.result.0.rest.now) c.truncate.ensures.items
+    ∙ ap (λ place. take c.unwrap.result.0.shared place.key ++ c.unwrap.result.0.rest.now) c.self.view_is in
     rw (← c.block.view_is) (spot_loaded at c.extend_from_slice.new.self.items key _ refl refl refl, refl, refl)

@@ -19,4 +19,4 @@ pub returns-clause-ok : goal.returns-clause-ok
 returns-clause-ok g c =
     let not_zero = c.if-block-eq0.false in
     let some : 0 < c.block.inside.limit = omega (arith, not_zero) in
-    on_ok_weaker c.walk.result (λ h. last_reached c.args.block.now.entries (fronts_of c.block.view_is (fronts c.block.inside.entries.1)) c.walk.new.self.spot c.walk.new.self.key.items some h) c.walk.ensures.ok
+    on_ok_weaker c.walk.result (λ h. last_reached c.args.block.now.entries (fronts_of c.block.view_is (fronts c.block.inside.entries.1)) c.walk.new.self.spot c.walk.new.self.key some h) c.walk.ensures.ok
