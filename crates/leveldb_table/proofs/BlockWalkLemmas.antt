@@ -1,5 +1,5 @@
 -- Where entries begin and end, and what is there.
-use Rattle.std.proofs.Common.{slice_index, ◌≡◌, ℕ, zero, suc, ◌+◌, ◌-◌, ◌<◌, ◌≤◌, Bool, true, false, nat_lt, if◌then◌else◌, List, [], ◌∷◌, ◌++◌, length, take, drop, get_or, flat_map, slice_get, Option, None, Some, inl, inr, refl, sym, ◌∙◌, ap, subst, arith, append_assoc, length-append, slice_range, IsSome, ◌*◌}
+use Rattle.std.proofs.Common.{slice_index, Result, OnOk, ◌≡◌, ℕ, zero, suc, ◌+◌, ◌-◌, ◌<◌, ◌≤◌, Bool, true, false, nat_lt, if◌then◌else◌, List, [], ◌∷◌, ◌++◌, length, take, drop, get_or, flat_map, slice_get, Option, None, Some, inl, inr, refl, sym, ◌∙◌, ap, subst, arith, append_assoc, length-append, slice_range, IsSome, ◌*◌}
 use Rattle.std.proofs.lemmas.Bool.{cases_lt}
 use Rattle.std.proofs.lemmas.Bool.Decides.{nat_tests}
 use Rattle.std.proofs.lemmas.List.{take_at, drop_at, take_all, append-nil, length-take-le, drop-drop}
@@ -814,3 +814,7 @@ pub starts_by : {accepts : List ℕ → Bool} {cmp : List ℕ → List ℕ → O
     → (target : List ℕ) → accepts target ≡ true → (point : ℕ) (key : List ℕ) → HasKeyAt entries point key → is_lt (cmp key target) ≡ true → CanSeekFrom cmp entries target point
 starts_by {cmp = cmp} {entries = entries} o known held target a point key there lt =
     count_front o target a (pairs_of None entries) (entries_before point entries) key there.0 held.encoded.sorted (held.each_accepted known) there.1 (lt_less (cmp key target) lt)
+
+-- a move from one position to another, said of positions that are the same
+pub moved : {T E : Type 0} (result : Result T E) (to : Option ℕ → Option ℕ) {old new from there : Option ℕ} → old ≡ from → new ≡ there → OnOk result (there ≡ to from) → OnOk result (new ≡ to old)
+moved result to {old = old} {there = there} same_old same_new ok = subst (λ z. OnOk result (z ≡ to old)) (sym same_new) (subst (λ z. OnOk result (there ≡ to z)) (sym same_old) ok)

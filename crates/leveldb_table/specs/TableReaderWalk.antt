@@ -9,14 +9,13 @@ use Rattle.leveldb_base.specs.declared.cmp.Cmp.{Ghosts as CmpGhosts}
 use Rattle.leveldb_base.specs.declared.error.Status.{Status}
 use Rattle.leveldb_env.specs.declared.env.Env.{Ghosts as EnvGhosts}
 use Rattle.leveldb_env.specs.Compressor.{Codings, Decodes}
-use Rattle.leveldb_table.specs.Block.{BlockRead, pairs_of}
+use Rattle.leveldb_table.specs.Block.{BlockRead}
 use Rattle.leveldb_table.specs.Cache.{Cached}
 use Rattle.leveldb_table.specs.Table.{Part, HasBlockAt, index_pair}
 use Rattle.leveldb_table.specs.BlockCache.{HoldsOnlyOf, IsBlockOfFile, GainsBlocks}
 use Rattle.leveldb_table.specs.TableReader.{pairs_in, HasParts}
 use Rattle.leveldb_table.specs.TableBlock.{ForBytesOf, IsLackError, ReadsFile}
-use Rattle.leveldb_table.specs.BlockWalk.{position_of}
-use Rattle.leveldb_table.specs.declared.block.owned.BlockWalk.{BlockWalk}
+use Rattle.leveldb_table.specs.BlockWalk.{BlockPosition, pairs_over, position_over}
 use Rattle.leveldb_table.specs.declared.block_cache.CachedBlock.{CachedBlock}
 use Rattle.leveldb_table.specs.declared.table_reader.walk.TableCore.{TableCore}
 
@@ -60,38 +59,30 @@ pub record IsNamed (codings : Codings) (bytes : List ℕ) (line : Option Pair)
   pub names : line ≡ Some (key, handle_bytes handle)
   pub is_there : HasBlockAt (Decodes codings) bytes handle contents
 
-module _ {C : Type 0} {order : CmpGhosts C} where
-  -- a block walk's pairs, and its position
-  abbrev pub pairs_over : BlockWalk C order → List Pair
-  pairs_over walk = pairs_of None walk.block.entries
-
-  -- the position of a walk over its block's pairs, if it has one
-  abbrev pub position_over : BlockWalk C order → Option ℕ
-  position_over walk = position_of walk.block.entries walk.core.spot
-
+module _ {C : Type 0} where
   -- its block, its pairs and its position where there may be no walk
-  abbrev pub inner_block : Option (BlockWalk C order) → Option (BlockRead C)
+  abbrev pub inner_block : Option (BlockPosition C) → Option (BlockRead C)
   inner_block None = None
   inner_block (Some walk) = Some walk.block
 
   -- the pairs of its block, none where there is no walk
-  abbrev pub inner_pairs : Option (BlockWalk C order) → List Pair
+  abbrev pub inner_pairs : Option (BlockPosition C) → List Pair
   inner_pairs None = []
   inner_pairs (Some walk) = pairs_over walk
 
   -- its position, none where there is no walk
-  abbrev pub inner_position : Option (BlockWalk C order) → Option ℕ
+  abbrev pub inner_position : Option (BlockPosition C) → Option ℕ
   inner_position None = None
   inner_position (Some walk) = position_over walk
 
   -- the pair at the walk's position
-  abbrev pub current_of : TableCore C order → Option Pair
+  abbrev pub current_of : TableCore C → Option Pair
   current_of core = pair_at (inner_pairs core.inner) (inner_position core.inner)
 
   -- A step in the open block, which stays with its pairs, as the index does. What is said of the
   -- position holds after an Ok; after an Err the walk is at no pair. An error is out of memory.
-  pub record StepsInside (Goes : Type 0) (old : TableCore C order) (result : Result Bool Status)
-      (new : TableCore C order) : Type 0 where
+  pub record StepsInside (Goes : Type 0) (old : TableCore C) (result : Result Bool Status)
+      (new : TableCore C) : Type 0 where
     pub block : inner_block new.inner ≡ inner_block old.inner
     pub pairs : inner_pairs new.inner ≡ inner_pairs old.inner
     pub index : new.index ≡ old.index
@@ -102,7 +93,7 @@ module _ {C : Type 0} {order : CmpGhosts C} where
     pub memory : IfErr result IsOutOfMemory
 
   -- a walk's position
-  abbrev pub table_position : TableCore C order → TablePosition
+  abbrev pub table_position : TableCore C → TablePosition
   table_position core =
       record {
         line = position_over core.index;
@@ -114,7 +105,7 @@ module _ {C : Type 0} (order : CmpGhosts C) where
   -- The index is that of these data blocks, in this order of keys, and the walk is at this
   -- position of their pairs.
   pub record IsAtPosition (cmp : List ℕ → List ℕ → Ordering) (parts : List Part)
-      (core : TableCore C order) (position : Option ℕ) : Type 0 where
+      (core : TableCore C) (position : Option ℕ) : Type 0 where
     pub lines : pairs_over core.index ≡ map index_pair parts
     pub ordered : order.cmp core.index.block.cmp ≡ cmp
     pub at : IsAtPairOrNone parts (position_over core.index) (inner_pairs core.inner)
@@ -139,12 +130,12 @@ module _ {C : Type 0} (order : CmpGhosts C) where
   pub record MovesInTable {E F T : Type 0} (env : EnvGhosts E F) (codings : Codings)
       (accepts : List ℕ → Bool) (cmp : List ℕ → List ℕ → Ordering) (id : ℕ) (file : F)
       (Fit : List Part → Type 0) (to : List Pair → Option ℕ → Option ℕ)
-      (Step : Codings → (List ℕ → List ℕ → Ordering) → List ℕ → TableCore C order → Outcome
+      (Step : Codings → (List ℕ → List ℕ → Ordering) → List ℕ → TableCore C → Outcome
       → Type 0)
-      (old_env : E) (old_cache : Cached (CachedBlock C)) (old : TableCore C order)
+      (old_env : E) (old_cache : Cached (CachedBlock C)) (old : TableCore C)
       (result : Result T Status)
       (new_env : E) (new_cache : Cached (CachedBlock C))
-      (new : TableCore C order) : Type 0 where
+      (new : TableCore C) : Type 0 where
     pub reads : ReadsFile env (IsLackError env codings (λ bytes status.
         GivenParts codings accepts cmp id bytes old_cache (λ parts position. Fit parts)
         (λ parts position. IsAtPosition cmp parts old position) (λ parts position. ⊥)

@@ -3,6 +3,7 @@ ghost use Rattle.std.specs.Prelude.{◌≡◌, ◌⊎◌, None, IfOk, IfErr, IsE
 ghost use Rattle.leveldb_base.specs.Error.{IsOutOfMemory};
 ghost use Rattle.leveldb_base.specs.declared.error.StatusCode.TheVariants.{Corruption};
 ghost use Rattle.leveldb_table.specs.Block.{HasEntries, HasEntriesEndingAt, IsBlock, IsNoBlock, pairs_of};
+ghost use Rattle.leveldb_table.specs.BlockWalk.{position_over};
 ghost use Rattle.leveldb_table.specs.BlockLaws.{HasEntriesEndingAt-prop};
 
 use bytes::Bytes;
@@ -86,8 +87,8 @@ impl<C: Cmp + Drop> Block<C> {
 
     /// A walk over the block's pairs, at no position.
     pub fn iter(&self, alloc: Global) -> BlockIter<'_, C>
-        ensures block { result.block.now ≡ self.entry.now }
-        ensures position { result.core.spot ≡ None }
+        ensures block { result.block ≡ self.entry.now }
+        ensures position { position_over result ≡ None }
         ensures encoded { HasEntries (C.cmp self.entry.now.cmp) self.entry.now.contents
             self.entry.now.entries }
     {

@@ -7,7 +7,7 @@ ghost use Rattle.leveldb_base.specs.Types.{next_position, previous_position, see
 ghost use Rattle.leveldb_base.specs.Error.{IsOutOfMemory};
 ghost use Rattle.leveldb_base.specs.declared.error.StatusCode.TheVariants.{Corruption};
 ghost use Rattle.leveldb_table.specs.Table.{Part, HasBlockAt};
-ghost use Rattle.leveldb_table.specs.BlockWalk.{pair_with};
+ghost use Rattle.leveldb_table.specs.BlockWalk.{pair_with, pairs_over, position_over};
 ghost use Rattle.leveldb_table.specs.BlockCache.{HoldsOnlyOf, IsBlockOfFile, GainsBlocks};
 ghost use Rattle.leveldb_table.specs.TableReaderBlocks.{IsAfterLine, IsBeforeBlock, IsKeyPosition, IsLetPosition};
 ghost use Rattle.leveldb_table.specs.TableBlock.{LacksBlock, LacksLine, ReadsFile, ForBytesOf, IsLackError, IsNamedBy};
@@ -84,7 +84,7 @@ impl<C: Cmp + Copy + Drop> TableCore<C> {
     ghost use Rattle.leveldb_table.specs.TableReaderMoves.{Advances, StepsBack, SeeksKey, SeeksFirst, SeeksLast, ToLast, ToNextBlock, ToPreviousBlock, ToKey, ToKeyIfLet};
     ghost use Rattle.leveldb_table.specs.TableReader.{pairs_in, lines_of, lets, GainsBlocksOf};
     ghost use Rattle.leveldb_table.specs.TableReaderSteps.{StepsInTable, step_to};
-    ghost use Rattle.leveldb_table.specs.TableReaderWalk.{IsAtPosition, StepsInside, inner_block, inner_position, inner_pairs, current_of, pairs_over, position_over};
+    ghost use Rattle.leveldb_table.specs.TableReaderWalk.{IsAtPosition, StepsInside, inner_block, inner_position, inner_pairs, current_of};
 
     /// At no position.
     pub fn new<E: Env, FP: FilterPolicy>(

@@ -4,7 +4,8 @@ use Rattle.leveldb_env.specs.contracts.compressor.CompressorListCompressors.TheI
 use Rattle.leveldb_table.specs.TableReaderBlocks.{IsKeyPosition}
 use Rattle.leveldb_table.specs.TableReaderMoves.{line_for, ToKey}
 use Rattle.leveldb_table.specs.TableBlock.{unnamed}
-use Rattle.leveldb_table.specs.TableReaderWalk.{inner_position, pairs_over, position_over}
+use Rattle.leveldb_table.specs.BlockWalk.{pairs_over, position_over}
+use Rattle.leveldb_table.specs.TableReaderWalk.{inner_position}
 use Rattle.leveldb_table.proofs.TableReaderWalkLemmas.{block_lines, line_lacks, moves_enters, seek_none}
 use Rattle.leveldb_table.proofs.TableReaderMovesLemmas.{names_none, none_at, index_line, enters_ends, enters_own, seeks_none, seeks_lacking, line_by, sought_along}
 use Rattle.leveldb_table.proofs.table_reader.walk.TableCore.seek.Goals as goal
@@ -18,7 +19,7 @@ returns-in_default g c =
     record {
       moves = moves_enters {Way = IsKeyPosition (g.C.Cmp.accepts c.args.table.now.cmp) (g.C.Cmp.cmp c.args.table.now.cmp) key} {to = λ pairs _. seek_position (g.C.Cmp.cmp c.args.table.now.cmp) pairs key} {Part_step = ToKey g.C.Cmp key} old refl refl (λ parts position fit is_there. (fit, refl)) (λ bytes out sought. sought)
           (enters_ends old _ tt (block_lines c.seek.new.self old.index found.block) (ap (λ z. z.cmp) found.block) (ap inner_position c.leave.ensures)
-          (λ bytes parts position right fit indexed. fit.1 ∙ seek_none (g.met.C.Cmp.preorder c.args.table.now.cmp) right.parted right.accepted key fit.0 (index_line parts old.index key _ indexed.lines indexed.ordered found.ok ∙ none))
+          (λ bytes parts position right fit indexed. fit.1 ∙ seek_none (g.met.C.Cmp.preorder c.args.table.now.cmp) right.parted right.accepted key fit.0 (index_line g.C.Cmp parts old.index key _ indexed.lines indexed.ordered found.ok ∙ none))
           (λ bytes. seeks_none ((TheImpl.ghosts g.dyn-1).codings c.args.compressors.now) (g.C.Cmp.cmp c.args.table.now.cmp) bytes (pairs_over old.index) key (line_for g.C.Cmp key old) _ (sym found.ok ∙ none) found.ok (ap inner_position c.leave.ensures)));
     }
 
@@ -48,5 +49,5 @@ returns g c =
     let found = c.in_ok-seek.ensures in
     record {
       moves = moves_enters {Way = IsKeyPosition (g.C.Cmp.accepts c.args.table.now.cmp) (g.C.Cmp.cmp c.args.table.now.cmp) c.args.key.now} {to = λ pairs _. seek_position (g.C.Cmp.cmp c.args.table.now.cmp) pairs c.args.key.now} old (block_lines c.seek.new.self old.index found.block) (ap (λ z. z.cmp) found.block)
-          (λ parts position fit is_there. (fit, refl)) (λ bytes out. sought_along ((TheImpl.ghosts g.dyn-1).codings c.args.compressors.now) (g.C.Cmp.cmp c.args.table.now.cmp) bytes c.args.key.now old (record old { index = c.seek.new.self; inner = c.leave.new.inner; room = c.leave.new.room }) out (block_lines c.seek.new.self old.index found.block) (ap (λ z. z.cmp) found.block)) c.enter.ensures.enters;
+          (λ parts position fit is_there. (fit, refl)) (λ bytes out. sought_along g.C.Cmp ((TheImpl.ghosts g.dyn-1).codings c.args.compressors.now) (g.C.Cmp.cmp c.args.table.now.cmp) bytes c.args.key.now old (record old { index = c.seek.new.self; inner = c.leave.new.inner; room = c.leave.new.room }) out (block_lines c.seek.new.self old.index found.block) (ap (λ z. z.cmp) found.block)) c.enter.ensures.enters;
     }

@@ -5,7 +5,8 @@ use Rattle.leveldb_table.specs.TableReaderBlocks.{IsKeyPosition}
 use Rattle.leveldb_table.specs.TableReaderMoves.{line_for}
 use Rattle.leveldb_table.specs.TableReader.{lets}
 use Rattle.leveldb_table.specs.TableBlock.{unnamed}
-use Rattle.leveldb_table.specs.TableReaderWalk.{inner_position, pairs_over, position_over}
+use Rattle.leveldb_table.specs.BlockWalk.{pairs_over, position_over}
+use Rattle.leveldb_table.specs.TableReaderWalk.{inner_position}
 use Rattle.leveldb_table.proofs.BlockCacheLemmas.{GainsBlocks-refl}
 use Rattle.leveldb_table.proofs.TableBlockLemmas.{KeepsDisk-refl}
 use Rattle.leveldb_table.proofs.TableReaderWalkLemmas.{block_lines, line_lacks}
@@ -19,7 +20,7 @@ returns-in_default-clause-enters g c =
     let found = c.in_ok-seek.ensures in
     let none = none_at c.seek.new.self (sym c.current.ensures ∙ ap pair_of c.in_default.is) in
     enters_ends old _ false (block_lines c.seek.new.self old.index found.block) (ap (λ z. z.cmp) found.block) (ap inner_position c.leave.ensures)
-    (λ bytes parts position right fit indexed. fit.1 ∙ let_none (g.C.Cmp.cmp c.args.table.now.cmp) (lets g.FP.FilterPolicy.matches c.args.table.now) key parts (index_line parts old.index key _ indexed.lines indexed.ordered found.ok ∙ none))
+    (λ bytes parts position right fit indexed. fit.1 ∙ let_none (g.C.Cmp.cmp c.args.table.now.cmp) (lets g.FP.FilterPolicy.matches c.args.table.now) key parts (index_line g.C.Cmp parts old.index key _ indexed.lines indexed.ordered found.ok ∙ none))
     (λ bytes. looks_none ((TheImpl.ghosts g.dyn-1).codings c.args.compressors.now) (g.C.Cmp.cmp c.args.table.now.cmp) bytes (pairs_over old.index) (lets g.FP.FilterPolicy.matches c.args.table.now) key (line_for g.C.Cmp key old) _ (sym found.ok ∙ none) found.ok (ap inner_position c.leave.ensures))
 
 pub returns-in_err-handle-clause-enters : goal.returns-in_err-handle-clause-enters
@@ -48,7 +49,7 @@ returns-then-not-lets-clause-enters g c =
     let refuses = ap (λ n. lets g.FP.FilterPolicy.matches c.args.table.now n key) (sym c.offset.ensures) ∙ sym c.lets.ensures ∙ c.if-not-lets.true in
     enters_ends old _ false lines (ap (λ z. z.cmp) found.block) (ap inner_position c.leave.ensures)
     (λ bytes parts position right fit indexed. fit.1 ∙ let_by c.seek.new.self key c.in-Some.field-0-0.now c.in-Some.value.now c.in_ok-handle.handle (lets g.FP.FilterPolicy.matches c.args.table.now) false right (lines ∙ indexed.lines)
-    (index_line parts old.index key (position_over c.seek.new.self) indexed.lines indexed.ordered found.ok) (sym c.current.ensures ∙ ap pair_of c.in-Some.is) c.in_ok-handle.ensures.ok.1 refuses)
+    (index_line g.C.Cmp parts old.index key (position_over c.seek.new.self) indexed.lines indexed.ordered found.ok) (sym c.current.ensures ∙ ap pair_of c.in-Some.is) c.in_ok-handle.ensures.ok.1 refuses)
     (λ bytes. looks_refused ((TheImpl.ghosts g.dyn-1).codings c.args.compressors.now) (g.C.Cmp.cmp c.args.table.now.cmp) bytes (pairs_over old.index) (lets g.FP.FilterPolicy.matches c.args.table.now) key (line_for g.C.Cmp key old) _ c.in_ok-handle.handle c.in_ok-handle.ensures.ok.0 (names_one c.in_ok-handle.handle (line_by lines found.ok (sym c.current.ensures ∙ ap pair_of c.in-Some.is)) c.in_ok-handle.ensures.ok.1) refuses (ap inner_position c.leave.ensures))
 
 pub returns-in_err-enter-clause-enters : goal.returns-in_err-enter-clause-enters
@@ -63,9 +64,9 @@ returns-in_err-enter-clause-enters g c =
     (λ bytes has parts position right fit holds indexed. (
       fit.0,
       fit.1 ∙ let_by c.seek.new.self key c.in-Some.field-0-0.now c.in-Some.value.now c.in_ok-handle.handle (lets g.FP.FilterPolicy.matches c.args.table.now) true right (lines ∙ indexed.lines)
-          (index_line parts old.index key (position_over c.seek.new.self) indexed.lines indexed.ordered found.ok) (sym c.current.ensures ∙ ap pair_of c.in-Some.is) c.in_ok-handle.ensures.ok.1 passes,
+          (index_line g.C.Cmp parts old.index key (position_over c.seek.new.self) indexed.lines indexed.ordered found.ok) (sym c.current.ensures ∙ ap pair_of c.in-Some.is) c.in_ok-handle.ensures.ok.1 passes,
     ))
-    (λ bytes has holds out. looked_up ((TheImpl.ghosts g.dyn-1).codings c.args.compressors.now) (g.C.Cmp.cmp c.args.table.now.cmp) bytes (lets g.FP.FilterPolicy.matches c.args.table.now) key c.in_ok-handle.handle old (record old { index = c.seek.new.self; inner = c.leave.new.inner; room = c.leave.new.room }) out lines (ap (λ z. z.cmp) found.block) c.in_ok-handle.ensures.ok.0 (names_one c.in_ok-handle.handle (line_by lines found.ok (sym c.current.ensures ∙ ap pair_of c.in-Some.is)) c.in_ok-handle.ensures.ok.1) passes) c.in_err-enter.ensures.enters)
+    (λ bytes has holds out. looked_up g.C.Cmp ((TheImpl.ghosts g.dyn-1).codings c.args.compressors.now) (g.C.Cmp.cmp c.args.table.now.cmp) bytes (lets g.FP.FilterPolicy.matches c.args.table.now) key c.in_ok-handle.handle old (record old { index = c.seek.new.self; inner = c.leave.new.inner; room = c.leave.new.room }) out lines (ap (λ z. z.cmp) found.block) c.in_ok-handle.ensures.ok.0 (names_one c.in_ok-handle.handle (line_by lines found.ok (sym c.current.ensures ∙ ap pair_of c.in-Some.is)) c.in_ok-handle.ensures.ok.1) passes) c.in_err-enter.ensures.enters)
 
 pub returns-clause-enters : goal.returns-clause-enters
 returns-clause-enters g c =
@@ -79,6 +80,6 @@ returns-clause-enters g c =
     (λ bytes has parts position right fit holds indexed. (
       fit.0,
       fit.1 ∙ let_by c.seek.new.self key c.in-Some.field-0-0.now c.in-Some.value.now c.in_ok-handle.handle (lets g.FP.FilterPolicy.matches c.args.table.now) true right (lines ∙ indexed.lines)
-          (index_line parts old.index key (position_over c.seek.new.self) indexed.lines indexed.ordered found.ok) (sym c.current.ensures ∙ ap pair_of c.in-Some.is) c.in_ok-handle.ensures.ok.1 passes,
+          (index_line g.C.Cmp parts old.index key (position_over c.seek.new.self) indexed.lines indexed.ordered found.ok) (sym c.current.ensures ∙ ap pair_of c.in-Some.is) c.in_ok-handle.ensures.ok.1 passes,
     ))
-    (λ bytes has holds out. looked_up ((TheImpl.ghosts g.dyn-1).codings c.args.compressors.now) (g.C.Cmp.cmp c.args.table.now.cmp) bytes (lets g.FP.FilterPolicy.matches c.args.table.now) key c.in_ok-handle.handle old (record old { index = c.seek.new.self; inner = c.leave.new.inner; room = c.leave.new.room }) out lines (ap (λ z. z.cmp) found.block) c.in_ok-handle.ensures.ok.0 (names_one c.in_ok-handle.handle (line_by lines found.ok (sym c.current.ensures ∙ ap pair_of c.in-Some.is)) c.in_ok-handle.ensures.ok.1) passes) c.in_ok-enter.ensures.enters)
+    (λ bytes has holds out. looked_up g.C.Cmp ((TheImpl.ghosts g.dyn-1).codings c.args.compressors.now) (g.C.Cmp.cmp c.args.table.now.cmp) bytes (lets g.FP.FilterPolicy.matches c.args.table.now) key c.in_ok-handle.handle old (record old { index = c.seek.new.self; inner = c.leave.new.inner; room = c.leave.new.room }) out lines (ap (λ z. z.cmp) found.block) c.in_ok-handle.ensures.ok.0 (names_one c.in_ok-handle.handle (line_by lines found.ok (sym c.current.ensures ∙ ap pair_of c.in-Some.is)) c.in_ok-handle.ensures.ok.1) passes) c.in_ok-enter.ensures.enters)

@@ -3,7 +3,8 @@ use Rattle.leveldb_base.specs.Types.{previous_position, last_position}
 use Rattle.leveldb_env.specs.contracts.compressor.CompressorListCompressors.TheImpl
 use Rattle.leveldb_table.specs.BlockCache.{HoldsOnlyOf}
 use Rattle.leveldb_table.specs.TableBlock.{FileHas}
-use Rattle.leveldb_table.specs.TableReaderWalk.{inner_position, inner_pairs, pairs_over, position_over}
+use Rattle.leveldb_table.specs.BlockWalk.{pairs_over, position_over}
+use Rattle.leveldb_table.specs.TableReaderWalk.{inner_position, inner_pairs}
 use Rattle.leveldb_table.proofs.TableBlockLemmas.{reads_weaker, reads_refused, reads_own, reads_ok}
 use Rattle.leveldb_table.proofs.TableReaderWalkLemmas.{ok_refused, err_holds, none_there, block_lines, line_lacks, some_none, IsInto, is_into}
 use Rattle.leveldb_table.proofs.TableReaderMovesLemmas.{last_none, previous_is_there, into_lacking, into_at, into_empty}
@@ -46,8 +47,8 @@ returns-then-not-branch-2-clause-enters g c =
     let there = sym c.in_ok-prev.ensures.there ∙ c.if-not-branch.false in
     let index : new.index ≡ c.prev.new.self = step.index ∙ read.index in
     let into : (bytes : List ℕ) → FileHas g.E.Env c.args.env.now c.args.table.now.file bytes → HoldsOnlyOf g.C.Cmp codings cmp c.args.table.now.id bytes c.args.cache.now
-    → IsInto codings cmp bytes (previous_position (position_over old.index)) last_position old new = λ bytes has holds.
-    is_into codings cmp bytes (previous_position (position_over old.index)) last_position old loaded new c.prev.new.self c.in_ok-prev.ensures.block c.in_ok-prev.ensures.ok there
+    → IsInto g.C.Cmp codings cmp bytes (previous_position (position_over old.index)) last_position old new = λ bytes has holds.
+    is_into g.C.Cmp codings cmp bytes (previous_position (position_over old.index)) last_position old loaded new c.prev.new.self c.in_ok-prev.ensures.block c.in_ok-prev.ensures.ok there
     read.index (read.block bytes has holds) step.index step.block step.pairs step.ok in
     let none : inner_position new.inner ≡ None = none_there (inner_position new.inner) (sym step.there ∙ c.if-not-branch-2.true) in
     record {
@@ -56,7 +57,7 @@ returns-then-not-branch-2-clause-enters g c =
             inl code,
             λ bytes has. (
               λ parts position right fit holds indexed. some_none (sym (previous_is_there right fit indexed new (into bytes has holds)).0.1 ∙ none),
-              λ holds. into_empty codings cmp bytes old new (into bytes has holds) status (last_none (inner_pairs new.inner) (sym (into bytes has holds).position ∙ none)) code,
+              λ holds. into_empty g.C.Cmp codings cmp bytes old new (into bytes has holds) status (last_none (inner_pairs new.inner) (sym (into bytes has holds).position ∙ none)) code,
             ),
           ));
       ok = λ bytes has parts position right fit holds indexed. ok_refused _ _ c.empty_block_error.result c.empty_block_error.ensures;
@@ -79,13 +80,13 @@ returns-clause-enters g c =
     let there = sym c.in_ok-prev.ensures.there ∙ c.if-not-branch.false in
     let index : new.index ≡ c.prev.new.self = step.index ∙ read.index in
     let into : (bytes : List ℕ) → FileHas g.E.Env c.args.env.now c.args.table.now.file bytes → HoldsOnlyOf g.C.Cmp codings cmp c.args.table.now.id bytes c.args.cache.now
-    → IsInto codings cmp bytes (previous_position (position_over old.index)) last_position old new = λ bytes has holds.
-    is_into codings cmp bytes (previous_position (position_over old.index)) last_position old loaded new c.prev.new.self c.in_ok-prev.ensures.block c.in_ok-prev.ensures.ok there
+    → IsInto g.C.Cmp codings cmp bytes (previous_position (position_over old.index)) last_position old new = λ bytes has holds.
+    is_into g.C.Cmp codings cmp bytes (previous_position (position_over old.index)) last_position old loaded new c.prev.new.self c.in_ok-prev.ensures.block c.in_ok-prev.ensures.ok there
     read.index (read.block bytes has holds) step.index step.block step.pairs step.ok in
     record {
       reads = reads_ok g.E.Env read.reads.kept_disk read.reads.cause.ok;
       ok = λ bytes has parts position right fit holds indexed. (previous_is_there right fit indexed new (into bytes has holds)).1;
-      steps = λ bytes has holds. into_at codings cmp bytes old new (into bytes has holds) (sym step.there ∙ c.if-not-branch-2.false);
+      steps = λ bytes has holds. into_at g.C.Cmp codings cmp bytes old new (into bytes has holds) (sym step.there ∙ c.if-not-branch-2.false);
       err = tt;
       gathers = read.gathers;
       same_lines = ap pairs_over index ∙ block_lines c.prev.new.self c.args.self.now.index c.in_ok-prev.ensures.block;

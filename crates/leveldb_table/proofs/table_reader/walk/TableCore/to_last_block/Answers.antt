@@ -4,7 +4,8 @@ use Rattle.leveldb_base.specs.Types.{last_position}
 use Rattle.leveldb_table.specs.BlockCache.{HoldsOnlyOf}
 use Rattle.leveldb_table.specs.TableReader.{pairs_in}
 use Rattle.leveldb_table.specs.TableBlock.{FileHas}
-use Rattle.leveldb_table.specs.TableReaderWalk.{IsAtPosition, inner_position, inner_pairs, pairs_over, position_over}
+use Rattle.leveldb_table.specs.BlockWalk.{pairs_over, position_over}
+use Rattle.leveldb_table.specs.TableReaderWalk.{IsAtPosition, inner_position, inner_pairs}
 use Rattle.leveldb_table.proofs.TableBlockLemmas.{reads_weaker, reads_refused, reads_own, reads_ok}
 use Rattle.leveldb_table.proofs.TableReaderWalkLemmas.{last_of_none, ok_refused, err_holds, none_there, block_lines, line_lacks, some_none, IsInto, is_into}
 use Rattle.leveldb_table.proofs.TableReaderMovesLemmas.{last_none, last_is_there, enters_ends, to_no_block, into_lacking, into_at, into_empty}
@@ -49,8 +50,8 @@ returns g c =
     let there = sym c.valid.ensures ∙ c.if-not-valid.false in
     let index : new.index ≡ c.seek_to_last.new.self = step.index ∙ read.index in
     let into : (bytes : List ℕ) → FileHas g.E.Env c.args.env.now c.args.table.now.file bytes → HoldsOnlyOf g.C.Cmp codings cmp c.args.table.now.id bytes c.args.cache.now
-    → IsInto codings cmp bytes (last_position (pairs_over old.index)) last_position old new = λ bytes has holds.
-    is_into codings cmp bytes (last_position (pairs_over old.index)) last_position old loaded new c.seek_to_last.new.self c.in_ok-seek_to_last.ensures.block c.in_ok-seek_to_last.ensures.ok there
+    → IsInto g.C.Cmp codings cmp bytes (last_position (pairs_over old.index)) last_position old new = λ bytes has holds.
+    is_into g.C.Cmp codings cmp bytes (last_position (pairs_over old.index)) last_position old loaded new c.seek_to_last.new.self c.in_ok-seek_to_last.ensures.block c.in_ok-seek_to_last.ensures.ok there
     read.index (read.block bytes has holds) step.index step.block step.pairs step.ok in
     let none : inner_position new.inner ≡ None = none_there (inner_position new.inner) (sym step.there ∙ c.if-branch.false) in
     record {
@@ -60,7 +61,7 @@ returns g c =
               inl code,
               λ bytes has. (
                 λ parts position right fit holds indexed. some_none (sym (last_is_there right indexed new (into bytes has holds)).0.1 ∙ none),
-                λ holds. into_empty codings cmp bytes old new (into bytes has holds) status (last_none (inner_pairs new.inner) (sym (into bytes has holds).position ∙ none)) code,
+                λ holds. into_empty g.C.Cmp codings cmp bytes old new (into bytes has holds) status (last_none (inner_pairs new.inner) (sym (into bytes has holds).position ∙ none)) code,
               ),
             ));
         ok = λ bytes has parts position right fit holds indexed. ok_refused _ _ c.empty_block_error.result c.empty_block_error.ensures;
@@ -84,14 +85,14 @@ returns-then-branch g c =
     let there = sym c.valid.ensures ∙ c.if-not-valid.false in
     let index : new.index ≡ c.seek_to_last.new.self = step.index ∙ read.index in
     let into : (bytes : List ℕ) → FileHas g.E.Env c.args.env.now c.args.table.now.file bytes → HoldsOnlyOf g.C.Cmp codings cmp c.args.table.now.id bytes c.args.cache.now
-    → IsInto codings cmp bytes (last_position (pairs_over old.index)) last_position old new = λ bytes has holds.
-    is_into codings cmp bytes (last_position (pairs_over old.index)) last_position old loaded new c.seek_to_last.new.self c.in_ok-seek_to_last.ensures.block c.in_ok-seek_to_last.ensures.ok there
+    → IsInto g.C.Cmp codings cmp bytes (last_position (pairs_over old.index)) last_position old new = λ bytes has holds.
+    is_into g.C.Cmp codings cmp bytes (last_position (pairs_over old.index)) last_position old loaded new c.seek_to_last.new.self c.in_ok-seek_to_last.ensures.block c.in_ok-seek_to_last.ensures.ok there
     read.index (read.block bytes has holds) step.index step.block step.pairs step.ok in
     record {
       enters = record {
         reads = reads_ok g.E.Env read.reads.kept_disk read.reads.cause.ok;
         ok = λ bytes has parts position right fit holds indexed. subst (IsAtPosition g.C.Cmp cmp parts new) (sym fit) (last_is_there right indexed new (into bytes has holds)).1;
-        steps = λ bytes has holds. into_at codings cmp bytes old new (into bytes has holds) (sym step.there ∙ c.if-branch.true);
+        steps = λ bytes has holds. into_at g.C.Cmp codings cmp bytes old new (into bytes has holds) (sym step.there ∙ c.if-branch.true);
         err = tt;
         gathers = read.gathers;
         same_lines = ap pairs_over index ∙ block_lines c.seek_to_last.new.self c.args.self.now.index c.in_ok-seek_to_last.ensures.block;
