@@ -29,14 +29,13 @@ use Rattle.leveldb_env.specs.FilterBlock.{IsFilterBlock, FiltersRead, passes}
 use Rattle.leveldb_env.specs.FilterBlockLaws.{one_reading}
 use Rattle.leveldb_table.specs.Block.{BlockRead, RiseAfter, KeysRise, IsBlock, HasEntries, pairs_of}
 use Rattle.leveldb_table.specs.Table.{first_from, Part, IsPart, StoresAt, HasBlockAt, HasFiltersAt, FiltersHold, AllPass, HasTableBlocks, IsTable, DecodesOne, OneTable, index_pair, filter_key, IsAtOrAfterAll, IsBeforeAll, AreParted, PartPasses, named_part, AreAccepted, offset_for}
-use Rattle.leveldb_table.specs.TableReader.{GivesHandle, HasFiltersBy, IsFiltersAt, EndsInFooter, HasIndex, LacksIndex, no_footer, no_index, HasNoIndex, OpensTable, OpensAs, LacksPart, not_indexed, no_metaindex, no_filters, CannotOpen, CanOpen, HasParts, HandlesFit, pairs_in, KeepsUsersTogether, HasNoneFrom}
+use Rattle.leveldb_table.specs.TableReader.{OpenTable, GivesHandle, HasFiltersBy, IsFiltersAt, EndsInFooter, HasIndex, LacksIndex, no_footer, no_index, HasNoIndex, OpensTable, OpensAs, LacksPart, not_indexed, no_metaindex, no_filters, CannotOpen, CanOpen, HasParts, HandlesFit, pairs_in, KeepsUsersTogether, HasNoneFrom}
 use Rattle.leveldb_table.specs.TableBlock.{HasNoFilters, KeepsDisk, FileHas, IsDamaged, IsLackError, ReadsFile}
 use Rattle.leveldb_table.specs.BlockLaws.{one_block}
 use Rattle.leveldb_table.specs.Footer.{footer_bytes}
 use Rattle.leveldb_table.specs.TableBuilder.{MatchesByUser}
 use Rattle.leveldb_table.specs.Cache.{Cached}
 use Rattle.leveldb_table.specs.declared.block_cache.CachedBlock.{CachedBlock}
-use Rattle.leveldb_table.specs.declared.table_reader.Table.{Table}
 use Rattle.leveldb_table.proofs.FooterLemmas.{one_footer, length-footer_bytes}
 use Rattle.leveldb_table.proofs.TableBlockLemmas.{HasNoBlock, lacks_none, FileHas-after}
 use Rattle.leveldb_table.proofs.TableLemmas.{all_with, has_one_block, stores_one, all_append, all_left, all_right, rise_right, then_less, turned_from}
@@ -194,9 +193,9 @@ module _ {E F : Type 0} (env : Ghosts E F) (codings : Codings) {old mid : E} {fi
       lacks (λ bytes other. Missing bytes × (other.code ≡ Corruption)) (λ bytes other has none. part bytes other has none.0 none.1) status
       (inl why.0, λ bytes has. (why.1 bytes has, why.0))
 
-module _ {E C FP F : Type 0} {env : Ghosts E F} {codings : Codings} {Is : Table E C FP F → List ℕ → Type 0} {Filters : Option (FiltersRead FP) → Type 0} {Lacks : List ℕ → Status → Type 0} {cmp : C} {from : F} {old_env new_env : E} {old_cache new_cache : Cached (CachedBlock C)} where
+module _ {E C FP F : Type 0} {env : Ghosts E F} {codings : Codings} {Is : OpenTable C FP F → List ℕ → Type 0} {Filters : Option (FiltersRead FP) → Type 0} {Lacks : List ℕ → Status → Type 0} {cmp : C} {from : F} {old_env new_env : E} {old_cache new_cache : Cached (CachedBlock C)} where
   -- a call that opens no table
-  pub opens_err : (P : Status → Type 0) (result : Result (Table E C FP F) Status) → IsErrAnd result P
+  pub opens_err : (P : Status → Type 0) (result : Result (OpenTable C FP F) Status) → IsErrAnd result P
       → ReadsFile env (λ status. ((status.code ≡ NotSupported) × (old_cache.given + 1 ≡ 2 ^ 64)) ⊎ IsLackError env codings Lacks old_env from status) old_env new_env result
       → new_cache ≡ old_cache → OpensTable env codings Is Filters Lacks cmp from old_env old_cache result new_env new_cache
   opens_err P (Ok table) none reads same = absurd none

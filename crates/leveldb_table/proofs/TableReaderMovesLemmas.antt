@@ -18,12 +18,11 @@ use Rattle.leveldb_table.specs.Cache.{Cached}
 use Rattle.leveldb_table.specs.Table.{Part, index_pair, named_part}
 use Rattle.leveldb_table.specs.BlockCache.{HoldsOnlyOf, IsBlockOfFile, GainsBlocks}
 use Rattle.leveldb_table.specs.TableReaderBlocks.{IsAfterLine, IsBeforeBlock, let_position, IsBlockAt, IsBlockOf, line_of, IsIndexed, MovesFromLine}
-use Rattle.leveldb_table.specs.TableReader.{pairs_in, lines_of, HasParts}
+use Rattle.leveldb_table.specs.TableReader.{OpenTable, pairs_in, lines_of, HasParts}
 use Rattle.leveldb_table.specs.TableBlock.{KeepsDisk, FileHas, ForBytesOf, IsNamedBy, NamesNone, LacksLine, IsLackError, ReadsFile}
 use Rattle.leveldb_table.specs.TableReaderWalk.{IsAtPairOrNone, IsAtPosition, MovesInTable, Outcome, inner_block, inner_pairs, inner_position, table_position, TablePosition, IsNamed}
 use Rattle.leveldb_table.specs.BlockLaws.{position_within-is}
 use Rattle.leveldb_table.specs.declared.block_cache.CachedBlock.{CachedBlock}
-use Rattle.leveldb_table.specs.declared.table_reader.Table.{Table}
 use Rattle.leveldb_table.specs.declared.table_reader.walk.TableCore.{TableCore}
 use Rattle.leveldb_table.specs.Block.{BlockRead}
 use Rattle.leveldb_table.specs.TableReaderMoves.{LooksUp, found_with, LookUpInTable, HasLine, InsideOr, ToBlock, ToFirstPair, ToLastPair, ToNextPair, ToPreviousPair, ToKeyInBlock, ToKeyByLine, ToKeyByLineIfLet, LookUpByLine, LookUpFromLine, line_for, Forward, Backward, ToFirst, ToNextBlock, ToPreviousBlock, ToKey, ToKeyIfLet}
@@ -628,7 +627,7 @@ module _ {C : Type 0} (order : CmpGhosts C) (codings : Codings) (cmp : List ℕ 
       subst (λ (o : List ℕ → List ℕ → Ordering). LookUpFromLine codings cmp bytes lines lets key (seek_position o lines key) out) ordered
       (subst (λ z. LookUpFromLine codings cmp bytes z lets key (seek_position (order.cmp old.index.block.cmp) z key) out) same looked)
 
-module _ {E C FP F : Type 0} {order : CmpGhosts C} {env : EnvGhosts E F} {codings : Codings} {matches : FP → List ℕ → List ℕ → Bool} {table : Table E C FP F} {key : List ℕ} {old_env new_env : E} {old_cache new_cache : Cached (CachedBlock C)} where
+module _ {E C FP F : Type 0} {order : CmpGhosts C} {env : EnvGhosts E F} {codings : Codings} {matches : FP → List ℕ → List ℕ → Bool} {table : OpenTable C FP F} {key : List ℕ} {old_env new_env : E} {old_cache new_cache : Cached (CachedBlock C)} where
   -- a look-up that fails
   pub looks_up_err : (P : Status → Type 0) (result : Result (Option Pair) Status) → IsErrAnd result P
       → ReadsFile env (IsLackError env codings (λ bytes status.

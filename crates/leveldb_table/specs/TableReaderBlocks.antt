@@ -13,12 +13,11 @@ use Rattle.leveldb_table.specs.Block.{BlockRead, HasEntries}
 use Rattle.leveldb_table.specs.Cache.{Cached}
 use Rattle.leveldb_table.specs.Table.{Part, HasBlockAt, index_pair, named_part}
 use Rattle.leveldb_table.specs.BlockCache.{HoldsOnlyOf, IsBlockOfFile, GainsBlocks}
-use Rattle.leveldb_table.specs.TableReader.{pairs_in, lines_of}
+use Rattle.leveldb_table.specs.TableReader.{OpenTable, pairs_in, lines_of}
 use Rattle.leveldb_table.specs.TableBlock.{ForBytesOf, IsLackError, ReadsFile}
 use Rattle.leveldb_table.specs.BlockWalk.{pairs_over, position_over}
 use Rattle.leveldb_table.specs.TableReaderWalk.{Outcome, IsNamed, IsAtPair, IsAtPosition, GivenParts, inner_position, table_position}
 use Rattle.leveldb_table.specs.declared.block_cache.CachedBlock.{CachedBlock}
-use Rattle.leveldb_table.specs.declared.table_reader.Table.{Table}
 use Rattle.leveldb_table.specs.declared.table_reader.walk.TableCore.{TableCore}
 
 -- the one borrow is the other: of the same place, with the same value
@@ -89,7 +88,7 @@ module _ {C : Type 0} where
   line_of core = pair_at (pairs_over core.index) (position_over core.index)
 
   -- a walk over this table that is at no position: its index is the table's
-  pub record StartsOver {E FP F : Type 0} (table : Table E C FP F)
+  pub record StartsOver {FP F : Type 0} (table : OpenTable C FP F)
       (core : TableCore C) : Type 0 where
     pub lines : pairs_over core.index ≡ lines_of table
     pub ordered : core.index.block.cmp ≡ table.index.cmp
@@ -131,7 +130,7 @@ module _ {C : Type 0} (order : CmpGhosts C) where
 
 module _ {E C FP F T : Type 0} (order : CmpGhosts C) where
   -- such a move over an open table
-  abbrev pub MovesOverFromLine : EnvGhosts E F → Codings → Table E C FP F
+  abbrev pub MovesOverFromLine : EnvGhosts E F → Codings → OpenTable C FP F
       → (List Part → Option ℕ → Type 0)
       → (Codings → (List ℕ → List ℕ → Ordering) → List ℕ → TableCore C → Outcome → Type 0)
       → E → Cached (CachedBlock C) → TableCore C → Result T Status

@@ -16,11 +16,10 @@ use Rattle.leveldb_table.specs.BlockWalk.{pair_with, pairs_over, position_over}
 use Rattle.leveldb_table.specs.Cache.{Cached}
 use Rattle.leveldb_table.specs.BlockCache.{HoldsOnlyOf}
 use Rattle.leveldb_table.specs.Table.{Part, index_pair}
-use Rattle.leveldb_table.specs.TableReader.{lines_of, lets, HasParts, found_in, GainsBlocksOf}
+use Rattle.leveldb_table.specs.TableReader.{OpenTable, lines_of, lets, HasParts, found_in, GainsBlocksOf}
 use Rattle.leveldb_table.specs.TableBlock.{IsNamedBy, NamesNone, LacksLine, ForBytesOf, IsLackError, ReadsFile}
 use Rattle.leveldb_table.specs.TableReaderWalk.{MovesInTable, TablePosition, Outcome, IsNamed, inner_position, table_position}
 use Rattle.leveldb_table.specs.declared.block_cache.CachedBlock.{CachedBlock}
-use Rattle.leveldb_table.specs.declared.table_reader.Table.{Table}
 use Rattle.leveldb_table.specs.declared.table_reader.walk.TableCore.{TableCore}
 
 -- it comes to no line, and to no pair
@@ -123,9 +122,9 @@ module _ (codings : Codings) (cmp : List ℕ → List ℕ → Ordering) (bytes :
       (NamesNone (pair_at lines (Some line)) × (status.code ≡ Corruption))
       ⊎ LookUpByLine lets key line (Err status)
 
-module _ {E C FP F : Type 0} (order : CmpGhosts C) where
+module _ {C FP F : Type 0} (order : CmpGhosts C) where
   -- what a look-up of a key in an open table comes to
-  abbrev pub LookUpInTable : Codings → (FP → List ℕ → List ℕ → Bool) → Table E C FP F
+  abbrev pub LookUpInTable : Codings → (FP → List ℕ → List ℕ → Bool) → OpenTable C FP F
       → List ℕ → List ℕ → Outcome → Type 0
   LookUpInTable codings matches table key bytes out =
       LookUpFromLine codings (order.cmp table.cmp) bytes (lines_of table) (lets matches table) key
@@ -133,7 +132,7 @@ module _ {E C FP F : Type 0} (order : CmpGhosts C) where
 
   -- What it finds: the pair at the position to which it comes, if that is one.
   pub record FindsPair (codings : Codings) (matches : FP → List ℕ → List ℕ → Bool)
-      (table : Table E C FP F) (key bytes : List ℕ) (found : Option Pair) : Type 0 where
+      (table : OpenTable C FP F) (key bytes : List ℕ) (found : Option Pair) : Type 0 where
     pub position : TablePosition
     pub look_up : LookUpInTable codings matches table key bytes (Ok position)
     pub is : found ≡ pair_at position.pairs position.inner
@@ -146,7 +145,7 @@ found_with key (Err status) = Err status
 module _ {E C FP F : Type 0} (order : CmpGhosts C) where
   -- What a look-up of a key in an open table says, whatever its file is.
   pub record LooksUp (env : EnvGhosts E F) (codings : Codings)
-      (matches : FP → List ℕ → List ℕ → Bool) (table : Table E C FP F) (key : List ℕ)
+      (matches : FP → List ℕ → List ℕ → Bool) (table : OpenTable C FP F) (key : List ℕ)
       (old_env : E) (old_cache : Cached (CachedBlock C))
       (result : Result (Option Pair) Status)
       (new_env : E) (new_cache : Cached (CachedBlock C)) : Type 0 where
@@ -243,7 +242,7 @@ module _ {C : Type 0} (order : CmpGhosts C) where
 -- ---- the moves of a walk over an open table
 
 module _ {E C FP F T : Type 0} (order : CmpGhosts C) (env : EnvGhosts E F) (codings : Codings)
-    (table : Table E C FP F) where
+    (table : OpenTable C FP F) where
   -- a move over the table's file, which leads to a position and is this step
   abbrev pub MovesOver : (List Part → Type 0) → (List Pair → Option ℕ → Option ℕ)
       → (Codings → (List ℕ → List ℕ → Ordering) → List ℕ → TableCore C → Outcome → Type 0)

@@ -30,6 +30,7 @@ use leveldb_env::filter_block::FilterBlockReader;
 use leveldb_env::options::Options;
 use open::{read_filters, read_index};
 use std::alloc::Global;
+use std::marker::Model;
 
 mod finder;
 mod iter;
@@ -41,6 +42,7 @@ pub use iter::TableIterator;
 pub use walk::{TableCore, TableStep};
 
 /// An open table: its file, its index, and its filters where it has some under the policy's name.
+#[derive(Drop)]
 pub struct Table<E: Env, C: Cmp, FP: FilterPolicy> {
     cmp: C,
     file: E::File,
@@ -52,22 +54,19 @@ pub struct Table<E: Env, C: Cmp, FP: FilterPolicy> {
     filters: Option<FilterBlockReader<FP>>,
 }
 
-impl<E: Env, C: Cmp + Drop, FP: FilterPolicy + Drop> Drop for Table<E, C, FP> {
-    // One call for whoever drops one, in place of one for each part of it.
-    fn drop(self) {
-        let Table {
-            cmp,
-            file,
-            id: _,
-            footer: _,
-            index,
-            filters,
-        } = self;
-        drop(cmp);
-        drop(file);
-        drop(index);
-        drop(filters);
-    }
+impl<E: Env, C: Cmp, FP: FilterPolicy> Model for Table<E, C, FP> {
+    ghost use Rattle.leveldb_table.specs.TableReader.{OpenTable};
+
+    ghost Value = { OpenTable C FP E.File };
+
+    ghost view = { λ it. record {
+      cmp = it.cmp;
+      file = it.file;
+      id = it.id;
+      footer = it.footer;
+      index = it.index;
+      filters = it.filters;
+    } };
 }
 
 impl<E: Env, C: UserCmp + Copy + Drop, FP: FilterPolicy + Copy + Drop> Table<

@@ -5,8 +5,8 @@ use Rattle.leveldb_table.proofs.table_reader.walk.TableCore.with_finder.Goals as
 pub returns-clause-ok : goal.returns-clause-ok
 returns-clause-ok g c =
     let same = c.with_room.ensures.block ∙ c.in_ok-index.ensures.cases.0 in
-    record {
+    rw (← c.table.view_is) (record {
       lines = ap (λ block. pairs_of None block.entries) same;
       ordered = ap (λ block. block.cmp) same;
       position = search rules;
-    }
+    })
