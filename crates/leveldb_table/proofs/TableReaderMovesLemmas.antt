@@ -20,10 +20,9 @@ use Rattle.leveldb_table.specs.BlockCache.{HoldsOnlyOf, IsBlockOfFile, GainsBloc
 use Rattle.leveldb_table.specs.TableReaderBlocks.{IsAfterLine, IsBeforeBlock, let_position, IsBlockAt, IsBlockOf, line_of, IsIndexed, MovesFromLine}
 use Rattle.leveldb_table.specs.TableReader.{OpenTable, pairs_in, lines_of, HasParts}
 use Rattle.leveldb_table.specs.TableBlock.{KeepsDisk, FileHas, ForBytesOf, IsNamedBy, NamesNone, LacksLine, IsLackError, ReadsFile}
-use Rattle.leveldb_table.specs.TableReaderWalk.{IsAtPairOrNone, IsAtPosition, MovesInTable, Outcome, inner_block, inner_pairs, inner_position, table_position, TablePosition, IsNamed}
+use Rattle.leveldb_table.specs.TableReaderWalk.{TablePlace, IsAtPairOrNone, IsAtPosition, MovesInTable, Outcome, inner_block, inner_pairs, inner_position, table_position, TablePosition, IsNamed}
 use Rattle.leveldb_table.specs.BlockLaws.{position_within-is}
 use Rattle.leveldb_table.specs.declared.block_cache.CachedBlock.{CachedBlock}
-use Rattle.leveldb_table.specs.declared.table_reader.walk.TableCore.{TableCore}
 use Rattle.leveldb_table.specs.Block.{BlockRead}
 use Rattle.leveldb_table.specs.TableReaderMoves.{LooksUp, found_with, LookUpInTable, HasLine, InsideOr, ToBlock, ToFirstPair, ToLastPair, ToNextPair, ToPreviousPair, ToKeyInBlock, ToKeyByLine, ToKeyByLineIfLet, LookUpByLine, LookUpFromLine, line_for, Forward, Backward, ToFirst, ToNextBlock, ToPreviousBlock, ToKey, ToKeyIfLet}
 use Rattle.leveldb_table.proofs.BlockCacheLemmas.{GainsBlocks-refl, GainsBlocks-trans, GainsBlocks-weaker, HoldsOnlyOf-after}
@@ -98,13 +97,13 @@ module _ {C : Type 0} (order : CmpGhosts C) where
   sought_inner codings cmp bytes line (Some walk) position key sought of = sought ∙ ap (λ (o : List ℕ → List ℕ → Ordering). seek_position o (pairs_over walk) key) of.1
 
   -- the walk has the block of its line, and sought a key there
-  pub record IsSought (codings : Codings) (cmp : List ℕ → List ℕ → Ordering) (bytes key : List ℕ) (old new : TableCore C) : Type 0 where
+  pub record IsSought (codings : Codings) (cmp : List ℕ → List ℕ → Ordering) (bytes key : List ℕ) (old new : TablePlace C) : Type 0 where
     pub index : new.index ≡ old.index
     pub block : IsBlockOf order codings cmp bytes (line_of old) (inner_block new.inner)
     pub position : inner_position new.inner ≡ seek_position cmp (inner_pairs new.inner) key
 
   -- by reading what is at the line's handle, and a search
-  pub is_sought : (codings : Codings) (cmp : List ℕ → List ℕ → Ordering) (bytes key : List ℕ) (old loaded new : TableCore C) (handle : Handle) → HandleFits handle → IsSomeAnd (line_of old) (λ pair. pair.1 ≡ handle_bytes handle)
+  pub is_sought : (codings : Codings) (cmp : List ℕ → List ℕ → Ordering) (bytes key : List ℕ) (old loaded new : TablePlace C) (handle : Handle) → HandleFits handle → IsSomeAnd (line_of old) (λ pair. pair.1 ≡ handle_bytes handle)
       → loaded.index ≡ old.index → IsBlockAt order codings cmp bytes handle (inner_block loaded.inner) → new.index ≡ loaded.index → inner_block new.inner ≡ inner_block loaded.inner → inner_pairs new.inner ≡ inner_pairs loaded.inner
       → IfSome loaded.inner (λ walk. inner_position new.inner ≡ seek_position (order.cmp walk.block.cmp) (pairs_over walk) key) → IsSought codings cmp bytes key old new
   is_sought codings cmp bytes key old loaded new handle fits names same at kept inner pairs sought =
@@ -120,7 +119,7 @@ module _ {C : Type 0} {order : CmpGhosts C} where
 
   module _ {E F : Type 0} {env : EnvGhosts E F} {codings : Codings} {accepts : List ℕ → Bool} {cmp : List ℕ → List ℕ → Ordering} {id : ℕ} {file : F} where
     -- after Ok calls that leave the index
-    pub enters_then : {T : Type 0} {Fit Way : List Part → Option ℕ → Type 0} {Part_step Step : Codings → (List ℕ → List ℕ → Ordering) → List ℕ → TableCore C → Outcome → Type 0} {old_env mid_env new_env : E} {old_cache mid_cache new_cache : Cached (CachedBlock C)} {mid new : TableCore C} {result : Result T Status} (old : TableCore C)
+    pub enters_then : {T : Type 0} {Fit Way : List Part → Option ℕ → Type 0} {Part_step Step : Codings → (List ℕ → List ℕ → Ordering) → List ℕ → TablePlace C → Outcome → Type 0} {old_env mid_env new_env : E} {old_cache mid_cache new_cache : Cached (CachedBlock C)} {mid new : TablePlace C} {result : Result T Status} (old : TablePlace C)
         → KeepsDisk env old_env mid_env → env.failures mid_env ≡ env.failures old_env → GainsBlocks id (λ offset held. ForBytesOf env old_env file (λ bytes. IsBlockOfFile order codings cmp bytes offset held)) old_cache mid_cache → pairs_over mid.index ≡ pairs_over old.index → mid.index.block.cmp ≡ old.index.block.cmp
         → ((bytes : List ℕ) → FileHas env old_env file bytes → (parts : List Part) (position : Option ℕ) → HasParts codings accepts cmp bytes parts → Fit parts position → HoldsOnlyOf order codings cmp id bytes old_cache → IsIndexed order cmp parts old → Way parts position)
         → ((bytes : List ℕ) → FileHas env old_env file bytes → HoldsOnlyOf order codings cmp id bytes old_cache → (out : Outcome) → Part_step codings cmp bytes mid out → Step codings cmp bytes old out)
@@ -145,7 +144,7 @@ module _ {C : Type 0} {order : CmpGhosts C} where
         }
 
     -- with another answer
-    pub enters_ok : {T U : Type 0} {Fit : List Part → Option ℕ → Type 0} {Step : Codings → (List ℕ → List ℕ → Ordering) → List ℕ → TableCore C → Outcome → Type 0} {old_env new_env : E} {old_cache new_cache : Cached (CachedBlock C)} {old new : TableCore C} {answer : T} (other : U)
+    pub enters_ok : {T U : Type 0} {Fit : List Part → Option ℕ → Type 0} {Step : Codings → (List ℕ → List ℕ → Ordering) → List ℕ → TablePlace C → Outcome → Type 0} {old_env new_env : E} {old_cache new_cache : Cached (CachedBlock C)} {old new : TablePlace C} {answer : T} (other : U)
         → MovesFromLine order env codings accepts cmp id file Fit Step old_env old_cache old (Ok answer) new_env new_cache new → MovesFromLine order env codings accepts cmp id file Fit Step old_env old_cache old (Ok other) new_env new_cache new
     enters_ok other enters = record {
       reads = reads_ok env enters.reads.kept_disk enters.reads.cause.ok;
@@ -158,7 +157,7 @@ module _ {C : Type 0} {order : CmpGhosts C} where
     }
 
     -- or a refusal that is passed on
-    pub enters_refused : {T U : Type 0} {Fit : List Part → Option ℕ → Type 0} {Step : Codings → (List ℕ → List ℕ → Ordering) → List ℕ → TableCore C → Outcome → Type 0} {old_env new_env : E} {old_cache new_cache : Cached (CachedBlock C)} {old new : TableCore C} {status : Status} (result : Result U Status) → IsErrAnd result (λ other. other ≡ status)
+    pub enters_refused : {T U : Type 0} {Fit : List Part → Option ℕ → Type 0} {Step : Codings → (List ℕ → List ℕ → Ordering) → List ℕ → TablePlace C → Outcome → Type 0} {old_env new_env : E} {old_cache new_cache : Cached (CachedBlock C)} {old new : TablePlace C} {status : Status} (result : Result U Status) → IsErrAnd result (λ other. other ≡ status)
         → MovesFromLine order {T = T} env codings accepts cmp id file Fit Step old_env old_cache old (Err status) new_env new_cache new → MovesFromLine order env codings accepts cmp id file Fit Step old_env old_cache old result new_env new_cache new
     enters_refused result same enters = record {
       reads = reads_refused env result same enters.reads;
@@ -171,7 +170,7 @@ module _ {C : Type 0} {order : CmpGhosts C} where
     }
 
     -- no call, and no position
-    pub enters_ends : {T : Type 0} {Fit : List Part → Option ℕ → Type 0} {Step : Codings → (List ℕ → List ℕ → Ordering) → List ℕ → TableCore C → Outcome → Type 0} {state : E} {cache : Cached (CachedBlock C)} (old new : TableCore C) (answer : T) → pairs_over new.index ≡ pairs_over old.index → new.index.block.cmp ≡ old.index.block.cmp
+    pub enters_ends : {T : Type 0} {Fit : List Part → Option ℕ → Type 0} {Step : Codings → (List ℕ → List ℕ → Ordering) → List ℕ → TablePlace C → Outcome → Type 0} {state : E} {cache : Cached (CachedBlock C)} (old new : TablePlace C) (answer : T) → pairs_over new.index ≡ pairs_over old.index → new.index.block.cmp ≡ old.index.block.cmp
         → inner_position new.inner ≡ None → ((bytes : List ℕ) → (parts : List Part) (position : Option ℕ) → HasParts codings accepts cmp bytes parts → Fit parts position → IsIndexed order cmp parts old → position ≡ None)
         → ((bytes : List ℕ) → Step codings cmp bytes old (Ok (table_position new))) → MovesFromLine order env codings accepts cmp id file Fit Step state cache old (Ok answer) state cache new
     enters_ends {state = state} {cache = cache} old new answer lines same none way step = record {
@@ -189,7 +188,7 @@ module _ {C : Type 0} {order : CmpGhosts C} where
     }
 
     -- no call, and a refusal
-    pub enters_own : {T : Type 0} {P : Status → Type 0} {Fit : List Part → Option ℕ → Type 0} {Step : Codings → (List ℕ → List ℕ → Ordering) → List ℕ → TableCore C → Outcome → Type 0} {state : E} {cache : Cached (CachedBlock C)} (old new : TableCore C) (result : Result T Status) → pairs_over new.index ≡ pairs_over old.index → new.index.block.cmp ≡ old.index.block.cmp
+    pub enters_own : {T : Type 0} {P : Status → Type 0} {Fit : List Part → Option ℕ → Type 0} {Step : Codings → (List ℕ → List ℕ → Ordering) → List ℕ → TablePlace C → Outcome → Type 0} {state : E} {cache : Cached (CachedBlock C)} (old new : TablePlace C) (result : Result T Status) → pairs_over new.index ≡ pairs_over old.index → new.index.block.cmp ≡ old.index.block.cmp
         → inner_position new.inner ≡ None → IsErrAnd result P
         → ((status : Status) → P status → IsOutOfMemory status ⊎ ((status.code ≡ Corruption) × ((bytes : List ℕ) → ((parts : List Part) (position : Option ℕ) → HasParts codings accepts cmp bytes parts → Fit parts position → IsIndexed order cmp parts old → ⊥) × Step codings cmp bytes old (Err status))))
         → MovesFromLine order env codings accepts cmp id file Fit Step state cache old result state cache new
@@ -204,7 +203,7 @@ module _ {C : Type 0} {order : CmpGhosts C} where
     }
 
     -- from no position to the first pair is by a step
-    pub moves_first : {T : Type 0} {Part_step Step : Codings → (List ℕ → List ℕ → Ordering) → List ℕ → TableCore C → Outcome → Type 0} {old_env new_env : E} {old_cache new_cache : Cached (CachedBlock C)} {mid new : TableCore C} {result : Result T Status} (old : TableCore C) → mid.index ≡ old.index → mid.inner ≡ None
+    pub moves_first : {T : Type 0} {Part_step Step : Codings → (List ℕ → List ℕ → Ordering) → List ℕ → TablePlace C → Outcome → Type 0} {old_env new_env : E} {old_cache new_cache : Cached (CachedBlock C)} {mid new : TablePlace C} {result : Result T Status} (old : TablePlace C) → mid.index ≡ old.index → mid.inner ≡ None
         → ((bytes : List ℕ) (out : Outcome) → Part_step codings cmp bytes mid out → Step codings cmp bytes old out) → MovesInTable order env codings accepts cmp id file (λ _. Unit {0}) next_position Part_step old_env old_cache mid result new_env new_cache new
         → MovesInTable order env codings accepts cmp id file (λ _. Unit {0}) (λ pairs _. position_within pairs 0) Step old_env old_cache old result new_env new_cache new
     moves_first {Part_step = Part_step} {Step = Step} {mid = mid} {new = new} {result = result} old index none step moves =
@@ -229,7 +228,7 @@ module _ {C : Type 0} {order : CmpGhosts C} where
           same_order = moves.same_order ∙ ap (λ (z : BlockPosition C). z.block.cmp) index;
         }
 
-    pub moves_ok : {T U : Type 0} {Fit : List Part → Type 0} {to : List Pair → Option ℕ → Option ℕ} {Step : Codings → (List ℕ → List ℕ → Ordering) → List ℕ → TableCore C → Outcome → Type 0} {old_env new_env : E} {old_cache new_cache : Cached (CachedBlock C)} {old new : TableCore C} {answer : T} (other : U)
+    pub moves_ok : {T U : Type 0} {Fit : List Part → Type 0} {to : List Pair → Option ℕ → Option ℕ} {Step : Codings → (List ℕ → List ℕ → Ordering) → List ℕ → TablePlace C → Outcome → Type 0} {old_env new_env : E} {old_cache new_cache : Cached (CachedBlock C)} {old new : TablePlace C} {answer : T} (other : U)
         → MovesInTable order env codings accepts cmp id file Fit to Step old_env old_cache old (Ok answer) new_env new_cache new → MovesInTable order env codings accepts cmp id file Fit to Step old_env old_cache old (Ok other) new_env new_cache new
     moves_ok other moves = record {
       reads = reads_ok env moves.reads.kept_disk moves.reads.cause.ok;
@@ -241,7 +240,7 @@ module _ {C : Type 0} {order : CmpGhosts C} where
       same_order = moves.same_order;
     }
 
-    pub moves_refused : {T U : Type 0} {Fit : List Part → Type 0} {to : List Pair → Option ℕ → Option ℕ} {Step : Codings → (List ℕ → List ℕ → Ordering) → List ℕ → TableCore C → Outcome → Type 0} {old_env new_env : E} {old_cache new_cache : Cached (CachedBlock C)} {old new : TableCore C} {status : Status} (result : Result U Status)
+    pub moves_refused : {T U : Type 0} {Fit : List Part → Type 0} {to : List Pair → Option ℕ → Option ℕ} {Step : Codings → (List ℕ → List ℕ → Ordering) → List ℕ → TablePlace C → Outcome → Type 0} {old_env new_env : E} {old_cache new_cache : Cached (CachedBlock C)} {old new : TablePlace C} {status : Status} (result : Result U Status)
         → IsErrAnd result (λ other. other ≡ status) → MovesInTable order {T = T} env codings accepts cmp id file Fit to Step old_env old_cache old (Err status) new_env new_cache new → MovesInTable order env codings accepts cmp id file Fit to Step old_env old_cache old result new_env new_cache new
     moves_refused result same moves = record {
       reads = reads_refused env result same moves.reads;
@@ -267,14 +266,14 @@ module _ {C : Type 0} where
       ap (λ (o : List ℕ → List ℕ → Ordering). seek_position o (map index_pair parts) key) (sym ordered) ∙ ap (λ z. seek_position (order.cmp index.block.cmp) z key) (sym lines) ∙ sym line
 
 module _ {C : Type 0} {order : CmpGhosts C} where
-  module _ {codings : Codings} {accepts : List ℕ → Bool} {cmp : List ℕ → List ℕ → Ordering} {bytes : List ℕ} {parts : List Part} {old : TableCore C} (key : List ℕ) (has : HasParts codings accepts cmp bytes parts) (indexed : IsIndexed order cmp parts old)
+  module _ {codings : Codings} {accepts : List ℕ → Bool} {cmp : List ℕ → List ℕ → Ordering} {bytes : List ℕ} {parts : List Part} {old : TablePlace C} (key : List ℕ) (has : HasParts codings accepts cmp bytes parts) (indexed : IsIndexed order cmp parts old)
       (line : position_over old.index ≡ seek_position (order.cmp old.index.block.cmp) (pairs_over old.index) key) where
     sought_line : seek_position cmp (map index_pair parts) key ≡ position_over old.index
     sought_line = index_line order parts old.index key (position_over old.index) indexed.lines indexed.ordered line
 
     module _ (preorder : IsPreorderOn accepts cmp) (fit : accepts key ≡ true) where
       -- in the line's block
-      pub sought_in : (new : TableCore C) → is_some (position_over old.index) ≡ true → IsSought order codings cmp bytes key old new → is_some (inner_position new.inner) ≡ true → IsAtPosition order cmp parts new (seek_position cmp (pairs_in parts) key)
+      pub sought_in : (new : TablePlace C) → is_some (position_over old.index) ≡ true → IsSought order codings cmp bytes key old new → is_some (inner_position new.inner) ≡ true → IsAtPosition order cmp parts new (seek_position cmp (pairs_in parts) key)
       sought_in new some sought there =
           let at = line_is_of old.index has indexed.lines some in
           let pairs = part_pairs order codings new.inner at.is (subst (λ l. IsBlockOf order codings cmp bytes l (inner_block new.inner)) at.line sought.block) in
@@ -287,7 +286,7 @@ module _ {C : Type 0} {order : CmpGhosts C} where
           }
 
       -- or in the next one
-      pub sought_after : (new : TableCore C) → is_some (position_over old.index) ≡ true → IsSought order codings cmp bytes key old new → inner_position new.inner ≡ None → IsAfterLine parts (position_over new.index) (seek_position cmp (pairs_in parts) key)
+      pub sought_after : (new : TablePlace C) → is_some (position_over old.index) ≡ true → IsSought order codings cmp bytes key old new → inner_position new.inner ≡ None → IsAfterLine parts (position_over new.index) (seek_position cmp (pairs_in parts) key)
       sought_after new some sought none =
           let at = line_is_of old.index has indexed.lines some in
           let pairs = part_pairs order codings new.inner at.is (subst (λ l. IsBlockOf order codings cmp bytes l (inner_block new.inner)) at.line sought.block) in
@@ -313,10 +312,10 @@ module _ {C : Type 0} where
 module _ {C : Type 0} {order : CmpGhosts C} where
   -- ---- back
 
-  module _ {codings : Codings} {accepts : List ℕ → Bool} {cmp : List ℕ → List ℕ → Ordering} {bytes : List ℕ} {parts : List Part} {position : Option ℕ} {old : TableCore C} (has : HasParts codings accepts cmp bytes parts)
+  module _ {codings : Codings} {accepts : List ℕ → Bool} {cmp : List ℕ → List ℕ → Ordering} {bytes : List ℕ} {parts : List Part} {position : Option ℕ} {old : TablePlace C} (has : HasParts codings accepts cmp bytes parts)
       (before : IsBeforeBlock parts (position_over old.index) position) (indexed : IsIndexed order cmp parts old) where
     -- to its last pair
-    pub previous_is_there : (new : TableCore C) → IsInto order codings cmp bytes (previous_position (position_over old.index)) last_position old new → ((k : ℕ) × (inner_position new.inner ≡ Some k)) × IsAtPosition order cmp parts new position
+    pub previous_is_there : (new : TablePlace C) → IsInto order codings cmp bytes (previous_position (position_over old.index)) last_position old new → ((k : ℕ) × (inner_position new.inner ≡ Some k)) × IsAtPosition order cmp parts new position
     previous_is_there new next =
         let lines = next.lines ∙ indexed.lines in
         let at = line_is_of new.index has lines next.some in
@@ -334,9 +333,9 @@ module _ {C : Type 0} {order : CmpGhosts C} where
 
   -- ---- to the end
 
-  module _ {codings : Codings} {accepts : List ℕ → Bool} {cmp : List ℕ → List ℕ → Ordering} {bytes : List ℕ} {parts : List Part} {old : TableCore C} (has : HasParts codings accepts cmp bytes parts) (indexed : IsIndexed order cmp parts old) where
+  module _ {codings : Codings} {accepts : List ℕ → Bool} {cmp : List ℕ → List ℕ → Ordering} {bytes : List ℕ} {parts : List Part} {old : TablePlace C} (has : HasParts codings accepts cmp bytes parts) (indexed : IsIndexed order cmp parts old) where
     -- to the last pair of the last block
-    pub last_is_there : (new : TableCore C) → IsInto order codings cmp bytes (last_position (pairs_over old.index)) last_position old new
+    pub last_is_there : (new : TablePlace C) → IsInto order codings cmp bytes (last_position (pairs_over old.index)) last_position old new
         → ((k : ℕ) × (inner_position new.inner ≡ Some k)) × IsAtPosition order cmp parts new (last_position (pairs_in parts))
     last_is_there new into =
         let lines = into.lines ∙ indexed.lines in
@@ -362,9 +361,9 @@ is_there_on parts line pairs inner None k some on at = absurd (some at)
 is_there_on parts line pairs inner (Some n) k some on at = next_in at k on
 
 module _ {C E F T : Type 0} {order : CmpGhosts C} {env : EnvGhosts E F} {codings : Codings} {accepts : List ℕ → Bool} {cmp : List ℕ → List ℕ → Ordering} {id : ℕ} {file : F} {Fit : List Part → Type 0}
-    {Step : Codings → (List ℕ → List ℕ → Ordering) → List ℕ → TableCore C → Outcome → Type 0} {state : E} {cache : Cached (CachedBlock C)} where
+    {Step : Codings → (List ℕ → List ℕ → Ordering) → List ℕ → TablePlace C → Outcome → Type 0} {state : E} {cache : Cached (CachedBlock C)} where
   -- a step to the next pair of the block
-  pub moves_inside : (old new : TableCore C) (answer : T) → inner_position old.inner ≢ None → new.index ≡ old.index → inner_pairs new.inner ≡ inner_pairs old.inner
+  pub moves_inside : (old new : TablePlace C) (answer : T) → inner_position old.inner ≢ None → new.index ≡ old.index → inner_pairs new.inner ≡ inner_pairs old.inner
       → inner_position new.inner ≡ next_position (inner_pairs old.inner) (inner_position old.inner) → is_some (inner_position new.inner) ≡ true → ((bytes : List ℕ) → Step codings cmp bytes old (Ok (table_position new)))
       → MovesInTable order env codings accepts cmp id file Fit next_position Step state cache old (Ok answer) state cache new
   moves_inside old new answer some index pairs on there step =
@@ -524,7 +523,7 @@ module _ {C : Type 0} (order : CmpGhosts C) (codings : Codings) (cmp : List ℕ 
 
   -- ---- to a line's block
 
-  into_line : (lines : List Pair) (to : List Pair → Option ℕ) (line : Option ℕ) (new : TableCore C) → is_some line ≡ true → position_over new.index ≡ line → IsBlockOf order codings cmp bytes (pair_at lines line) (inner_block new.inner)
+  into_line : (lines : List Pair) (to : List Pair → Option ℕ) (line : Option ℕ) (new : TablePlace C) → is_some line ≡ true → position_over new.index ≡ line → IsBlockOf order codings cmp bytes (pair_at lines line) (inner_block new.inner)
       → inner_position new.inner ≡ to (inner_pairs new.inner) → is_some (inner_position new.inner) ≡ true → ToBlock codings cmp bytes lines to line (Ok (table_position new))
   into_line lines to None new some at of position there = cc
   into_line lines to (Some i) new some at of position there =
@@ -536,7 +535,7 @@ module _ {C : Type 0} (order : CmpGhosts C) (codings : Codings) (cmp : List ℕ 
   empty_line lines to None inner status some of empty code = cc
   empty_line lines to (Some i) inner status some of empty code = inr (subst (HasLine codings cmp bytes lines i) empty (has_line lines (Some i) i inner refl of), code)
 
-  module _ {line : Option ℕ} {to : List Pair → Option ℕ} (old new : TableCore C) (into : IsInto order codings cmp bytes line to old new) where
+  module _ {line : Option ℕ} {to : List Pair → Option ℕ} (old new : TablePlace C) (into : IsInto order codings cmp bytes line to old new) where
     into_some : is_some line ≡ true
     into_some = ap is_some (sym into.at_line) ∙ into.some
 
@@ -551,30 +550,30 @@ module _ {C : Type 0} (order : CmpGhosts C) (codings : Codings) (cmp : List ℕ 
 
   -- ---- moves
 
-  pub forward_first : (old mid : TableCore C) (out : Outcome) → pairs_over mid.index ≡ pairs_over old.index → position_over mid.index ≡ None → inner_position old.inner ≡ None → ToNextBlock codings cmp bytes mid out → Forward codings cmp bytes old out
+  pub forward_first : (old mid : TablePlace C) (out : Outcome) → pairs_over mid.index ≡ pairs_over old.index → position_over mid.index ≡ None → inner_position old.inner ≡ None → ToNextBlock codings cmp bytes mid out → Forward codings cmp bytes old out
   forward_first old mid out lines line none next =
       on_from_none codings cmp bytes (pairs_over old.index) (inner_position old.inner) (table_position old) out none (next_along codings cmp bytes (pairs_over old.index) {line = None} out lines line next)
 
-  pub forward_inside : (old new : TableCore C) → inner_position old.inner ≢ None → new.index ≡ old.index → inner_pairs new.inner ≡ inner_pairs old.inner
+  pub forward_inside : (old new : TablePlace C) → inner_position old.inner ≢ None → new.index ≡ old.index → inner_pairs new.inner ≡ inner_pairs old.inner
       → inner_position new.inner ≡ next_position (inner_pairs old.inner) (inner_position old.inner) → is_some (inner_position new.inner) ≡ true → Forward codings cmp bytes old (Ok (table_position new))
   forward_inside old new some index pairs on there = on_inside codings cmp bytes (pairs_over old.index) (inner_position old.inner) (table_position old) (table_position new) some (ap position_over index) pairs on there
 
-  pub forward_next : (old mid : TableCore C) (out : Outcome) → mid.index ≡ old.index → inner_position old.inner ≢ None → next_position (inner_pairs old.inner) (inner_position old.inner) ≡ None → ToNextBlock codings cmp bytes mid out → Forward codings cmp bytes old out
+  pub forward_next : (old mid : TablePlace C) (out : Outcome) → mid.index ≡ old.index → inner_position old.inner ≢ None → next_position (inner_pairs old.inner) (inner_position old.inner) ≡ None → ToNextBlock codings cmp bytes mid out → Forward codings cmp bytes old out
   forward_next old mid out index some last next =
       on_outside codings cmp bytes (pairs_over old.index) (inner_position old.inner) (table_position old) out some last (next_along codings cmp bytes (pairs_over old.index) out (ap pairs_over index) (ap position_over index) next)
 
-  pub forward_to_first : (old mid : TableCore C) (out : Outcome) → mid.index ≡ old.index → mid.inner ≡ None → Forward codings cmp bytes mid out → ToFirst codings cmp bytes old out
+  pub forward_to_first : (old mid : TablePlace C) (out : Outcome) → mid.index ≡ old.index → mid.inner ≡ None → Forward codings cmp bytes mid out → ToFirst codings cmp bytes old out
   forward_to_first old mid out index none forward =
       subst (λ (z : BlockPosition C). ToFirstPair codings cmp bytes (pairs_over z) (position_within (pairs_over z) 0) out) index
       (on_to_first codings cmp bytes (pairs_over mid.index) (inner_position mid.inner) (table_position mid) out (ap inner_position none) forward)
 
-  pub backward_previous : (old mid : TableCore C) (out : Outcome) → mid.index ≡ old.index → inner_position old.inner ≢ None → previous_position (inner_position old.inner) ≡ None → ToPreviousBlock codings cmp bytes mid out → Backward codings cmp bytes old out
+  pub backward_previous : (old mid : TablePlace C) (out : Outcome) → mid.index ≡ old.index → inner_position old.inner ≢ None → previous_position (inner_position old.inner) ≡ None → ToPreviousBlock codings cmp bytes mid out → Backward codings cmp bytes old out
   backward_previous old mid out index some first previous =
       back_outside codings cmp bytes (pairs_over old.index) (inner_position old.inner) (table_position old) out some first (previous_along codings cmp bytes (pairs_over old.index) out (ap pairs_over index) (ap position_over index) previous)
 
   -- ---- a key
 
-  seeks_along : (lines : List Pair) (line : Option ℕ) (key : List ℕ) (old mid : TableCore C) (out : Outcome) → pairs_over old.index ≡ lines → is_some line ≡ true → position_over old.index ≡ line → IsSought order codings cmp bytes key old mid
+  seeks_along : (lines : List Pair) (line : Option ℕ) (key : List ℕ) (old mid : TablePlace C) (out : Outcome) → pairs_over old.index ≡ lines → is_some line ≡ true → position_over old.index ≡ line → IsSought order codings cmp bytes key old mid
       → InsideOr (seek_position cmp (inner_pairs mid.inner) key) (record { line = line; pairs = inner_pairs mid.inner; inner = None }) out (ToFirstPair codings cmp bytes lines (next_position lines line) out)
       → ToKeyByLine codings cmp bytes lines key line out
   seeks_along lines None key old mid out same some at sought outcome = cc
@@ -585,7 +584,7 @@ module _ {C : Type 0} (order : CmpGhosts C) (codings : Codings) (cmp : List ℕ 
   })
 
   -- in its line's block, and in the next
-  pub sought_inside : (key : List ℕ) (old new : TableCore C) → position_over old.index ≡ line_for order key old → is_some (position_over old.index) ≡ true → IsSought order codings cmp bytes key old new → is_some (inner_position new.inner) ≡ true
+  pub sought_inside : (key : List ℕ) (old new : TablePlace C) → position_over old.index ≡ line_for order key old → is_some (position_over old.index) ≡ true → IsSought order codings cmp bytes key old new → is_some (inner_position new.inner) ≡ true
       → ToKey order key codings cmp bytes old (Ok (table_position new))
   sought_inside key old new line some sought there =
       let lines = pairs_over old.index in
@@ -593,7 +592,7 @@ module _ {C : Type 0} (order : CmpGhosts C) (codings : Codings) (cmp : List ℕ 
       (inside (seek_position cmp (inner_pairs new.inner) key) (record { line = line_for order key old; pairs = inner_pairs new.inner; inner = None }) (table_position new) (ToFirstPair codings cmp bytes lines (next_position lines (line_for order key old)) (Ok (table_position new)))
       (ap position_over sought.index ∙ line) refl sought.position there)
 
-  pub sought_next : (key : List ℕ) (old mid : TableCore C) (out : Outcome) → position_over old.index ≡ line_for order key old → is_some (position_over old.index) ≡ true → IsSought order codings cmp bytes key old mid → inner_position mid.inner ≡ None
+  pub sought_next : (key : List ℕ) (old mid : TablePlace C) (out : Outcome) → position_over old.index ≡ line_for order key old → is_some (position_over old.index) ≡ true → IsSought order codings cmp bytes key old mid → inner_position mid.inner ≡ None
       → ToNextBlock codings cmp bytes mid out → ToKey order key codings cmp bytes old out
   sought_next key old mid out line some sought none next =
       let lines = pairs_over old.index in
@@ -602,12 +601,12 @@ module _ {C : Type 0} (order : CmpGhosts C) (codings : Codings) (cmp : List ℕ 
       (sym sought.position ∙ none) (next_along codings cmp bytes lines out (ap pairs_over sought.index) (ap position_over sought.index ∙ line) next))
 
   -- refused at its line
-  pub sought_lacking : (key : List ℕ) (old : TableCore C) {status : Status} → position_over old.index ≡ line_for order key old → LacksLine codings cmp bytes (line_of old) status → ToKey order key codings cmp bytes old (Err status)
+  pub sought_lacking : (key : List ℕ) (old : TablePlace C) {status : Status} → position_over old.index ≡ line_for order key old → LacksLine codings cmp bytes (line_of old) status → ToKey order key codings cmp bytes old (Err status)
   sought_lacking key old {status} line lacks =
       seeks_lacking codings cmp bytes (pairs_over old.index) key (line_for order key old) (subst (λ z. LacksLine codings cmp bytes (pair_at (pairs_over old.index) z) status) line lacks)
 
   -- by another walk's index of the same lines and order
-  pub sought_along : (key : List ℕ) (old mid : TableCore C) (out : Outcome) → pairs_over mid.index ≡ pairs_over old.index → mid.index.block.cmp ≡ old.index.block.cmp → ToKey order key codings cmp bytes mid out → ToKey order key codings cmp bytes old out
+  pub sought_along : (key : List ℕ) (old mid : TablePlace C) (out : Outcome) → pairs_over mid.index ≡ pairs_over old.index → mid.index.block.cmp ≡ old.index.block.cmp → ToKey order key codings cmp bytes mid out → ToKey order key codings cmp bytes old out
   sought_along key old mid out lines same sought =
       subst (λ (o : C). ToKeyByLine codings cmp bytes (pairs_over old.index) key (seek_position (order.cmp o) (pairs_over old.index) key) out) same
       (subst (λ z. ToKeyByLine codings cmp bytes z key (seek_position (order.cmp mid.index.block.cmp) z key) out) lines sought)
@@ -615,13 +614,13 @@ module _ {C : Type 0} (order : CmpGhosts C) (codings : Codings) (cmp : List ℕ 
   -- ---- a look-up
 
   -- where the filters let the key pass
-  pub looked_up : (lets : ℕ → List ℕ → Bool) (key : List ℕ) (handle : Handle) (old mid : TableCore C) (out : Outcome) → pairs_over mid.index ≡ pairs_over old.index → mid.index.block.cmp ≡ old.index.block.cmp
+  pub looked_up : (lets : ℕ → List ℕ → Bool) (key : List ℕ) (handle : Handle) (old mid : TablePlace C) (out : Outcome) → pairs_over mid.index ≡ pairs_over old.index → mid.index.block.cmp ≡ old.index.block.cmp
       → HandleFits handle → IsNamedBy (pair_at (pairs_over old.index) (line_for order key old)) handle → lets handle.offset key ≡ true → ToKey order key codings cmp bytes mid out → ToKeyIfLet order lets key codings cmp bytes old out
   looked_up lets key handle old mid out lines same fits names passes sought =
       looks_passed codings cmp bytes (pairs_over old.index) lets key (line_for order key old) out handle fits names passes (sought_along key old mid out lines same sought)
 
   -- by other lines and another order that are the same
-  pub looked_along : (lets : ℕ → List ℕ → Bool) (key : List ℕ) {lines : List Pair} {index_cmp : List ℕ → List ℕ → Ordering} (old : TableCore C) (out : Outcome) → pairs_over old.index ≡ lines → order.cmp old.index.block.cmp ≡ index_cmp
+  pub looked_along : (lets : ℕ → List ℕ → Bool) (key : List ℕ) {lines : List Pair} {index_cmp : List ℕ → List ℕ → Ordering} (old : TablePlace C) (out : Outcome) → pairs_over old.index ≡ lines → order.cmp old.index.block.cmp ≡ index_cmp
       → ToKeyIfLet order lets key codings cmp bytes old out → LookUpFromLine codings cmp bytes lines lets key (seek_position index_cmp lines key) out
   looked_along lets key {lines} {index_cmp} old out same ordered looked =
       subst (λ (o : List ℕ → List ℕ → Ordering). LookUpFromLine codings cmp bytes lines lets key (seek_position o lines key) out) ordered

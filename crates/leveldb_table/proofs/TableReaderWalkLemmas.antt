@@ -22,13 +22,12 @@ use Rattle.leveldb_table.specs.Table.{Part, IsPart, AreParted, IsAtOrAfterAll, I
 use Rattle.leveldb_table.specs.TableReaderBlocks.{IsAfterLine, IsBlockOf, line_of, IsIndexed, MovesFromLine, let_position}
 use Rattle.leveldb_table.specs.TableReader.{pairs_in, HasParts, found_in}
 use Rattle.leveldb_table.specs.BlockWalk.{pairs_over, position_over, BlockPosition}
-use Rattle.leveldb_table.specs.TableReaderWalk.{IsAtPair, IsAtPairOrNone, IsAtPosition, MovesInTable, Outcome, inner_block, inner_pairs, inner_position, table_position, current_of}
+use Rattle.leveldb_table.specs.TableReaderWalk.{TablePlace, IsAtPair, IsAtPairOrNone, IsAtPosition, MovesInTable, Outcome, inner_block, inner_pairs, inner_position, table_position, current_of}
 use Rattle.leveldb_table.specs.Cache.{Cached}
 use Rattle.leveldb_table.specs.Block.{BlockRead, HasEntries, pairs_of}
 use Rattle.leveldb_table.specs.BlockLaws.{one_block, position_within-is}
 use Rattle.leveldb_table.specs.TableBlock.{LacksBlock, LacksLine, unnamed, lacking, IsNamedBy, NamesNone}
 use Rattle.leveldb_table.specs.declared.block_cache.CachedBlock.{CachedBlock}
-use Rattle.leveldb_table.specs.declared.table_reader.walk.TableCore.{TableCore}
 use Rattle.leveldb_table.proofs.TableLemmas.{all_left, all_right, all_with, then_less, turned_from, has_one_block, OnOk-with}
 use Rattle.leveldb_table.proofs.TableBlockLemmas.{lacks_none, reads_weaker}
 
@@ -690,7 +689,7 @@ module _ {C : Type 0} (order : CmpGhosts C) where
   -- ---- into the next block
 
   -- the walk went to a line, and has its block, at a position of it
-  pub record IsInto (codings : Codings) (cmp : List ℕ → List ℕ → Ordering) (bytes : List ℕ) (line : Option ℕ) (to : List Pair → Option ℕ) (old new : TableCore C) : Type 0 where
+  pub record IsInto (codings : Codings) (cmp : List ℕ → List ℕ → Ordering) (bytes : List ℕ) (line : Option ℕ) (to : List Pair → Option ℕ) (old new : TablePlace C) : Type 0 where
     pub lines : pairs_over new.index ≡ pairs_over old.index
     pub same_order : new.index.block.cmp ≡ old.index.block.cmp
     pub at_line : position_over new.index ≡ line
@@ -699,7 +698,7 @@ module _ {C : Type 0} (order : CmpGhosts C) where
     pub position : inner_position new.inner ≡ to (inner_pairs new.inner)
 
   -- by reading what the line names, and a step
-  pub is_into : (codings : Codings) (cmp : List ℕ → List ℕ → Ordering) (bytes : List ℕ) (line : Option ℕ) (to : List Pair → Option ℕ) (old loaded new : TableCore C) (index : BlockPosition C) → index.block ≡ old.index.block
+  pub is_into : (codings : Codings) (cmp : List ℕ → List ℕ → Ordering) (bytes : List ℕ) (line : Option ℕ) (to : List Pair → Option ℕ) (old loaded new : TablePlace C) (index : BlockPosition C) → index.block ≡ old.index.block
       → position_over index ≡ line → is_some (position_over index) ≡ true → loaded.index ≡ index → IsBlockOf order codings cmp bytes (pair_at (pairs_over index) (position_over index)) (inner_block loaded.inner)
       → new.index ≡ loaded.index → inner_block new.inner ≡ inner_block loaded.inner → inner_pairs new.inner ≡ inner_pairs loaded.inner → inner_position new.inner ≡ to (inner_pairs loaded.inner) → IsInto codings cmp bytes line to old new
   is_into codings cmp bytes line to old loaded new index block at some same of kept inner pairs position =
@@ -714,10 +713,10 @@ module _ {C : Type 0} (order : CmpGhosts C) where
       }
 
 module _ {C : Type 0} {order : CmpGhosts C} where
-  module _ {codings : Codings} {accepts : List ℕ → Bool} {cmp : List ℕ → List ℕ → Ordering} {bytes : List ℕ} {parts : List Part} {position : Option ℕ} {old : TableCore C} (has : HasParts codings accepts cmp bytes parts)
+  module _ {codings : Codings} {accepts : List ℕ → Bool} {cmp : List ℕ → List ℕ → Ordering} {bytes : List ℕ} {parts : List Part} {position : Option ℕ} {old : TablePlace C} (has : HasParts codings accepts cmp bytes parts)
       (after : IsAfterLine parts (position_over old.index) position) (indexed : IsIndexed order cmp parts old) where
     -- to its first pair
-    pub next_is_there : (new : TableCore C) → IsInto order codings cmp bytes (next_position (pairs_over old.index) (position_over old.index)) (λ pairs. position_within pairs 0) old new → (inner_position new.inner ≡ Some 0) × IsAtPosition order cmp parts new position
+    pub next_is_there : (new : TablePlace C) → IsInto order codings cmp bytes (next_position (pairs_over old.index) (position_over old.index)) (λ pairs. position_within pairs 0) old new → (inner_position new.inner ≡ Some 0) × IsAtPosition order cmp parts new position
     next_is_there new next =
         let lines = next.lines ∙ indexed.lines in
         let at = line_is_of new.index has lines next.some in
@@ -735,7 +734,7 @@ module _ {C : Type 0} {order : CmpGhosts C} where
   -- ---- moves by entering a block
 
   pub moves_enters : {E F T : Type 0} {env : EnvGhosts E F} {codings : Codings} {accepts : List ℕ → Bool} {cmp : List ℕ → List ℕ → Ordering} {id : ℕ} {file : F} {Fit : List Part → Type 0} {Way : List Part → Option ℕ → Type 0} {to : List Pair → Option ℕ → Option ℕ}
-      {Part_step Step : Codings → (List ℕ → List ℕ → Ordering) → List ℕ → TableCore C → Outcome → Type 0} {old_env new_env : E} {old_cache new_cache : Cached (CachedBlock C)} {mid new : TableCore C} {result : Result T Status} (old : TableCore C)
+      {Part_step Step : Codings → (List ℕ → List ℕ → Ordering) → List ℕ → TablePlace C → Outcome → Type 0} {old_env new_env : E} {old_cache new_cache : Cached (CachedBlock C)} {mid new : TablePlace C} {result : Result T Status} (old : TablePlace C)
       → pairs_over mid.index ≡ pairs_over old.index → mid.index.block.cmp ≡ old.index.block.cmp
       → ((parts : List Part) (position : Option ℕ) → Fit parts → IsAtPosition order cmp parts old position → Way parts (to (pairs_in parts) position))
       → ((bytes : List ℕ) (out : Outcome) → Part_step codings cmp bytes mid out → Step codings cmp bytes old out)
@@ -781,6 +780,6 @@ module _ (cmp : List ℕ → List ℕ → Ordering) (lets : ℕ → List ℕ →
 
 module _ {C : Type 0} {order : CmpGhosts C} where
   -- so a walk that is there has found it
-  pub found_by : {cmp : List ℕ → List ℕ → Ordering} {parts : List Part} (lets : ℕ → List ℕ → Bool) (key : List ℕ) (core : TableCore C) → IsAtPosition order cmp parts core (let_position cmp lets key parts) → current_of core ≡ found_in cmp lets key parts
+  pub found_by : {cmp : List ℕ → List ℕ → Ordering} {parts : List Part} (lets : ℕ → List ℕ → Bool) (key : List ℕ) (core : TablePlace C) → IsAtPosition order cmp parts core (let_position cmp lets key parts) → current_of core ≡ found_in cmp lets key parts
   found_by {cmp} {parts} lets key core is_there =
       current_at parts (position_over core.index) (inner_pairs core.inner) (inner_position core.inner) (let_position cmp lets key parts) is_there.at ∙ found_at cmp lets key parts

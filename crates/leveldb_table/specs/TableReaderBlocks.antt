@@ -16,9 +16,8 @@ use Rattle.leveldb_table.specs.BlockCache.{HoldsOnlyOf, IsBlockOfFile, GainsBloc
 use Rattle.leveldb_table.specs.TableReader.{OpenTable, pairs_in, lines_of}
 use Rattle.leveldb_table.specs.TableBlock.{ForBytesOf, IsLackError, ReadsFile}
 use Rattle.leveldb_table.specs.BlockWalk.{pairs_over, position_over}
-use Rattle.leveldb_table.specs.TableReaderWalk.{Outcome, IsNamed, IsAtPair, IsAtPosition, GivenParts, inner_position, table_position}
+use Rattle.leveldb_table.specs.TableReaderWalk.{TablePlace, Outcome, IsNamed, IsAtPair, IsAtPosition, GivenParts, inner_position, table_position}
 use Rattle.leveldb_table.specs.declared.block_cache.CachedBlock.{CachedBlock}
-use Rattle.leveldb_table.specs.declared.table_reader.walk.TableCore.{TableCore}
 
 -- the one borrow is the other: of the same place, with the same value
 pub record IsSameBorrow {A : Type 0} (old new : MutBor A) : Type 0 where
@@ -84,12 +83,12 @@ module _ {C : Type 0} (order : CmpGhosts C) where
 
 module _ {C : Type 0} where
   -- the line of the index
-  abbrev pub line_of : TableCore C → Option Pair
+  abbrev pub line_of : TablePlace C → Option Pair
   line_of core = pair_at (pairs_over core.index) (position_over core.index)
 
   -- a walk over this table that is at no position: its index is the table's
   pub record StartsOver {FP F : Type 0} (table : OpenTable C FP F)
-      (core : TableCore C) : Type 0 where
+      (core : TablePlace C) : Type 0 where
     pub lines : pairs_over core.index ≡ lines_of table
     pub ordered : core.index.block.cmp ≡ table.index.cmp
     pub position : core.inner ≡ None
@@ -97,7 +96,7 @@ module _ {C : Type 0} where
 module _ {C : Type 0} (order : CmpGhosts C) where
   -- the index is that of these data blocks, in this order of keys
   pub record IsIndexed (cmp : List ℕ → List ℕ → Ordering) (parts : List Part)
-      (core : TableCore C) : Type 0 where
+      (core : TablePlace C) : Type 0 where
     pub lines : pairs_over core.index ≡ map index_pair parts
     pub ordered : order.cmp core.index.block.cmp ≡ cmp
 
@@ -106,11 +105,11 @@ module _ {C : Type 0} (order : CmpGhosts C) where
   pub record MovesFromLine {E F T : Type 0} (env : EnvGhosts E F) (codings : Codings)
       (accepts : List ℕ → Bool) (cmp : List ℕ → List ℕ → Ordering) (id : ℕ) (file : F)
       (Fit : List Part → Option ℕ → Type 0) (Step : Codings → (List ℕ → List ℕ → Ordering) → List ℕ
-      → TableCore C → Outcome → Type 0)
-      (old_env : E) (old_cache : Cached (CachedBlock C)) (old : TableCore C)
+      → TablePlace C → Outcome → Type 0)
+      (old_env : E) (old_cache : Cached (CachedBlock C)) (old : TablePlace C)
       (result : Result T Status)
       (new_env : E) (new_cache : Cached (CachedBlock C))
-      (new : TableCore C) : Type 0 where
+      (new : TablePlace C) : Type 0 where
     pub reads : ReadsFile env (IsLackError env codings (λ bytes status.
         GivenParts order codings accepts cmp id bytes old_cache Fit
         (λ parts position. IsIndexed cmp parts old) (λ parts position. ⊥)
@@ -132,9 +131,9 @@ module _ {E C FP F T : Type 0} (order : CmpGhosts C) where
   -- such a move over an open table
   abbrev pub MovesOverFromLine : EnvGhosts E F → Codings → OpenTable C FP F
       → (List Part → Option ℕ → Type 0)
-      → (Codings → (List ℕ → List ℕ → Ordering) → List ℕ → TableCore C → Outcome → Type 0)
-      → E → Cached (CachedBlock C) → TableCore C → Result T Status
-      → E → Cached (CachedBlock C) → TableCore C → Type 0
+      → (Codings → (List ℕ → List ℕ → Ordering) → List ℕ → TablePlace C → Outcome → Type 0)
+      → E → Cached (CachedBlock C) → TablePlace C → Result T Status
+      → E → Cached (CachedBlock C) → TablePlace C → Type 0
   MovesOverFromLine env codings table Fit Step old_env old_cache old result new_env new_cache new =
       MovesFromLine order env codings (order.accepts table.cmp) (order.cmp table.cmp) table.id
       table.file Fit Step old_env old_cache old result new_env new_cache new

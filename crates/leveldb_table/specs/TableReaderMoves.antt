@@ -18,9 +18,8 @@ use Rattle.leveldb_table.specs.BlockCache.{HoldsOnlyOf}
 use Rattle.leveldb_table.specs.Table.{Part, index_pair}
 use Rattle.leveldb_table.specs.TableReader.{OpenTable, lines_of, lets, HasParts, found_in, GainsBlocksOf}
 use Rattle.leveldb_table.specs.TableBlock.{IsNamedBy, NamesNone, LacksLine, ForBytesOf, IsLackError, ReadsFile}
-use Rattle.leveldb_table.specs.TableReaderWalk.{MovesInTable, TablePosition, Outcome, IsNamed, inner_position, table_position}
+use Rattle.leveldb_table.specs.TableReaderWalk.{TablePlace, MovesInTable, TablePosition, Outcome, IsNamed, inner_position, table_position}
 use Rattle.leveldb_table.specs.declared.block_cache.CachedBlock.{CachedBlock}
-use Rattle.leveldb_table.specs.declared.table_reader.walk.TableCore.{TableCore}
 
 -- it comes to no line, and to no pair
 abbrev pub IsNowhere : Outcome → Type 0
@@ -181,41 +180,41 @@ module _ {E C FP F : Type 0} (order : CmpGhosts C) where
 
 module _ {C : Type 0} where
   -- to the next pair, and to the one before
-  abbrev pub Forward : Codings → (List ℕ → List ℕ → Ordering) → List ℕ → TableCore C
+  abbrev pub Forward : Codings → (List ℕ → List ℕ → Ordering) → List ℕ → TablePlace C
       → Outcome → Type 0
   Forward codings cmp bytes old out =
       ToNextPair codings cmp bytes (pairs_over old.index) (inner_position old.inner)
       (table_position old) out
 
   -- from where the iterator is to the pair before
-  abbrev pub Backward : Codings → (List ℕ → List ℕ → Ordering) → List ℕ → TableCore C
+  abbrev pub Backward : Codings → (List ℕ → List ℕ → Ordering) → List ℕ → TablePlace C
       → Outcome → Type 0
   Backward codings cmp bytes old out =
       ToPreviousPair codings cmp bytes (pairs_over old.index) (inner_position old.inner)
       (table_position old) out
 
   -- to the first pair of the first block
-  abbrev pub ToFirst : Codings → (List ℕ → List ℕ → Ordering) → List ℕ → TableCore C
+  abbrev pub ToFirst : Codings → (List ℕ → List ℕ → Ordering) → List ℕ → TablePlace C
       → Outcome → Type 0
   ToFirst codings cmp bytes old out =
       ToFirstPair codings cmp bytes (pairs_over old.index)
       (position_within (pairs_over old.index) 0) out
 
   -- to the last pair of the last block
-  abbrev pub ToLast : Codings → (List ℕ → List ℕ → Ordering) → List ℕ → TableCore C
+  abbrev pub ToLast : Codings → (List ℕ → List ℕ → Ordering) → List ℕ → TablePlace C
       → Outcome → Type 0
   ToLast codings cmp bytes old out =
       ToLastPair codings cmp bytes (pairs_over old.index) (last_position (pairs_over old.index)) out
 
   -- to the first pair of the next line's block, and to the last of that of the line before
-  abbrev pub ToNextBlock : Codings → (List ℕ → List ℕ → Ordering) → List ℕ → TableCore C
+  abbrev pub ToNextBlock : Codings → (List ℕ → List ℕ → Ordering) → List ℕ → TablePlace C
       → Outcome → Type 0
   ToNextBlock codings cmp bytes old out =
       ToFirstPair codings cmp bytes (pairs_over old.index)
       (next_position (pairs_over old.index) (position_over old.index)) out
 
   -- to the last pair of the block of the line before the index's
-  abbrev pub ToPreviousBlock : Codings → (List ℕ → List ℕ → Ordering) → List ℕ → TableCore C
+  abbrev pub ToPreviousBlock : Codings → (List ℕ → List ℕ → Ordering) → List ℕ → TablePlace C
       → Outcome → Type 0
   ToPreviousBlock codings cmp bytes old out =
       ToLastPair codings cmp bytes (pairs_over old.index)
@@ -223,19 +222,19 @@ module _ {C : Type 0} where
 
 module _ {C : Type 0} (order : CmpGhosts C) where
   -- the line of its index for a key
-  abbrev pub line_for : List ℕ → TableCore C → Option ℕ
+  abbrev pub line_for : List ℕ → TablePlace C → Option ℕ
   line_for key core = seek_position (order.cmp core.index.block.cmp) (pairs_over core.index) key
 
   -- to the first pair at or after a key by the line that the index has for it, and the same where
   -- the filters let the key pass
-  abbrev pub ToKey : List ℕ → Codings → (List ℕ → List ℕ → Ordering) → List ℕ → TableCore C
+  abbrev pub ToKey : List ℕ → Codings → (List ℕ → List ℕ → Ordering) → List ℕ → TablePlace C
       → Outcome → Type 0
   ToKey key codings cmp bytes old out =
       ToKeyByLine codings cmp bytes (pairs_over old.index) key (line_for key old) out
 
   -- as ToKey, where the filters let the key pass
   abbrev pub ToKeyIfLet : (ℕ → List ℕ → Bool) → List ℕ → Codings → (List ℕ → List ℕ → Ordering)
-      → List ℕ → TableCore C → Outcome → Type 0
+      → List ℕ → TablePlace C → Outcome → Type 0
   ToKeyIfLet lets key codings cmp bytes old out =
       LookUpFromLine codings cmp bytes (pairs_over old.index) lets key (line_for key old) out
 
@@ -245,36 +244,36 @@ module _ {E C FP F T : Type 0} (order : CmpGhosts C) (env : EnvGhosts E F) (codi
     (table : OpenTable C FP F) where
   -- a move over the table's file, which leads to a position and is this step
   abbrev pub MovesOver : (List Part → Type 0) → (List Pair → Option ℕ → Option ℕ)
-      → (Codings → (List ℕ → List ℕ → Ordering) → List ℕ → TableCore C → Outcome → Type 0)
-      → E → Cached (CachedBlock C) → TableCore C → Result T Status
-      → E → Cached (CachedBlock C) → TableCore C → Type 0
+      → (Codings → (List ℕ → List ℕ → Ordering) → List ℕ → TablePlace C → Outcome → Type 0)
+      → E → Cached (CachedBlock C) → TablePlace C → Result T Status
+      → E → Cached (CachedBlock C) → TablePlace C → Type 0
   MovesOver Fit to Step old_env old_cache old result new_env new_cache new =
       MovesInTable order env codings (order.accepts table.cmp) (order.cmp table.cmp) table.id
       table.file Fit to Step old_env old_cache old result new_env new_cache new
 
   -- to the next pair
-  abbrev pub Advances : E → Cached (CachedBlock C) → TableCore C → Result T Status
-      → E → Cached (CachedBlock C) → TableCore C → Type 0
+  abbrev pub Advances : E → Cached (CachedBlock C) → TablePlace C → Result T Status
+      → E → Cached (CachedBlock C) → TablePlace C → Type 0
   Advances = MovesOver (λ _. Unit {0}) next_position Forward
 
   -- to the pair before
-  abbrev pub StepsBack : E → Cached (CachedBlock C) → TableCore C → Result T Status
-      → E → Cached (CachedBlock C) → TableCore C → Type 0
+  abbrev pub StepsBack : E → Cached (CachedBlock C) → TablePlace C → Result T Status
+      → E → Cached (CachedBlock C) → TablePlace C → Type 0
   StepsBack = MovesOver (λ _. Unit {0}) (λ _. previous_position) Backward
 
   -- to the first pair at or after a key, which is accepted
-  abbrev pub SeeksKey : List ℕ → E → Cached (CachedBlock C) → TableCore C
-      → Result T Status → E → Cached (CachedBlock C) → TableCore C → Type 0
+  abbrev pub SeeksKey : List ℕ → E → Cached (CachedBlock C) → TablePlace C
+      → Result T Status → E → Cached (CachedBlock C) → TablePlace C → Type 0
   SeeksKey key =
       MovesOver (λ _. order.accepts table.cmp key ≡ true)
       (λ pairs _. seek_position (order.cmp table.cmp) pairs key) (ToKey order key)
 
   -- to the first pair
-  abbrev pub SeeksFirst : E → Cached (CachedBlock C) → TableCore C → Result T Status
-      → E → Cached (CachedBlock C) → TableCore C → Type 0
+  abbrev pub SeeksFirst : E → Cached (CachedBlock C) → TablePlace C → Result T Status
+      → E → Cached (CachedBlock C) → TablePlace C → Type 0
   SeeksFirst = MovesOver (λ _. Unit {0}) (λ pairs _. position_within pairs 0) ToFirst
 
   -- to the last pair
-  abbrev pub SeeksLast : E → Cached (CachedBlock C) → TableCore C → Result T Status
-      → E → Cached (CachedBlock C) → TableCore C → Type 0
+  abbrev pub SeeksLast : E → Cached (CachedBlock C) → TablePlace C → Result T Status
+      → E → Cached (CachedBlock C) → TablePlace C → Type 0
   SeeksLast = MovesOver (λ _. Unit {0}) (λ pairs _. last_position pairs) ToLast

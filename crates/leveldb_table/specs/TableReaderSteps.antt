@@ -10,15 +10,14 @@ use Rattle.leveldb_table.specs.BlockCache.{HoldsOnlyOf, IsBlockOfFile, GainsBloc
 use Rattle.leveldb_table.specs.TableBlock.{ForBytesOf, IsLackError, ReadsFile}
 use Rattle.leveldb_table.specs.TableReaderMoves.{ToFirst, ToLast, ToNextBlock, ToPreviousBlock, ToKey}
 use Rattle.leveldb_table.specs.BlockWalk.{pairs_over}
-use Rattle.leveldb_table.specs.TableReaderWalk.{Outcome, inner_position, table_position}
+use Rattle.leveldb_table.specs.TableReaderWalk.{TablePlace, Outcome, inner_position, table_position}
 use Rattle.leveldb_table.specs.declared.block_cache.CachedBlock.{CachedBlock}
-use Rattle.leveldb_table.specs.declared.table_reader.walk.TableCore.{TableCore}
 use Rattle.leveldb_table.specs.declared.table_reader.walk.TableStep.{TableStep}
 use Rattle.leveldb_table.specs.declared.table_reader.walk.TableStep.TheVariants.{First, Last, NextBlock, BlockBefore, Seek}
 
 -- what a step from block to block comes to, by the lines of an index, for a file of these bytes
 abbrev pub StepTo : Type 0 → Type 1
-StepTo C = Codings → (List ℕ → List ℕ → Ordering) → List ℕ → TableCore C
+StepTo C = Codings → (List ℕ → List ℕ → Ordering) → List ℕ → TablePlace C
     → Outcome → Type 0
 
 module _ {C : Type 0} (order : CmpGhosts C) where
@@ -34,9 +33,9 @@ module _ {C : Type 0} (order : CmpGhosts C) where
   -- device, or as the step says. After an Err the walk is at no pair. The index stays.
   pub record StepsInTable {E F : Type 0} (env : EnvGhosts E F) (codings : Codings)
       (cmp : List ℕ → List ℕ → Ordering) (id : ℕ) (file : F) (Step : StepTo C) (old_env : E)
-      (old_cache : Cached (CachedBlock C)) (old : TableCore C)
+      (old_cache : Cached (CachedBlock C)) (old : TablePlace C)
       (result : Result Bool Status) (new_env : E) (new_cache : Cached (CachedBlock C))
-      (new : TableCore C) : Type 0 where
+      (new : TablePlace C) : Type 0 where
     -- an error has a cause, and the disk stays as it is
     pub reads : ReadsFile env (IsLackError env codings (λ bytes status.
         HoldsOnlyOf order codings cmp id bytes old_cache → Step codings cmp bytes old (Err status))

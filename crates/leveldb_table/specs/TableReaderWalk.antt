@@ -17,7 +17,12 @@ use Rattle.leveldb_table.specs.TableReader.{pairs_in, HasParts}
 use Rattle.leveldb_table.specs.TableBlock.{ForBytesOf, IsLackError, ReadsFile}
 use Rattle.leveldb_table.specs.BlockWalk.{BlockPosition, pairs_over, position_over}
 use Rattle.leveldb_table.specs.declared.block_cache.CachedBlock.{CachedBlock}
-use Rattle.leveldb_table.specs.declared.table_reader.walk.TableCore.{TableCore}
+
+-- What a walk over a table is to its callers: the walk over the index's lines, and the one over the
+-- data block where it is, if it has read one.
+pub record TablePlace (C : Type 0) : Type 0 where
+  pub index : BlockPosition C
+  pub inner : Option (BlockPosition C)
 
 -- a position in a table: a line of its index, the pairs of that line's block, and the position
 -- among these
@@ -76,13 +81,13 @@ module _ {C : Type 0} where
   inner_position (Some walk) = position_over walk
 
   -- the pair at the walk's position
-  abbrev pub current_of : TableCore C → Option Pair
+  abbrev pub current_of : TablePlace C → Option Pair
   current_of core = pair_at (inner_pairs core.inner) (inner_position core.inner)
 
   -- A step in the open block, which stays with its pairs, as the index does. What is said of the
   -- position holds after an Ok; after an Err the walk is at no pair. An error is out of memory.
-  pub record StepsInside (Goes : Type 0) (old : TableCore C) (result : Result Bool Status)
-      (new : TableCore C) : Type 0 where
+  pub record StepsInside (Goes : Type 0) (old : TablePlace C) (result : Result Bool Status)
+      (new : TablePlace C) : Type 0 where
     pub block : inner_block new.inner ≡ inner_block old.inner
     pub pairs : inner_pairs new.inner ≡ inner_pairs old.inner
     pub index : new.index ≡ old.index
@@ -93,7 +98,7 @@ module _ {C : Type 0} where
     pub memory : IfErr result IsOutOfMemory
 
   -- a walk's position
-  abbrev pub table_position : TableCore C → TablePosition
+  abbrev pub table_position : TablePlace C → TablePosition
   table_position core =
       record {
         line = position_over core.index;
@@ -105,7 +110,7 @@ module _ {C : Type 0} (order : CmpGhosts C) where
   -- The index is that of these data blocks, in this order of keys, and the walk is at this
   -- position of their pairs.
   pub record IsAtPosition (cmp : List ℕ → List ℕ → Ordering) (parts : List Part)
-      (core : TableCore C) (position : Option ℕ) : Type 0 where
+      (core : TablePlace C) (position : Option ℕ) : Type 0 where
     pub lines : pairs_over core.index ≡ map index_pair parts
     pub ordered : order.cmp core.index.block.cmp ≡ cmp
     pub at : IsAtPairOrNone parts (position_over core.index) (inner_pairs core.inner)
@@ -130,12 +135,12 @@ module _ {C : Type 0} (order : CmpGhosts C) where
   pub record MovesInTable {E F T : Type 0} (env : EnvGhosts E F) (codings : Codings)
       (accepts : List ℕ → Bool) (cmp : List ℕ → List ℕ → Ordering) (id : ℕ) (file : F)
       (Fit : List Part → Type 0) (to : List Pair → Option ℕ → Option ℕ)
-      (Step : Codings → (List ℕ → List ℕ → Ordering) → List ℕ → TableCore C → Outcome
+      (Step : Codings → (List ℕ → List ℕ → Ordering) → List ℕ → TablePlace C → Outcome
       → Type 0)
-      (old_env : E) (old_cache : Cached (CachedBlock C)) (old : TableCore C)
+      (old_env : E) (old_cache : Cached (CachedBlock C)) (old : TablePlace C)
       (result : Result T Status)
       (new_env : E) (new_cache : Cached (CachedBlock C))
-      (new : TableCore C) : Type 0 where
+      (new : TablePlace C) : Type 0 where
     pub reads : ReadsFile env (IsLackError env codings (λ bytes status.
         GivenParts codings accepts cmp id bytes old_cache (λ parts position. Fit parts)
         (λ parts position. IsAtPosition cmp parts old position) (λ parts position. ⊥)

@@ -25,10 +25,12 @@ use leveldb_env::compressor::{CompressorList, Compressors};
 use leveldb_env::env::Env;
 use leveldb_env::filter::FilterPolicy;
 use std::alloc::Global;
+use std::marker::Model;
 use std::mem;
 
 /// A position in a table, or none. Each move is given the table, always the same one, the `Env`
 /// that has its file, the cache of blocks and the compressors.
+#[derive(Drop)]
 pub struct TableCore<C: Cmp> {
     alloc: Global,
 
@@ -40,19 +42,12 @@ pub struct TableCore<C: Cmp> {
     room: Vec<u8>,
 }
 
-impl<C: Cmp + Drop> Drop for TableCore<C> {
-    // One call for whoever drops one, in place of one for each part of it.
-    fn drop(self) {
-        let TableCore {
-            alloc: _,
-            index,
-            inner,
-            room,
-        } = self;
-        drop(index);
-        drop(inner);
-        drop(room);
-    }
+impl<C: Cmp> Model for TableCore<C> {
+    ghost use Rattle.leveldb_table.specs.TableReaderWalk.{TablePlace};
+
+    ghost Value = { TablePlace C };
+
+    ghost view = { λ it. record { index = it.index; inner = it.inner } };
 }
 
 /// A move that may leave the block where a walk over a table is.

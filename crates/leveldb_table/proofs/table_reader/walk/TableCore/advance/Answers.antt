@@ -22,10 +22,10 @@ returns-clause-moves g c =
     let old = c.args.self.now in
     elim c.if-not-valid.branch [
       | then-not-valid w ↦
-          moves_enters old (ap (λ z. pairs_over z.index) w.self-is ∙ block_lines w.reset.new.self old.index w.reset.ensures.block) (ap (λ z. z.index.block.cmp) w.self-is ∙ ap (λ z. z.cmp) w.reset.ensures.block)
+          moves_enters old (ap (λ z. pairs_over z.index) w.self-is ∙ block_lines w.reset.new.self old.index (w.reset.ensures.block ∙ ap (λ z. z.index.block) c.self.view_is)) (ap (λ z. z.index.block.cmp) w.self-is ∙ ap (λ z. z.cmp) (w.reset.ensures.block ∙ ap (λ z. z.index.block) c.self.view_is))
           (λ parts position fit is_there. after_none parts (position_over c.if-not-valid.self.index) (position_over old.index) (inner_pairs old.inner) (inner_position old.inner) position (ap (λ z. position_over z.index) w.self-is ∙ w.reset.ensures.no_position)
           (none_there (inner_position old.inner) (sym c.valid.ensures ∙ w.if-not-valid.true)) is_there.at)
-          (λ bytes out. forward_first g.C.Cmp ((TheImpl.ghosts g.dyn-1).codings c.args.compressors.now) (g.C.Cmp.cmp c.args.table.now.cmp) bytes old c.if-not-valid.self out (ap (λ z. pairs_over z.index) w.self-is ∙ block_lines w.reset.new.self old.index w.reset.ensures.block) (ap (λ z. position_over z.index) w.self-is ∙ w.reset.ensures.no_position)
+          (λ bytes out. forward_first g.C.Cmp ((TheImpl.ghosts g.dyn-1).codings c.args.compressors.now) (g.C.Cmp.cmp c.args.table.now.cmp) bytes old c.if-not-valid.self out (ap (λ z. pairs_over z.index) w.self-is ∙ block_lines w.reset.new.self old.index (w.reset.ensures.block ∙ ap (λ z. z.index.block) c.self.view_is)) (ap (λ z. position_over z.index) w.self-is ∙ w.reset.ensures.no_position)
           (none_there (inner_position old.inner) (sym c.valid.ensures ∙ w.if-not-valid.true))) c.to_next_block.ensures.enters
       | else-not-valid+in_ok-step_forward+else-branch w ↦
           let none = none_there (inner_position w.step_forward.new.self.inner) (sym w.in_ok-step_forward.ensures.there ∙ w.if-branch.false) in

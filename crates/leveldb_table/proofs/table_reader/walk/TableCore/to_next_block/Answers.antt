@@ -12,11 +12,13 @@ use Rattle.leveldb_table.proofs.table_reader.walk.TableCore.to_next_block.Goals 
 
 pub returns-in_err-load_line-clause-enters : goal.returns-in_err-load_line-clause-enters
 returns-in_err-load_line-clause-enters g c =
+    let block = c.in_ok-advance.ensures.block ∙ ap (λ z. z.index.block) c.self.view_is in
+    let ok = c.in_ok-advance.ensures.ok ∙ ap (λ z. next_position (pairs_over z.index) (position_over z.index)) c.self.view_is in
     let codings = (TheImpl.ghosts g.dyn-1).codings c.args.compressors.now in
     let cmp = g.C.Cmp.cmp c.args.table.now.cmp in
     let none : inner_position c.load_line.new.self.inner ≡ None = ap inner_position (c.in_err-load_line.ensures.err ∙ c.leave.ensures) in
     let index = c.advance.new.self in
-    let lines = block_lines index c.args.self.now.index c.in_ok-advance.ensures.block in
+    let lines = block_lines index c.args.self.now.index block in
     let old = c.args.self.now in
     record {
       reads = reads_refused g.E.Env c.from_residual-in_err-load_line.result c.from_residual-in_err-load_line.ensures.1
@@ -24,7 +26,7 @@ returns-in_err-load_line-clause-enters g c =
             lacks.0,
             λ bytes has. (
               λ parts position right fit holds indexed. line_lacks index right (lines ∙ indexed.lines) (lacks.1 bytes has),
-              λ holds. into_lacking codings cmp bytes (pairs_over old.index) (λ pairs. position_within pairs 0) lines c.in_ok-advance.ensures.ok (lacks.1 bytes has),
+              λ holds. into_lacking codings cmp bytes (pairs_over old.index) (λ pairs. position_within pairs 0) lines ok (lacks.1 bytes has),
             ),
           )) c.in_err-load_line.ensures.reads);
       ok = λ bytes has parts position right fit holds indexed. ok_refused _ _ c.from_residual-in_err-load_line.result c.from_residual-in_err-load_line.ensures.1;
@@ -32,11 +34,13 @@ returns-in_err-load_line-clause-enters g c =
       err = err_holds c.from_residual-in_err-load_line.result none;
       gathers = c.in_err-load_line.ensures.gathers;
       same_lines = ap pairs_over c.in_err-load_line.ensures.index ∙ lines;
-      same_order = ap (λ z. z.block.cmp) c.in_err-load_line.ensures.index ∙ ap (λ z. z.cmp) c.in_ok-advance.ensures.block;
+      same_order = ap (λ z. z.block.cmp) c.in_err-load_line.ensures.index ∙ ap (λ z. z.cmp) block;
     }
 
 pub returns-then-not-branch-2-clause-enters : goal.returns-then-not-branch-2-clause-enters
 returns-then-not-branch-2-clause-enters g c =
+    let block = c.in_ok-advance.ensures.block ∙ ap (λ z. z.index.block) c.self.view_is in
+    let ok = c.in_ok-advance.ensures.ok ∙ ap (λ z. next_position (pairs_over z.index) (position_over z.index)) c.self.view_is in
     let codings = (TheImpl.ghosts g.dyn-1).codings c.args.compressors.now in
     let cmp = g.C.Cmp.cmp c.args.table.now.cmp in
     let old = c.args.self.now in
@@ -48,7 +52,7 @@ returns-then-not-branch-2-clause-enters g c =
     let index : new.index ≡ c.advance.new.self = step.index ∙ read.index in
     let into : (bytes : List ℕ) → FileHas g.E.Env c.args.env.now c.args.table.now.file bytes → HoldsOnlyOf g.C.Cmp codings cmp c.args.table.now.id bytes c.args.cache.now
     → IsInto g.C.Cmp codings cmp bytes (next_position (pairs_over old.index) (position_over old.index)) (λ pairs. position_within pairs 0) old new = λ bytes has holds.
-    is_into g.C.Cmp codings cmp bytes (next_position (pairs_over old.index) (position_over old.index)) (λ pairs. position_within pairs 0) old loaded new c.advance.new.self c.in_ok-advance.ensures.block c.in_ok-advance.ensures.ok there
+    is_into g.C.Cmp codings cmp bytes (next_position (pairs_over old.index) (position_over old.index)) (λ pairs. position_within pairs 0) old loaded new c.advance.new.self block ok there
     read.index (read.block bytes has holds) step.index step.block step.pairs (step.ok ∙ ap (next_position (inner_pairs loaded.inner)) read.position) in
     let none : inner_position new.inner ≡ None = none_there (inner_position new.inner) (sym step.there ∙ c.if-not-branch-2.true) in
     record {
@@ -64,12 +68,14 @@ returns-then-not-branch-2-clause-enters g c =
       steps = λ bytes has holds. ok_refused _ _ c.empty_block_error.result c.empty_block_error.ensures;
       err = err_holds c.empty_block_error.result none;
       gathers = read.gathers;
-      same_lines = ap pairs_over index ∙ block_lines c.advance.new.self c.args.self.now.index c.in_ok-advance.ensures.block;
-      same_order = ap (λ z. z.block.cmp) index ∙ ap (λ z. z.cmp) c.in_ok-advance.ensures.block;
+      same_lines = ap pairs_over index ∙ block_lines c.advance.new.self c.args.self.now.index block;
+      same_order = ap (λ z. z.block.cmp) index ∙ ap (λ z. z.cmp) block;
     }
 
 pub returns-clause-enters : goal.returns-clause-enters
 returns-clause-enters g c =
+    let block = c.in_ok-advance.ensures.block ∙ ap (λ z. z.index.block) c.self.view_is in
+    let ok = c.in_ok-advance.ensures.ok ∙ ap (λ z. next_position (pairs_over z.index) (position_over z.index)) c.self.view_is in
     let codings = (TheImpl.ghosts g.dyn-1).codings c.args.compressors.now in
     let cmp = g.C.Cmp.cmp c.args.table.now.cmp in
     let old = c.args.self.now in
@@ -81,7 +87,7 @@ returns-clause-enters g c =
     let index : new.index ≡ c.advance.new.self = step.index ∙ read.index in
     let into : (bytes : List ℕ) → FileHas g.E.Env c.args.env.now c.args.table.now.file bytes → HoldsOnlyOf g.C.Cmp codings cmp c.args.table.now.id bytes c.args.cache.now
     → IsInto g.C.Cmp codings cmp bytes (next_position (pairs_over old.index) (position_over old.index)) (λ pairs. position_within pairs 0) old new = λ bytes has holds.
-    is_into g.C.Cmp codings cmp bytes (next_position (pairs_over old.index) (position_over old.index)) (λ pairs. position_within pairs 0) old loaded new c.advance.new.self c.in_ok-advance.ensures.block c.in_ok-advance.ensures.ok there
+    is_into g.C.Cmp codings cmp bytes (next_position (pairs_over old.index) (position_over old.index)) (λ pairs. position_within pairs 0) old loaded new c.advance.new.self block ok there
     read.index (read.block bytes has holds) step.index step.block step.pairs (step.ok ∙ ap (next_position (inner_pairs loaded.inner)) read.position) in
     record {
       reads = reads_ok g.E.Env read.reads.kept_disk read.reads.cause.ok;
@@ -89,6 +95,6 @@ returns-clause-enters g c =
       steps = λ bytes has holds. into_at g.C.Cmp codings cmp bytes old new (into bytes has holds) (sym step.there ∙ c.if-not-branch-2.false);
       err = tt;
       gathers = read.gathers;
-      same_lines = ap pairs_over index ∙ block_lines c.advance.new.self c.args.self.now.index c.in_ok-advance.ensures.block;
-      same_order = ap (λ z. z.block.cmp) index ∙ ap (λ z. z.cmp) c.in_ok-advance.ensures.block;
+      same_lines = ap pairs_over index ∙ block_lines c.advance.new.self c.args.self.now.index block;
+      same_order = ap (λ z. z.block.cmp) index ∙ ap (λ z. z.cmp) block;
     }
