@@ -1,5 +1,5 @@
 //! A walk over a block that it holds.
-ghost use Rattle.std.specs.Prelude.{◌≡◌, None, Some, IfOk, IfErr, OnOk, OnErr, is_some, option_map};
+ghost use Rattle.std.specs.Prelude.{◌≡◌, None, IfOk, IfErr, OnOk, OnErr, is_some};
 ghost use Rattle.leveldb_base.specs.Types.{next_position, previous_position, seek_position, pair_at, last_position};
 ghost use Rattle.leveldb_base.specs.Error.{IsOutOfMemory};
 ghost use Rattle.leveldb_table.specs.BlockWalk.{IsWithin, pair_with, pairs_over, position_over};
@@ -104,12 +104,9 @@ impl<C: Cmp> LdbIterator for BlockWalk<C> {
     fn advance(&mut self) -> Result<bool>
         ensures block { self.new.block ≡ self.old.block }
         ensures ok { OnOk result (position_over self.new
-            ≡ next_position (pairs_over self.old)
-            (position_over self.old)) }
-        ensures there { IfOk result
-            (λ there. there ≡ is_some (position_over self.new)) }
-        ensures err { OnErr result
-            (position_over self.new ≡ None) }
+            ≡ next_position (pairs_over self.old) (position_over self.old)) }
+        ensures there { IfOk result (λ there. there ≡ is_some (position_over self.new)) }
+        ensures err { OnErr result (position_over self.new ≡ None) }
         ensures cause { IfErr result IsOutOfMemory }
     {
         self.core.advance(&self.block)
@@ -119,10 +116,8 @@ impl<C: Cmp> LdbIterator for BlockWalk<C> {
         ensures block { self.new.block ≡ self.old.block }
         ensures ok { OnOk result (position_over self.new
             ≡ previous_position (position_over self.old)) }
-        ensures there { IfOk result
-            (λ there. there ≡ is_some (position_over self.new)) }
-        ensures err { OnErr result
-            (position_over self.new ≡ None) }
+        ensures there { IfOk result (λ there. there ≡ is_some (position_over self.new)) }
+        ensures err { OnErr result (position_over self.new ≡ None) }
         ensures cause { IfErr result IsOutOfMemory }
     {
         self.core.prev(&self.block)
@@ -131,10 +126,8 @@ impl<C: Cmp> LdbIterator for BlockWalk<C> {
     fn seek(&mut self, key: &[u8]) -> Result<()>
         ensures block { self.new.block ≡ self.old.block }
         ensures ok { OnOk result (position_over self.new
-            ≡ seek_position (C.cmp self.old.block.cmp)
-            (pairs_over self.old) key.now) }
-        ensures err { OnErr result
-            (position_over self.new ≡ None) }
+            ≡ seek_position (C.cmp self.old.block.cmp) (pairs_over self.old) key.now) }
+        ensures err { OnErr result (position_over self.new ≡ None) }
         ensures cause { IfErr result IsOutOfMemory }
     {
         self.core.seek(&self.block, key)
@@ -144,8 +137,7 @@ impl<C: Cmp> LdbIterator for BlockWalk<C> {
         ensures block { self.new.block ≡ self.old.block }
         ensures ok { OnOk result (position_over self.new
             ≡ last_position (pairs_over self.old)) }
-        ensures err { OnErr result
-            (position_over self.new ≡ None) }
+        ensures err { OnErr result (position_over self.new ≡ None) }
         ensures cause { IfErr result IsOutOfMemory }
     {
         self.core.seek_to_last(&self.block)

@@ -1,5 +1,4 @@
-use Rattle.std.proofs.Common.{length, ap, arith}
-use Rattle.leveldb_table.specs.Block.{restart_points}
+use Rattle.std.proofs.Common.{arith}
 use Rattle.leveldb_table.proofs.BlockWalkLemmas.{sizes, points_some, points_first}
 use Rattle.leveldb_table.proofs.block.Block.point_count.Goals as goal
 

@@ -1,4 +1,4 @@
-use Rattle.std.proofs.Common.{refl, ◌∙◌, ap}
+use Rattle.std.proofs.Common.{refl, ap}
 use Rattle.leveldb_env.specs.contracts.compressor.CompressorListCompressors.TheImpl
 use Rattle.leveldb_table.specs.TableReader.{no_footer, no_index}
 use Rattle.leveldb_table.proofs.TableBlockLemmas.{KeepsDisk-refl, FileHas-after, reads_then, reads_weaker, reads_refused}
