@@ -17,7 +17,7 @@ use Rattle.rusty_leveldb.specs.State.{open_mode, write, refused}
 use Rattle.rusty_leveldb.specs.Causes.{Setting, out_of_memory, bad_operand, IsLongBatch}
 use Rattle.rusty_leveldb.specs.Machine.{Keeps, Step}
 use Rattle.rusty_leveldb.specs.Serves.{setting_between, refusal_of}
-use Rattle.rusty_leveldb.specs.Engine.{AnswersStill, mode_in}
+use Rattle.rusty_leveldb.specs.Engine.{AnswersStill}
 use Rattle.rusty_leveldb.proofs.Moments.{moments_none}
 use Rattle.rusty_leveldb.specs.Frame.{MayTouch}
 use Rattle.rusty_leveldb.proofs.Others.{spares_still}
@@ -49,7 +49,7 @@ IsUnmade items status = IsOutOfMemory status ⊎ ((status.code ≡ InvalidArgume
 
 module _ {E C FP F : Type 0} {B : Boxed} {keys : InternalOrder C} (env : Ghosts E F)
     (formats : OptionsOf C FP B → Format) (engine : EngineOf E C FP F B keys)
-    (opened : mode_in engine ≡ open_mode) (items : List Item) (sync : Bool) (status : Status) (why : IsUnmade items status) where
+    (opened : engine.mode ≡ open_mode) (items : List Item) (sync : Bool) (status : Status) (why : IsUnmade items status) where
   pub not_written : AnswersStill env formats engine (write items sync) (refused (refusal_of status))
   not_written at store meaning tells old represents = record {
     new = old;

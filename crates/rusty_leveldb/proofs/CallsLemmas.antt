@@ -2,7 +2,7 @@
 -- fails.
 use Rattle.std.specs.Prelude.{IfErr, Result, codes, IfSome, string_bytes, String}
 use Rattle.std.specs.declared.alloc.Global.{Global}
-use Rattle.std.proofs.Common.{◌≡◌, ◌⊎◌, ◌∙◌, ⊎_elim, inl, inr, ℕ, true, false, List, [], refl, sym, ap, subst, arith, Option, Some, None, Ok, Err}
+use Rattle.std.proofs.Common.{◌≡◌, ◌⊎◌, ◌∙◌, ⊎_elim, inl, inr, ℕ, false, List, [], refl, sym, ap, subst, arith, Option, Some, None, Ok, Err}
 use Rattle.leveldb_base.specs.Error.{IsOutOfMemory, text_of}
 use Rattle.leveldb_base.specs.declared.error.Status.{Status}
 use Rattle.leveldb_base.specs.declared.error.StatusCode.TheVariants.{InvalidArgument, NotSupported}
@@ -15,25 +15,24 @@ use Rattle.leveldb_store.specs.BuildTable.{TableChoices}
 use Rattle.leveldb_version.specs.Format.{Format, IsTableFault, LacksCompressor}
 use Rattle.leveldb_version.specs.TableCache.{table_options}
 use Rattle.leveldb_version.specs.declared.table_cache.TableCache.{TableCache}
-use Rattle.leveldb_store.specs.OpenStore.{OpenStoreValue}
+use Rattle.leveldb_store.specs.OpenStore.{IsUnbroken, OpenStoreValue}
 use Rattle.leveldb_store.specs.Read.{LooksUpKey}
 use Rattle.leveldb_store.specs.Room.{FailsFor, HasFailed, TellsOnly}
 use Rattle.leveldb_store.specs.SoundCall.{IsSoundCall, any_meaning}
 use Rattle.leveldb_store.specs.Write.{IsLogLost, SyncsLog, with_writer}
 use Rattle.leveldb_store.specs.WriteBatch.{SyncsBatches}
-use Rattle.rusty_leveldb.specs.declared.db_impl.engine.Mode.{Mode}
-use Rattle.rusty_leveldb.specs.declared.db_impl.engine.Mode.TheVariants.{Broken, Closed}
 use Rattle.rusty_leveldb.specs.Boxes.{EngineOf, InternalOrder}
+use Rattle.rusty_leveldb.specs.EngineValue.{FollowsStore}
 use Rattle.rusty_leveldb.specs.Calls.{BecomesOf, EngineServes, HasReason}
 use Rattle.rusty_leveldb.specs.Causes.{IsClosedRefusal, IsBrokenRefusal, IsLongKey, IsNotHeld, Setting}
-use Rattle.rusty_leveldb.specs.Engine.{AnswersStill, GetExcused, GetFails, IsClosedOrBroken, RefusedAsBroken, RefusedAsClosed, RefusedByMode, SyncExcused, held_in, is_store_broken, mode_in, mode_with, options_in, formats_of, tables_by, ReadsAt}
+use Rattle.rusty_leveldb.specs.Engine.{AnswersStill, GetExcused, GetFails, IsClosedOrBroken, RefusedAsBroken, RefusedAsClosed, RefusedByMode, SyncExcused, held_in, options_in, formats_of, tables_by, ReadsAt}
 use Rattle.rusty_leveldb.specs.Frame.{MayTouch}
 use Rattle.rusty_leveldb.specs.Machine.{Step}
 use Rattle.rusty_leveldb.specs.Serves.{done_or, found_or, refusal_of, setting_between}
 use Rattle.rusty_leveldb.specs.State as machine
 use Rattle.rusty_leveldb.specs.State.{Refusal, Request, Snapshot, State, close, flush, get, refused, write}
 use Rattle.rusty_leveldb.proofs.ClosingLemmas.{close_locked, close_unsynced, closed_now, counted_error, flush_goes}
-use Rattle.rusty_leveldb.proofs.EngineLemmas.{open_mode_is, open_or_broken}
+use Rattle.rusty_leveldb.proofs.EngineLemmas.{follows_broken, follows_open}
 use Rattle.rusty_leveldb.proofs.Moments.{moments_none}
 use Rattle.rusty_leveldb.proofs.Others.{spares_still}
 use Rattle.rusty_leveldb.proofs.ReadingLemmas.{get_cause, get_closed, get_goes, get_misfit, read_store}
@@ -100,18 +99,18 @@ module _ {E C FP F P : Type 0} {B : Boxed} {keys : InternalOrder C} {key_filters
 
   -- the machine refuses it so
   pub halted_still : (request : Request) → Writes request → (status : Status)
-      → RefusedByMode (mode_in before) status
+      → RefusedByMode before.mode status
       → AnswersStill env formats before request (refused (refusal_of status))
   halted_still request writes status why at store meaning modelled old was = record {
     new = old;
     represents = was;
     later = omega arith;
     step = ⊎_elim
-        (λ (out : RefusedAsClosed (mode_in before) status).
+        (λ (out : RefusedAsClosed before.mode status).
         subst (λ m. Step m setting old request (refused (refusal_of status)) old)
         (sym out.0 ∙ was.memory_is.mode)
         (closed_step setting old request writes (refusal_of status) out.1))
-        (λ (down : RefusedAsBroken (mode_in before) status).
+        (λ (down : RefusedAsBroken before.mode status).
         subst (λ m. Step m setting old request (refused (refusal_of status)) old)
         (sym down.0 ∙ was.memory_is.mode)
         (broken_step setting old request writes (refusal_of status)
@@ -126,19 +125,19 @@ module _ {E C FP F P : Type 0} {B : Boxed} {keys : InternalOrder C} {key_filters
       setting = setting_between meaning (env.failures at) (env.failures at)
 
   halted_becomes : (request : Request) → Writes request → (status : Status)
-      → IsClosedOrBroken (mode_in before)
+      → IsClosedOrBroken before.mode
       → BecomesOf {T = Unit {0}} before request (Err status) before
   halted_becomes (write items sync) writes status halted = (tt, inr refl)
   halted_becomes flush writes status halted = (tt, (inr refl, inl halted))
   halted_becomes close writes status halted = (
     tt,
-    ⊎_elim (λ (out : mode_in before ≡ machine.closed). inr (out, out))
-        (λ (broke : mode_in before ≡ machine.broken). inl broke) halted,
+    ⊎_elim (λ (out : before.mode ≡ machine.closed). inr (out, out))
+        (λ (broke : before.mode ≡ machine.broken). inl broke) halted,
   )
   halted_becomes request writes status halted = absurd writes
 
   halted_reason : (request : Request) → Writes request → (status : Status) (at : E)
-      → RefusedByMode (mode_in before) status
+      → RefusedByMode before.mode status
       → HasReason env choices {T = Unit {0}} before at request (Err status) at
   halted_reason (write items sync) writes status at why =
       record { later = omega arith; cause = inl (inl why) }
@@ -149,12 +148,12 @@ module _ {E C FP F P : Type 0} {B : Boxed} {keys : InternalOrder C} {key_filters
   halted_reason request writes status at why = absurd writes
 
   pub halted_serves : (request : Request) → Writes request → (status : Status) (at : E)
-      → RefusedByMode (mode_in before) status
+      → RefusedByMode before.mode status
       → EngineServes env choices {T = Unit {0}} done_or before at request (Err status) before at
   halted_serves request writes status at why = record {
     options = record { rest = refl; sink = refl };
     halted = λ halted. (refl, refl, why);
-    becomes = halted_becomes request writes status (halted_by (mode_in before) status why);
+    becomes = halted_becomes request writes status (halted_by before.mode status why);
     step = halted_still request writes status why at;
     rest = rest_still env before at request (Err status) (inr (status, refl));
     time = λ modelled. omega arith;
@@ -163,7 +162,7 @@ module _ {E C FP F P : Type 0} {B : Boxed} {keys : InternalOrder C} {key_filters
 
   -- ---- syncs
 
-  module _ (from : E) (opened : mode_in before ≡ machine.open_mode) (value : OpenStoreValue C)
+  module _ (from : E) (opened : before.mode ≡ machine.open_mode) (value : OpenStoreValue C)
       (mid : E) where
     -- a sync keeps the comparator
     sync_cmp : (result : Result (Unit {0}) Status) → SyncsLog env before.store from result value mid
@@ -175,7 +174,7 @@ module _ {E C FP F P : Type 0} {B : Boxed} {keys : InternalOrder C} {key_filters
         (λ (broke : value ≡ with_writer before.store (broken_writer before.store.log.writer)).
         ap (λ (v : OpenStoreValue C). v.cmp) broke) syncs.err
 
-    sync_tells : (result : Result (Unit {0}) Status) (m : Mode)
+    sync_tells : (result : Result (Unit {0}) Status) (m : machine.Mode)
         → SyncsLog env before.store from result value mid
         → TellsOnly (options_in before) (options_in {E = E} {C = C} {FP = FP} {F = F} {B = B}
         {keys = keys} (record before { store = value; mode = m }))
@@ -184,29 +183,26 @@ module _ {E C FP F P : Type 0} {B : Boxed} {keys : InternalOrder C} {key_filters
       sink = refl;
     }
 
-    flush_becomes : (result : Result (Unit {0}) Status)
+    flush_becomes : (m : machine.Mode) → FollowsStore m value → IsUnbroken before.store
+        → (result : Result (Unit {0}) Status)
         → SyncsLog env before.store from result value mid
-        → BecomesOf before flush result (record before { store = value })
-    flush_becomes (Ok nothing) syncs = (
-      ap (λ (v : OpenStoreValue C). mode_in {E = E} {C = C} {FP = FP} {F = F} {B = B} {keys = keys}
-          (record before { store = v })) syncs.ok,
+        → BecomesOf before flush result (record before { store = value; mode = m })
+    flush_becomes m follows unbroken (Ok nothing) syncs = (
+      follows_open m value follows
+          (subst (λ (v : OpenStoreValue C). IsUnbroken v) (sym syncs.ok) unbroken) ∙ sym opened,
       tt,
     )
-    flush_becomes (Err status) syncs = (
+    flush_becomes m follows unbroken (Err status) syncs = (
       tt,
       (
-        ⊎_elim (λ opens. inr (opens.0 ∙ sym opened)) (λ broke. inl broke.0)
-            (open_or_broken {E = E} {C = C} {FP = FP} {F = F} {B = B} {keys = keys}
-            (record before { store = value }) (open_mode_is before opened)),
+        ⊎_elim
+            (λ (opens : (m ≡ machine.open_mode) × IsUnbroken value). inr (opens.0 ∙ sym opened))
+            (λ (broke : (m ≡ machine.broken) × (IsUnbroken value → ⊥)). inl broke.0) follows,
         ⊎_elim
             (λ (still : IsOutOfMemory status × (value ≡ before.store) × (mid ≡ from)). inr still.0)
             (λ (broke : value ≡ with_writer before.store (broken_writer before.store.log.writer)).
-            inl (⊎_elim
-            (λ sound. absurd (let never : true ≡ false =
-            sym (ap (λ (v : OpenStoreValue C). v.log.writer.broken) broke) ∙ sound.1.log in cc))
-            (λ is. inr is.0)
-            (open_or_broken {E = E} {C = C} {FP = FP} {F = F} {B = B} {keys = keys}
-            (record before { store = value }) (open_mode_is before opened)))) syncs.err,
+            inl (inr (follows_broken m value follows
+            (ap (λ (v : OpenStoreValue C). v.log.writer.broken) broke)))) syncs.err,
       ),
     )
 
@@ -224,27 +220,29 @@ module _ {E C FP F P : Type 0} {B : Boxed} {keys : InternalOrder C} {key_filters
       later = syncs.cause.later;
       ok = tt;
       uncounted = ⊎_elim
-          (λ (by_mode : RefusedByMode (mode_in before) status).
-          absurd (not_refused (mode_in before) status opened by_mode))
+          (λ (by_mode : RefusedByMode before.mode status).
+          absurd (not_refused before.mode status opened by_mode))
           (λ (lost : IsLogLost env before.store from mid status). syncs.cause.uncounted lost);
       cause = ⊎_elim (λ (lost : IsLogLost env before.store from mid status). inl (inr lost))
           (λ counted. inr counted) syncs.cause.cause;
     }
 
-    pub flush_serves : (result : Result (Unit {0}) Status)
+    pub flush_serves : IsUnbroken before.store → (m : machine.Mode) → FollowsStore m value
+        → (result : Result (Unit {0}) Status)
         → SyncsLog env before.store from result value mid
         → SyncsBatches env (formats (options_in before)).order before.store from result value mid
         → IsSoundCall {T = Unit {0}} env (formats (options_in before)).order any_meaning before.store
         from result value mid
-        → EngineServes env choices done_or before from flush result (record before { store = value })
-        mid
-    flush_serves result syncs batches sound = record {
-      options = sync_tells result before.mode syncs;
-      halted = λ halted. absurd (not_halted (mode_in before) opened halted);
-      becomes = flush_becomes result syncs;
-      step = flush_goes env formats before from opened value mid result syncs batches sound;
+        → EngineServes env choices done_or before from flush result
+        (record before { store = value; mode = m }) mid
+    flush_serves unbroken m follows result syncs batches sound = record {
+      options = sync_tells result m syncs;
+      halted = λ halted. absurd (not_halted before.mode opened halted);
+      becomes = flush_becomes m follows unbroken result syncs;
+      step = flush_goes env formats before from opened value mid unbroken m follows result syncs
+          batches sound;
       rest = rest_synced env before from opened value mid result syncs flush log_is_data tt
-          (inl (λ held. refl)) before.mode;
+          (inl (λ held. refl)) m;
       time = sound.time;
       cause = flush_cause result syncs;
     }
@@ -255,14 +253,14 @@ module _ {E C FP F P : Type 0} {B : Boxed} {keys : InternalOrder C} {key_filters
         → IsSoundCall {T = Unit {0}} env (formats (options_in before)).order any_meaning before.store
         from (Err status) value mid
         → EngineServes env choices {T = Unit {0}} done_or before from close (Err status)
-        (record before { store = value; mode = Broken }) mid
+        (record before { store = value; mode = machine.broken }) mid
     close_unsynced_serves status syncs batches sound = record {
-      options = sync_tells (Err status) Broken syncs;
-      halted = λ halted. absurd (not_halted (mode_in before) opened halted);
+      options = sync_tells (Err status) machine.broken syncs;
+      halted = λ halted. absurd (not_halted before.mode opened halted);
       becomes = (tt, inl refl);
       step = close_unsynced env formats before from opened value mid status syncs batches sound;
       rest = rest_synced env before from opened value mid (Err status) syncs close log_is_data tt
-          (inr (status, refl)) Broken;
+          (inr (status, refl)) machine.broken;
       time = sound.time;
       cause = record {
         later = syncs.cause.later;
@@ -278,7 +276,7 @@ module _ {E C FP F P : Type 0} {B : Boxed} {keys : InternalOrder C} {key_filters
         mid)
         (sound : IsSoundCall {T = Unit {0}} env (formats (options_in before)).order any_meaning
         before.store from (Ok tt) value mid)
-        (to : E) (lock : List ℕ) (lock_is : lock ≡ string_bytes before.lock) where
+        (to : E) (lock : List ℕ) (lock_is : lock ≡ before.lock) where
       pub close_locked_serves : (status : Status)
           → ChangesFiles {T = Unit {0}} env.models_disk same FilesUnchanged (env.observed mid)
           (env.observed to) (Err status)
@@ -286,15 +284,15 @@ module _ {E C FP F P : Type 0} {B : Boxed} {keys : InternalOrder C} {key_filters
           (env.observed to) (Err status)
           → HasCause {T = Unit {0}} (λ _. ⊥) (env.failures mid) (env.failures to) (Err status)
           → EngineServes env choices {T = Unit {0}} done_or before from close (Err status)
-          (record before { store = value; mode = Broken }) to
+          (record before { store = value; mode = machine.broken }) to
       close_locked_serves status does locks cause = record {
-        options = sync_tells (Ok tt) Broken syncs;
-        halted = λ halted. absurd (not_halted (mode_in before) opened halted);
+        options = sync_tells (Ok tt) machine.broken syncs;
+        halted = λ halted. absurd (not_halted before.mode opened halted);
         becomes = (tt, inl refl);
         step = close_locked env formats before from opened value mid syncs batches sound to lock lock_is
             status does locks cause;
         rest = rest_given env before from opened value mid (Ok tt) syncs to lock lock_is (Err status)
-            does locks Broken;
+            does locks machine.broken;
         time = λ modelled.
             let first = sound.time modelled in
             let second = does.time.later in omega (arith, first, second);
@@ -308,17 +306,17 @@ module _ {E C FP F P : Type 0} {B : Boxed} {keys : InternalOrder C} {key_filters
           (env.observed to) (Ok tt)
           → HasCause {T = Unit {0}} (λ _. ⊥) (env.failures mid) (env.failures to) (Ok tt)
           → EngineServes env choices {T = Unit {0}} done_or before from close (Ok tt)
-          (record before { store = value; mode = Closed }) to
+          (record before { store = value; mode = machine.closed }) to
       closed_serves does locks cause =
           let counted = cause.ok ∙ syncs.cause.ok in
           record {
-            options = sync_tells (Ok tt) Closed syncs;
-            halted = λ halted. absurd (not_halted (mode_in before) opened halted);
+            options = sync_tells (Ok tt) machine.closed syncs;
+            halted = λ halted. absurd (not_halted before.mode opened halted);
             becomes = (refl, tt);
             step = closed_now env formats before from opened value mid syncs batches sound to lock
                 lock_is does locks cause;
             rest = rest_given env before from opened value mid (Ok tt) syncs to lock lock_is (Ok tt)
-                does locks Closed;
+                does locks machine.closed;
             time = λ modelled.
                 let first = sound.time modelled in
                 let second = does.time.later in omega (arith, first, second);
@@ -355,7 +353,7 @@ module _ {E C FP F P : Type 0} {B : Boxed} {keys : InternalOrder C} {key_filters
             by (Ok value) excused = tt
             by (Err status) excused = inl excused
 
-    pub get_closed_serves : (status : Status) → RefusedAsClosed (mode_in before) status
+    pub get_closed_serves : (status : Status) → RefusedAsClosed before.mode status
         → EngineServes env choices found_or before from (get snapshot key) (Err status) before from
     get_closed_serves status why = record {
       options = record { rest = refl; sink = refl };
@@ -367,7 +365,7 @@ module _ {E C FP F P : Type 0} {B : Boxed} {keys : InternalOrder C} {key_filters
       cause = unread_fails (Err status) (λ Why. inl why);
     }
 
-    module _ (usable : mode_in before ≡ machine.closed → ⊥) where
+    module _ (usable : before.mode ≡ machine.closed → ⊥) where
       pub get_misfit_serves : (status : Status) → status.code ≡ InvalidArgument
           → IsNotHeld (held_in before) snapshot ⊎ IsLongKey key
           → EngineServes env choices found_or before from (get snapshot key) (Err status) before
@@ -398,10 +396,7 @@ module _ {E C FP F P : Type 0} {B : Boxed} {keys : InternalOrder C} {key_filters
               sink = refl;
             };
             halted = λ halted. absurd (usable halted);
-            becomes = (
-              ap (λ (v : OpenStoreValue C). mode_with before.mode (is_store_broken v)) same,
-              same,
-            );
+            becomes = (refl, same);
             step = get_goes env formats before snapshot key usable sequence reads short from to result
                 value cache looks;
             rest = rest_read env before from snapshot key result to (options_in before) value cache same

@@ -1,7 +1,6 @@
 -- The steps of the machine in which a store is flushed, closed or abandoned.
 use Rattle.std.specs.Prelude.{Result, cond}
-use Rattle.std.proofs.Common.{◌≡◌, ◌≢◌, ◌≤◌, ◌+◌, ◌-◌, ◌^◌, ◌⊎◌, ◌∙◌, ⊎_elim, inl, inr, ℕ, Bool, true, false, List, length, refl, sym, ap, subst, arith, Some, None, Ok, Err, IsTrue}
-use Rattle.std.specs.Prelude.{string_bytes}
+use Rattle.std.proofs.Common.{◌≡◌, ◌≢◌, ◌≤◌, ◌+◌, ◌-◌, ◌^◌, ◌⊎◌, ◌∙◌, ⊎_elim, inl, inr, ℕ, Bool, false, List, length, refl, sym, ap, subst, arith, Some, None, Ok, Err, IsTrue}
 use Rattle.leveldb_base.specs.Error.{IsOutOfMemory, text_of}
 use Rattle.leveldb_base.specs.declared.error.Status.{Status}
 use Rattle.leveldb_env.specs.Env.{ChangesFiles, ChangesLocks, Files, FilesUnchanged, HasCause, Run, SameBut, lock_set, same}
@@ -17,16 +16,16 @@ use Rattle.leveldb_store.specs.OpenStore.{IsUnbroken, OpenStoreValue}
 use Rattle.leveldb_store.specs.SoundCall.{IsSoundCall, any_meaning}
 use Rattle.leveldb_store.specs.Write.{SyncsLog, open_log_path, with_writer}
 use Rattle.leveldb_store.specs.WriteBatch.{MakesDurable, SyncsBatches}
-use Rattle.rusty_leveldb.specs.declared.db_impl.engine.Mode.TheVariants.{Broken, Closed}
 use Rattle.rusty_leveldb.specs.Boxes.{EngineOf, InternalOrder}
+use Rattle.rusty_leveldb.specs.EngineValue.{FollowsStore}
 use Rattle.rusty_leveldb.specs.Causes.{Cause, Comes, ReachesDevice, Setting, device_failed, out_of_memory}
-use Rattle.rusty_leveldb.specs.Engine.{Answers, Recalls, mode_in, options_in, scene}
+use Rattle.rusty_leveldb.specs.Engine.{Answers, Recalls, options_in, scene}
 use Rattle.rusty_leveldb.specs.Frame.{MayTouch, SameBytes}
 use Rattle.rusty_leveldb.specs.Machine.{Breaks, LeavesRefused, MayBreak, Responds, Step, closed_state}
 use Rattle.rusty_leveldb.specs.Serves.{Goes, IsSpared, Reads, Represents, done_or, refusal_of, setting_between}
 use Rattle.rusty_leveldb.specs.State as machine
 use Rattle.rusty_leveldb.specs.State.{Answer, Request, State, abandon, close, done, flush, open_mode, refused}
-use Rattle.rusty_leveldb.proofs.EngineLemmas.{Stays, goes, none, open_mode_is, open_or_broken, open_unbroken, state_open, unbroken_opens}
+use Rattle.rusty_leveldb.proofs.EngineLemmas.{Stays, follows_broken, follows_open, goes, none, state_open}
 use Rattle.rusty_leveldb.proofs.MachineLemmas.{step_fits}
 use Rattle.rusty_leveldb.proofs.Moments.{moments_none, moments_still}
 use Rattle.rusty_leveldb.proofs.Others.{spares_same, spares_still}
@@ -81,12 +80,14 @@ module _ {E C FP F : Type 0} {B : Boxed} {keys : InternalOrder C} (env : Ghosts 
   -- ---- an engine that is open
 
   module _ (before : EngineOf E C FP F B keys) (from : E)
-      (opened : mode_in before ≡ machine.open_mode) where
+      (opened : before.mode ≡ machine.open_mode) where
     module _ (value : OpenStoreValue C) (mid : E) where
       -- ---- a flush
 
-      module _ (store : List ℕ) (meaning : Meaning) (modelled : IsTrue env.models_disk)
-          (old : State) (was : Represents store meaning (Recalls env formats store meaning)
+      module _ (unbroken : IsUnbroken before.store) (m : machine.Mode)
+          (follows : FollowsStore m value) (store : List ℕ) (meaning : Meaning)
+          (modelled : IsTrue env.models_disk) (old : State)
+          (was : Represents store meaning (Recalls env formats store meaning)
           (Some before) (env.observed from).disk old) where
         flushed : (syncs : SyncsLog env before.store from (Ok tt) value mid)
             → SyncsBatches env (formats (options_in before)).order before.store from (Ok tt) value mid
@@ -94,20 +95,19 @@ module _ {E C FP F : Type 0} {B : Boxed} {keys : InternalOrder C} (env : Ghosts 
             (Ok tt) value mid
             → Goes store meaning (Recalls env formats store meaning) (scene env (Some before) from)
             flush
-            done (scene env (Some (record before { store = value })) mid) old
+            done (scene env (Some (record before { store = value; mode = m })) mid) old
         flushed syncs batches sound =
             let new : State = record old { durable = length old.history } in
-            let after : EngineOf E C FP F B keys = record before { store = value } in
+            let after : EngineOf E C FP F B keys = record before { store = value; mode = m } in
             goes env formats store meaning before from old was opened after mid new
-            (ends_durable env formats store meaning before from old was opened value before.mode mid
+            (ends_durable env formats store meaning before from old was opened value m mid
             mid new modelled syncs
             (durable env formats store meaning before from old was opened value mid modelled syncs
             batches) refl (sound.bytes modelled was.disk_is.bytes) (λ in_use. (refl, refl)) refl refl refl
             refl refl
             (none env formats store meaning before from old was opened)
-            (unbroken_opens after (open_mode_is before opened)
-            (subst (λ (v : OpenStoreValue C). IsUnbroken v) (sym syncs.ok)
-            (open_unbroken before opened))
+            (follows_open m value follows
+            (subst (λ (v : OpenStoreValue C). IsUnbroken v) (sym syncs.ok) unbroken)
             ∙ sym (state_open env formats store meaning before from old was opened))
             (ap (λ (l : List ℕ → Bool). l (lock_path store)) (syncs.locks modelled)
             ∙ was.disk_is.locked))
@@ -161,42 +161,38 @@ module _ {E C FP F : Type 0} {B : Boxed} {keys : InternalOrder C} (env : Ghosts 
             (Err status) value mid
             → Goes store meaning (Recalls env formats store meaning) (scene env (Some before) from)
             flush
-            (refused (refusal_of status)) (scene env (Some (record before { store = value })) mid) old
+            (refused (refusal_of status))
+            (scene env (Some (record before { store = value; mode = m })) mid) old
         unflushed status syncs batches sound = ⊎_elim
             (λ (still : IsOutOfMemory status × (value ≡ before.store) × (mid ≡ from)).
-            subst (λ (v : OpenStoreValue C). Goes store meaning (Recalls env formats store meaning)
+            subst (λ (x : machine.Mode). Goes store meaning (Recalls env formats store meaning)
+            (scene env (Some before) from) flush (refused (refusal_of status))
+            (scene env (Some (record before { store = value; mode = x })) mid) old)
+            (opened ∙ sym (follows_open m value follows
+            (subst (λ (v : OpenStoreValue C). IsUnbroken v) (sym still.1) unbroken)))
+            (subst (λ (v : OpenStoreValue C). Goes store meaning (Recalls env formats store meaning)
             (scene env (Some before) from) flush (refused (refusal_of status))
             (scene env (Some (record before { store = v })) mid) old) (sym still.1)
-            (subst (λ m. Goes store meaning (Recalls env formats store meaning)
+            (subst (λ (at : E). Goes store meaning (Recalls env formats store meaning)
             (scene env (Some before) from) flush (refused (refusal_of status))
-            (scene env (Some before) m) old) (sym still.2) (starved status still.0)))
+            (scene env (Some before) at) old) (sym still.2) (starved status still.0))))
             (λ (broke : value ≡ with_writer before.store (broken_writer before.store.log.writer)).
             goes_broken env formats store meaning before from old was opened value mid status modelled
-            syncs batches sound flush before.mode tt tt log_is_data tt (broken_mode broke)
+            syncs batches sound flush m tt tt log_is_data tt (follows_broken m value follows
+            (ap (λ (v : OpenStoreValue C). v.log.writer.broken) broke))
             (flush_leaves status _) (λ answer responds. responds) refl)
             syncs.err
-          where
-            broken_mode : value ≡ with_writer before.store (broken_writer before.store.log.writer)
-                → mode_in {E = E} {C = C} {FP = FP} {F = F} {B = B}
-                {keys = keys} (record before { store = value })
-                ≡ machine.broken
-            broken_mode broke = ⊎_elim
-                (λ sound. absurd (let never : true ≡ false =
-                sym (ap (λ (v : OpenStoreValue C). v.log.writer.broken) broke) ∙ sound.1.log in cc))
-                (λ is. is.0)
-                (open_or_broken {E = E} {C = C} {FP = FP} {F = F} {B = B} {keys = keys}
-                (record before { store = value }) (open_mode_is before opened))
 
-      pub flush_goes : (result : Result (Unit {0}) Status)
-          → SyncsLog env before.store from result value mid
+      pub flush_goes : IsUnbroken before.store → (m : machine.Mode) → FollowsStore m value
+          → (result : Result (Unit {0}) Status) → SyncsLog env before.store from result value mid
           → SyncsBatches env (formats (options_in before)).order before.store from result value mid
           → IsSoundCall {T = Unit {0}} env (formats (options_in before)).order any_meaning before.store from result value mid
           → Answers env formats (Some before) from flush (done_or result)
-          (Some (record before { store = value })) mid
-      flush_goes (Ok nothing) syncs batches sound store meaning modelled old was =
-          flushed store meaning modelled old was syncs batches sound
-      flush_goes (Err status) syncs batches sound store meaning modelled old was =
-          unflushed store meaning modelled old was status syncs batches sound
+          (Some (record before { store = value; mode = m })) mid
+      flush_goes unbroken m follows (Ok nothing) syncs batches sound store meaning modelled old was =
+          flushed unbroken m follows store meaning modelled old was syncs batches sound
+      flush_goes unbroken m follows (Err status) syncs batches sound store meaning modelled old was =
+          unflushed unbroken m follows store meaning modelled old was status syncs batches sound
 
       -- ---- a close
 
@@ -207,10 +203,10 @@ module _ {E C FP F : Type 0} {B : Boxed} {keys : InternalOrder C} (env : Ghosts 
           → IsSoundCall {T = Unit {0}} env (formats (options_in before)).order any_meaning before.store from
           (Err status) value mid
           → Answers env formats (Some before) from close (refused (refusal_of status))
-          (Some (record before { store = value; mode = Broken })) mid
+          (Some (record before { store = value; mode = machine.broken })) mid
       close_unsynced status syncs batches sound store meaning modelled old was =
           goes_broken env formats store meaning before from old was opened value mid status modelled
-          syncs batches sound close Broken tt tt log_is_data tt refl (λ cause may breaks. breaks)
+          syncs batches sound close machine.broken tt tt log_is_data tt refl (λ cause may breaks. breaks)
           (λ answer responds. responds) refl
 
       module _ (syncs : SyncsLog env before.store from (Ok tt) value mid)
@@ -218,7 +214,7 @@ module _ {E C FP F : Type 0} {B : Boxed} {keys : InternalOrder C} (env : Ghosts 
           value mid)
           (sound : IsSoundCall {T = Unit {0}} env (formats (options_in before)).order any_meaning before.store from
           (Ok tt) value mid)
-          (to : E) (lock : List ℕ) (lock_is : lock ≡ string_bytes before.lock) where
+          (to : E) (lock : List ℕ) (lock_is : lock ≡ before.lock) where
         module _ (store : List ℕ) (meaning : Meaning) (modelled : IsTrue env.models_disk)
             (old : State) (was : Represents store meaning (Recalls env formats store meaning)
             (Some before) (env.observed from).disk old)
@@ -269,15 +265,16 @@ module _ {E C FP F : Type 0} {B : Boxed} {keys : InternalOrder C} (env : Ghosts 
             (env.observed to) (Err status)
             → HasCause {T = Unit {0}} (λ _. ⊥) (env.failures mid) (env.failures to) (Err status)
             → Answers env formats (Some before) from close (refused (refusal_of status))
-            (Some (record before { store = value; mode = Broken })) to
+            (Some (record before { store = value; mode = machine.broken })) to
         close_locked status does relocks caused store meaning modelled old was =
             let still = does.now modelled in
             let new : State =
             record old { durable = length old.history; pending = None; mode = machine.broken } in
             let counted : env.failures mid ≡ env.failures from = syncs.cause.ok in
             goes env formats store meaning before from old was opened
-            (record before { store = value; mode = Broken }) to new
-            (ends_durable env formats store meaning before from old was opened value Broken mid to new
+            (record before { store = value; mode = machine.broken }) to new
+            (ends_durable env formats store meaning before from old was opened value machine.broken mid to
+            new
             modelled syncs (all_durable store meaning modelled old was still) still
             (bytes_now store meaning modelled old was still) (λ in_use. (refl, refl)) refl refl refl refl
             refl refl refl
@@ -306,15 +303,16 @@ module _ {E C FP F : Type 0} {B : Boxed} {keys : InternalOrder C} (env : Ghosts 
             (env.observed to) (Ok tt)
             → HasCause {T = Unit {0}} (λ _. ⊥) (env.failures mid) (env.failures to) (Ok tt)
             → Answers env formats (Some before) from close done
-            (Some (record before { store = value; mode = Closed })) to
+            (Some (record before { store = value; mode = machine.closed })) to
         closed_now does relocks caused store meaning modelled old was =
             let still = does.now modelled in
             let new : State =
             record (closed_state old) { durable = length old.history; locked = false } in
             let counted : env.failures mid ≡ env.failures from = syncs.cause.ok in
             goes env formats store meaning before from old was opened
-            (record before { store = value; mode = Closed }) to new
-            (ends_durable env formats store meaning before from old was opened value Closed mid to new
+            (record before { store = value; mode = machine.closed }) to new
+            (ends_durable env formats store meaning before from old was opened value machine.closed mid to
+            new
             modelled syncs (all_durable store meaning modelled old was still) still
             (bytes_now store meaning modelled old was still) (λ in_use. absurd (in_use refl)) refl refl refl
             refl refl
@@ -341,7 +339,7 @@ module _ {E C FP F : Type 0} {B : Boxed} {keys : InternalOrder C} (env : Ghosts 
 
   -- it was closed before
   pub abandoned_closed : (before : EngineOf E C FP F B keys) (at : E)
-      → mode_in before ≡ machine.closed
+      → before.mode ≡ machine.closed
       → Answers env formats (Some before) at abandon done None at
   abandoned_closed before at is_closed store meaning modelled old was =
       let is : old.mode ≡ machine.closed = sym was.memory_is.mode ∙ is_closed in
@@ -357,8 +355,8 @@ module _ {E C FP F : Type 0} {B : Boxed} {keys : InternalOrder C} (env : Ghosts 
       }
 
   module _ (before : EngineOf E C FP F B keys) (at now : E)
-      (differs : mode_in before ≡ machine.closed → ⊥) (lock : List ℕ)
-      (lock_is : lock ≡ string_bytes before.lock) where
+      (differs : before.mode ≡ machine.closed → ⊥) (lock : List ℕ)
+      (lock_is : lock ≡ before.lock) where
     module _ (store : List ℕ) (meaning : Meaning) (modelled : IsTrue env.models_disk) (old : State)
         (was : Represents store meaning (Recalls env formats store meaning) (Some before)
         (env.observed at).disk old) (result : Result (Unit {0}) Status)

@@ -1,5 +1,5 @@
 -- An opening that is done.
-use Rattle.std.specs.Prelude.{IsSome, string_bytes}
+use Rattle.std.specs.Prelude.{IsSome}
 use Rattle.std.proofs.Common.{◌≡◌, ◌≢◌, ◌≤◌, ◌∙◌, ⊎_elim, inl, inr, ℕ, Bool, true, false, List, [], Ordering, sym, ap, subst, arith, Some, None, Ok, IsTrue}
 use Rattle.leveldb_base.specs.declared.types.FileType.{FileType}
 use Rattle.leveldb_base.specs.declared.types.FileType.TheVariants.{Descriptor, Log, Table, Temp}
@@ -26,14 +26,12 @@ use Rattle.leveldb_store.specs.Room.{TellsOnly, TidiesUp}
 use Rattle.leveldb_store.specs.SoundCall.{BytesAreAppended, TimeGoesOn}
 use Rattle.leveldb_store.specs.Switch.{IsObsoletePath, RemovesNoOther}
 use Rattle.leveldb_store.specs.Written.{IsData, KeepsWritten}
-use Rattle.rusty_leveldb.specs.declared.db_impl.engine.Mode.TheVariants.{Open}
 use Rattle.rusty_leveldb.specs.Boxes.{EngineOf, InternalOrder}
 use Rattle.rusty_leveldb.specs.Calls.{EngineOpens}
 use Rattle.rusty_leveldb.specs.Engine.{formats_of, HasOwnTables, IsOpening, IsStoreName, Recalls, no_engine, options_in, scene}
 use Rattle.rusty_leveldb.specs.Frame.{IsOwn, Spares}
 use Rattle.rusty_leveldb.specs.Serves.{Goes, IsSpared, Represents}
-use Rattle.rusty_leveldb.specs.State.{Opening, State, done, open_store}
-use Rattle.rusty_leveldb.proofs.EngineLemmas.{unbroken_opens}
+use Rattle.rusty_leveldb.specs.State.{Opening, State, done, open_mode, open_store}
 use Rattle.rusty_leveldb.proofs.LateOpeningLemmas.{made_bytes}
 use Rattle.rusty_leveldb.proofs.MachineLemmas.{risk_opening}
 use Rattle.rusty_leveldb.proofs.OpeningLemmas.{contents, fits_or_not, is_sound, lock_spares, opened_goes, other_lacks}
@@ -109,9 +107,9 @@ module _ {E C FP F P : Type 0} {B : Boxed} {keys : InternalOrder C} {key_filters
     (opens_count : env.failures opened ≡ env.failures taken)
     (bytes_go : BytesAreAppended env taken opened)
     (tidies : TidiesUp env asked.format.order engine.store opened to)
-    (tidy_time : TimeGoesOn env opened to) (mode : engine.mode ≡ Open)
+    (tidy_time : TimeGoesOn env opened to) (mode : engine.mode ≡ open_mode)
     (unheld : engine.snapshots ≡ record { held = []; given = 0 })
-    (lock : string_bytes engine.lock ≡ lock_path store)
+    (lock : engine.lock ≡ lock_path store)
     (tells : TellsOnly options engine.options) (cmp : engine.store.cmp ≡ options.cmp)
     (ignores : (a b : OptionsOf C FP B) → TellsOnly a b → formats_of choices b ≡ formats_of choices a)
     (asked_is : formats_of choices options ≡ asked.format)
@@ -230,7 +228,7 @@ module _ {E C FP F P : Type 0} {B : Boxed} {keys : InternalOrder C} {key_filters
   pub done_opens : EngineOpens env choices store options asked from (Ok engine) to
   done_opens = record {
     opened = record {
-      mode = unbroken_opens engine mode opens.unbroken;
+      mode = mode;
       options = tells_in;
       place = opens.path;
       lock = lock ∙ ap lock_path (sym opens.path);

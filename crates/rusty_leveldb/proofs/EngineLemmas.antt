@@ -1,8 +1,7 @@
 -- What an engine's memory has to do with the disk and the state: its mode, and how what the calls on
 -- its store leave is a step of the machine.
-use Rattle.std.specs.Prelude.{◌||◌, Contains}
-use Rattle.std.proofs.Common.{◌≡◌, ◌≢◌, ◌≤◌, ◌+◌, ◌⊎◌, ◌∙◌, ⊎_elim, inl, inr, ℕ, Bool, true, false, List, length, refl, sym, ap, subst, arith, Option, Some, None, IsTrue}
-use Rattle.std.specs.Prelude.{string_bytes}
+use Rattle.std.specs.Prelude.{Contains}
+use Rattle.std.proofs.Common.{◌≡◌, ◌≤◌, ◌+◌, ◌∙◌, ⊎_elim, inl, inr, ℕ, true, false, List, length, refl, sym, ap, subst, arith, Option, Some, None, IsTrue}
 use Rattle.std.specs.declared.cmp.Ordering.{Ordering}
 use Rattle.leveldb_base.specs.History.{Entry, History, count_of, entries_of, greatest, with_batch}
 use Rattle.leveldb_env.specs.Env.{Files, Observed, Run}
@@ -15,15 +14,13 @@ use Rattle.leveldb_version.specs.Holds.{Carries, Holds, IsSafe}
 use Rattle.leveldb_version.specs.Paths.{lock_path}
 use Rattle.leveldb_version.specs.Store.{IsStore}
 use Rattle.leveldb_version.specs.StoreSteps.{AppendedAreBytes}
-use Rattle.leveldb_version.specs.VersionSetValue.{ManifestState, broken, in_use, unmade}
 use Rattle.leveldb_version.specs.Format.{Agrees, Format, IsTableOf, Meaning}
 use Rattle.leveldb_store.specs.OpenStore.{IsUnbroken, OpenStoreValue}
 use Rattle.leveldb_store.specs.WriteBatch.{HoldsBatches, IsOf, SparesBatches}
 use Rattle.leveldb_store.specs.Written.{IsWritten, KeepsShown, Shows}
-use Rattle.rusty_leveldb.specs.declared.db_impl.engine.Mode.{Mode}
-use Rattle.rusty_leveldb.specs.declared.db_impl.engine.Mode.TheVariants.{Open, Broken, Closed}
 use Rattle.rusty_leveldb.specs.Boxes.{EngineOf, InternalOrder}
-use Rattle.rusty_leveldb.specs.Engine.{HasOwnTables, HasSnapshots, Recalls, ShowsViews, is_manifest_broken, is_store_broken, mode_in, mode_with, options_in, scene}
+use Rattle.rusty_leveldb.specs.EngineValue.{FollowsStore, IsUnbrokenIfOpen}
+use Rattle.rusty_leveldb.specs.Engine.{HasOwnTables, HasSnapshots, Recalls, ShowsViews, options_in, scene}
 use Rattle.rusty_leveldb.specs.Frame.{IsSyncing, MayTouch, SameBytes, Spares}
 use Rattle.rusty_leveldb.specs.Machine.{Step, risk_of}
 use Rattle.rusty_leveldb.specs.Serves.{Goes, IsSpared, Reads, Represents, StandsFor, setting_between}
@@ -35,72 +32,28 @@ use Rattle.rusty_leveldb.proofs.ReadsLemmas.{IsNamed, holds_in, holds_of, if_sta
 
 -- ---- the mode
 
-module _ {C : Type 0} (value : OpenStoreValue C) where
-  pub unbroken_is : IsUnbroken value → is_store_broken value ≡ false
-  unbroken_is unbroken = by value.set.manifest unbroken.manifest
-    where
-      by : (m : ManifestState) → m ≢ broken
-          → (is_manifest_broken m || value.log.writer.broken) ≡ false
-      by broken sound = absurd (sound refl)
-      by unmade sound = unbroken.log
-      by (in_use one) sound = unbroken.log
+module _ {C : Type 0} (mode : machine.Mode) (value : OpenStoreValue C)
+    (follows : FollowsStore mode value) where
+  -- an engine whose mode follows its store is open only where that is unbroken
+  pub follows_unbroken : IsUnbrokenIfOpen mode value
+  follows_unbroken opened = ⊎_elim
+      (λ (opens : (mode ≡ machine.open_mode) × IsUnbroken value). opens.1)
+      (λ (broke : (mode ≡ machine.broken) × (IsUnbroken value → ⊥)).
+      absurd (let never : machine.broken ≡ machine.open_mode = sym broke.0 ∙ opened in cc)) follows
 
-  pub is_unbroken : is_store_broken value ≡ false → IsUnbroken value
-  is_unbroken is = record { manifest = sound value.set.manifest is; log = log value.set.manifest is }
-    where
-      sound : (m : ManifestState) → (is_manifest_broken m || value.log.writer.broken) ≡ false
-          → m ≢ broken
-      sound broken is e = absurd (let never : true ≡ false = is in cc)
-      sound unmade is e = absurd (let never : unmade ≡ broken = e in cc)
-      sound (in_use one) is e = absurd (let never : in_use one ≡ broken = e in cc)
+  -- and it is open where it is
+  pub follows_open : IsUnbroken value → mode ≡ machine.open_mode
+  follows_open unbroken = ⊎_elim
+      (λ (opens : (mode ≡ machine.open_mode) × IsUnbroken value). opens.0)
+      (λ (broke : (mode ≡ machine.broken) × (IsUnbroken value → ⊥)). absurd (broke.1 unbroken))
+      follows
 
-      log : (m : ManifestState) → (is_manifest_broken m || value.log.writer.broken) ≡ false
-          → value.log.writer.broken ≡ false
-      log broken is = absurd (let never : true ≡ false = is in cc)
-      log unmade is = is
-      log (in_use one) is = is
-
-pub when_open : (mode : Mode) (b : Bool) → mode_with mode b ≡ machine.open_mode
-    → (mode ≡ Open) × (b ≡ false)
-when_open Open false is = (refl, refl)
-when_open Open true is = absurd (let never : machine.broken ≡ machine.open_mode = is in cc)
-when_open Broken b is = absurd (let never : machine.broken ≡ machine.open_mode = is in cc)
-when_open Closed b is = absurd (let never : machine.closed ≡ machine.open_mode = is in cc)
-
-pub when_closed : (mode : Mode) (b : Bool) → mode_with mode b ≡ machine.closed → mode ≡ Closed
-when_closed Open false is = absurd (let never : machine.open_mode ≡ machine.closed = is in cc)
-when_closed Open true is = absurd (let never : machine.broken ≡ machine.closed = is in cc)
-when_closed Broken b is = absurd (let never : machine.broken ≡ machine.closed = is in cc)
-when_closed Closed b is = refl
-
-module _ {E C FP F : Type 0} {B : Boxed} {keys : InternalOrder C}
-    (engine : EngineOf E C FP F B keys) where
-  -- an engine that is open wasn't closed, and its store isn't broken
-  pub open_mode_is : mode_in engine ≡ machine.open_mode → engine.mode ≡ Open
-  open_mode_is opened = (when_open engine.mode (is_store_broken engine.store) opened).0
-
-  pub open_unbroken : mode_in engine ≡ machine.open_mode → IsUnbroken engine.store
-  open_unbroken opened =
-      is_unbroken engine.store (when_open engine.mode (is_store_broken engine.store) opened).1
-
-  pub unbroken_opens : engine.mode ≡ Open → IsUnbroken engine.store
-      → mode_in engine ≡ machine.open_mode
-  unbroken_opens is unbroken = λ i. mode_with (is i) (unbroken_is engine.store unbroken i)
-
-  -- an engine that wasn't closed is open or broken, as its store is
-  pub open_or_broken : engine.mode ≡ Open
-      → ((mode_in engine ≡ machine.open_mode) × IsUnbroken engine.store)
-      ⊎ ((mode_in engine ≡ machine.broken) × (IsUnbroken engine.store → ⊥))
-  open_or_broken is = by (is_store_broken engine.store) refl
-    where
-      by : (b : Bool) → is_store_broken engine.store ≡ b
-          → ((mode_in engine ≡ machine.open_mode) × IsUnbroken engine.store)
-          ⊎ ((mode_in engine ≡ machine.broken) × (IsUnbroken engine.store → ⊥))
-      by false e = inl ((λ i. mode_with (is i) (e i)), is_unbroken engine.store e)
-      by true e = inr (
-        (λ i. mode_with (is i) (e i)),
-        λ unbroken. let never : true ≡ false = sym e ∙ unbroken_is engine.store unbroken in cc,
-      )
+  -- and broken where its log's writer is
+  pub follows_broken : value.log.writer.broken ≡ true → mode ≡ machine.broken
+  follows_broken is = ⊎_elim
+      (λ (opens : (mode ≡ machine.open_mode) × IsUnbroken value).
+      absurd (let never : true ≡ false = sym is ∙ opens.1.log in cc))
+      (λ (broke : (mode ≡ machine.broken) × (IsUnbroken value → ⊥)). broke.0) follows
 
 -- ---- the laws of a store's files and the machine
 
@@ -178,7 +131,7 @@ module _ {E C FP F : Type 0} {B : Boxed} {keys : InternalOrder C} (env : Ghosts 
     (store : List ℕ) (meaning : Meaning) (before : EngineOf E C FP F B keys) (from : E)
     (old : State)
     (was : Represents store meaning (Recalls env formats store meaning) (Some before)
-    (env.observed from).disk old) (opened : mode_in before ≡ machine.open_mode) where
+    (env.observed from).disk old) (opened : before.mode ≡ machine.open_mode) where
   abbrev pub order : List ℕ → List ℕ → Ordering
   order = old.format.order
 
@@ -261,12 +214,12 @@ module _ {E C FP F : Type 0} {B : Boxed} {keys : InternalOrder C} (env : Ghosts 
   -- What the engine and the environment are in the end, for this state of the machine. It has the
   -- store and the format of the state before, and its snapshots.
   pub record Ends (after : EngineOf E C FP F B keys) (to : E) (new : State) : Type 0 where
-    pub lock : string_bytes after.lock ≡ string_bytes before.lock
+    pub lock : after.lock ≡ before.lock
     pub options : formats (options_in after) ≡ formats (options_in before)
     pub path : after.store.set.store ≡ before.store.set.store
     pub store_is : new.store ≡ old.store
     pub format_is : new.format ≡ old.format
-    pub mode : mode_in after ≡ new.mode
+    pub mode : after.mode ≡ new.mode
     pub last : after.store.set.last_sequence ≡ new.last
     pub grows : greatest (entries_of old.history) ≤ greatest (entries_of new.history)
     pub shows : KeepsShown order meaning before.store (env.observed from).disk.files old.history

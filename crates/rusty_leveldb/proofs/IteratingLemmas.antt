@@ -18,18 +18,31 @@ use Rattle.leveldb_version.specs.Format.{Agrees, Format, IsTableFault, Meaning, 
 use Rattle.leveldb_version.specs.TableCache.{TableOptions, files_at}
 use Rattle.leveldb_version.specs.declared.table_cache.TableCache.{TableCache}
 use Rattle.leveldb_version.specs.declared.table_cache.moves.ReadTables.{ReadTables}
+use Rattle.leveldb_store.specs.OpenStore.{OpenStoreValue}
 use Rattle.leveldb_store.specs.Read.{HasOpenTables}
 use Rattle.leveldb_store.specs.View.{FailsBetween, IsOfNoCompressor, IsWorldOf, ShowsIn, options_in}
 use Rattle.leveldb_store.specs.Written.{Shows}
 use Rattle.rusty_leveldb.specs.Boxes.{EngineOf, InternalOrder}
 use Rattle.rusty_leveldb.specs.Causes.{IsNotHeld}
-use Rattle.rusty_leveldb.specs.Engine.{IsClosed, ReadsAt, Recalls, ShowsViews, WalkExcused, held_in, mode_in, options_in as engine_options, tables_by}
+use Rattle.rusty_leveldb.specs.Engine.{IsClosed, ReadsAt, Recalls, ShowsViews, WalkExcused, held_in, options_in as engine_options, tables_by}
 use Rattle.rusty_leveldb.specs.Iterator.{EngineIterates, IsIterator, IsMadeOver, IteratesAt, shown_store, world_in}
 use Rattle.rusty_leveldb.specs.Machine.{IsSequenceOf}
 use Rattle.rusty_leveldb.specs.Serves.{Represents}
 use Rattle.rusty_leveldb.specs.State as machine
 use Rattle.rusty_leveldb.specs.State.{Snapshot, State}
 use Rattle.rusty_leveldb.specs.declared.db_iter.StoreIterator.{StoreIterator}
+
+-- what an iterator borrows is the environment that it was given
+pub made_reference : {E C FP F K V : Type 0} {keys : InternalOrder C} (env : Ghosts E F)
+    (cmp : CmpGhosts C) (filters : FilterGhosts FP) (codings : K → Codings)
+    (walk : WalkGhosts V E (ReadTables E C FP K F keys)) (value : OpenStoreValue C) (policy : FP)
+    (compressors : K) (environment : MutBor E) (tables : TableCache E C FP F keys) (sequence : ℕ)
+    (r : Result (StoreIterator E C FP K V F keys) Status)
+    → IfOk r (IsMadeOver env cmp filters codings walk value policy compressors environment tables sequence)
+    → IfOk r (λ it. it.env.ghost_name ≡ environment.ghost_name)
+made_reference env cmp filters codings walk value policy compressors environment tables sequence (Ok it) made =
+    made.reference
+made_reference env cmp filters codings walk value policy compressors environment tables sequence (Err e) made = tt
 
 module _ {E C FP F V : Type 0} {B : Boxed} {keys : InternalOrder C} (env : Ghosts E F) (cmp : CmpGhosts C) (filters : FilterGhosts FP)
     (codings : CompressorList B.compressors B.compressor → Codings)
@@ -45,7 +58,7 @@ module _ {E C FP F V : Type 0} {B : Boxed} {keys : InternalOrder C} (env : Ghost
   It = StoreIterator E C FP (CompressorList B.compressors B.compressor) V F keys
 
   -- no iterator is made
-  pub unmade : (e : Status) → (IsClosed (mode_in before) ⊎ IsNotHeld (held_in before) at → e.code ≡ InvalidArgument) → WalkExcused before at e
+  pub unmade : (e : Status) → (IsClosed before.mode ⊎ IsNotHeld (held_in before) at → e.code ≡ InvalidArgument) → WalkExcused before at e
       → EngineIterates env cmp filters codings walk before from at (Err e)
   unmade e refused cause = record {
     over = tt;
@@ -57,14 +70,14 @@ module _ {E C FP F V : Type 0} {B : Boxed} {keys : InternalOrder C} (env : Ghost
     cause = cause;
   }
 
-  module _ (usable : IsClosed (mode_in before) → ⊥) (sequence : ℕ) (reads_at : ReadsAt before at sequence) where
+  module _ (usable : IsClosed before.mode → ⊥) (sequence : ℕ) (reads_at : ReadsAt before at sequence) where
     -- the snapshot is held
     held : (snapshot : Option Snapshot) → ReadsAt before snapshot sequence → IsNotHeld (held_in before) snapshot → ⊥
     held None is unheld = unheld
     held (Some one) is unheld = unheld is.0
 
     -- so no cause is there
-    never : {T : Type 0} → IsClosed (mode_in before) ⊎ IsNotHeld (held_in before) at → T
+    never : {T : Type 0} → IsClosed before.mode ⊎ IsNotHeld (held_in before) at → T
     never why = absurd (⊎_elim (λ closed. usable closed) (λ unheld. held at reads_at unheld) why)
 
     module _ (it : It) (now : it.env.now ≡ from) (open_tables : it.tables.cache.now ≡ before.tables)
@@ -75,7 +88,7 @@ module _ {E C FP F V : Type 0} {B : Boxed} {keys : InternalOrder C} (env : Ghost
       options_are = rw (order_is, policy_is, compressors_are) refl
 
   -- an iterator that is made over the engine's store
-  module _ (usable : IsClosed (mode_in before) → ⊥) (sequence : ℕ) (reads_at : ReadsAt before at sequence) (it : It)
+  module _ (usable : IsClosed before.mode → ⊥) (sequence : ℕ) (reads_at : ReadsAt before at sequence) (it : It)
       (environment : MutBor E) (tables : TableCache E C FP F keys) (from_is : environment.now ≡ from) (tables_is : tables ≡ before.tables)
       (made : IsMadeOver env cmp filters codings walk before.store before.options.filter_policy before.options.compressor_list environment tables sequence it) where
     abbrev now : it.env.now ≡ from
@@ -180,15 +193,8 @@ module _ {E C FP F V : Type 0} {B : Boxed} {keys : InternalOrder C} (env : Ghost
       cause = tt;
     }
 
-  -- what it borrows is the environment that it was given
-  pub made_reference : (policy : FP) (compressors : CompressorList B.compressors B.compressor) (environment : MutBor E) (tables : TableCache E C FP F keys) (sequence : ℕ)
-      (r : Result It Status) → IfOk r (IsMadeOver env cmp filters codings walk before.store policy compressors environment tables sequence)
-      → IfOk r (λ it. it.env.ghost_name ≡ environment.ghost_name)
-  made_reference policy compressors environment tables sequence (Ok it) made = made.reference
-  made_reference policy compressors environment tables sequence (Err e) made = tt
-
   -- one that is made, or no memory for it
-  pub iterates_by : (IsClosed (mode_in before) → ⊥) → (sequence : ℕ) → ReadsAt before at sequence
+  pub iterates_by : (IsClosed before.mode → ⊥) → (sequence : ℕ) → ReadsAt before at sequence
       → (environment : MutBor E) (tables : TableCache E C FP F keys) → environment.now ≡ from → tables ≡ before.tables → (r : Result It Status)
       → IfOk r (IsMadeOver env cmp filters codings walk before.store before.options.filter_policy before.options.compressor_list environment tables sequence)
       → IfErr r IsOutOfMemory → EngineIterates env cmp filters codings walk before from at r

@@ -1,6 +1,6 @@
 -- The step of the machine in which a store is opened: its lock is taken, its files are read, and
 -- obsolete ones are deleted.
-use Rattle.std.specs.Prelude.{map, string_bytes}
+use Rattle.std.specs.Prelude.{map}
 use Rattle.std.specs.Str.{bytes_eq}
 use Rattle.std.specs.Cmp.Lexicographic.{bytes_decides}
 use Rattle.std.specs.declared.cmp.Ordering.{Ordering}
@@ -23,7 +23,6 @@ use Rattle.leveldb_store.specs.OpenStore.{IsUnbroken, OpenStoreValue}
 use Rattle.leveldb_store.specs.OpensStore.{IsForbidden, IsOpenedAs, IsSound, KeepsFound, LacksUsableEdits}
 use Rattle.leveldb_store.specs.WriteBatch.{IsOf}
 use Rattle.leveldb_store.specs.Written.{KeepsStore, KeepsWritten, Shows}
-use Rattle.rusty_leveldb.specs.declared.db_impl.engine.Mode.TheVariants.{Open}
 use Rattle.rusty_leveldb.specs.Boxes.{EngineOf, InternalOrder}
 use Rattle.rusty_leveldb.specs.Causes.{Disagrees, Misfits, Setting}
 use Rattle.rusty_leveldb.specs.Engine.{HasOwnTables, Recalls, no_engine, options_in, scene}
@@ -33,7 +32,7 @@ use Rattle.rusty_leveldb.specs.Serves.{Goes, IsSpared, Reads, Represents, Stands
 use Rattle.rusty_leveldb.specs.State as machine
 use Rattle.rusty_leveldb.specs.State.{IsState, Opening, State, done, open_mode, open_store}
 use Rattle.rusty_leveldb.proofs.Bounds.{safe_allow}
-use Rattle.rusty_leveldb.proofs.EngineLemmas.{Stays, held_by_state, holds_allow, unbroken_opens}
+use Rattle.rusty_leveldb.proofs.EngineLemmas.{Stays, held_by_state, holds_allow}
 use Rattle.rusty_leveldb.proofs.LockLemmas.{lock_current, lock_edits, lock_keeps}
 use Rattle.rusty_leveldb.proofs.MachineLemmas.{risk_opening, step_fits}
 use Rattle.rusty_leveldb.proofs.Others.{opening_spares}
@@ -444,13 +443,13 @@ module _ {E C FP F : Type 0} {B : Boxed} {keys : InternalOrder C} (env : Ghosts 
   new = now store meaning opening agrees (env.observed from) old was.disk_is fits taken but bytes
       engine.store opened (env.observed to) path unbroken keeps is_opened tidied
 
-  recalled : engine.mode ≡ Open → engine.snapshots ≡ record { held = []; given = 0 }
-      → string_bytes engine.lock ≡ lock_path store
+  recalled : engine.mode ≡ open_mode → engine.snapshots ≡ record { held = []; given = 0 }
+      → engine.lock ≡ lock_path store
       → formats (options_in engine) ≡ opening.format
       → HasOwnTables env formats engine (env.observed to).disk.files
       → Recalls env formats store meaning engine (env.observed to).disk new
   recalled mode unheld lock same tables = record {
-    mode = unbroken_opens engine mode unbroken;
+    mode = mode;
     lock = lock;
     path = path;
     format = λ in_use. same;
@@ -473,8 +472,8 @@ module _ {E C FP F : Type 0} {B : Boxed} {keys : InternalOrder C} (env : Ghosts 
         but bytes engine.store opened (env.observed to) path unbroken keeps is_opened tidied).written;
   }
 
-  pub opened_goes : engine.mode ≡ Open → engine.snapshots ≡ record { held = []; given = 0 }
-      → string_bytes engine.lock ≡ lock_path store
+  pub opened_goes : engine.mode ≡ open_mode → engine.snapshots ≡ record { held = []; given = 0 }
+      → engine.lock ≡ lock_path store
       → formats (options_in engine) ≡ opening.format
       → HasOwnTables env formats engine (env.observed to).disk.files
       → IsTrue opening.fits → IsTrue opening.compresses

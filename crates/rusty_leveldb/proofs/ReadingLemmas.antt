@@ -18,14 +18,14 @@ use Rattle.leveldb_version.specs.Format.{Agrees, Format, IsTableFault, LacksComp
 use Rattle.leveldb_version.specs.TableCache.{TableOptions, table_options}
 use Rattle.leveldb_version.specs.Version.{VersionValue, charged}
 use Rattle.leveldb_version.specs.declared.table_cache.TableCache.{TableCache}
-use Rattle.leveldb_store.specs.OpenStore.{OpenStoreValue}
+use Rattle.leveldb_store.specs.OpenStore.{IsUnbroken, OpenStoreValue}
 use Rattle.leveldb_store.specs.OpenTables.{AreOpenTablesOf}
 use Rattle.leveldb_store.specs.Read.{GetsFromMemory, GetsFromTables, HasOpenTables, LooksUpKey, charge_of}
 use Rattle.leveldb_store.specs.Room.{FailsFor, HasFailed}
 use Rattle.leveldb_store.specs.Written.{IsWritten, Shows}
 use Rattle.rusty_leveldb.specs.Boxes.{EngineOf, InternalOrder}
 use Rattle.rusty_leveldb.specs.Causes.{Cause, Comes, IsLongKey, IsNotHeld, Misfits, Setting, bad_operand, device_failed, lacks_compressor, out_of_memory}
-use Rattle.rusty_leveldb.specs.Engine.{Answers, AnswersStill, GetExcused, GetFails, ReadsAt, Recalls, RefusedAsClosed, ShowsViews, held_in, is_store_broken, mode_in, mode_with, options_in, scene, tables_by}
+use Rattle.rusty_leveldb.specs.Engine.{Answers, AnswersStill, GetExcused, GetFails, ReadsAt, Recalls, RefusedAsClosed, ShowsViews, held_in, options_in, scene, tables_by}
 use Rattle.rusty_leveldb.specs.Frame.{MayTouch}
 use Rattle.rusty_leveldb.specs.Machine.{IsSequenceOf, Responds, Step, risk_between}
 use Rattle.rusty_leveldb.specs.Serves.{Goes, IsSpared, Reads, Represents, found_or, refusal_of, setting_between}
@@ -59,6 +59,29 @@ module _ {C : Type 0} (cmp : List ℕ → List ℕ → Ordering) (meaning : Mean
   written_read written =
       record { edits = written.edits; by = written.by; writer = written.writer }
 
+-- a look-up changes nothing of a store but the seeks of its files
+module _ {E C FP F : Type 0} {keys : InternalOrder C} (env : Ghosts E F) (by : TableOptions C FP)
+    (old : OpenStoreValue C) (from : E) (tables : TableCache E C FP F keys) (sequence : ℕ)
+    (key : List ℕ) (result : Result (Option (List ℕ)) Status) (new : OpenStoreValue C) (to : E)
+    (now : TableCache E C FP F keys)
+    (looks : LooksUpKey env by old from tables sequence key result new to now) where
+  pub only_seeks : new ≡ record old { current = new.current }
+  only_seeks = ⊎_elim
+      (λ (memory : GetsFromMemory env by old from tables sequence key result new to now).
+      seeks_only old.current memory.nothing_changes.0)
+      (λ (found : GetsFromTables env by old from tables sequence key result new to now).
+      seeks_only (charged old.current (charge_of found.searched)).0 found.charges) looks.way
+    where
+      seeks_only : (current : VersionValue C) → new ≡ record old { current = current }
+          → new ≡ record old { current = new.current }
+      seeks_only current is = is ∙ ap (λ (c : VersionValue C). record old { current = c })
+          (sym (ap (λ (v : OpenStoreValue C). v.current) is))
+
+  -- so that it stays unbroken
+  pub still_unbroken : IsUnbroken old → IsUnbroken new
+  still_unbroken unbroken = subst (λ (v : OpenStoreValue C). IsUnbroken v) (sym only_seeks)
+      (record { manifest = unbroken.manifest; log = unbroken.log })
+
 module _ {E C FP F : Type 0} {B : Boxed} {keys : InternalOrder C} (env : Ghosts E F)
     (formats : OptionsOf C FP B → Format) (before : EngineOf E C FP F B keys)
     (snapshot : Option Snapshot) (key : List ℕ) where
@@ -81,14 +104,14 @@ module _ {E C FP F : Type 0} {B : Boxed} {keys : InternalOrder C} (env : Ghosts 
   }
 
   -- a closed store
-  pub get_closed : (status : Status) → RefusedAsClosed (mode_in before) status
+  pub get_closed : (status : Status) → RefusedAsClosed before.mode status
       → AnswersStill env formats before (get snapshot key) (refused (refusal_of status))
   get_closed status out = still (refused (refusal_of status))
       (λ store meaning disk old recalls setting.
       subst (λ m. Step m setting old (get snapshot key) (refused (refusal_of status)) old)
       (sym out.0 ∙ recalls.mode) (out.1, refl))
 
-  module _ (usable : mode_in before ≡ machine.closed → ⊥) where
+  module _ (usable : before.mode ≡ machine.closed → ⊥) where
     -- a snapshot that isn't held, or a key that is too long
     pub get_misfit : (status : Status) → status.code ≡ InvalidArgument
         → IsNotHeld (held_in before) snapshot ⊎ IsLongKey key
@@ -121,27 +144,13 @@ module _ {E C FP F : Type 0} {B : Boxed} {keys : InternalOrder C} (env : Ghosts 
 
       -- of the store nothing changes but the seeks of its files
       pub read_store : value ≡ record before.store { current = value.current }
-      read_store = ⊎_elim
-          (λ (memory : GetsFromMemory env (tables_by formats before) before.store from before.tables
-          sequence key result value to cache). seeks_only value before.store.current
-          memory.nothing_changes.0)
-          (λ (tables : GetsFromTables env (tables_by formats before) before.store from before.tables
-          sequence key result value to cache). seeks_only value
-          (charged before.store.current (charge_of tables.searched)).0 tables.charges) looks.way
-        where
-          seeks_only : (new : OpenStoreValue C) (current : VersionValue C)
-              → new ≡ record before.store { current = current }
-              → new ≡ record before.store { current = new.current }
-          seeks_only new current is = is ∙ ap (λ (c : VersionValue C).
-              record before.store { current = c }) (sym (ap (λ (v : OpenStoreValue C). v.current) is))
+      read_store = only_seeks env (tables_by formats before) before.store from before.tables sequence
+          key result value to cache looks
 
       -- what tables are opened with stays
       same_by : tables_by formats after ≡ tables_by formats before
       same_by = ap (λ (v : OpenStoreValue C). let options : OptionsOf C FP B =
           record before.options { cmp = v.cmp } in table_options (formats options) options) read_store
-
-      same_mode : mode_in after ≡ mode_in before
-      same_mode = ap (λ (v : OpenStoreValue C). mode_with before.mode (is_store_broken v)) read_store
 
       module _ (store : List ℕ) (meaning : Meaning) (modelled : IsTrue env.models_disk)
           (old : State)
@@ -266,7 +275,7 @@ module _ {E C FP F : Type 0} {B : Boxed} {keys : InternalOrder C} (env : Ghosts 
               agrees = was.disk_is.agrees;
             };
             memory_is = record {
-              mode = same_mode ∙ was.memory_is.mode;
+              mode = was.memory_is.mode;
               lock = was.memory_is.lock;
               path = ap (λ (v : OpenStoreValue C). v.set.store) read_store ∙ was.memory_is.path;
               format = λ in_use. ap (λ (by : TableOptions C FP). by.format) same_by

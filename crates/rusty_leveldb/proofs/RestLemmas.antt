@@ -1,5 +1,5 @@
 -- What a call leaves alone, whatever the files are.
-use Rattle.std.specs.Prelude.{Result, codes, if◌then◌else◌, is_ok, replicate, string_bytes}
+use Rattle.std.specs.Prelude.{Result, codes, if◌then◌else◌, is_ok, replicate}
 use Rattle.std.specs.Fmt.{decimal}
 use Rattle.std.proofs.Common.{◌≡◌, ◌≢◌, ◌-◌, ◌++◌, ◌⊎◌, ◌∙◌, ⊎_elim, inl, inr, ℕ, Bool, false, List, length, length-append, refl, sym, ap, subst, arith, Option, Ok, Err, IsTrue}
 use Rattle.std.proofs.lemmas.List.{length-replicate}
@@ -23,10 +23,9 @@ use Rattle.leveldb_store.specs.OpenStore.{OpenStoreValue}
 use Rattle.leveldb_store.specs.Write.{SyncsLog, open_log_path, with_writer}
 use Rattle.leveldb_store.specs.WriteBatch.{WritesBatch}
 use Rattle.leveldb_store.specs.Written.{IsData}
-use Rattle.rusty_leveldb.specs.declared.db_impl.engine.Mode.{Mode}
 use Rattle.rusty_leveldb.specs.Boxes.{EngineOf, InternalOrder}
 use Rattle.rusty_leveldb.specs.Calls.{IsLockLeft, LeavesRest, SparesBut, held_after}
-use Rattle.rusty_leveldb.specs.Engine.{holds_lock, mode_in, options_in}
+use Rattle.rusty_leveldb.specs.Engine.{holds_lock, options_in}
 use Rattle.rusty_leveldb.specs.Frame.{MayTouchOrLog, Spares, Touches}
 use Rattle.rusty_leveldb.specs.State as machine
 use Rattle.rusty_leveldb.specs.State.{Request, Snapshot, abandon, close, flush, get, open_mode, write}
@@ -112,14 +111,14 @@ module _ {E C FP F : Type 0} {B : Boxed} {keys : InternalOrder C} (env : Ghosts 
         (λ path differs. ap (λ (l : List ℕ → Bool). l path) (keeps.locks modelled));
     lock = λ modelled. lock_stays (get snapshot key) result (holds_lock env before from)
         (holds_lock env before to)
-        (ap (λ (l : List ℕ → Bool). l (string_bytes before.lock)) (keeps.locks modelled)) refl;
+        (ap (λ (l : List ℕ → Bool). l before.lock) (keeps.locks modelled)) refl;
   }
 
   -- the lock is given back, and no more
   module _ (to : E) (result : Result (Unit {0}) Status)
       (does : ChangesFiles env.models_disk same FilesUnchanged (env.observed from)
       (env.observed to) result)
-      (lock : List ℕ) (lock_is : lock ≡ string_bytes before.lock)
+      (lock : List ℕ) (lock_is : lock ≡ before.lock)
       (relocks : ChangesLocks env.models_disk (lock_set lock false) (env.observed from)
       (env.observed to) result) where
     pub abandon_others : SparesBut env before (λ path. ⊥) from to
@@ -140,7 +139,7 @@ module _ {E C FP F : Type 0} {B : Boxed} {keys : InternalOrder C} (env : Ghosts 
 
   -- ---- calls on an engine that is open
 
-  module _ (opened : mode_in before ≡ machine.open_mode) where
+  module _ (opened : before.mode ≡ machine.open_mode) where
     -- no file changes but those of data that the request may touch, and the log
     open_spares : (request : Request) (log : List ℕ) (n : ℕ) (to : E) → log ≡ log_path store n
         → ((kind : FileType) → Touches open_mode request kind → IsData kind)
@@ -148,7 +147,7 @@ module _ {E C FP F : Type 0} {B : Boxed} {keys : InternalOrder C} (env : Ghosts 
         → (env.observed to).disk.files path ≡ (env.observed from).disk.files path)
         → ((path : List ℕ) → path ≢ lock_path store
         → (env.observed to).disk.locked path ≡ (env.observed from).disk.locked path)
-        → Spares store (MayTouchOrLog store (mode_in before) request log) (env.observed from).disk
+        → Spares store (MayTouchOrLog store before.mode request log) (env.observed from).disk
         (env.observed to).disk
     open_spares request log n to log_is of_data files locks =
         subst (λ m. Spares store (MayTouchOrLog store m request log) (env.observed from).disk
@@ -200,7 +199,7 @@ module _ {E C FP F : Type 0} {B : Boxed} {keys : InternalOrder C} (env : Ghosts 
             → (env.observed to).disk.files ≡ (env.observed mid).disk.files
             → ((path : List ℕ) → path ≢ lock_path store
             → (env.observed to).disk.locked path ≡ (env.observed from).disk.locked path)
-            → Spares store (MayTouchOrLog store (mode_in before) request (open_log_path value))
+            → Spares store (MayTouchOrLog store before.mode request (open_log_path value))
             (env.observed from).disk (env.observed to).disk
         sync_spares request of_data touches to modelled still locks =
             open_spares request (open_log_path value) before.store.log.number to sync_log of_data
@@ -213,7 +212,7 @@ module _ {E C FP F : Type 0} {B : Boxed} {keys : InternalOrder C} (env : Ghosts 
             → ((kind : FileType) → Touches open_mode request kind → IsData kind)
             → Touches open_mode request Log
             → ((held : Bool) → held ≡ held_after request held) ⊎ ((e : Status) × (synced ≡ Err e))
-            → (mode : Mode)
+            → (mode : machine.Mode)
             → LeavesRest env before from request synced
             (record before { store = value; mode = mode }) mid
         rest_synced request of_data touches why mode = record {
@@ -221,7 +220,7 @@ module _ {E C FP F : Type 0} {B : Boxed} {keys : InternalOrder C} (env : Ghosts 
           others = λ modelled own. sync_spares request of_data touches mid modelled refl
               (λ path differs. ap (λ (l : List ℕ → Bool). l path) (syncs.locks modelled));
           lock = λ modelled.
-              let stays = ap (λ (l : List ℕ → Bool). l (string_bytes before.lock))
+              let stays = ap (λ (l : List ℕ → Bool). l before.lock)
               (syncs.locks modelled) in ⊎_elim
               (λ (left : (held : Bool) → held ≡ held_after request held).
               lock_stays request synced (holds_lock env before from) (holds_lock env before mid)
@@ -232,12 +231,12 @@ module _ {E C FP F : Type 0} {B : Boxed} {keys : InternalOrder C} (env : Ghosts 
         }
 
         -- a close that was synced
-        pub rest_given : (to : E) (lock : List ℕ) → lock ≡ string_bytes before.lock
+        pub rest_given : (to : E) (lock : List ℕ) → lock ≡ before.lock
             → (result : Result (Unit {0}) Status)
             → ChangesFiles env.models_disk same FilesUnchanged (env.observed mid) (env.observed to)
             result
             → ChangesLocks env.models_disk (lock_set lock false) (env.observed mid)
-            (env.observed to) result → (mode : Mode)
+            (env.observed to) result → (mode : machine.Mode)
             → LeavesRest env before from close result
             (record before { store = value; mode = mode }) to
         rest_given to lock lock_is result does relocks mode = record {
@@ -266,7 +265,7 @@ module _ {E C FP F : Type 0} {B : Boxed} {keys : InternalOrder C} (env : Ghosts 
           → LeavesRest env {T = Unit {0}} before from (write items sync) (Err status) after to
       rest_roomless after to status made = record {
         place = (
-          ap (λ (e : EngineOf E C FP F B keys). string_bytes e.lock) made.rest,
+          ap (λ (e : EngineOf E C FP F B keys). e.lock) made.rest,
           made.makes.rest.store,
         );
         others = λ modelled own. open_spares (write items sync) (open_log_path after.store)
@@ -276,15 +275,15 @@ module _ {E C FP F : Type 0} {B : Boxed} {keys : InternalOrder C} (env : Ghosts 
             (λ path differs. ap (λ (l : List ℕ → Bool). l path) (made.makes.rest.locks modelled));
         lock = λ modelled. (
           tt,
-          ap (λ (l : List ℕ → Bool). l (string_bytes before.lock)) (made.makes.rest.locks modelled),
+          ap (λ (l : List ℕ → Bool). l before.lock) (made.makes.rest.locks modelled),
         );
       }
 
       -- it was, and then the batch was written or not
       module _ (roomy : EngineOf E C FP F B keys) (mid : E)
           (made : EngineMakesRoom env choices before from (Ok tt) roomy mid)
-          (value : OpenStoreValue C) (to : E) (result : Result (Unit {0}) Status)
-          (writes : WritesBatch env (choices (options_in roomy)).format.order roomy.store mid items sync
+          (value : OpenStoreValue C) (mode : machine.Mode) (to : E)
+          (result : Result (Unit {0}) Status) (writes : WritesBatch env (choices (options_in roomy)).format.order roomy.store mid items sync
           result value to) where
         batch_log : open_log_path value ≡ open_log_path roomy.store
         batch_log = ap (λ (v : OpenStoreValue C). open_log_path v) writes.rest
@@ -295,10 +294,10 @@ module _ {E C FP F : Type 0} {B : Boxed} {keys : InternalOrder C} (env : Ghosts 
             (writes.locks modelled ∙ made.makes.rest.locks modelled)
 
         pub rest_written : LeavesRest env before from (write items sync) result
-            (record roomy { store = value }) to
+            (record roomy { store = value; mode = mode }) to
         rest_written = record {
           place = (
-            ap (λ (e : EngineOf E C FP F B keys). string_bytes e.lock) made.rest,
+            ap (λ (e : EngineOf E C FP F B keys). e.lock) made.rest,
             ap (λ (v : OpenStoreValue C). v.set.store) writes.rest ∙ made.makes.rest.store,
           );
           others = λ modelled own. open_spares (write items sync) (open_log_path value)
@@ -311,5 +310,5 @@ module _ {E C FP F : Type 0} {B : Boxed} {keys : InternalOrder C} (env : Ghosts 
               ∙ made.makes.rest.files modelled path (λ may. foreign (inl may)))
               (λ path differs. batch_locks modelled path);
           lock = λ modelled. lock_stays (write items sync) result (holds_lock env before from)
-              (holds_lock env before to) (batch_locks modelled (string_bytes before.lock)) refl;
+              (holds_lock env before to) (batch_locks modelled before.lock) refl;
         }

@@ -21,7 +21,7 @@ use Rattle.leveldb_version.specs.Format.{Format, Meaning}
 use Rattle.rusty_leveldb.specs.Boxes.{EngineOf, InternalOrder}
 use Rattle.rusty_leveldb.specs.Calls.{EngineServes, LeavesRest}
 use Rattle.rusty_leveldb.specs.Causes.{IsNotHeld, Setting, bad_operand, out_of_memory, used_up}
-use Rattle.rusty_leveldb.specs.Engine.{AnswersStill, HasSnapshots, Recalls, RefusedAsClosed, formats_of, held_in, mode_in, scene}
+use Rattle.rusty_leveldb.specs.Engine.{AnswersStill, HasSnapshots, Recalls, RefusedAsClosed, formats_of, held_in, scene}
 use Rattle.rusty_leveldb.specs.Frame.{IsSyncing, MayTouch}
 use Rattle.rusty_leveldb.specs.Machine.{Responds, Step, risk_between, risk_of}
 use Rattle.rusty_leveldb.specs.Serves.{Goes, IsSpared, Represents, done_or, refusal_of, setting_between, snapshot_of, snapshot_or}
@@ -122,7 +122,7 @@ module _ {E C FP F P : Type 0} {B : Boxed} {keys : InternalOrder C} {key_filters
   }
 
   closed_still : (request : Request) → IsForSnapshots request → (status : Status)
-      → RefusedAsClosed (mode_in before) status
+      → RefusedAsClosed before.mode status
       → AnswersStill env formats before request (refused (refusal_of status))
   closed_still request is status out = still request is (refused (refusal_of status))
       (λ store meaning disk old recalls setting.
@@ -131,7 +131,7 @@ module _ {E C FP F P : Type 0} {B : Boxed} {keys : InternalOrder C} {key_filters
 
   -- a request is refused for a cause
   caused_still : (request : Request) → IsForSnapshots request → (status : Status)
-      → (mode_in before ≡ machine.closed → ⊥)
+      → (before.mode ≡ machine.closed → ⊥)
       → ((old : State) → HasSnapshots before.snapshots old → (setting : Setting)
       → Responds setting old request (refused (refusal_of status)) old)
       → AnswersStill env formats before request (refused (refusal_of status))
@@ -144,7 +144,7 @@ module _ {E C FP F P : Type 0} {B : Boxed} {keys : InternalOrder C} {key_filters
   -- ---- a call that changes the snapshots
 
   module _ (request : Request) (is : IsForSnapshots request) (answer : Answer)
-      (snapshots : HeldSnapshots) (usable : mode_in before ≡ machine.closed → ⊥) (at : E)
+      (snapshots : HeldSnapshots) (usable : before.mode ≡ machine.closed → ⊥) (at : E)
       (store : List ℕ) (meaning : Meaning) (old : State)
       (was : Represents store meaning (Recalls env formats store meaning) (Some before)
       (env.observed at).disk old) where
@@ -217,7 +217,7 @@ module _ {E C FP F P : Type 0} {B : Boxed} {keys : InternalOrder C} {key_filters
 
   -- ---- giving out
 
-  module _ (usable : mode_in before ≡ machine.closed → ⊥) (snapshots : HeldSnapshots)
+  module _ (usable : before.mode ≡ machine.closed → ⊥) (snapshots : HeldSnapshots)
       (one : HeldSnapshot) (fits : one.number < 2 ^ 64)
       (gives : GivesOut before.store.set.last_sequence before.snapshots one snapshots) where
     given_has : (old : State) → HasSnapshots before.snapshots old
@@ -290,7 +290,7 @@ module _ {E C FP F P : Type 0} {B : Boxed} {keys : InternalOrder C} {key_filters
   -- ---- a call that fails
 
   -- a closed store gives out none
-  pub closed_gives : (status : Status) (at : E) → RefusedAsClosed (mode_in before) status
+  pub closed_gives : (status : Status) (at : E) → RefusedAsClosed before.mode status
       → EngineServes env choices snapshot_or before at get_snapshot (Err status) before at
   closed_gives status at out = record {
     options = record { rest = refl; sink = refl };
@@ -303,7 +303,7 @@ module _ {E C FP F P : Type 0} {B : Boxed} {keys : InternalOrder C} {key_filters
   }
 
   -- there is no memory, or no number
-  pub gives_none : (mode_in before ≡ machine.closed → ⊥) → (status : Status) (at : E)
+  pub gives_none : (before.mode ≡ machine.closed → ⊥) → (status : Status) (at : E)
       → IsOutOfMemory status
       ⊎ ((status.code ≡ NotSupported) × (before.snapshots.given ≡ 2 ^ 64 - 1))
       → EngineServes env choices snapshot_or before at get_snapshot (Err status) before at
@@ -331,7 +331,7 @@ module _ {E C FP F P : Type 0} {B : Boxed} {keys : InternalOrder C} {key_filters
 
   -- a closed store releases none
   pub closed_releases : (one : Snapshot) (status : Status) (at : E)
-      → RefusedAsClosed (mode_in before) status
+      → RefusedAsClosed before.mode status
       → EngineServes env choices {T = Unit {0}} done_or before at (release_snapshot one) (Err status)
       before at
   closed_releases one status at out = record {
@@ -345,7 +345,7 @@ module _ {E C FP F P : Type 0} {B : Boxed} {keys : InternalOrder C} {key_filters
   }
 
   -- the snapshot isn't held
-  pub releases_none : (mode_in before ≡ machine.closed → ⊥) → (one : Snapshot) (status : Status)
+  pub releases_none : (before.mode ≡ machine.closed → ⊥) → (one : Snapshot) (status : Status)
       (at : E) → (status.code ≡ InvalidArgument) × IsNotHeld (held_in before) (Some one)
       → EngineServes env choices {T = Unit {0}} done_or before at (release_snapshot one) (Err status)
       before at
@@ -368,7 +368,7 @@ module _ {E C FP F P : Type 0} {B : Boxed} {keys : InternalOrder C} {key_filters
 
   -- ---- releasing
 
-  module _ (usable : mode_in before ≡ machine.closed → ⊥) (snapshots : HeldSnapshots)
+  module _ (usable : before.mode ≡ machine.closed → ⊥) (snapshots : HeldSnapshots)
       (one : HeldSnapshot) (releases : LetsGo before.snapshots one snapshots) where
     abbrev front : List Snapshot
     front = map snapshot_of releases.before

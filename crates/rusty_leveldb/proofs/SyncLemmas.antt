@@ -13,7 +13,7 @@ use Rattle.leveldb_env.specs.Env.{Files, Observed, Run, SameBut, synced}
 use Rattle.leveldb_env.specs.Options.{Boxed, OptionsOf}
 use Rattle.leveldb_env.specs.declared.env.Env.{Ghosts}
 use Rattle.leveldb_env.proofs.EnvLemmas.{SameBut-synced, bytes_eq-apart}
-use Rattle.leveldb_mem.specs.Log.Writer.{broken_writer}
+use Rattle.leveldb_mem.specs.Log.Writer.{WriterState, broken_writer}
 use Rattle.leveldb_version.specs.Paths.{IsFilePath, lock_path, log_path}
 use Rattle.leveldb_version.specs.StoreSteps.{AppendedAreBytes}
 use Rattle.leveldb_version.specs.VersionSetValue.{VersionSetValue}
@@ -29,16 +29,15 @@ use Rattle.leveldb_store.specs.SoundCall.{IsSoundCall, any_meaning}
 use Rattle.leveldb_store.specs.Write.{IsLogLost, SyncsLog, open_log_path, with_writer}
 use Rattle.leveldb_store.specs.WriteBatch.{HoldsBatches, IsOf, LeavesHistory, MakesDurable, SyncsBatches}
 use Rattle.leveldb_store.specs.Written.{IsData, IsWritten, Shows}
-use Rattle.rusty_leveldb.specs.declared.db_impl.engine.Mode.{Mode}
 use Rattle.rusty_leveldb.specs.Boxes.{EngineOf, InternalOrder}
 use Rattle.rusty_leveldb.specs.Causes.{Cause, Comes, ReachesDevice, Setting, TakesMemory, device_failed, out_of_memory}
-use Rattle.rusty_leveldb.specs.Engine.{HasOwnTables, Recalls, mode_in, options_in, scene, tables_by}
+use Rattle.rusty_leveldb.specs.Engine.{HasOwnTables, Recalls, options_in, scene, tables_by}
 use Rattle.rusty_leveldb.specs.Frame.{IsLogType, MayTouch, SameBytes, Spares, Touches}
 use Rattle.rusty_leveldb.specs.Machine.{Breaks, LeavesRefused, MayBreak, Refuses, Responds, Risk, Step, risk_of}
 use Rattle.rusty_leveldb.specs.Serves.{Goes, IsSpared, Represents, refusal_of, setting_between}
 use Rattle.rusty_leveldb.specs.State as machine
 use Rattle.rusty_leveldb.specs.State.{Answer, Request, State, open_mode, refused}
-use Rattle.rusty_leveldb.proofs.EngineLemmas.{Ends, SameSnapshots, Stays, goes, is_of, machine_spares, none, not_closed, open_unbroken, same_format, state_open}
+use Rattle.rusty_leveldb.proofs.EngineLemmas.{Ends, SameSnapshots, Stays, goes, is_of, machine_spares, none, not_closed, same_format, state_open}
 use Rattle.rusty_leveldb.proofs.Others.{bytes_same, bytes_synced}
 use Rattle.rusty_leveldb.proofs.ReadsLemmas.{may_stay}
 
@@ -100,7 +99,7 @@ module _ {E C FP F : Type 0} {B : Boxed} {keys : InternalOrder C} (env : Ghosts 
     (store : List ℕ) (meaning : Meaning) (before : EngineOf E C FP F B keys) (from : E)
     (old : State)
     (was : Represents store meaning (Recalls env formats store meaning) (Some before)
-    (env.observed from).disk old) (opened : mode_in before ≡ machine.open_mode) where
+    (env.observed from).disk old) (opened : before.mode ≡ machine.open_mode) where
   -- what is at risk where no batch is
   abbrev pub risk_now : Risk
   risk_now = record { history = old.history; bound = old.last + 0; opening = None }
@@ -159,7 +158,7 @@ module _ {E C FP F : Type 0} {B : Boxed} {keys : InternalOrder C} (env : Ghosts 
       (λ e. foreign (Log, touches, subst (IsFilePath Log store) e log_touched)))) locks
 
   -- where only the log changes, the open tables are those of the store still
-  pub tables_logged : (value : OpenStoreValue C) (m : Mode) (to : Files)
+  pub tables_logged : (value : OpenStoreValue C) (m : machine.Mode) (to : Files)
       → value.set ≡ before.store.set → value.cmp ≡ before.store.cmp
       → SameBut (open_log_path before.store) (env.observed from).disk.files to
       → HasOwnTables env formats (record before { store = value; mode = m }) to
@@ -218,7 +217,7 @@ module _ {E C FP F : Type 0} {B : Boxed} {keys : InternalOrder C} (env : Ghosts 
         (env.observed from) (env.observed mid) synced_last durable.moments
 
   -- what an engine is whose log was synced, in a state in which all is durable
-  pub ends_durable : (value : OpenStoreValue C) (m : Mode) (mid to : E) (new : State)
+  pub ends_durable : (value : OpenStoreValue C) (m : machine.Mode) (mid to : E) (new : State)
       → IsTrue env.models_disk
       → (syncs : SyncsLog env before.store from (Ok tt) value mid)
       → MakesDurable old.format.order meaning (Stays old) before.store (env.observed from) old.history
@@ -228,9 +227,7 @@ module _ {E C FP F : Type 0} {B : Boxed} {keys : InternalOrder C} (env : Ghosts 
       → SameSnapshots env formats store meaning before from old was opened new
       → new.store ≡ old.store → new.format ≡ old.format → new.history ≡ old.history
       → new.last ≡ old.last → new.durable ≡ length old.history → new.pending ≡ None
-      → mode_in {E = E} {C = C} {FP = FP} {F = F} {B = B}
-      {keys = keys} (record before { store = value; mode = m })
-      ≡ new.mode
+      → m ≡ new.mode
       → (env.observed to).disk.locked (lock_path store) ≡ new.locked
       → Ends env formats store meaning before from old was opened
       (record before { store = value; mode = m }) to new
@@ -307,7 +304,8 @@ module _ {E C FP F : Type 0} {B : Boxed} {keys : InternalOrder C} (env : Ghosts 
           (env.observed from).disk.files (was.memory_is.writes
           (state_open env formats store meaning before from old was opened)) (missing.1 modelled))
       excused (inr broke) = absurd (let never : true ≡ false = sym broke.0
-          ∙ (open_unbroken before opened).log in cc)
+          ∙ ap (λ (w : WriterState). w.broken) (was.memory_is.writes
+          (state_open env formats store meaning before from old was opened)).writer in cc)
 
   -- the set stays
   pub sync_set : (value : OpenStoreValue C) (mid : E) (status : Status)
@@ -342,10 +340,7 @@ module _ {E C FP F : Type 0} {B : Boxed} {keys : InternalOrder C} (env : Ghosts 
     abbrev pub broke_now : State
     broke_now = record old { pending = None; mode = machine.broken }
 
-    pub ends_broken : (m : Mode)
-        → mode_in {E = E} {C = C} {FP = FP} {F = F} {B = B}
-        {keys = keys} (record before { store = value; mode = m })
-        ≡ machine.broken
+    pub ends_broken : (m : machine.Mode) → m ≡ machine.broken
         → Ends env formats store meaning before from old was opened
         (record before { store = value; mode = m }) mid broke_now
     ends_broken m mode_is = record {
@@ -383,12 +378,11 @@ module _ {E C FP F : Type 0} {B : Boxed} {keys : InternalOrder C} (env : Ghosts 
     failed_but path differs = ap (λ (f : Files). f path) (syncs.undone modelled)
 
     -- a request that breaks the store
-    pub goes_broken : (request : Request) (m : Mode) → TakesMemory request → ReachesDevice request
+    pub goes_broken : (request : Request) (m : machine.Mode) → TakesMemory request
+        → ReachesDevice request
         → ((kind : FileType) → Touches open_mode request kind → IsData kind)
         → Touches open_mode request Log
-        → mode_in {E = E} {C = C} {FP = FP} {F = F} {B = B}
-        {keys = keys} (record before { store = value; mode = m })
-        ≡ machine.broken
+        → m ≡ machine.broken
         → ((cause : Cause) → MayBreak cause → Breaks old None broke_now
         → LeavesRefused (setting_between meaning (env.failures from) (env.failures mid)) old request
         (refusal_of status) cause broke_now)

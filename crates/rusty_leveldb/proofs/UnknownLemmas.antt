@@ -11,7 +11,7 @@ use Rattle.leveldb_iter.specs.declared.snapshot.Snapshot.{Snapshot as HeldSnapsh
 use Rattle.leveldb_store.specs.BuildTable.{TableChoices}
 use Rattle.rusty_leveldb.specs.Boxes.{EngineOf, InternalOrder}
 use Rattle.rusty_leveldb.specs.Causes.{IsNotHeld}
-use Rattle.rusty_leveldb.specs.Engine.{RefusedAsClosed, formats_of, held_in, mode_in}
+use Rattle.rusty_leveldb.specs.Engine.{RefusedAsClosed, formats_of, held_in}
 use Rattle.rusty_leveldb.specs.Serves.{snapshot_of}
 use Rattle.rusty_leveldb.specs.State as machine
 use Rattle.rusty_leveldb.specs.State.{Snapshot}
@@ -33,7 +33,7 @@ module _ {E C FP F P : Type 0} {B : Boxed} {keys : InternalOrder C} {key_filters
     (env : Ghosts E F) (choices : OptionsOf C FP B → TableChoices keys key_filters)
     (engine : EngineOf E C FP F B keys) (status : Status) where
   -- a closed store
-  pub unknown_closed : RefusedAsClosed (mode_in engine) status
+  pub unknown_closed : RefusedAsClosed engine.mode status
       → RefusesUnknown env choices engine status
   unknown_closed out = record {
     get_at = λ key. get_closed env (formats_of choices) engine (Some no_snapshot) key status out;
@@ -42,7 +42,7 @@ module _ {E C FP F P : Type 0} {B : Boxed} {keys : InternalOrder C} {key_filters
   }
 
   -- one that isn't
-  pub unknown_refused : (mode_in engine ≡ machine.closed → ⊥) → status.code ≡ InvalidArgument
+  pub unknown_refused : (engine.mode ≡ machine.closed → ⊥) → status.code ≡ InvalidArgument
       → IsNotHeld (held_in engine) (Some no_snapshot) → RefusesUnknown env choices engine status
   unknown_refused usable code unheld = record {
     get_at = λ key. get_misfit env (formats_of choices) engine (Some no_snapshot) key usable status

@@ -1,5 +1,5 @@
 -- What a call does that makes moves of a walk, put together.
-use Rattle.std.specs.Prelude.{IfErr, OnErr, Result, string_bytes}
+use Rattle.std.specs.Prelude.{IfErr, OnErr, Result}
 use Rattle.std.proofs.Common.{◌≡◌, ◌≤◌, inl, inr, ℕ, Bool, List, [], refl, sym, ap, subst, arith, Option, Ok, Err}
 use Rattle.leveldb_base.specs.Error.{IsOutOfMemory}
 use Rattle.leveldb_base.specs.declared.error.Status.{Status}
@@ -16,7 +16,7 @@ use Rattle.leveldb_store.specs.View.{WalksStore}
 use Rattle.rusty_leveldb.specs.Boxes.{EngineOf, InternalOrder}
 use Rattle.rusty_leveldb.specs.Calls.{IsLockLeft}
 use Rattle.rusty_leveldb.specs.Causes.{IsNotHeld}
-use Rattle.rusty_leveldb.specs.Engine.{RefusedAsClosed, WalkExcused, formats_of, held_in, holds_lock, mode_in, options_in, tables_by, ReadsAt}
+use Rattle.rusty_leveldb.specs.Engine.{RefusedAsClosed, WalkExcused, formats_of, held_in, holds_lock, options_in, tables_by, ReadsAt}
 use Rattle.rusty_leveldb.specs.State as machine
 use Rattle.rusty_leveldb.specs.State.{Request, Snapshot}
 use Rattle.rusty_leveldb.specs.Walks.{EngineWalks, walk_of}
@@ -32,7 +32,7 @@ module _ {E C FP F P : Type 0} {B : Boxed} {keys : InternalOrder C} {key_filters
       → (env.failures from ≤ env.failures from) × WalkExcused before at status
   unmade status why = (omega arith, why)
 
-  pub walk_closed_serves : (status : Status) → RefusedAsClosed (mode_in before) status
+  pub walk_closed_serves : (status : Status) → RefusedAsClosed before.mode status
       → EngineWalks env choices before from at moves [] (Err status) before from
   walk_closed_serves status why = record {
     serves = record {
@@ -48,7 +48,7 @@ module _ {E C FP F P : Type 0} {B : Boxed} {keys : InternalOrder C} {key_filters
     none = refl;
   }
 
-  module _ (usable : mode_in before ≡ machine.closed → ⊥) where
+  module _ (usable : before.mode ≡ machine.closed → ⊥) where
     pub walk_unheld_serves : (status : Status) → status.code ≡ InvalidArgument → IsNotHeld (held_in before) at
         → EngineWalks env choices before from at moves [] (Err status) before from
     walk_unheld_serves status code unheld = record {
@@ -114,7 +114,7 @@ module _ {E C FP F P : Type 0} {B : Boxed} {keys : InternalOrder C} {key_filters
             others = λ modelled own. spares_same before.store.set.store (env.observed from).disk (env.observed to).disk _ (walks.kept.disk modelled).has
                 (λ path differs. ap (λ (l : List ℕ → Bool). l path) (walks.kept.locks modelled));
             lock = λ modelled. locks_stay result (holds_lock env before to) (holds_lock env before from)
-                (ap (λ (l : List ℕ → Bool). l (string_bytes before.lock)) (walks.kept.locks modelled));
+                (ap (λ (l : List ℕ → Bool). l before.lock) (walks.kept.locks modelled));
           };
           time = λ modelled. (walks.kept.disk modelled).time.later;
           cause = (walks.later, caused result walks.none);

@@ -22,7 +22,7 @@ use Rattle.leveldb_store.specs.View.{IsOfNoCompressor, MakesMoves, WalksStore}
 use Rattle.leveldb_store.specs.Written.{IsWritten, Shows}
 use Rattle.rusty_leveldb.specs.Boxes.{EngineOf, InternalOrder}
 use Rattle.rusty_leveldb.specs.Causes.{IsNotHeld, Setting, bad_operand, out_of_memory}
-use Rattle.rusty_leveldb.specs.Engine.{Answers, AnswersStill, Recalls, RefusedAsClosed, ShowsViews, held_in, mode_in, options_in, scene, tables_by, ReadsAt}
+use Rattle.rusty_leveldb.specs.Engine.{Answers, AnswersStill, Recalls, RefusedAsClosed, ShowsViews, held_in, options_in, scene, tables_by, ReadsAt}
 use Rattle.rusty_leveldb.specs.Frame.{MayTouch}
 use Rattle.rusty_leveldb.specs.Machine.{IsSequenceOf, Responds, Step, risk_between}
 use Rattle.rusty_leveldb.specs.Serves.{Goes, IsSpared, Reads, Represents, refusal_of, setting_between}
@@ -64,12 +64,12 @@ module _ {E C FP F : Type 0} {B : Boxed} {keys : InternalOrder C} (env : Ghosts 
   }
 
   -- a closed store
-  pub walk_closed : (status : Status) → RefusedAsClosed (mode_in before) status → AnswersStill env formats before request (refused (refusal_of status))
+  pub walk_closed : (status : Status) → RefusedAsClosed before.mode status → AnswersStill env formats before request (refused (refusal_of status))
   walk_closed status out = walk_still (refused (refusal_of status))
       (λ store meaning disk old recalls setting.
       subst (λ m. Step m setting old request (refused (refusal_of status)) old) (sym out.0 ∙ recalls.mode) (out.1, refl))
 
-  module _ (usable : mode_in before ≡ machine.closed → ⊥) where
+  module _ (usable : before.mode ≡ machine.closed → ⊥) where
     -- a snapshot that isn't held
     pub walk_unheld : (status : Status) → status.code ≡ InvalidArgument → IsNotHeld (held_in before) at
         → AnswersStill env formats before request (refused (refusal_of status))

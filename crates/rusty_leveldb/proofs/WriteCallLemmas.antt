@@ -13,20 +13,20 @@ use Rattle.leveldb_mem.specs.MemTable.{FailsToPrepare, IsUnion, Kept, bytes_in, 
 use Rattle.leveldb_mem.specs.WriteBatch.{Batch, IsTooLong, batch_bytes, batch_of, max_length, with_item}
 use Rattle.leveldb_store.specs.BuildTable.{TableChoices}
 use Rattle.leveldb_version.specs.Format.{Format}
-use Rattle.leveldb_store.specs.OpenStore.{OpenStoreValue}
+use Rattle.leveldb_store.specs.OpenStore.{IsUnbroken, OpenStoreValue}
 use Rattle.leveldb_store.specs.Room.{FailsFor, FailsToMakeRoom, HasFailed, IsFull, TellsOnly}
 use Rattle.leveldb_store.specs.SoundCall.{IsSoundCall, any_meaning}
 use Rattle.leveldb_store.specs.WriteBatch.{FailsToWrite, WritesBatch}
 use Rattle.rusty_leveldb.specs.Boxes.{EngineOf, InternalOrder}
+use Rattle.rusty_leveldb.specs.EngineValue.{FollowsStore}
 use Rattle.rusty_leveldb.specs.Calls.{BecomesOf, EngineServes, KeepsModeOrBreaks}
 use Rattle.rusty_leveldb.specs.Causes.{AreUsedUp}
-use Rattle.rusty_leveldb.specs.Engine.{empty_memtable, Answers, WriteExcused, mode_in, options_in, formats_of}
+use Rattle.rusty_leveldb.specs.Engine.{empty_memtable, Answers, WriteExcused, options_in, formats_of}
 use Rattle.rusty_leveldb.specs.Serves.{done_or}
 use Rattle.rusty_leveldb.specs.State as machine
 use Rattle.rusty_leveldb.specs.State.{write}
-use Rattle.rusty_leveldb.specs.declared.db_impl.engine.Mode.TheVariants.{Open}
 use Rattle.rusty_leveldb.proofs.Batching.{IsUnmade, not_written}
-use Rattle.rusty_leveldb.proofs.EngineLemmas.{open_mode_is, open_or_broken, unbroken_opens}
+use Rattle.rusty_leveldb.proofs.EngineLemmas.{follows_open}
 use Rattle.rusty_leveldb.proofs.CallsLemmas.{not_halted}
 use Rattle.rusty_leveldb.proofs.RestLemmas.{rest_roomless, rest_still, rest_written}
 use Rattle.rusty_leveldb.proofs.SyncLemmas.{log_is_there}
@@ -79,7 +79,7 @@ unmade empty item status is why long = ⊎_elim
 
 module _ {E C FP F P : Type 0} {B : Boxed} {keys : InternalOrder C} {key_filters : FilterGhosts P}
     (env : Ghosts E F) (choices : OptionsOf C FP B → TableChoices keys key_filters)
-    (before : EngineOf E C FP F B keys) (from : E) (opened : mode_in before ≡ machine.open_mode)
+    (before : EngineOf E C FP F B keys) (from : E) (opened : before.mode ≡ machine.open_mode)
     (items : List Item) (sync : Bool) where
   abbrev formats : OptionsOf C FP B → Format
   formats = formats_of choices
@@ -90,7 +90,7 @@ module _ {E C FP F P : Type 0} {B : Boxed} {keys : InternalOrder C} {key_filters
       before from
   unmade_serves status why = record {
     options = record { rest = refl; sink = refl };
-    halted = λ halted. absurd (not_halted (mode_in before) opened halted);
+    halted = λ halted. absurd (not_halted before.mode opened halted);
     becomes = (tt, inr refl);
     step = not_written env formats before opened items sync status why from;
     rest = rest_still env before from (write items sync) (Err status) (inr (status, refl));
@@ -103,9 +103,13 @@ module _ {E C FP F P : Type 0} {B : Boxed} {keys : InternalOrder C} {key_filters
   }
 
   -- the mode in the end
-  becomes : (after : EngineOf E C FP F B keys) → after.mode ≡ Open → KeepsModeOrBreaks before after
-  becomes after is = ⊎_elim (λ opens. inr (opens.0 ∙ sym opened)) (λ broke. inl broke.0)
-      (open_or_broken after is)
+  becomes : (after : EngineOf E C FP F B keys) → FollowsStore after.mode after.store
+      → KeepsModeOrBreaks before after
+  becomes after follows = ⊎_elim
+      (λ (opens : (after.mode ≡ machine.open_mode) × IsUnbroken after.store).
+      inr (opens.0 ∙ sym opened))
+      (λ (broke : (after.mode ≡ machine.broken) × (IsUnbroken after.store → ⊥)). inl broke.0)
+      follows
 
   module _ (ignores : (a b : OptionsOf C FP B) → TellsOnly a b → formats b ≡ formats a) where
     -- no room is made
@@ -115,12 +119,8 @@ module _ {E C FP F P : Type 0} {B : Boxed} {keys : InternalOrder C} {key_filters
         after to
     room_fails_serves after to status made = record {
       options = room_tells env choices before from (Err status) after to made;
-      halted = λ halted. absurd (not_halted (mode_in before) opened halted);
-      becomes = (
-        tt,
-        becomes after (ap (λ (e : EngineOf E C FP F B keys). e.mode) made.rest
-            ∙ open_mode_is before opened),
-      );
+      halted = λ halted. absurd (not_halted before.mode opened halted);
+      becomes = (tt, becomes after made.mode);
       step = λ store meaning modelled old was. room_fails env choices store meaning before from old was
           opened modelled ignores after to items sync status made;
       rest = rest_roomless env before from opened choices items sync after to status made;
@@ -150,18 +150,16 @@ module _ {E C FP F P : Type 0} {B : Boxed} {keys : InternalOrder C} {key_filters
 
     module _ (roomy : EngineOf E C FP F B keys) (mid : E)
         (made : EngineMakesRoom env choices before from (Ok tt) roomy mid)
-        (value : OpenStoreValue C) (to : E) where
-      room_open : roomy.mode ≡ Open
-      room_open = ap (λ (e : EngineOf E C FP F B keys). e.mode) made.rest
-          ∙ open_mode_is before opened
-
+        (value : OpenStoreValue C) (mode : machine.Mode) (follows : FollowsStore mode value)
+        (to : E) where
       -- a batch is written into a memtable with room
       batch_becomes : (result : Result (Unit {0}) Status)
           → WritesBatch env (formats (options_in roomy)).order roomy.store mid items sync result value
-          to → BecomesOf before (write items sync) result (record roomy { store = value })
+          to → BecomesOf before (write items sync) result
+          (record roomy { store = value; mode = mode })
       batch_becomes (Ok nothing) writes = (
         (
-          unbroken_opens (record roomy { store = value }) room_open writes.usable ∙ sym opened,
+          follows_open mode value follows writes.usable ∙ sym opened,
           (
             roomy.store.recent,
             made.makes.room,
@@ -172,7 +170,7 @@ module _ {E C FP F P : Type 0} {B : Boxed} {keys : InternalOrder C} {key_filters
         tt,
       )
       batch_becomes (Err status) writes =
-          (tt, becomes (record roomy { store = value }) room_open)
+          (tt, becomes (record roomy { store = value; mode = mode }) follows)
 
       -- the memtable that room was made in is empty
       in_empty : IsFull before.options.write_buffer_size before.store.recent → {status : Status}
@@ -238,13 +236,13 @@ module _ {E C FP F P : Type 0} {B : Boxed} {keys : InternalOrder C} {key_filters
           to → IsSoundCall {T = Unit {0}} env (formats (options_in before)).order any_meaning
           roomy.store mid result value to
           → Answers env formats (Some before) from (write items sync) (done_or result)
-          (Some (record roomy { store = value })) to
+          (Some (record roomy { store = value; mode = mode })) to
       step (Ok nothing) short writes sound store meaning modelled old was =
           write_done env choices store meaning before from old was opened modelled ignores roomy mid
-          made items sync value to short writes sound
+          made items sync value mode follows to short writes sound
       step (Err status) short writes sound store meaning modelled old was =
           write_fails env choices store meaning before from old was opened modelled ignores roomy mid
-          made items sync value to status writes sound
+          made items sync value mode follows to status writes sound
 
       same_format : formats (options_in roomy) ≡ formats (options_in before)
       same_format = ignores (options_in before) (options_in roomy)
@@ -257,7 +255,7 @@ module _ {E C FP F P : Type 0} {B : Boxed} {keys : InternalOrder C} {key_filters
           to → IsSoundCall {T = Unit {0}} env (formats (options_in roomy)).order any_meaning
           roomy.store mid result value to
           → EngineServes env choices done_or before from (write items sync) result
-          (record roomy { store = value }) to
+          (record roomy { store = value; mode = mode }) to
       batch_serves result short writes_in sound_in =
           let writes = subst (λ (f : Format).
           WritesBatch env f.order roomy.store mid items sync result value to) same_format writes_in in
@@ -266,11 +264,11 @@ module _ {E C FP F P : Type 0} {B : Boxed} {keys : InternalOrder C} {key_filters
           record {
             options = batch_tells env choices before from roomy mid made value
                 (ap (λ (v : OpenStoreValue C). v.cmp) writes.rest);
-            halted = λ halted. absurd (not_halted (mode_in before) opened halted);
+            halted = λ halted. absurd (not_halted before.mode opened halted);
             becomes = batch_becomes result writes_in;
             step = step result short writes sound;
-            rest = rest_written env before from opened choices items sync roomy mid made value to
-                result writes_in;
+            rest = rest_written env before from opened choices items sync roomy mid made value mode
+                to result writes_in;
             time = λ modelled.
                 let first = made.sound.time modelled in
                 let second = sound.time modelled in omega (arith, first, second);

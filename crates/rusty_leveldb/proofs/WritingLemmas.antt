@@ -1,6 +1,6 @@
 -- The step of the machine in which a batch is written: first room is made in the memtable, then the
 -- batch is appended to the log.
-use Rattle.std.specs.Prelude.{Result, is_some, map, string_bytes}
+use Rattle.std.specs.Prelude.{Result, is_some, map}
 use Rattle.std.proofs.Common.{◌≡◌, ◌≤◌, ◌<◌, ◌+◌, ◌-◌, ◌^◌, ◌⊎◌, ◌∙◌, ⊎_elim, inl, inr, ℕ, zero, suc, Bool, List, [], ◌∷◌, ◌++◌, length, max, refl, sym, ap, subst, arith, Option, Some, None, Ok, Err, IsTrue}
 use Rattle.std.specs.declared.cmp.Ordering.{Ordering}
 use Rattle.leveldb_base.specs.Error.{IsOutOfMemory, text_of}
@@ -33,16 +33,16 @@ use Rattle.leveldb_store.specs.SoundCall.{IsSoundCall, any_meaning}
 use Rattle.leveldb_store.specs.Write.{open_log_path}
 use Rattle.leveldb_store.specs.WriteBatch.{AddsBatch, FailsToWrite, HoldsBatches, IsOf, LeavesHistory, WritesBatch, next_batch}
 use Rattle.leveldb_store.specs.Written.{IsDataPath, IsWritten, KeepsShown, KeepsStore, KeepsWritten, SparesRest}
-use Rattle.rusty_leveldb.specs.declared.db_impl.engine.Mode.TheVariants.{Open}
 use Rattle.rusty_leveldb.specs.Boxes.{EngineOf, InternalOrder}
+use Rattle.rusty_leveldb.specs.EngineValue.{FollowsStore}
 use Rattle.rusty_leveldb.specs.Causes.{Cause, Comes, Fits, Setting, compressor_failed, device_failed, out_of_memory, too_large, used_up}
-use Rattle.rusty_leveldb.specs.Engine.{HasOwnTables, Recalls, mode_in, options_in, scene, formats_of, tables_by}
+use Rattle.rusty_leveldb.specs.Engine.{HasOwnTables, Recalls, options_in, scene, formats_of, tables_by}
 use Rattle.rusty_leveldb.specs.Frame.{MayTouch, Spares}
 use Rattle.rusty_leveldb.specs.Machine.{Breaks, Refuses, Risk, Step, Writes, added_batch, risk_between}
 use Rattle.rusty_leveldb.specs.Serves.{Goes, IsSpared, Represents, refusal_of, setting_between}
 use Rattle.rusty_leveldb.specs.State as machine
 use Rattle.rusty_leveldb.specs.State.{State, done, open_mode, refused, write}
-use Rattle.rusty_leveldb.proofs.EngineLemmas.{SameSnapshots, Stays, agreeing, goes, is_of, machine_spares, name_is, none, not_closed, open_mode_is, open_or_broken, same_format, state_open, store_named, unbroken_opens}
+use Rattle.rusty_leveldb.proofs.EngineLemmas.{SameSnapshots, Stays, agreeing, follows_open, goes, is_of, machine_spares, name_is, none, not_closed, same_format, state_open, store_named}
 use Rattle.rusty_leveldb.proofs.Moments.{grows_by, spared_more}
 use Rattle.rusty_leveldb.proofs.ReadsLemmas.{keeps_holds, may_stay, spared_keeps}
 use Rattle.rusty_leveldb.proofs.SyncLemmas.{log_is_own, log_is_there, risk_now, spares_data}
@@ -75,13 +75,16 @@ module _ {E C FP F P : Type 0} {B : Boxed} {keys : InternalOrder C} {key_filters
     pub sound : IsSoundCall env (choices (options_in before)).format.order
         (Agrees (choices (options_in before)).format) before.store from result after.store to
     pub closes : ClosesObsolete env before.store.set from before.tables to after.tables
-    -- nothing else of the engine changes but the sink of the options' log
+    -- nothing else of the engine changes but the sink of the options' log, and its mode
     pub rest : after ≡ record before {
       store = after.store;
       options = record (options_in before) { log = after.options.log };
       tables = after.tables;
+      mode = after.mode;
     }
     pub sink : is_some after.options.log ≡ is_some before.options.log
+    -- it is broken where the store is
+    pub mode : FollowsStore after.mode after.store
 
 -- what making room leaves of the options
 pub room_tells : {E C FP F P : Type 0} {B : Boxed} {keys : InternalOrder C}
@@ -151,7 +154,7 @@ module _ {E C FP F P : Type 0} {B : Boxed} {keys : InternalOrder C} {key_filters
     (store : List ℕ) (meaning : Meaning) (before : EngineOf E C FP F B keys) (from : E)
     (old : State)
     (was : Represents store meaning (Recalls env (formats_of choices) store meaning) (Some before)
-    (env.observed from).disk old) (opened : mode_in before ≡ machine.open_mode)
+    (env.observed from).disk old) (opened : before.mode ≡ machine.open_mode)
     (modelled : IsTrue env.models_disk) where
   abbrev formats : OptionsOf C FP B → Format
   formats = formats_of choices
@@ -354,9 +357,6 @@ module _ {E C FP F P : Type 0} {B : Boxed} {keys : InternalOrder C} {key_filters
         (agreeing env formats store meaning before from old was opened))))
         (may_stay None old.store) held.written
 
-    room_mode : roomy.mode ≡ Open
-    room_mode = ap (λ (e : EngineOf E C FP F B keys). e.mode) made.rest ∙ open_mode_is before opened
-
     room_options : formats (options_in roomy) ≡ formats (options_in before)
     room_options = ignores (options_in before) (options_in roomy)
         (room_tells env choices before from result roomy mid made)
@@ -393,7 +393,7 @@ module _ {E C FP F P : Type 0} {B : Boxed} {keys : InternalOrder C} {key_filters
         (subst (λ (g : Format). IsWritten g.order meaning before.store files) (sym f) held.written)
 
     went : (new : State) → SameSnapshots env formats store meaning before from old was opened new
-        → mode_in after ≡ new.mode → new.store ≡ old.store
+        → after.mode ≡ new.mode → new.store ≡ old.store
         → new.format ≡ old.format → new.history ≡ old.history → new.last ≡ old.last
         → new.durable ≡ old.durable → new.pending ≡ None → new.locked ≡ old.locked
         → (new.mode ≡ open_mode → IsUnbroken after.store)
@@ -403,7 +403,7 @@ module _ {E C FP F P : Type 0} {B : Boxed} {keys : InternalOrder C} {key_filters
     went new snapshots mode_is store_is format_is history_is last_is durable_is pending_is locked_is
         unbroken refuses =
         goes env formats store meaning before from old was opened after to new (record {
-          lock = ap (λ (e : EngineOf E C FP F B keys). string_bytes e.lock) made.rest;
+          lock = ap (λ (e : EngineOf E C FP F B keys). e.lock) made.rest;
           options = room_options ignores after to (Err status) made;
           path = made.makes.rest.store;
           store_is = store_is;
@@ -450,30 +450,31 @@ module _ {E C FP F P : Type 0} {B : Boxed} {keys : InternalOrder C} {key_filters
         (scene env (Some before) from)
         (write items sync) (refused (refusal_of status)) (scene env (Some after) to) old
     room_fails = ⊎_elim
-        (λ (sound : (mode_in after ≡ machine.open_mode) × IsUnbroken after.store).
+        (λ (sound : (after.mode ≡ machine.open_mode) × IsUnbroken after.store).
         went old (λ in_use. (refl, refl)) (sound.0 ∙ sym mode) refl refl refl refl refl
         (none env formats store meaning before from old was opened) refl (λ is. sound.1)
         (refuses_still items sync status to (room_cause items sync status to made.makes.cause.cause)))
-        (λ (is : (mode_in after ≡ machine.broken) × (IsUnbroken after.store → ⊥)).
+        (λ (is : (after.mode ≡ machine.broken) × (IsUnbroken after.store → ⊥)).
         went (broke None) (λ in_use. (refl, refl)) is.0 refl refl refl refl refl refl refl
         (λ opens. absurd (let never : machine.broken ≡ open_mode = opens in cc))
         (refuses_broken items sync status to None (inl refl) (⊎_elim
         (λ (sound : IsUnbroken after.store). absurd (is.1 sound)) (λ why. why) breaks_by)))
-        (open_or_broken after (room_mode ignores after to (Err status) made))
+        made.mode
 
   -- ---- the batch, where there is room
 
   module _ (ignores : (a b : OptionsOf C FP B) → TellsOnly a b → formats b ≡ formats a)
       (roomy : EngineOf E C FP F B keys) (mid : E)
       (made : EngineMakesRoom env choices before from (Ok tt) roomy mid)
-      (items : List Item) (sync : Bool) (value : OpenStoreValue C) (to : E) where
+      (items : List Item) (sync : Bool) (value : OpenStoreValue C) (end_mode : machine.Mode)
+      (follows : FollowsStore end_mode value) (to : E) where
     -- the files as room was made
     abbrev here : Files
     here = (env.observed mid).disk.files
 
     -- the engine in the end
     abbrev after : EngineOf E C FP F B keys
-    after = record roomy { store = value }
+    after = record roomy { store = value; mode = end_mode }
 
     -- the batch as the store has it
     abbrev its_batch : List Entry
@@ -635,13 +636,12 @@ module _ {E C FP F P : Type 0} {B : Boxed} {keys : InternalOrder C} {key_filters
       write_done =
           let nothing = none env formats store meaning before from old was opened in
           goes env formats store meaning before from old was opened after to new (record {
-            lock = ap (λ (e : EngineOf E C FP F B keys). string_bytes e.lock) made.rest;
+            lock = ap (λ (e : EngineOf E C FP F B keys). e.lock) made.rest;
             options = end_options (Ok tt) writes sound;
             path = end_path (Ok tt) writes sound;
             store_is = refl;
             format_is = refl;
-            mode = unbroken_opens after (room_mode ignores roomy mid (Ok tt) made)
-                writes.usable ∙ sym mode;
+            mode = follows_open end_mode value follows writes.usable ∙ sym mode;
             last = end_last;
             grows = let more = ap greatest (entries_more old.history (added_batch old items))
                 ∙ greatest_append (entries_of old.history) (added_batch old items) in
@@ -734,8 +734,8 @@ module _ {E C FP F P : Type 0} {B : Boxed} {keys : InternalOrder C} {key_filters
 
       unwritten : (new : State)
           → SameSnapshots env formats store meaning before from old was opened new
-          → mode_in {E = E} {C = C} {FP = FP} {F = F} {B = B} {keys = keys} after ≡ new.mode
-          → new.store ≡ old.store → new.format ≡ old.format → new.history ≡ old.history
+          → end_mode ≡ new.mode → new.store ≡ old.store → new.format ≡ old.format
+          → new.history ≡ old.history
           → new.last ≡ old.last → new.durable ≡ old.durable → new.pending ≡ leaves.0
           → new.locked ≡ old.locked
           → (new.mode ≡ open_mode → IsUnbroken value)
@@ -745,7 +745,7 @@ module _ {E C FP F P : Type 0} {B : Boxed} {keys : InternalOrder C} {key_filters
       unwritten new snapshots mode_is store_is format_is history_is last_is durable_is pending_is
           locked_is unbroken refuses =
           goes env formats store meaning before from old was opened after to new (record {
-            lock = ap (λ (e : EngineOf E C FP F B keys). string_bytes e.lock) made.rest;
+            lock = ap (λ (e : EngineOf E C FP F B keys). e.lock) made.rest;
             options = end_options (Err status) writes sound;
             path = end_path (Err status) writes sound;
             store_is = store_is;
@@ -811,19 +811,14 @@ module _ {E C FP F P : Type 0} {B : Boxed} {keys : InternalOrder C} {key_filters
           (scene env (Some before) from) (write items sync) (refused (refusal_of status))
           (scene env (Some after) to) old
       write_fails = ⊎_elim
-          (λ (whole : (mode_in {E = E} {C = C} {FP = FP} {F = F} {B = B}
-          {keys = keys} after ≡ machine.open_mode)
-          × IsUnbroken value).
+          (λ (whole : (end_mode ≡ machine.open_mode) × IsUnbroken value).
           unwritten old (λ in_use. (refl, refl)) (whole.0 ∙ sym mode) refl refl refl refl refl
           (none env formats store meaning before from old was opened
           ∙ sym (leaves.2.written whole.1).0) refl (λ is. whole.1)
           (refuses_still items sync status to (batch_cause writes.cause.cause)))
-          (λ (is : (mode_in {E = E} {C = C} {FP = FP} {F = F} {B = B}
-          {keys = keys} after ≡ machine.broken)
-          × (IsUnbroken value → ⊥)).
+          (λ (is : (end_mode ≡ machine.broken) × (IsUnbroken value → ⊥)).
           unwritten (broke leaves.0) (λ in_use. (refl, refl)) is.0 refl refl refl refl refl refl refl
           (λ opens. absurd (let never : machine.broken ≡ open_mode = opens in cc))
           (refuses_broken items sync status to leaves.0 which (⊎_elim
           (λ (whole : IsUnbroken value). absurd (is.1 whole)) (λ why. why) breaks_by_batch)))
-          (open_or_broken {E = E} {C = C} {FP = FP} {F = F} {B = B} {keys = keys} after
-          (room_mode ignores roomy mid (Ok tt) made))
+          follows

@@ -1,9 +1,9 @@
 -- The engine and a life, by the types of what their options own in boxes.
 use Rattle.leveldb_base.specs.declared.cmp.Cmp.{Ghosts as CmpGhosts}
 use Rattle.leveldb_base.specs.declared.cmp.internal.InternalKeyCmp.{InternalKeyCmp}
-use Rattle.leveldb_env.specs.Options.{Boxed}
+use Rattle.leveldb_env.specs.Options.{Boxed, OptionsOf}
 use Rattle.leveldb_version.specs.declared.table_cache.TableCache.{TableCache}
-use Rattle.rusty_leveldb.specs.declared.db_impl.engine.Engine.{Engine}
+use Rattle.rusty_leveldb.specs.EngineValue.{EngineValue}
 use Rattle.rusty_leveldb.specs.declared.shell.crash_runs.Life.{Life}
 
 -- the order of internal keys over comparators of this type
@@ -12,8 +12,7 @@ InternalOrder C = CmpGhosts (InternalKeyCmp C)
 
 -- an engine whose options own boxes of these types, and whose tables are in this order
 abbrev pub EngineOf : (E C FP F : Type 0) → Boxed → InternalOrder C → Type 0
-EngineOf E C FP F B keys =
-    Engine E C FP (TableCache E C FP F keys) F B.sinks B.compressors B.sink B.compressor
+EngineOf E C FP F B keys = EngineValue C (OptionsOf C FP B) (TableCache E C FP F keys)
 
 -- a life whose options do
 abbrev pub LifeOf : Type 0 → Type 0 → Boxed → Type 0

@@ -1,6 +1,6 @@
 -- What each call on an engine does: one record a call, the same of an engine and of a store that
 -- holds its environment.
-use Rattle.std.specs.Prelude.{◌≡◌, ◌≤◌, ◌⊎◌, ℕ, Bool, false, List, Some, None, Result, Ok, Err, OnOk, OnErr, IfOk, IfErr, IsErrAnd, IsTrue, string_bytes}
+use Rattle.std.specs.Prelude.{◌≡◌, ◌≤◌, ◌⊎◌, ℕ, Bool, false, List, Some, None, Result, Ok, Err, OnOk, OnErr, IfOk, IfErr, IsErrAnd, IsTrue}
 use Rattle.leveldb_base.specs.declared.error.Status.{Status}
 use Rattle.leveldb_base.specs.Error.{IsOutOfMemory}
 use Rattle.leveldb_env.specs.declared.env.Env.{Ghosts}
@@ -15,7 +15,7 @@ use Rattle.leveldb_store.specs.SoundCall.{TimeGoesOn}
 use Rattle.leveldb_store.specs.Write.{open_log_path}
 use Rattle.rusty_leveldb.specs.State.{Opening, Request, Answer, open_mode, open_store, write, get, walk, get_snapshot, release_snapshot, flush, close, abandon}
 use Rattle.rusty_leveldb.specs.Serves.{done_or, given_engine}
-use Rattle.rusty_leveldb.specs.Engine.{IsClosed, IsBroken, IsClosedOrBroken, RefusedByMode, AnswersAs, Answers, WriteExcused, SyncExcused, CloseExcused, GetFails, SnapshotExcused, ReleaseExcused, WalkExcused, IsStoreName, IsOpening, HasOwnLock, WritesIntoRoom, formats_of, holds_lock, mode_in, options_in}
+use Rattle.rusty_leveldb.specs.Engine.{IsClosed, IsBroken, IsClosedOrBroken, RefusedByMode, AnswersAs, Answers, WriteExcused, SyncExcused, CloseExcused, GetFails, SnapshotExcused, ReleaseExcused, WalkExcused, IsStoreName, IsOpening, HasOwnLock, WritesIntoRoom, formats_of, holds_lock, options_in}
 use Rattle.rusty_leveldb.specs.Frame.{IsOwn, MayTouchOrLog, Spares}
 use Rattle.rusty_leveldb.specs.Unopened.{IsLockGivenBack, IsLockHeld, MakesLockAlone, NeverOpens, OpenExcused}
 use Rattle.rusty_leveldb.specs.Boxes.{EngineOf, InternalOrder}
@@ -71,10 +71,10 @@ module _ {E C FP F : Type 0} {B : Boxed} {keys : InternalOrder C} (env : Ghosts 
       (request : Request) (result : Result T Status) (after : EngineOf E C FP F B keys) (to : E)
       : Type 0 where
     -- the lock's name and the store's path
-    pub place : (string_bytes after.lock ≡ string_bytes before.lock)
+    pub place : (after.lock ≡ before.lock)
         × (after.store.set.store ≡ before.store.set.store)
     -- all files but those that the request may touch
-    pub others : SparesBut before (MayTouchOrLog before.store.set.store (mode_in before) request
+    pub others : SparesBut before (MayTouchOrLog before.store.set.store before.mode request
         (open_log_path after.store)) from to
     -- and the lock, but that closing frees it
     pub lock : IsTrue env.models_disk
@@ -85,21 +85,21 @@ module _ {E C FP F : Type 0} {B : Boxed} {keys : InternalOrder C} (env : Ghosts 
 module _ {E C FP F : Type 0} {B : Boxed} {keys : InternalOrder C} where
   -- the mode refuses the request: of a closed store any, of a broken one those that write
   abbrev pub IsHalted : EngineOf E C FP F B keys → Request → Type 0
-  IsHalted engine (get at key) = IsClosed (mode_in engine)
-  IsHalted engine (walk at moves) = IsClosed (mode_in engine)
-  IsHalted engine get_snapshot = IsClosed (mode_in engine)
-  IsHalted engine (release_snapshot one) = IsClosed (mode_in engine)
-  IsHalted engine request = IsClosedOrBroken (mode_in engine)
+  IsHalted engine (get at key) = IsClosed engine.mode
+  IsHalted engine (walk at moves) = IsClosed engine.mode
+  IsHalted engine get_snapshot = IsClosed engine.mode
+  IsHalted engine (release_snapshot one) = IsClosed engine.mode
+  IsHalted engine request = IsClosedOrBroken engine.mode
 
   -- what a read leaves of an engine: its mode and its store, but for the seeks that its live files
   -- may take, and which of them was chosen since it has none left
   abbrev pub IsReadOnly : EngineOf E C FP F B keys → EngineOf E C FP F B keys → Type 0
-  IsReadOnly before after = (mode_in after ≡ mode_in before)
+  IsReadOnly before after = (after.mode ≡ before.mode)
       × (after.store ≡ record before.store { current = after.store.current })
 
   -- its mode is as before, or the call broke it
   abbrev pub KeepsModeOrBreaks : EngineOf E C FP F B keys → EngineOf E C FP F B keys → Type 0
-  KeepsModeOrBreaks before after = IsBroken (mode_in after) ⊎ (mode_in after ≡ mode_in before)
+  KeepsModeOrBreaks before after = IsBroken after.mode ⊎ (after.mode ≡ before.mode)
 
   -- What becomes of an engine. A read leaves its mode and its store. A write or a flush that is Ok
   -- leaves its mode; a write that fails may break it, and a flush that fails does, but out of
@@ -111,14 +111,14 @@ module _ {E C FP F : Type 0} {B : Boxed} {keys : InternalOrder C} where
   BecomesOf before get_snapshot result after = IsReadOnly before after
   BecomesOf before (release_snapshot one) result after = IsReadOnly before after
   BecomesOf before (write items sync) result after =
-      OnOk result ((mode_in after ≡ mode_in before) × WritesIntoRoom before items after)
+      OnOk result ((after.mode ≡ before.mode) × WritesIntoRoom before items after)
       × OnErr result (KeepsModeOrBreaks before after)
-  BecomesOf before flush result after = OnOk result (mode_in after ≡ mode_in before)
+  BecomesOf before flush result after = OnOk result (after.mode ≡ before.mode)
       × IfErr result (λ e. KeepsModeOrBreaks before after
-      × (IsClosedOrBroken (mode_in after) ⊎ IsOutOfMemory e))
-  BecomesOf before close result after = OnOk result (IsClosed (mode_in after))
-      × OnErr result (IsBroken (mode_in after)
-      ⊎ (IsClosed (mode_in before) × IsClosed (mode_in after)))
+      × (IsClosedOrBroken after.mode ⊎ IsOutOfMemory e))
+  BecomesOf before close result after = OnOk result (IsClosed after.mode)
+      × OnErr result (IsBroken after.mode
+      ⊎ (IsClosed before.mode × IsClosed after.mode))
   BecomesOf before request result after = KeepsModeOrBreaks before after
 
 module _ {E C FP F P : Type 0} {B : Boxed} {keys : InternalOrder C} {key_filters : FilterGhosts P}
@@ -131,7 +131,7 @@ module _ {E C FP F P : Type 0} {B : Boxed} {keys : InternalOrder C} {key_filters
     pub options : TellsOnly (options_in before) (options_in after)
     -- where the mode refuses the request, nothing changes
     pub halted : IsHalted before request → (to ≡ from) × (after ≡ before)
-        × IsErrAnd result (RefusedByMode (mode_in before))
+        × IsErrAnd result (RefusedByMode before.mode)
     -- what becomes of the engine, over any environment
     pub becomes : BecomesOf before request result after
     -- where the disk is observed, the call is a step of the machine
@@ -151,13 +151,13 @@ module _ {E C FP F : Type 0} {B : Boxed} {keys : InternalOrder C} (env : Ghosts 
       (result : Result (Unit {0}) Status)
       (to : E) : Type 0 where
     -- one that is closed has given back its lock
-    pub halted : IsClosed (mode_in engine) → (to ≡ from) × OnErr result ⊥
+    pub halted : IsClosed engine.mode → (to ≡ from) × OnErr result ⊥
     -- where the disk is observed, the call is a step of the machine
     pub step : Answers env formats (Some engine) from abandon (done_or result) None to
     -- no file changes, and no lock but the engine's
     pub others : SparesBut env engine (λ path. ⊥) from to
     -- one that isn't closed gives back its lock
-    pub lock : IsTrue env.models_disk → (IsClosed (mode_in engine) → ⊥)
+    pub lock : IsTrue env.models_disk → (IsClosed engine.mode → ⊥)
         → IsLockLeft abandon result (holds_lock env engine from) (holds_lock env engine to)
     -- no moment of the disk is taken back
     pub time : TimeGoesOn env from to
@@ -167,7 +167,7 @@ module _ {E C FP F : Type 0} {B : Boxed} {keys : InternalOrder C} (env : Ghosts 
   -- an engine that an opening with these options gave
   pub record IsOpened (name : List ℕ) (given : OptionsOf C FP B) (engine : EngineOf E C FP F B keys)
       : Type 0 where
-    pub mode : mode_in engine ≡ open_mode
+    pub mode : engine.mode ≡ open_mode
     -- it has the options, but for the sink of their log
     pub options : TellsOnly given (options_in engine)
     -- its store is that of the name

@@ -1,5 +1,5 @@
 -- What an engine has in memory, what that has to do with the disk, and what its calls return.
-use Rattle.std.specs.Prelude.{◌≡◌, ◌≢◌, ◌≤◌, ◌⊎◌, ◌↔◌, ℕ, Bool, true, false, List, [], ◌∷◌, ◌++◌, length, map, Contains, Option, Some, None, IsTrue, string_bytes, ◌&&◌, ◌||◌, nat_le, ◌^◌, Result, is_some}
+use Rattle.std.specs.Prelude.{◌≡◌, ◌≢◌, ◌≤◌, ◌⊎◌, ◌↔◌, ℕ, Bool, List, [], ◌∷◌, ◌++◌, length, map, Contains, Option, Some, None, IsTrue, ◌&&◌, nat_le, ◌^◌, Result, is_some}
 use Rattle.leveldb_base.specs.declared.cmp.Cmp.{Ghosts as CmpGhosts}
 use Rattle.leveldb_base.specs.declared.error.Status.{Status}
 use Rattle.leveldb_base.specs.declared.error.StatusCode.TheVariants.{InvalidArgument, NotSupported}
@@ -16,7 +16,6 @@ use Rattle.leveldb_mem.specs.Log.Writer.{IsWriterBroken}
 use Rattle.leveldb_mem.specs.MemTable.{FailsToPrepare, IsUnion, Kept, bytes_in}
 use Rattle.leveldb_version.specs.Paths.{lock_path}
 use Rattle.leveldb_version.specs.Contents.{made}
-use Rattle.leveldb_version.specs.VersionSetValue.{ManifestState, broken}
 use Rattle.leveldb_store.specs.BuildTable.{TableChoices}
 use Rattle.leveldb_version.specs.Format.{Format, IsTableFault, LacksCompressor, Meaning, format_of}
 use Rattle.leveldb_version.specs.Levels.{LiveTable}
@@ -29,8 +28,6 @@ use Rattle.leveldb_store.specs.Switch.{AreFileNumbersTooFew}
 use Rattle.leveldb_store.specs.Write.{IsLogLost}
 use Rattle.leveldb_store.specs.WriteBatch.{next_batch}
 use Rattle.leveldb_store.specs.Written.{IsWritten, Shows}
-use Rattle.rusty_leveldb.specs.declared.db_impl.engine.Mode.{Mode}
-use Rattle.rusty_leveldb.specs.declared.db_impl.engine.Mode.TheVariants.{Open, Broken, Closed}
 use Rattle.rusty_leveldb.specs.State as machine
 use Rattle.rusty_leveldb.specs.State.{State, Opening, Request, Answer, Snapshot}
 use Rattle.rusty_leveldb.specs.Causes.{AreSnapshotsUsedUp, AreUsedUp, IsLongBatch, IsLongKey, IsNotHeld}
@@ -38,27 +35,6 @@ use Rattle.rusty_leveldb.specs.Serves.{Serves, Scene, snapshot_of}
 use Rattle.rusty_leveldb.specs.Boxes.{EngineOf, InternalOrder}
 
 -- ---- the mode
-
--- whether a call on the manifest failed
-abbrev pub is_manifest_broken : ManifestState → Bool
-is_manifest_broken broken = true
-is_manifest_broken state = false
-
--- whether a call on the store's manifest or log failed
-abbrev pub is_store_broken : {C : Type 0} → OpenStoreValue C → Bool
-is_store_broken value = is_manifest_broken value.set.manifest || value.log.writer.broken
-
--- the mode of an engine that was closed or not, and whose store is broken or not
-abbrev pub mode_with : Mode → Bool → machine.Mode
-mode_with Open false = machine.open_mode
-mode_with Open true = machine.broken
-mode_with Broken b = machine.broken
-mode_with Closed b = machine.closed
-
--- the mode of an engine
-abbrev pub mode_in : {E C FP F : Type 0} {B : Boxed} {keys : InternalOrder C}
-    → EngineOf E C FP F B keys → machine.Mode
-mode_in engine = mode_with engine.mode (is_store_broken engine.store)
 
 -- every call but `abandon` fails
 abbrev pub IsClosed : machine.Mode → Type 0
@@ -89,12 +65,12 @@ tables_by formats engine = table_options (formats (options_in engine)) (options_
 -- the lock of an engine is that of its store
 abbrev pub HasOwnLock : {E C FP F : Type 0} {B : Boxed} {keys : InternalOrder C}
     → EngineOf E C FP F B keys → Type 0
-HasOwnLock engine = string_bytes engine.lock ≡ lock_path engine.store.set.store
+HasOwnLock engine = engine.lock ≡ lock_path engine.store.set.store
 
 -- whether an engine's lock is held
 abbrev pub holds_lock : {E C FP F : Type 0} {B : Boxed} {keys : InternalOrder C} → Ghosts E F
     → EngineOf E C FP F B keys → E → Bool
-holds_lock env engine at = (env.observed at).disk.locked (string_bytes engine.lock)
+holds_lock env engine at = (env.observed at).disk.locked engine.lock
 
 -- ---- snapshots
 
@@ -141,8 +117,8 @@ module _ {E C FP F : Type 0} {B : Boxed} {keys : InternalOrder C} (env : Ghosts 
   -- tables are those of the files; where it is open, the files are written with what is in memory.
   pub record Recalls (engine : EngineOf E C FP F B keys) (disk : Disk) (state : State)
       : Type 0 where
-    pub mode : mode_in engine ≡ state.mode
-    pub lock : string_bytes engine.lock ≡ lock_path store
+    pub mode : engine.mode ≡ state.mode
+    pub lock : engine.lock ≡ lock_path store
     pub path : engine.store.set.store ≡ store
     pub format : (state.mode ≡ machine.closed → ⊥) → formats (options_in engine) ≡ state.format
     pub named : (state.mode ≡ machine.closed → ⊥)
@@ -216,26 +192,26 @@ RefusedByMode mode e = RefusedAsClosed mode e ⊎ RefusedAsBroken mode e
 -- ran out, or a table can't be read, for this cause.
 abbrev pub GetExcused : {E C FP F : Type 0} {B : Boxed} {keys : InternalOrder C}
     → EngineOf E C FP F B keys → Option Snapshot → List ℕ → (Status → Type 0) → Status → Type 0
-GetExcused engine at key Unreadable e = RefusedAsClosed (mode_in engine) e
+GetExcused engine at key Unreadable e = RefusedAsClosed engine.mode e
     ⊎ ((e.code ≡ InvalidArgument) × (IsNotHeld (held_in engine) at ⊎ IsLongKey key))
     ⊎ IsOutOfMemory e ⊎ Unreadable e
 
 -- why no walk may be made: the store is closed, the snapshot isn't held, or memory ran out
 abbrev pub WalkExcused : {E C FP F : Type 0} {B : Boxed} {keys : InternalOrder C}
     → EngineOf E C FP F B keys → Option Snapshot → Status → Type 0
-WalkExcused engine at e = RefusedAsClosed (mode_in engine) e
+WalkExcused engine at e = RefusedAsClosed engine.mode e
     ⊎ ((e.code ≡ InvalidArgument) × IsNotHeld (held_in engine) at) ⊎ IsOutOfMemory e
 
 -- why no snapshot may be given out: the store is closed, memory ran out, or the numbers are used up
 abbrev pub SnapshotExcused : {E C FP F : Type 0} {B : Boxed} {keys : InternalOrder C}
     → EngineOf E C FP F B keys → Status → Type 0
-SnapshotExcused engine e = RefusedAsClosed (mode_in engine) e ⊎ IsOutOfMemory e
+SnapshotExcused engine e = RefusedAsClosed engine.mode e ⊎ IsOutOfMemory e
     ⊎ ((e.code ≡ NotSupported) × AreSnapshotsUsedUp engine.snapshots.given)
 
 -- why a snapshot may not be released: the store is closed, or the snapshot isn't held
 abbrev pub ReleaseExcused : {E C FP F : Type 0} {B : Boxed} {keys : InternalOrder C}
     → EngineOf E C FP F B keys → Snapshot → Status → Type 0
-ReleaseExcused engine one e = RefusedAsClosed (mode_in engine) e
+ReleaseExcused engine one e = RefusedAsClosed engine.mode e
     ⊎ ((e.code ≡ InvalidArgument) × IsNotHeld (held_in engine) (Some one))
 
 -- a memtable without entries
@@ -256,7 +232,7 @@ module _ {E C FP F P : Type 0} {B : Boxed} {keys : InternalOrder C} {key_filters
   -- table is built of its entries, or of those that wait; or the batch is too large for an empty
   -- one. Or a file is lost.
   abbrev pub WriteExcused : List Item → Status → Type 0
-  WriteExcused items e = RefusedByMode (mode_in engine) e
+  WriteExcused items e = RefusedByMode engine.mode e
       ⊎ ((e.code ≡ InvalidArgument) × IsLongBatch items)
       ⊎ IsOutOfMemory e
       ⊎ ((e.code ≡ NotSupported) × AreUsedUp engine.store.set.last_sequence (length items))
@@ -277,7 +253,7 @@ module _ {E C FP F : Type 0} {B : Boxed} {keys : InternalOrder C} (env : Ghosts 
   -- why a flush may fail where the device didn't: the store is closed or broken, memory ran out, or
   -- the log is lost
   abbrev pub SyncExcused : E → Status → Type 0
-  SyncExcused now e = RefusedByMode (mode_in engine) e ⊎ IsLogLost env engine.store at now e
+  SyncExcused now e = RefusedByMode engine.mode e ⊎ IsLogLost env engine.store at now e
 
   -- as a sync, where nothing was counted: giving back the lock may fail with the same code, and
   -- that is counted

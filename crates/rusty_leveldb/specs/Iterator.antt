@@ -23,7 +23,7 @@ use Rattle.leveldb_store.specs.OpenStore.{OpenStoreValue}
 use Rattle.leveldb_store.specs.View.{FailsBetween, IsOfNoCompressor, IsReadingOf, IsWorldOf, ReadsAlone, ViewsStore, any_in_order, options_in}
 use Rattle.rusty_leveldb.specs.Boxes.{EngineOf, InternalOrder}
 use Rattle.rusty_leveldb.specs.Causes.{IsNotHeld}
-use Rattle.rusty_leveldb.specs.Engine.{IsClosed, Recalls, WalkExcused, held_in, mode_in, options_in as engine_options}
+use Rattle.rusty_leveldb.specs.Engine.{IsClosed, Recalls, WalkExcused, held_in, options_in as engine_options}
 use Rattle.rusty_leveldb.specs.Machine.{IsSequenceOf}
 use Rattle.rusty_leveldb.specs.Serves.{Represents}
 use Rattle.rusty_leveldb.specs.State.{Snapshot, State}
@@ -188,7 +188,7 @@ module _ {E C FP F V : Type 0} {B : Boxed} {keys : InternalOrder C} (env : Ghost
       pub env_is : IfOk result (λ it. it.env.now ≡ from)
       pub tables_are : IfOk result (λ it. it.tables.cache.now ≡ before.tables)
       -- a closed store has none, nor has a snapshot that isn't held
-      pub refused : IsClosed (mode_in before) ⊎ IsNotHeld (held_in before) at
+      pub refused : IsClosed before.mode ⊎ IsNotHeld (held_in before) at
           → IsErrAnd result (λ e. e.code ≡ InvalidArgument)
       -- why there is none
       pub cause : IfErr result (WalkExcused before at)

@@ -1,3 +1,4 @@
+pub mod EngineValue
 pub mod Boxes
 pub mod Frame
 pub mod State

@@ -24,6 +24,7 @@ const MAX_KEY_SIZE: usize = 1 << 30;
 ///
 /// It borrows the store: until it ends nothing else is done with that. `DBIterator` is what a store
 /// gives. `K` are the compressors by which tables are read, and `V` is the view.
+#[derive(Drop)]
 pub struct StoreIterator<'a, E: Env, C: UserCmp + Copy + Drop, FP: FilterPolicy + Copy + Drop, K, V>
 where
     InternalKeyCmp<C>: Cmp,
@@ -32,24 +33,6 @@ where
     pub(crate) view: V,
     pub(crate) env: &'a mut E,
     pub(crate) tables: ReadTables<'a, E, C, FP, K>,
-}
-
-impl<'a, E: Env, C: UserCmp + Copy + Drop, FP: FilterPolicy + Copy + Drop, K, V: Drop> Drop
-    for StoreIterator<'a, E, C, FP, K, V>
-where
-    InternalKeyCmp<C>: Cmp,
-{
-    // One call for whoever drops one, in place of one for each part of it.
-    fn drop(self) {
-        let StoreIterator {
-            alloc: _,
-            view,
-            env: _,
-            tables,
-        } = self;
-        drop(view);
-        drop(tables);
-    }
 }
 
 /// The open tables of a store, as its iterators read them.

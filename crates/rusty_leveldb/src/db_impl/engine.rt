@@ -3,7 +3,9 @@ ghost use Rattle.std.specs.Prelude.{◌≡◌, Bool, List, OnOk, IfErr};
 ghost use Rattle.leveldb_base.specs.History.{Item};
 ghost use Rattle.rusty_leveldb.specs.State.{open_mode, write, refused};
 ghost use Rattle.rusty_leveldb.specs.Serves.{refusal_of};
-ghost use Rattle.rusty_leveldb.specs.Engine.{IsClosed, RefusedAsClosed, RefusedByMode, AnswersStill, mode_in};
+ghost use Rattle.rusty_leveldb.specs.Engine.{IsClosed, RefusedAsClosed, RefusedByMode, AnswersStill};
+ghost use Rattle.rusty_leveldb.specs.EngineValue.{FollowsStore, mode_of};
+ghost use Rattle.leveldb_store.specs.OpenStore.{IsUnbroken};
 ghost use Rattle.leveldb_version.specs.Format.{format_of};
 
 use leveldb_base::cmp::{Cmp, UserCmp};
@@ -16,34 +18,39 @@ use leveldb_iter::snapshot::SnapshotList;
 use leveldb_store::open_store::OpenStore;
 use leveldb_version::table_cache::TableCache;
 use std::alloc::Global;
+use std::marker::{Model, PhantomData};
 
-/// Whether a store was closed.
+/// Whether a store may be written to and read.
 #[derive(Clone, Copy, Debug, PartialEq, Eq)]
 pub enum Mode {
-    /// It may be read, and written to until a call on its files fails.
+    /// It may be read, and written to.
     Open,
-    /// It could not be closed: it may be read and abandoned, and every call that writes fails.
+    /// A call that writes to its files failed, or it could not be closed: it may be read and
+    /// abandoned, and every call that writes fails.
     Broken,
     /// It is to be opened again.
     Closed,
 }
 
 /// A store that was opened, without its environment. Its lock stays held until `close` or `abandon`
-/// gives it back. `T` holds its open tables; there are calls only for the default.
-pub struct Engine<E: Env, C: Cmp, FP, T = TableCache<E, C, FP>> {
+/// gives it back. `O` are the options that it was opened with, and `T` holds its open tables; there
+/// are calls only for the defaults.
+pub struct Engine<E: Env, C: Cmp, FP, O = Options<C, FP>, T = TableCache<E, C, FP>> {
     pub(crate) alloc: Global,
-    // What it was opened with.
-    pub(crate) options: Options<C, FP>,
+    // A parameter, since a struct with bounds that owns the options' boxes can't have a model.
+    pub(crate) options: O,
     // The name of the lock.
     pub(crate) lock: String,
     pub(crate) store: OpenStore<E, C>,
     // A parameter, since no contract may name a type that has tables beside the options' boxes.
     pub(crate) tables: T,
+    // The defaults of the two name the filters' policy.
+    pub(crate) policy: PhantomData<FP>,
     pub(crate) snapshots: SnapshotList,
     pub(crate) mode: Mode,
 }
 
-impl<E: Env, C: Cmp + Drop, FP: Drop, T: Drop> Drop for Engine<E, C, FP, T> {
+impl<E: Env, C: Cmp + Drop, FP: Drop, O: Drop, T: Drop> Drop for Engine<E, C, FP, O, T> {
     // One call for whoever drops an engine, in place of one for each part of it.
     fn drop(self) {
         let Engine {
@@ -52,6 +59,7 @@ impl<E: Env, C: Cmp + Drop, FP: Drop, T: Drop> Drop for Engine<E, C, FP, T> {
             lock,
             store,
             tables,
+            policy: _,
             snapshots,
             mode: _,
         } = self;
@@ -63,24 +71,55 @@ impl<E: Env, C: Cmp + Drop, FP: Drop, T: Drop> Drop for Engine<E, C, FP, T> {
     }
 }
 
+impl<E: Env, C: Cmp, FP, O, T> Model for Engine<E, C, FP, O, T> {
+    ghost use Rattle.std.specs.Prelude.{string_bytes};
+    ghost use Rattle.rusty_leveldb.specs.EngineValue.{EngineValue, IsUnbrokenIfOpen, mode_of};
+
+    ghost Value = { EngineValue C O T };
+
+    ghost view = { λ it. record {
+      options = it.options;
+      lock = string_bytes it.lock;
+      store = it.store;
+      tables = it.tables;
+      snapshots = it.snapshots;
+      mode = mode_of it.mode;
+    } };
+
+    // Where it is open, no call on its store's manifest or log has failed.
+    ghost invariant = { λ it. IsUnbrokenIfOpen (mode_of it.mode) it.store };
+}
+
+// The mode of an engine that was open when its store was written to.
+pub(super) fn mode_by<E: Env, C: UserCmp + Copy>(store: &OpenStore<E, C>) -> Mode
+    ensures { FollowsStore (mode_of result) store.now }
+{
+    if store.is_broken() {
+        Mode::Broken
+    } else {
+        Mode::Open
+    }
+}
+
 impl<E: Env, C: UserCmp + Copy, FP: FilterPolicy + Copy> Engine<E, C, FP> {
     /// Whether it may be written to; if not, this fails as every write does.
     pub fn check_writable(&self) -> Result<()>
-        ensures ok { OnOk result (mode_in self.now ≡ open_mode) }
+        ensures ok { OnOk result (self.now.mode ≡ open_mode) }
+        ensures unbroken { OnOk result (IsUnbroken self.now.store) }
         ensures step { let formats = format_of C.Cmp FP.FilterPolicy
             ⟦<CompressorList as Compressors>⟧.codings in
             IfErr result (λ status. (items : List Item) (sync : Bool)
             → AnswersStill E.Env formats self.now (write items sync)
             (refused (refusal_of status))) }
-        ensures cause { IfErr result (RefusedByMode (mode_in self.now)) }
+        ensures cause { IfErr result (RefusedByMode self.now.mode) }
     {
         self.check_open()
     }
 
     // A closed store fails every call but `abandon`.
     pub(crate) fn check_not_closed(&self) -> Result<()>
-        ensures ok { OnOk result (IsClosed (mode_in self.now) → ⊥) }
-        ensures cause { IfErr result (RefusedAsClosed (mode_in self.now)) }
+        ensures ok { OnOk result (IsClosed self.now.mode → ⊥) }
+        ensures cause { IfErr result (RefusedAsClosed self.now.mode) }
     {
         if self.mode == Mode::Closed {
             return err(
@@ -94,11 +133,12 @@ impl<E: Env, C: UserCmp + Copy, FP: FilterPolicy + Copy> Engine<E, C, FP> {
 
     // A closed store fails every call that writes, and so does one that broke.
     pub(crate) fn check_open(&self) -> Result<()>
-        ensures ok { OnOk result (mode_in self.now ≡ open_mode) }
-        ensures cause { IfErr result (RefusedByMode (mode_in self.now)) }
+        ensures ok { OnOk result (self.now.mode ≡ open_mode) }
+        ensures unbroken { OnOk result (IsUnbroken self.now.store) }
+        ensures cause { IfErr result (RefusedByMode self.now.mode) }
     {
         self.check_not_closed()?;
-        if self.mode == Mode::Broken || self.store.is_broken() {
+        if self.mode == Mode::Broken {
             return err(self.alloc, StatusCode::IOError, "reopen the store");
         }
         Ok(())

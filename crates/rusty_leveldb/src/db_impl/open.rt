@@ -23,6 +23,7 @@ use leveldb_iter::snapshot::SnapshotList;
 use leveldb_store::open_store::OpenStore;
 use leveldb_version::table_cache::TableCache;
 use std::alloc::Global;
+use std::marker::PhantomData;
 
 impl<E: Env, C: UserCmp + Copy, FP: FilterPolicy + Copy> Engine<E, C, FP> {
     /// Opens the store under this name, which isn't empty and doesn't end in a slash.
@@ -60,6 +61,7 @@ impl<E: Env, C: UserCmp + Copy, FP: FilterPolicy + Copy> Engine<E, C, FP> {
                     lock,
                     store,
                     tables,
+                    policy: PhantomData,
                     snapshots: SnapshotList::new(alloc),
                     mode: Mode::Open,
                 })

@@ -1,18 +1,18 @@
 //! Writing to a store: batches, and syncs of its log.
 ghost use Rattle.std.specs.Prelude.{◌≡◌, ◌∷◌, [], Some, None, false, is_some};
 ghost use Rattle.leveldb_mem.specs.WriteBatch.{item_of};
-ghost use Rattle.rusty_leveldb.specs.State.{write, flush};
+ghost use Rattle.rusty_leveldb.specs.State.{open_mode, write, flush};
 ghost use Rattle.rusty_leveldb.specs.Serves.{done_or};
 ghost use Rattle.leveldb_store.specs.BuildTable.{choices_of};
 ghost use Rattle.leveldb_version.specs.Format.{Agrees, format_of};
-ghost use Rattle.leveldb_store.specs.OpenStore.{IsUnbroken};
 ghost use Rattle.leveldb_store.specs.OpenTables.{ClosesObsolete};
 ghost use Rattle.leveldb_store.specs.Room.{MakesRoom};
 ghost use Rattle.leveldb_store.specs.SoundCall.{IsSoundCall};
 ghost use Rattle.rusty_leveldb.specs.Engine.{options_in};
+ghost use Rattle.rusty_leveldb.specs.EngineValue.{FollowsStore};
 ghost use Rattle.rusty_leveldb.specs.Calls.{EngineServes};
 
-use super::engine::Engine;
+use super::engine::{Engine, mode_by};
 use super::info_log::{InfoLog, NoLog};
 use leveldb_base::cmp::{Cmp, InternalKeyCmp, UserCmp};
 use leveldb_base::error::Result;
@@ -62,12 +62,15 @@ impl<E: Env, C: UserCmp + Copy, FP: FilterPolicy + Copy> Engine<E, C, FP> {
     {
         self.check_open()?;
         self.make_room(env)?;
-        self.store.write_batch(env, batch, sync)
+        let written = self.store.write_batch(env, batch, sync);
+        self.mode = mode_by(&self.store);
+        written
     }
 
-    // Makes room in the memtable, where it is full.
+    // Makes room in the memtable of an engine that is open, where it is full. If that breaks the
+    // store, the engine is broken.
     fn make_room(&mut self, env: &mut E) -> Result<()>
-        requires { IsUnbroken self.old.store }
+        requires { self.old.mode ≡ open_mode }
         ensures makes { MakesRoom E.Env (C.cmp self.old.store.cmp) self.old.store env.old
             (choices_of C.Cmp FP.FilterPolicy ⟦<InternalKeyCmp<C> as Cmp>⟧
             ⟦<InternalFilterPolicy<FP> as FilterPolicy>⟧ ⟦<CompressorList as Compressors>⟧.codings
@@ -82,8 +85,10 @@ impl<E: Env, C: UserCmp + Copy, FP: FilterPolicy + Copy> Engine<E, C, FP> {
           store = self.new.store;
           options = record (options_in self.old) { log = self.new.options.log };
           tables = self.new.tables;
+          mode = self.new.mode;
         } }
         ensures sink { is_some self.new.options.log ≡ is_some self.old.options.log }
+        ensures mode { FollowsStore self.new.mode self.new.store }
     {
         self.options.cmp = self.store.cmp();
         match self.options.log.take() {
@@ -93,11 +98,16 @@ impl<E: Env, C: UserCmp + Copy, FP: FilterPolicy + Copy> Engine<E, C, FP> {
                     .store
                     .make_room(env, &self.options, &mut self.tables, &mut log);
                 self.options.log = Some(log.0);
+                self.mode = mode_by(&self.store);
                 made
             }
-            None => self
-                .store
-                .make_room(env, &self.options, &mut self.tables, &mut NoLog),
+            None => {
+                let made = self
+                    .store
+                    .make_room(env, &self.options, &mut self.tables, &mut NoLog);
+                self.mode = mode_by(&self.store);
+                made
+            }
         }
     }
 
@@ -109,6 +119,8 @@ impl<E: Env, C: UserCmp + Copy, FP: FilterPolicy + Copy> Engine<E, C, FP> {
             EngineServes E.Env choices done_or self.old env.old flush result self.new env.new }
     {
         self.check_open()?;
-        self.store.sync(env)
+        let synced = self.store.sync(env);
+        self.mode = mode_by(&self.store);
+        synced
     }
 }

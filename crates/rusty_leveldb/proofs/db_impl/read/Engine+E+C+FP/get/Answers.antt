@@ -1,7 +1,8 @@
 -- A closed store, a key that is too long, or what the store's look-up returned.
-use Rattle.std.proofs.Common.{None, inr}
+use Rattle.std.proofs.Common.{◌∙◌, None, ap, inr, sym}
 use Rattle.std.proofs.lemmas.Result.{err_from_is_err_and}
 use Rattle.rusty_leveldb.proofs.CallsLemmas.{get_closed_serves, get_misfit_serves, get_serves_in}
+use Rattle.rusty_leveldb.proofs.ReadingLemmas.{still_unbroken}
 use Rattle.rusty_leveldb.proofs.db_impl.read.Engine+E+C+FP.get.Goals as goal
 
 pub returns-in_err-check_not_closed : goal.returns-in_err-check_not_closed
@@ -19,7 +20,12 @@ returns-in_err-check_key g c =
     c.in_ok-check_not_closed.ensures.ok c.in_err-check_key.field-0.0 long.0 (inr long.1))
 
 pub returns : goal.returns
-returns g c = get_serves_in g.E.Env _ c.args.self.now None c.args.key.now c.args.env.now
-    c.in_ok-check_not_closed.ensures.ok c.cmp-self.result c.cmp-self.ensures
-    c.last_sequence-last.result c.last_sequence-last.ensures c.in_ok-check_key.ensures.ok
-    c.get.new.env c.get.result c.get.new.self c.get.new.tables c.get.ensures
+returns g c = rw (← c.self.view_is) (get_serves_in g.E.Env _ _ None c.args.key.now c.args.env.now
+    (λ closed. c.in_ok-check_not_closed.ensures.ok (sym (ap (λ v. v.mode) c.self.view_is) ∙ closed))
+    c.cmp-self-inside.result c.cmp-self-inside.ensures c.last_sequence-last.result c.last_sequence-last.ensures
+    c.in_ok-check_key.ensures.ok c.get.new.env c.get.result c.get.new.self c.get.new.tables
+    c.get.ensures)
+
+pub invariant_of-self : goal.invariant_of-self
+invariant_of-self g c = λ opened. still_unbroken g.E.Env _ _ _ _ _ _ _ _ _ _ c.get.ensures
+    (c.self.invariant opened)

@@ -1,9 +1,12 @@
 -- A closed store, a snapshot that isn't held, a key that is too long, or what the store's look-up
 -- returned.
-use Rattle.std.proofs.Common.{Some, inl, inr}
+use Rattle.std.specs.Prelude.{Contains}
+use Rattle.std.proofs.Common.{◌∙◌, Some, ap, inl, inr, subst, sym}
 use Rattle.std.proofs.lemmas.Result.{err_from_is_err_and}
+use Rattle.rusty_leveldb.specs.Engine.{held_in}
 use Rattle.rusty_leveldb.specs.Serves.{snapshot_of}
 use Rattle.rusty_leveldb.proofs.CallsLemmas.{get_closed_serves, get_misfit_serves, get_serves_in}
+use Rattle.rusty_leveldb.proofs.ReadingLemmas.{still_unbroken}
 use Rattle.rusty_leveldb.proofs.db_impl.read.Engine+E+C+FP.get_at.Goals as goal
 
 pub returns-in_err-check_not_closed : goal.returns-in_err-check_not_closed
@@ -32,8 +35,17 @@ returns-in_err-check_key g c =
     c.in_err-check_key.field-0.0 long.0 (inr long.1))
 
 pub returns : goal.returns
-returns g c = get_serves_in g.E.Env _ c.args.self.now (Some (snapshot_of c.args.snapshot))
-    c.args.key.now c.args.env.now c.in_ok-check_not_closed.ensures.ok c.cmp-self.result
-    c.cmp-self.ensures c.sequence-sequence.result (c.in_ok-check_held.ensures.ok, c.sequence-sequence.ensures)
+returns g c = rw (← c.self.view_is) (get_serves_in g.E.Env _ _ (Some (snapshot_of c.args.snapshot))
+    c.args.key.now c.args.env.now
+    (λ closed. c.in_ok-check_not_closed.ensures.ok (sym (ap (λ v. v.mode) c.self.view_is) ∙ closed))
+    c.cmp-self-inside.result c.cmp-self-inside.ensures c.sequence-sequence.result (
+      subst (λ e. Contains (held_in e) (snapshot_of c.args.snapshot)) (sym c.self.view_is)
+          c.in_ok-check_held.ensures.ok,
+      c.sequence-sequence.ensures,
+    )
     c.in_ok-check_key.ensures.ok c.get.new.env c.get.result c.get.new.self c.get.new.tables
-    c.get.ensures
+    c.get.ensures)
+
+pub invariant_of-self : goal.invariant_of-self
+invariant_of-self g c = λ opened. still_unbroken g.E.Env _ _ _ _ _ _ _ _ _ _ c.get.ensures
+    (c.self.invariant opened)

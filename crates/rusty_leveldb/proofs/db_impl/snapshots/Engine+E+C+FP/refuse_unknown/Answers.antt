@@ -10,4 +10,5 @@ returns-in-Err g c =
 pub returns-in-Ok : goal.returns-in-Ok
 returns-in-Ok g c =
     unknown_refused g.E.Env _ c.args.self.now c.new.result c.in-Ok.ensures.ok c.new.ensures.code
-    (unknown_unheld c.args.self.now.snapshots.held c.newest.result c.newest.ensures (search (rules, c.newest.type_inv)))
+    (unknown_unheld c.args.self.now.snapshots.held c.newest.result
+    (rw (← c.self.view_is) c.newest.ensures) (search (rules, c.newest.type_inv)))

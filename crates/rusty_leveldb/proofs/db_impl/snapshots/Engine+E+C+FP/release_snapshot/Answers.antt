@@ -1,5 +1,8 @@
 -- A closed store, a snapshot that isn't held, or one that is released.
+use Rattle.std.specs.Prelude.{Contains}
+use Rattle.std.proofs.Common.{◌∙◌, ap, subst, sym}
 use Rattle.std.proofs.lemmas.Result.{err_from_is_err_and}
+use Rattle.rusty_leveldb.specs.Engine.{held_in}
 use Rattle.rusty_leveldb.specs.Serves.{snapshot_of}
 use Rattle.rusty_leveldb.proofs.SnapshotLemmas.{closed_releases, is_released, releases_none, releases_serves}
 use Rattle.rusty_leveldb.proofs.db_impl.snapshots.Engine+E+C+FP.release_snapshot.Goals as goal
@@ -19,7 +22,10 @@ returns-in_err-check_held g c = λ at.
     c.in_err-check_held.ensures.cause)
 
 pub returns : goal.returns
-returns g c = releases_serves g.E.Env _ c.args.self.now c.in_ok-check_not_closed.ensures.ok
-    c.release.new.self c.args.snapshot (is_released c.args.self.now.snapshots c.release.new.self
-    c.args.snapshot c.release.result c.release.ensures.held c.release.ensures.releases
-    c.in_ok-check_held.ensures.ok)
+returns g c =
+    let held = subst (λ e. Contains (held_in e) (snapshot_of c.args.snapshot)) (sym c.self.view_is)
+    c.in_ok-check_held.ensures.ok in
+    rw (← c.self.view_is) (releases_serves g.E.Env _ _
+    (λ closed. c.in_ok-check_not_closed.ensures.ok (sym (ap (λ v. v.mode) c.self.view_is) ∙ closed))
+    c.release.new.self c.args.snapshot (is_released c.self.inside.snapshots c.release.new.self
+    c.args.snapshot c.release.result c.release.ensures.held c.release.ensures.releases held))

@@ -1,7 +1,8 @@
 -- A closed store, a snapshot that isn't held, no memory, or the store's walk.
-use Rattle.std.proofs.Common.{[], sym, ◌∙◌, ap, append-nil, ◌++◌}
+use Rattle.std.proofs.Common.{[], sym, ◌∙◌, ap, append-nil, subst, ◌++◌}
 use Rattle.std.specs.Option.{option_map}
 use Rattle.std.proofs.lemmas.Result.{err_from_is_err_and}
+use Rattle.rusty_leveldb.specs.Engine.{ReadsAt}
 use Rattle.rusty_leveldb.specs.Serves.{snapshot_of}
 use Rattle.rusty_leveldb.proofs.WalkCallLemmas.{walk_closed_serves, walk_serves_in, walk_starved_serves, walk_unheld_serves}
 use Rattle.rusty_leveldb.proofs.db_impl.walk.Engine+E+C+FP.walk.Goals as goal
@@ -42,7 +43,10 @@ returns g c =
     let walks = c.walk.ensures in (
       walks.0,
       walks.1 ∙ ap (λ items. items ++ walks.0) c.reserve.ensures.items,
-      walk_serves_in g.E.Env _ c.args.self.now (option_map snapshot_of c.args.at) c.args.moves.now c.args.env.now
-          c.in_ok-check_not_closed.ensures.ok c.cmp-self.result c.cmp-self.ensures
-          c.in_ok-sequence.sequence c.in_ok-sequence.ensures.ok c.walk.new.env c.walk.new.tables walks.0 c.walk.result walks.2,
+      rw (← c.self.view_is)
+          (walk_serves_in g.E.Env _ _ (option_map snapshot_of c.args.at) c.args.moves.now c.args.env.now
+          (λ closed. c.in_ok-check_not_closed.ensures.ok (sym (ap (λ v. v.mode) c.self.view_is) ∙ closed))
+          c.cmp-self-inside.result c.cmp-self-inside.ensures c.in_ok-sequence.sequence
+          (subst (λ e. ReadsAt e (option_map snapshot_of c.args.at) c.in_ok-sequence.sequence) (sym c.self.view_is)
+          c.in_ok-sequence.ensures.ok) c.walk.new.env c.walk.new.tables walks.0 c.walk.result walks.2),
     )

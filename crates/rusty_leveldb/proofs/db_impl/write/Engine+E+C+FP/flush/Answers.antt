@@ -1,7 +1,10 @@
 -- Refused by the mode, or what the sync returned.
+use Rattle.std.proofs.Common.{◌≡◌, ◌∙◌, ap}
 use Rattle.std.proofs.lemmas.Result.{err_from_is_err_and}
-use Rattle.rusty_leveldb.specs.State.{flush}
+use Rattle.rusty_leveldb.specs.EngineValue.{mode_of}
+use Rattle.rusty_leveldb.specs.State.{flush, open_mode}
 use Rattle.rusty_leveldb.proofs.CallsLemmas.{flush_serves, halted_serves}
+use Rattle.rusty_leveldb.proofs.EngineLemmas.{follows_unbroken}
 use Rattle.rusty_leveldb.proofs.db_impl.write.Engine+E+C+FP.flush.Goals as goal
 
 pub returns-in_err-check_open : goal.returns-in_err-check_open
@@ -11,6 +14,13 @@ returns-in_err-check_open g c =
     c.args.env.now c.in_err-check_open.ensures.cause)
 
 pub returns : goal.returns
-returns g c = flush_serves g.E.Env _ c.args.self.now c.args.env.now c.in_ok-check_open.ensures.ok
-    c.sync.new.self c.sync.new.env c.sync.result c.sync.ensures.syncs c.sync.ensures.batches
-    c.sync.ensures.sound
+returns g c =
+    let opened : mode_of c.self.inside.mode ≡ open_mode =
+    ap (λ v. v.mode) c.self.view_is ∙ c.in_ok-check_open.ensures.ok in
+    rw (← c.self.view_is) (flush_serves g.E.Env _ _ c.args.env.now opened
+    c.sync-synced.new.self c.sync-synced.new.env (c.self.invariant opened) _ c.mode_by-self-inside.ensures
+    c.sync-synced.result c.sync-synced.ensures.syncs c.sync-synced.ensures.batches
+    c.sync-synced.ensures.sound)
+
+pub invariant_of-self : goal.invariant_of-self
+invariant_of-self g c = follows_unbroken _ _ c.mode_by-self-inside.ensures

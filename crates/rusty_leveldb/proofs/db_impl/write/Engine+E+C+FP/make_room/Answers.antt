@@ -2,7 +2,17 @@
 use Rattle.rusty_leveldb.proofs.db_impl.write.Engine+E+C+FP.make_room.Goals as goal
 
 pub returns-in-Some-clause-makes : goal.returns-in-Some-clause-makes
-returns-in-Some-clause-makes g c = rw c.cmp-self.ensures at c.make_room-made.ensures.makes
+returns-in-Some-clause-makes g c =
+    rw (← c.self.view_is) (rw c.cmp-self-inside.ensures at c.make_room-made.ensures.makes)
 
 pub returns-in-None-clause-makes : goal.returns-in-None-clause-makes
-returns-in-None-clause-makes g c = rw c.cmp-self.ensures at c.make_room.ensures.makes
+returns-in-None-clause-makes g c =
+    rw (← c.self.view_is) (rw c.cmp-self-inside.ensures at c.make_room-made-in-None.ensures.makes)
+
+pub returns-in-Some-clause-sound : goal.returns-in-Some-clause-sound
+returns-in-Some-clause-sound g c =
+    rw (← c.self.view_is) (rw c.cmp-self-inside.ensures at c.make_room-made.ensures.sound)
+
+pub returns-in-None-clause-sound : goal.returns-in-None-clause-sound
+returns-in-None-clause-sound g c =
+    rw (← c.self.view_is) (rw c.cmp-self-inside.ensures at c.make_room-made-in-None.ensures.sound)

@@ -1,11 +1,15 @@
 -- Refused by the mode, no room in the memtable, or what writing the batch returned.
-use Rattle.std.proofs.Common.{ap}
+use Rattle.std.proofs.Common.{Ok, ap, subst, sym}
 use Rattle.std.proofs.lemmas.Result.{err_from_is_err_and}
+use Rattle.leveldb_base.specs.contracts.cmp.internal.InternalKeyCmpCmp.TheImpl.{ghosts as key_order}
 use Rattle.leveldb_env.specs.contracts.compressor.CompressorListCompressors.TheImpl.{ghosts as compressors}
+use Rattle.leveldb_env.specs.contracts.filter.internal.InternalFilterPolicyFilterPolicy.TheImpl.{ghosts as key_policy}
+use Rattle.leveldb_store.specs.BuildTable.{choices_of}
 use Rattle.leveldb_version.specs.Format.{format_of}
 use Rattle.rusty_leveldb.specs.State.{write}
 use Rattle.rusty_leveldb.proofs.WriteCallLemmas.{batch_serves, room_fails_serves}
-use Rattle.rusty_leveldb.proofs.EngineLemmas.{open_unbroken}
+use Rattle.rusty_leveldb.proofs.EngineLemmas.{follows_unbroken}
+use Rattle.rusty_leveldb.proofs.WritingLemmas.{EngineMakesRoom}
 use Rattle.rusty_leveldb.proofs.CallsLemmas.{halted_serves}
 use Rattle.rusty_leveldb.proofs.db_impl.write.Engine+E+C+FP.write.Goals as goal
 
@@ -28,21 +32,29 @@ returns-in_err-make_room g c =
       closes = c.in_err-make_room.ensures.closes;
       rest = c.in_err-make_room.ensures.rest;
       sink = c.in_err-make_room.ensures.sink;
+      mode = c.in_err-make_room.ensures.mode;
     }))
 
 pub returns : goal.returns
-returns g c = batch_serves g.E.Env _ c.args.self.now c.args.env.now
+returns g c =
+    let keys = key_order g.row.C g.C.UserCmp g.C.UserCmp-dict g.C.Cmp g.C.Cmp-dict in
+    let key_filters = key_policy g.row.FP g.FP.FilterPolicy g.FP.FilterPolicy-dict in
+    let choices =
+    choices_of g.C.Cmp g.FP.FilterPolicy keys key_filters (compressors g.dyn-2).codings in
+    batch_serves g.E.Env choices c.args.self.now c.args.env.now
     c.in_ok-check_open.ensures.ok c.args.batch.items c.args.sync
     (λ a b is. ap (format_of g.C.Cmp g.FP.FilterPolicy (compressors g.dyn-2).codings) is.rest)
-    c.make_room.new.self c.make_room.new.env (record {
+    _ c.make_room.new.env (subst (λ e. EngineMakesRoom g.E.Env choices c.args.self.now
+    c.args.env.now (Ok tt) e c.make_room.new.env) (sym c.self.view_is) (record {
       makes = c.in_ok-make_room.ensures.makes;
       sound = c.in_ok-make_room.ensures.sound;
       closes = c.in_ok-make_room.ensures.closes;
       rest = c.in_ok-make_room.ensures.rest;
       sink = c.in_ok-make_room.ensures.sink;
-    }) c.write_batch.new.self
-    c.write_batch.new.env c.write_batch.result c.write_batch.ensures.short
-    c.write_batch.ensures.writes c.write_batch.ensures.sound
+      mode = c.in_ok-make_room.ensures.mode;
+    })) c.write_batch-written.new.self _ c.mode_by-self-inside.ensures
+    c.write_batch-written.new.env c.write_batch-written.result c.write_batch-written.ensures.short
+    c.write_batch-written.ensures.writes c.write_batch-written.ensures.sound
 
-pub make_room-requires : goal.make_room-requires
-make_room-requires g c = open_unbroken c.args.self.now c.in_ok-check_open.ensures.ok
+pub invariant_of-self : goal.invariant_of-self
+invariant_of-self g c = follows_unbroken _ _ c.mode_by-self-inside.ensures
