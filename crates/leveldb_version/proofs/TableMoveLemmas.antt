@@ -67,10 +67,10 @@ left_position None new left = ap core_position left
 left_position (Some old) None left = absurd left
 left_position (Some old) (Some new) left = ap inner_position left.0
 
-pub left_indexed : {C : Type 0} {order : CmpGhosts C} (cmp : List ℕ → List ℕ → Ordering) (parts : List Part) (old new : Option (TablePlace C)) → LeavesPairs old new → IsIndexedFor order cmp parts old → IsIndexedFor order cmp parts new
-left_indexed {order = order} cmp parts None new left indexed = subst (IsIndexedFor order cmp parts) (sym left) tt
-left_indexed cmp parts (Some old) None left indexed = absurd left
-left_indexed {order = order} cmp parts (Some old) (Some new) left indexed = record { lines = ap pairs_over left.1 ∙ indexed.lines; ordered = ap (λ z. order.cmp z.block.cmp) left.1 ∙ indexed.ordered }
+pub left_indexed : {C : Type 0} (order : CmpGhosts C) (cmp : List ℕ → List ℕ → Ordering) (parts : List Part) (old new : Option (TablePlace C)) → LeavesPairs old new → IsIndexedFor order cmp parts old → IsIndexedFor order cmp parts new
+left_indexed order cmp parts None new left indexed = subst (IsIndexedFor order cmp parts) (sym left) tt
+left_indexed order cmp parts (Some old) None left indexed = absurd left
+left_indexed order cmp parts (Some old) (Some new) left indexed = record { lines = ap pairs_over left.1 ∙ indexed.lines; ordered = ap (λ z. order.cmp z.block.cmp) left.1 ∙ indexed.ordered }
 
 module _ {E C FP F : Type 0} {order : CmpGhosts (InternalKeyCmp C)} (env : EnvGhosts E F) (by : TableOptions C FP) (exact : IsExactOrder by.format.order) (order_is : order.cmp (record { 0 = by.cmp }) ≡ key_order by.format) where
   -- what a move comes to in a table by what its ids mean
@@ -174,7 +174,7 @@ module _ {E C FP F : Type 0} {order : CmpGhosts (InternalKeyCmp C)} (env : EnvGh
     moves_unopened {status} {after} {new} new_core left opens = let uses = opens.uses in record {
       table = λ matched meaning agrees one it indexed. (
         λ position led. tt,
-        left_indexed (key_order by.format) one.parts core new_core left indexed,
+        left_indexed order (key_order by.format) one.parts core new_core left indexed,
         (reads_refused env {T = Unit {0}} {Why = Wants agrees} (Err status) refl (reads_weaker env {Why = Wants agrees} (Err status) (λ other why. unopened_by old agrees matched.modelled one it other why.1) uses.reads)).cause,
       );
       there = tt;
@@ -298,7 +298,7 @@ module _ {E C FP F : Type 0} {order : CmpGhosts (InternalKeyCmp C)} (env : EnvGh
       moves_unreopened none {status} {after} {new} reopens new_core left =
           moves_from (Err status) new_core (λ matched meaning agrees one it indexed. (
             λ position led. tt,
-            left_indexed (key_order by.format) one.parts core new_core left indexed,
+            left_indexed order (key_order by.format) one.parts core new_core left indexed,
             reads_refused env {T = StoreTable C FP F} {Why = Wants agrees} (Err status) refl (reads_weaker env {Why = Wants agrees} (Err status) (λ other why. unopened_by cache agrees matched.modelled one it other why) reopens.reads),
           ))
           tt (left_position core new_core left) reads (record {

@@ -67,9 +67,9 @@ here_none None none = refl
 here_none (Some core) none = ap (pair_at (inner_pairs core.inner)) none
 
 -- a walk at no pair of its table
-pub at_none : {C : Type 0} {order : CmpGhosts C} (cmp : List ℕ → List ℕ → Ordering) (parts : List Part) (core : Option (TablePlace C)) → IsIndexedFor order cmp parts core → core_position core ≡ None → IsAtInTable order cmp parts core None
-at_none cmp parts None indexed none = refl
-at_none cmp parts (Some core) indexed none = record { lines = indexed.lines; ordered = indexed.ordered; at = none }
+pub at_none : {C : Type 0} (order : CmpGhosts C) (cmp : List ℕ → List ℕ → Ordering) (parts : List Part) (core : Option (TablePlace C)) → IsIndexedFor order cmp parts core → core_position core ≡ None → IsAtInTable order cmp parts core None
+at_none order cmp parts None indexed none = refl
+at_none order cmp parts (Some core) indexed none = record { lines = indexed.lines; ordered = indexed.ordered; at = none }
 
 no_cons : {T : Type 0} {x : T} {xs : List T} → x ∷ xs ≡ [] → ⊥
 no_cons e = cc
@@ -311,7 +311,7 @@ module _ {E C FP K F : Type 0} (order : CmpGhosts (InternalKeyCmp C)) (env : Env
     each = subst (λ (fs : List (ℕ × FileMetaData)). Each (λ file table. ((new_file_of file).number < 2 ^ 64) × ((new_file_of file).largest ≡ table.largest)
         × IsTableAt (cmp.cmp world.1.cmp) meaning (files_at env world.0) (path_at world.1.cache.now (new_file_of file).number) table × ((new_file_of file).number < world.1.below)) fs tables) (sym files) there.each;
     indexed = subst (λ i. IsIndexedFor order (order.cmp (record { 0 = world.1.cmp })) (table_in tables i).parts new.core) (sym at)
-        (left_indexed (order.cmp (record { 0 = world.1.cmp })) (table_in tables old.at).parts old.core new.core left there.indexed);
+        (left_indexed order (order.cmp (record { 0 = world.1.cmp })) (table_in tables old.at).parts old.core new.core left there.indexed);
   }
 
   -- past the last file
@@ -473,7 +473,7 @@ module _ {E C FP K F : Type 0} (order : CmpGhosts (InternalKeyCmp C)) (env : Env
   none_after world it none keys pairs over = record {
     over = over;
     inner = None;
-    in_table = at_none keys.cmp (table_in over.tables it.at).parts it.core
+    in_table = at_none order keys.cmp (table_in over.tables it.at).parts it.core
         (let there = over.there in subst (λ (o : KeyOrder). IsIndexedFor order o.cmp (table_in over.tables it.at).parts it.core) (sym over.keys_are) there.indexed) none;
     at = refl;
   }

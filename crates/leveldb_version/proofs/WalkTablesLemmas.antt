@@ -21,7 +21,6 @@ use Rattle.leveldb_env.specs.declared.filter.FilterPolicy.{Ghosts as FilterGhost
 use Rattle.leveldb_iter.specs.Walk.{key_order}
 use Rattle.leveldb_table.specs.Table.{AreParted, Part}
 use Rattle.leveldb_table.specs.TableReader.{pairs_in}
-use Rattle.leveldb_table.specs.TableReaderWalk.{TablePlace}
 use Rattle.leveldb_version.proofs.NewestTablesLemmas.{one_number, table_of, there}
 use Rattle.leveldb_version.proofs.OneStoreLemmas.{flat_in, in_flat}
 use Rattle.leveldb_version.proofs.PairwiseLemmas.{choose, each_first, each_more_of, each_of_map, each_second}
