@@ -15,7 +15,7 @@ use Rattle.leveldb_env.specs.Compressor.{Codings}
 use Rattle.leveldb_env.specs.FilterBlock.{passes}
 use Rattle.leveldb_env.specs.declared.env.Env.{Ghosts as EnvGhosts}
 use Rattle.leveldb_table.proofs.BlockCacheLemmas.{GainsBlocks-refl, GainsBlocks-weaker, HoldsOnlyOf-after, HoldsOnlyOf-new, HoldsOnlyOf-other, IsNumbered-after, IsNumbered-raised, looked_for_same, others_keep, put_finds}
-use Rattle.leveldb_table.proofs.TableBlockLemmas.{KeepsDisk-refl, KeepsDisk-trans, fails_weaker, reads_ok, reads_own, reads_refused, reads_then, reads_weaker}
+use Rattle.leveldb_table.proofs.TableBlockLemmas.{KeepsDisk-refl, KeepsDisk-trans, fails_own, fails_weaker, reads_ok, reads_own, reads_refused, reads_then, reads_weaker}
 use Rattle.leveldb_table.specs.BlockCache.{GainsBlocks, HoldsOnlyOf, IsBlockOfFile}
 use Rattle.leveldb_table.specs.Cache.{Cached, looked_for, others, put_first, value_of}
 use Rattle.leveldb_table.specs.OpenTable.{IsFilteredBy, file_of, id_of}
@@ -126,6 +126,22 @@ pub looks_refused : {E C FP F : Type 0} {order : CmpGhosts (InternalKeyCmp C)} {
 looks_refused (Ok found) refused looks = absurd refused
 looks_refused {order = order} {env} {codings} {matches} {table} {key} {from} {to} {blocks} {after} (Err other) refused looks =
     subst (λ (s : Status). LooksUp order env codings matches table key from blocks (Err s) to after) (sym refused) looks
+
+-- and so is one by a cache that matches the files
+pub gets_refused : {E C FP F : Type 0} {order : CmpGhosts (InternalKeyCmp C)} {env : EnvGhosts E F} {by : TableOptions C FP} {number : ℕ} {key : List ℕ} {from to : E} {old new : TableCache E C FP F} {status : Status} (result : Result (Option Pair) Status)
+    → IsErrAnd result (λ other. other ≡ status) → GetsPair order env by number key from old (Err status) to new → GetsPair order env by number key from old result to new
+gets_refused (Ok found) refused gets = absurd refused
+gets_refused {order = order} {env} {by} {number} {key} {from} {to} {old} {new} (Err other) refused gets =
+    subst (λ (s : Status). GetsPair order env by number key from old (Err s) to new) (sym refused) gets
+
+-- a pair was found, and then there was no memory for a copy of its key
+pub gets_uncopied : {E C FP F : Type 0} {order : CmpGhosts (InternalKeyCmp C)} (env : EnvGhosts E F) {by : TableOptions C FP} {number : ℕ} {key : List ℕ} {from to : E} {old new : TableCache E C FP F} {found : Option Pair} (result : Result (Option Pair) Status)
+    → IsErrAnd result IsOutOfMemory → GetsPair order env by number key from old (Ok found) to new → GetsPair order env by number key from old result to new
+gets_uncopied env result out gets = record {
+  finds = λ bytes has. refused_if_ok IsOutOfMemory _ result out;
+  cause = fails_own env {P = IsOutOfMemory} result gets.cause.ok out (λ status memory. inl memory);
+  matches = gets.matches;
+}
 
 -- a table was used, and then there was no memory for a copy of what was found
 pub uses_uncopied : {E C FP F : Type 0} {T U : Type 0} (env : EnvGhosts E F) {Why : Status → Type 0} {number : ℕ} {from to : E} {old new : TableCache E C FP F} {value : U} (result : Result T Status) → IsErrAnd result IsOutOfMemory

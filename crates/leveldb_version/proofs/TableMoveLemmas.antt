@@ -72,7 +72,7 @@ left_indexed order cmp parts None new left indexed = subst (IsIndexedFor order c
 left_indexed order cmp parts (Some old) None left indexed = absurd left
 left_indexed order cmp parts (Some old) (Some new) left indexed = record { lines = ap pairs_over left.1 ∙ indexed.lines; ordered = ap (λ z. order.cmp z.block.cmp) left.1 ∙ indexed.ordered }
 
-module _ {E C FP F : Type 0} {order : CmpGhosts (InternalKeyCmp C)} (env : EnvGhosts E F) (by : TableOptions C FP) (exact : IsExactOrder by.format.order) (order_is : order.cmp (record { 0 = by.cmp }) ≡ key_order by.format) where
+module _ {E C FP F : Type 0} (order : CmpGhosts (InternalKeyCmp C)) (env : EnvGhosts E F) (by : TableOptions C FP) (exact : IsExactOrder by.format.order) (order_is : order.cmp (record { 0 = by.cmp }) ≡ key_order by.format) where
   -- what a move comes to in a table by what its ids mean
   abbrev Lands : {meaning : Meaning} → Agrees by.format meaning → TableStep → List Part → E → Option (TablePlace (InternalKeyCmp C)) → Result Bool Status → E → Option (TablePlace (InternalKeyCmp C)) → Type 0
   Lands agrees to parts state old result after new = ((position : Option ℕ) → IsLedTo to (key_order by.format) parts old position → OnOk result (IsAtInTable order (key_order by.format) parts new position))

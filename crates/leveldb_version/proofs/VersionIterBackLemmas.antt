@@ -93,12 +93,12 @@ outer_last parts line pairs inner None some first at i part k back there last = 
 outer_last parts line pairs inner (Some n) some first at i part k back there last = previous_block at first i part k back there last
 
 -- a step inside a block to the pair before
-inside_prev : {C : Type 0} {order : CmpGhosts C} (cmp : List ℕ → List ℕ → Ordering) (parts : List Part) (old : Option (TablePlace C)) (result : Result Bool Status) (new : Option (TablePlace C)) (inner : Option ℕ) → StepsInBlock (λ _. previous_position) old result new → result ≡ Ok true
+inside_prev : {C : Type 0} (order : CmpGhosts C) (cmp : List ℕ → List ℕ → Ordering) (parts : List Part) (old : Option (TablePlace C)) (result : Result Bool Status) (new : Option (TablePlace C)) (inner : Option ℕ) → StepsInBlock (λ _. previous_position) old result new → result ≡ Ok true
     → is_some (core_position old) ≡ true → IsAtInTable order cmp parts old inner → IsAtInTable order cmp parts new (previous_position inner)
-inside_prev cmp parts None result new inner step made valid at = absurd (not_true valid)
-inside_prev cmp parts (Some old) result None inner step made valid at = absurd step
-inside_prev cmp parts (Some old) result (Some new) None step made valid at = absurd (not_true (sym (ap is_some at.at) ∙ valid))
-inside_prev {order = order} cmp parts (Some old) result (Some new) (Some n) step made valid at =
+inside_prev order cmp parts None result new inner step made valid at = absurd (not_true valid)
+inside_prev order cmp parts (Some old) result None inner step made valid at = absurd step
+inside_prev order cmp parts (Some old) result (Some new) None step made valid at = absurd (not_true (sym (ap is_some at.at) ∙ valid))
+inside_prev order cmp parts (Some old) result (Some new) (Some n) step made valid at =
     let moved = subst (λ (r : Result Bool Status). OnOk r (inner_position new.inner ≡ previous_position (inner_position old.inner))) made step.ok in
     let there = subst (λ (r : Result Bool Status). IfOk r (λ there. there ≡ is_some (inner_position new.inner))) made step.there in
     let k = some_there (inner_position new.inner) (sym there) in
@@ -107,12 +107,12 @@ inside_prev {order = order} cmp parts (Some old) result (Some new) (Some n) step
     record { lines = ap pairs_over step.index ∙ at.lines; ordered = ap (λ z. order.cmp z.block.cmp) step.index ∙ at.ordered; at = lands }
 
 -- from the first pair of a block the block before leads on
-led_prev : {C : Type 0} {order : CmpGhosts C} (cmp : List ℕ → List ℕ → Ordering) (parts : List Part) (old : Option (TablePlace C)) (result : Result Bool Status) (new : Option (TablePlace C)) (inner : Option ℕ) → StepsInBlock (λ _. previous_position) old result new → result ≡ Ok false
+led_prev : {C : Type 0} (order : CmpGhosts C) (cmp : List ℕ → List ℕ → Ordering) (parts : List Part) (old : Option (TablePlace C)) (result : Result Bool Status) (new : Option (TablePlace C)) (inner : Option ℕ) → StepsInBlock (λ _. previous_position) old result new → result ≡ Ok false
     → is_some (core_position old) ≡ true → IsAtInTable order cmp parts old inner → IsLedTo BlockBefore cmp parts new (previous_position inner) × (inner ≢ None)
-led_prev cmp parts None result new inner step made valid at = absurd (not_true valid)
-led_prev cmp parts (Some old) result None inner step made valid at = absurd step
-led_prev cmp parts (Some old) result (Some new) None step made valid at = absurd (not_true (sym (ap is_some at.at) ∙ valid))
-led_prev cmp parts (Some old) result (Some new) (Some n) step made valid at =
+led_prev order cmp parts None result new inner step made valid at = absurd (not_true valid)
+led_prev order cmp parts (Some old) result None inner step made valid at = absurd step
+led_prev order cmp parts (Some old) result (Some new) None step made valid at = absurd (not_true (sym (ap is_some at.at) ∙ valid))
+led_prev order cmp parts (Some old) result (Some new) (Some n) step made valid at =
     let moved = subst (λ (r : Result Bool Status). OnOk r (inner_position new.inner ≡ previous_position (inner_position old.inner))) made step.ok in
     let there = subst (λ (r : Result Bool Status). IfOk r (λ there. there ≡ is_some (inner_position new.inner))) made step.there in
     let first = sym moved ∙ no_some (inner_position new.inner) there in
@@ -137,9 +137,9 @@ module _ {E C FP K F : Type 0} (order : CmpGhosts (InternalKeyCmp C)) (env : Env
     at_before {keys} {pairs} {position} at =
         let over = at.over in
         let table = table_in over.tables old.at in
-        let here = inside_prev keys.cmp table.parts old.core result core at.inner step made valid at.in_table in
+        let here = inside_prev order keys.cmp table.parts old.core result core at.inner step made valid at.in_table in
         let there = inside_there old.core core step made in
-        let k = pair_some keys.cmp table.parts core (previous_position at.inner) here there in
+        let k = pair_some order keys.cmp table.parts core (previous_position at.inner) here there in
         record {
           over = over_after order env cmp filters codings world old world (record old { core = core }) stays_block keys pairs over;
           inner = previous_position at.inner;
@@ -179,7 +179,7 @@ module _ {E C FP K F : Type 0} (order : CmpGhosts (InternalKeyCmp C)) (env : Env
           let table = table_in over.tables old.at in
           let inside = stays_inside order env cmp filters codings (λ _. previous_position) world old result core step in
           let keys_is : order.cmp (record { 0 = world.1.cmp }) ≡ keys.cmp = ap (λ (o : KeyOrder). o.cmp) (sym over.keys_are) in
-          let led = led_prev keys.cmp table.parts old.core result core at.inner step made valid at.in_table in
+          let led = led_prev order keys.cmp table.parts old.core result core at.inner step made valid at.in_table in
           let within = file_within over.tables old.at (table_pairs table) at.inner position led.1 at.at in
           let to = previous_position at.inner in (
             subst (λ (o : List ℕ → List ℕ → Ordering). OnOk stepped (IsAtInTable order o table.parts new.core to)) keys_is
@@ -198,7 +198,7 @@ module _ {E C FP K F : Type 0} (order : CmpGhosts (InternalKeyCmp C)) (env : Env
           let landed = landed_back in
           let here = subst (λ (r : Result Bool Status). OnOk r (IsAtInTable order keys.cmp table.parts new.core to)) is landed.0 in
           let there = subst (λ (r : Result Bool Status). IfOk r (λ there. there ≡ is_some (core_position new.core))) is back.there in
-          let k = pair_some keys.cmp table.parts new.core to here there in
+          let k = pair_some order keys.cmp table.parts new.core to here there in
           let outer = outer_prev (table_parts over.tables) (Some old.at) (table_pairs table) at.inner position k.0 k.1 at.at in
           record {
             over = over_after order env cmp filters codings world old later new stays_back keys pairs over;
@@ -216,7 +216,7 @@ module _ {E C FP K F : Type 0} (order : CmpGhosts (InternalKeyCmp C)) (env : Env
           let landed = landed_back in
           let here = subst (λ (r : Result Bool Status). OnOk r (IsAtInTable order keys.cmp table.parts new.core to)) is landed.0 in
           let there = subst (λ (r : Result Bool Status). IfOk r (λ there. there ≡ is_some (core_position new.core))) is back.there in
-          inner_none keys.cmp table.parts new.core to here (no_some (core_position new.core) there)
+          inner_none order keys.cmp table.parts new.core to here (no_some (core_position new.core) there)
 
       -- nor before the first file
       at_no_pair : stepped ≡ Ok false → old.at ≡ 0 → At later new keys pairs (previous_position position)

@@ -26,10 +26,10 @@ use Rattle.leveldb_version.specs.declared.table_cache.moves.ReadTables.{ReadTabl
 use Rattle.leveldb_version.specs.declared.version_iter.VersionIter.{VersionIter}
 
 -- a walk at a pair of its table is at a position
-pub pair_some : {C : Type 0} {order : CmpGhosts C} (cmp : List ℕ → List ℕ → Ordering) (parts : List Part) (core : Option (TablePlace C)) (inner : Option ℕ) → IsAtInTable order cmp parts core inner → true ≡ is_some (core_position core) → (k : ℕ) × (inner ≡ Some k)
-pair_some cmp parts core (Some k) at there = (k, refl)
-pair_some cmp parts None None at there = absurd (not_true (sym there))
-pair_some cmp parts (Some core) None at there = absurd (not_true (sym (there ∙ ap is_some at.at)))
+pub pair_some : {C : Type 0} (order : CmpGhosts C) (cmp : List ℕ → List ℕ → Ordering) (parts : List Part) (core : Option (TablePlace C)) (inner : Option ℕ) → IsAtInTable order cmp parts core inner → true ≡ is_some (core_position core) → (k : ℕ) × (inner ≡ Some k)
+pair_some order cmp parts core (Some k) at there = (k, refl)
+pair_some order cmp parts None None at there = absurd (not_true (sym there))
+pair_some order cmp parts (Some core) None at there = absurd (not_true (sym (there ∙ ap is_some at.at)))
 
 -- the file of a pair is there
 pub file_within : (tables : List FileTable) (i : ℕ) (pairs : List Pair) (inner position : Option ℕ) → inner ≢ None → IsAtPairOrNone (table_parts tables) (Some i) pairs inner position → i < length tables
@@ -41,12 +41,12 @@ file_within tables i pairs inner (Some n) some at =
     same e = cc
 
 -- from the last pair of a block the next block leads on
-led_next : {C : Type 0} {order : CmpGhosts C} (cmp : List ℕ → List ℕ → Ordering) (parts : List Part) (old : Option (TablePlace C)) (result : Result Bool Status) (new : Option (TablePlace C)) (inner : Option ℕ) → StepsInBlock next_position old result new → result ≡ Ok false
+led_next : {C : Type 0} (order : CmpGhosts C) (cmp : List ℕ → List ℕ → Ordering) (parts : List Part) (old : Option (TablePlace C)) (result : Result Bool Status) (new : Option (TablePlace C)) (inner : Option ℕ) → StepsInBlock next_position old result new → result ≡ Ok false
     → is_some (core_position old) ≡ true → IsAtInTable order cmp parts old inner → IsLedTo NextBlock cmp parts new (next_position (pairs_in parts) inner) × (inner ≢ None)
-led_next cmp parts None result new inner step made valid at = absurd (not_true valid)
-led_next cmp parts (Some old) result None inner step made valid at = absurd step
-led_next cmp parts (Some old) result (Some new) None step made valid at = absurd (not_true (sym (ap is_some at.at) ∙ valid))
-led_next cmp parts (Some old) result (Some new) (Some n) step made valid at =
+led_next order cmp parts None result new inner step made valid at = absurd (not_true valid)
+led_next order cmp parts (Some old) result None inner step made valid at = absurd step
+led_next order cmp parts (Some old) result (Some new) None step made valid at = absurd (not_true (sym (ap is_some at.at) ∙ valid))
+led_next order cmp parts (Some old) result (Some new) (Some n) step made valid at =
     let moved = subst (λ (r : Result Bool Status). OnOk r (inner_position new.inner ≡ next_position (inner_pairs old.inner) (inner_position old.inner))) made step.ok in
     let there = subst (λ (r : Result Bool Status). IfOk r (λ there. there ≡ is_some (inner_position new.inner))) made step.there in
     let last = sym moved ∙ no_some (inner_position new.inner) there in
@@ -93,7 +93,7 @@ module _ {E C FP K F : Type 0} (order : CmpGhosts (InternalKeyCmp C)) (env : Env
           let table = table_in over.tables old.at in
           let inside = stays_inside order env cmp filters codings next_position world old result core step in
           let keys_is : order.cmp (record { 0 = world.1.cmp }) ≡ keys.cmp = ap (λ (o : KeyOrder). o.cmp) (sym over.keys_are) in
-          let led = led_next keys.cmp table.parts old.core result core at.inner step made valid at.in_table in
+          let led = led_next order keys.cmp table.parts old.core result core at.inner step made valid at.in_table in
           let within = file_within over.tables old.at (table_pairs table) at.inner position led.1 at.at in
           let to = next_position (table_pairs table) at.inner in (
             subst (λ (o : List ℕ → List ℕ → Ordering). OnOk stepped (IsAtInTable order o table.parts new.core to)) keys_is
@@ -112,7 +112,7 @@ module _ {E C FP K F : Type 0} (order : CmpGhosts (InternalKeyCmp C)) (env : Env
           let landed = landed_next in
           let here = subst (λ (r : Result Bool Status). OnOk r (IsAtInTable order keys.cmp table.parts new.core to)) is landed.0 in
           let there = subst (λ (r : Result Bool Status). IfOk r (λ there. there ≡ is_some (core_position new.core))) is next.there in
-          let k = pair_some keys.cmp table.parts new.core to here there in
+          let k = pair_some order keys.cmp table.parts new.core to here there in
           let outer = subst (λ ps. IsAtPairOrNone (table_parts over.tables) (Some old.at) (table_pairs table) to (next_position ps position)) (sym over.pairs_are)
           (outer_next (table_parts over.tables) (Some old.at) (table_pairs table) at.inner position k.0 k.1 at.at landed.1) in
           record {
@@ -133,7 +133,7 @@ module _ {E C FP K F : Type 0} (order : CmpGhosts (InternalKeyCmp C)) (env : Env
           let landed = landed_next in
           let here = subst (λ (r : Result Bool Status). OnOk r (IsAtInTable order keys.cmp table.parts new.core to)) is landed.0 in
           let there = subst (λ (r : Result Bool Status). IfOk r (λ there. there ≡ is_some (core_position new.core))) is next.there in
-          let none = inner_none keys.cmp table.parts new.core to here (no_some (core_position new.core) there) in
+          let none = inner_none order keys.cmp table.parts new.core to here (no_some (core_position new.core) there) in
           let after = after_last (table_parts over.tables) (Some old.at) (table_pairs table) at.inner position landed.1 none at.at in
           subst (λ ps. OnOk last (At end it keys pairs (next_position ps position))) (sym over.pairs_are)
           (file_first order env cmp filters codings (over_after order env cmp filters codings world old later new stays_next keys pairs over) i last end it moves (Some old.at) (next_position (pairs_in (table_parts over.tables)) position) after

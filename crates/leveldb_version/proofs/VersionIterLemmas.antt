@@ -130,14 +130,14 @@ no_some None e = refl
 no_some (Some x) e = absurd (not_true e)
 
 -- a walk at a pair of its table is at a position
-at_some : {C : Type 0} {order : CmpGhosts C} (cmp : List ℕ → List ℕ → Ordering) (parts : List Part) (core : Option (TablePlace C)) (n : ℕ) → IsAtInTable order cmp parts core (Some n) → core_position core ≡ None → ⊥
-at_some cmp parts None n at none = some_none at
-at_some cmp parts (Some core) n at none = let pair = at.at in some_none (sym pair.at_position ∙ none)
+at_some : {C : Type 0} (order : CmpGhosts C) (cmp : List ℕ → List ℕ → Ordering) (parts : List Part) (core : Option (TablePlace C)) (n : ℕ) → IsAtInTable order cmp parts core (Some n) → core_position core ≡ None → ⊥
+at_some order cmp parts None n at none = some_none at
+at_some order cmp parts (Some core) n at none = let pair = at.at in some_none (sym pair.at_position ∙ none)
 
 -- a walk at no pair is at no position
-pub inner_none : {C : Type 0} {order : CmpGhosts C} (cmp : List ℕ → List ℕ → Ordering) (parts : List Part) (core : Option (TablePlace C)) (inner : Option ℕ) → IsAtInTable order cmp parts core inner → core_position core ≡ None → inner ≡ None
-inner_none cmp parts core None at none = refl
-inner_none cmp parts core (Some n) at none = absurd (at_some cmp parts core n at none)
+pub inner_none : {C : Type 0} (order : CmpGhosts C) (cmp : List ℕ → List ℕ → Ordering) (parts : List Part) (core : Option (TablePlace C)) (inner : Option ℕ) → IsAtInTable order cmp parts core inner → core_position core ≡ None → inner ≡ None
+inner_none order cmp parts core None at none = refl
+inner_none order cmp parts core (Some n) at none = absurd (at_some order cmp parts core n at none)
 
 outer_none : (parts : List Part) (line : Option ℕ) (pairs : List Pair) (inner position : Option ℕ) → inner ≡ None → IsAtPairOrNone parts line pairs inner position → position ≡ None
 outer_none parts line pairs inner None none at = refl
@@ -149,12 +149,12 @@ some_position parts line pairs inner k None is at = absurd (some_none (sym is �
 some_position parts line pairs inner k (Some n) is at = (n, refl)
 
 -- a step inside a block to its next pair
-inside_next : {C : Type 0} {order : CmpGhosts C} (cmp : List ℕ → List ℕ → Ordering) (parts : List Part) (old : Option (TablePlace C)) (result : Result Bool Status) (new : Option (TablePlace C)) (inner : Option ℕ) → StepsInBlock next_position old result new → result ≡ Ok true
+inside_next : {C : Type 0} (order : CmpGhosts C) (cmp : List ℕ → List ℕ → Ordering) (parts : List Part) (old : Option (TablePlace C)) (result : Result Bool Status) (new : Option (TablePlace C)) (inner : Option ℕ) → StepsInBlock next_position old result new → result ≡ Ok true
     → is_some (core_position old) ≡ true → IsAtInTable order cmp parts old inner → IsAtInTable order cmp parts new (next_position (pairs_in parts) inner) × ((k : ℕ) × (next_position (pairs_in parts) inner ≡ Some k) × (inner ≡ None → ⊥))
-inside_next cmp parts None result new inner step made valid at = absurd (not_true valid)
-inside_next cmp parts (Some old) result None inner step made valid at = absurd step
-inside_next cmp parts (Some old) result (Some new) None step made valid at = absurd (not_true (sym (ap is_some at.at) ∙ valid))
-inside_next {order = order} cmp parts (Some old) result (Some new) (Some n) step made valid at =
+inside_next order cmp parts None result new inner step made valid at = absurd (not_true valid)
+inside_next order cmp parts (Some old) result None inner step made valid at = absurd step
+inside_next order cmp parts (Some old) result (Some new) None step made valid at = absurd (not_true (sym (ap is_some at.at) ∙ valid))
+inside_next order cmp parts (Some old) result (Some new) (Some n) step made valid at =
     let moved = subst (λ r. OnOk r (inner_position new.inner ≡ next_position (inner_pairs old.inner) (inner_position old.inner))) made step.ok in
     let there = subst (λ r. IfOk r (λ there. there ≡ is_some (inner_position new.inner))) made step.there in
     let k = some_there (inner_position new.inner) (sym there) in
@@ -169,11 +169,11 @@ outer_next parts line pairs inner None k is at some = absurd (some at)
 outer_next parts line pairs inner (Some n) k is at some = subst (λ z. IsAtPairOrNone parts line pairs z (next_position (pairs_in parts) (Some n))) (sym is) (next_in at k is)
 
 -- what a step inside a block leaves
-inside_indexed : {C : Type 0} {order : CmpGhosts C} (to : List Pair → Option ℕ → Option ℕ) (cmp : List ℕ → List ℕ → Ordering) (parts : List Part) (old : Option (TablePlace C)) (result : Result Bool Status) (new : Option (TablePlace C))
+inside_indexed : {C : Type 0} (order : CmpGhosts C) (to : List Pair → Option ℕ → Option ℕ) (cmp : List ℕ → List ℕ → Ordering) (parts : List Part) (old : Option (TablePlace C)) (result : Result Bool Status) (new : Option (TablePlace C))
     → StepsInBlock to old result new → IsIndexedFor order cmp parts old → IsIndexedFor order cmp parts new
-inside_indexed {order = order} to cmp parts None result new step indexed = subst (IsIndexedFor order cmp parts) (sym step.0) tt
-inside_indexed to cmp parts (Some old) result None step indexed = absurd step
-inside_indexed {order = order} to cmp parts (Some old) result (Some new) step indexed = record { lines = ap pairs_over step.index ∙ indexed.lines; ordered = ap (λ z. order.cmp z.block.cmp) step.index ∙ indexed.ordered }
+inside_indexed order to cmp parts None result new step indexed = subst (IsIndexedFor order cmp parts) (sym step.0) tt
+inside_indexed order to cmp parts (Some old) result None step indexed = absurd step
+inside_indexed order to cmp parts (Some old) result (Some new) step indexed = record { lines = ap pairs_over step.index ∙ indexed.lines; ordered = ap (λ z. order.cmp z.block.cmp) step.index ∙ indexed.ordered }
 
 inside_memory : {C : Type 0} (to : List Pair → Option ℕ → Option ℕ) (old : Option (TablePlace C)) (result : Result Bool Status) (new : Option (TablePlace C)) → StepsInBlock to old result new → IfErr result IsOutOfMemory
 inside_memory to None result new step = subst (λ r. IfErr r IsOutOfMemory) (sym step.1) tt
@@ -382,7 +382,7 @@ module _ {E C FP K F : Type 0} (order : CmpGhosts (InternalKeyCmp C)) (env : Env
       fails_turned (Err status) fails = fails_before world world (reading_kept world) old turned there_turned later status fails
 
       ok_turned : (meaning : Meaning) (tables : List FileTable) → AreTablesThere order env cmp filters codings meaning world old tables → turned.at < length tables → (position : Option ℕ)
-          → IsLedTo {order = order} to (order.cmp (record { 0 = world.1.cmp })) (table_in tables turned.at).parts None position → OnOk r (IsAtInTable order (order.cmp (record { 0 = world.1.cmp })) (table_in tables turned.at).parts new.core position)
+          → IsLedTo {C = InternalKeyCmp C} to (order.cmp (record { 0 = world.1.cmp })) (table_in tables turned.at).parts None position → OnOk r (IsAtInTable order (order.cmp (record { 0 = world.1.cmp })) (table_in tables turned.at).parts new.core position)
       ok_turned meaning tables there in_tables position led = step.ok meaning tables (there_turned meaning tables there) in_tables position (led_any to ends (order.cmp (record { 0 = world.1.cmp })) (table_in tables turned.at).parts turned.core position led)
 
       pub to_file_made : MovesToFile order env cmp filters codings turned.at to world old r later new
@@ -428,7 +428,7 @@ module _ {E C FP K F : Type 0} (order : CmpGhosts (InternalKeyCmp C)) (env : Env
               let led = end_led (InternalKeyCmp C) to ends (order.cmp (record { 0 = world.1.cmp })) (table_in tables turned.at).parts (last_key_some some.1.2.last) in
               let at = subst (λ q. OnOk q (IsAtInTable order (order.cmp (record { 0 = world.1.cmp })) (table_in tables turned.at).parts new.core (Some led.0))) r_is
               (ok_turned meaning tables there (omega (arith, long, within)) (Some led.0) led.1) in
-              at_some (order.cmp (record { 0 = world.1.cmp })) (table_in tables turned.at).parts new.core led.0 at nowhere
+              at_some order (order.cmp (record { 0 = world.1.cmp })) (table_in tables turned.at).parts new.core led.0 at nowhere
 
   -- past the last file
   pub to_file_past : (at : ℕ) (to : TableStep) (world : E × ReadTables E C FP K F) (old new : VersionIter C) → LeavesPairs old.core new.core → new.at ≡ old.at → new.files.now ≡ old.files.now → length old.files.now ≤ at
@@ -663,7 +663,7 @@ module _ {E C FP K F : Type 0} (order : CmpGhosts (InternalKeyCmp C)) (env : Env
         matched = there.matched;
         agrees = there.agrees;
         each = there.each;
-        indexed = inside_indexed to (order.cmp (record { 0 = world.1.cmp })) (table_in tables old.at).parts old.core result core step there.indexed;
+        indexed = inside_indexed order to (order.cmp (record { 0 = world.1.cmp })) (table_in tables old.at).parts old.core result core step there.indexed;
       };
     }
 
@@ -699,7 +699,7 @@ module _ {E C FP K F : Type 0} (order : CmpGhosts (InternalKeyCmp C)) (env : Env
       → MovesWalk Over At version_here (FailsInTables order env cmp filters codings) (KeepsReading order env cmp filters codings) At (λ keys. next_position) world old result later new
   walk_begins world old result later new nowhere moves =
       walk_moves At (λ keys. next_position) world old result later new moves.moves (λ keys pairs position at. (let over = at.over in
-      let inner = inner_none keys.cmp (table_in over.tables old.at).parts old.core at.inner at.in_table nowhere in
+      let inner = inner_none order keys.cmp (table_in over.tables old.at).parts old.core at.inner at.in_table nowhere in
       let none = outer_none (table_parts over.tables) (Some old.at) (table_pairs (table_in over.tables old.at)) at.inner position inner at.at in
       subst (λ p. OnOk result (At later new keys pairs (next_position pairs p))) (sym none) (first_of over result later new moves)))
 
@@ -711,7 +711,7 @@ module _ {E C FP K F : Type 0} (order : CmpGhosts (InternalKeyCmp C)) (env : Env
   walk_inside world old result core step made valid =
       walk_moves At (λ keys. next_position) world old (Ok true) world (record old { core = core }) (moves_made true (subst (λ (r : Result Bool Status). MovesThere order env cmp filters codings world old r world (record old { core = core })) made moves))
       (λ keys pairs position at. (let over = at.over in
-      let here = inside_next keys.cmp (table_in over.tables old.at).parts old.core result core at.inner step made valid at.in_table in
+      let here = inside_next order keys.cmp (table_in over.tables old.at).parts old.core result core at.inner step made valid at.in_table in
       record {
         over = over_after world old world (record old { core = core }) stays keys pairs over;
         inner = next_position (table_pairs (table_in over.tables old.at)) at.inner;

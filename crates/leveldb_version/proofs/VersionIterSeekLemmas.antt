@@ -88,16 +88,16 @@ all_some R link (x ∷ files) [] each = absurd each
 all_some R link (x ∷ files) (t ∷ tables) each = (link x t each.0, all_some R link files tables each.1)
 
 -- a walk that has a pair is at a position
-is_there : {C : Type 0} {order : CmpGhosts C} (cmp : List ℕ → List ℕ → Ordering) (parts : List Part) (core : Option (TablePlace C)) (inner : Option ℕ) → IsAtInTable order cmp parts core inner → true ≡ is_some (core_position core) → (j : ℕ) × (inner ≡ Some j)
-is_there cmp parts None inner at there = absurd (never there)
+is_there : {C : Type 0} (order : CmpGhosts C) (cmp : List ℕ → List ℕ → Ordering) (parts : List Part) (core : Option (TablePlace C)) (inner : Option ℕ) → IsAtInTable order cmp parts core inner → true ≡ is_some (core_position core) → (j : ℕ) × (inner ≡ Some j)
+is_there order cmp parts None inner at there = absurd (never there)
   where
     never : true ≡ false → ⊥
     never e = cc
-is_there cmp parts (Some core) None at there = absurd (never (there ∙ ap is_some at.at))
+is_there order cmp parts (Some core) None at there = absurd (never (there ∙ ap is_some at.at))
   where
     never : true ≡ false → ⊥
     never e = cc
-is_there cmp parts (Some core) (Some n) at there = (n, refl)
+is_there order cmp parts (Some core) (Some n) at there = (n, refl)
 
 -- what holds of three values holds of what is the same
 pub at_same : {A B C : Type 0} (P : A → B → C → Type 0) {a x : A} {b y : B} {c z : C} → a ≡ x → b ≡ y → c ≡ z → P x y z → P a b c
@@ -233,7 +233,7 @@ module _ {E C FP K F : Type 0} (order : CmpGhosts (InternalKeyCmp C)) (env : Env
         unfolding over_after
         sought_there is =
             let inner = seek_position keys.cmp (table_pairs (table_in over.tables i)) sought.now in
-            let j = is_there keys.cmp (table_in over.tables i).parts new.core inner landed (sym is ∙ step.there) in
+            let j = is_there order keys.cmp (table_in over.tables i).parts new.core inner landed (sym is ∙ step.there) in
             let at = step.at ∙ turned_at in
             record {
               over = over_after order env cmp filters codings world old later new stays keys pairs over;
@@ -250,7 +250,7 @@ module _ {E C FP K F : Type 0} (order : CmpGhosts (InternalKeyCmp C)) (env : Env
             → OnOk result (IsAtInTables order env cmp filters codings last_world last keys pairs (seek_position keys.cmp pairs sought.now))
         unfolding over_after
         sought_after is result last_world last moves =
-            let none = inner_none keys.cmp (table_in over.tables i).parts new.core (seek_position keys.cmp (table_pairs (table_in over.tables i)) sought.now) landed (no_some (core_position new.core) (sym is ∙ step.there)) in
+            let none = inner_none order keys.cmp (table_in over.tables i).parts new.core (seek_position keys.cmp (table_pairs (table_in over.tables i)) sought.now) landed (no_some (core_position new.core) (sym is ∙ step.there)) in
             subst (λ (ps : List Pair). OnOk result (IsAtInTables order env cmp filters codings last_world last keys pairs (seek_position keys.cmp ps sought.now))) (sym over.pairs_are)
             (file_first order env cmp filters codings (over_after order env cmp filters codings world old later new stays keys pairs over) (i + 1) result last_world last moves (Some i) (seek_position keys.cmp (pairs_in (table_parts over.tables)) sought.now)
             (seek_after pre over.parted over.accepted sought.now fit some i (table_part (table_in over.tables i)) line_is (part_in over.tables i within) none) refl)
