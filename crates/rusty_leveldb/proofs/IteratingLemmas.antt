@@ -33,16 +33,16 @@ use Rattle.rusty_leveldb.specs.State.{Snapshot, State}
 use Rattle.rusty_leveldb.specs.declared.db_iter.StoreIterator.{StoreIterator}
 
 -- what an iterator borrows is the environment that it was given
-pub made_reference : {E C FP F K V : Type 0} {keys : InternalOrder C} (env : Ghosts E F)
+pub made_reference : {E C FP F K V : Type 0} (keys : InternalOrder C) (env : Ghosts E F)
     (cmp : CmpGhosts C) (filters : FilterGhosts FP) (codings : K → Codings)
     (walk : WalkGhosts V E (ReadTables E C FP K F)) (value : OpenStoreValue C) (policy : FP)
     (compressors : K) (environment : MutBor E) (tables : TableCache E C FP F) (sequence : ℕ)
     (r : Result (StoreIterator E C FP K V F) Status)
     → IfOk r (IsMadeOver keys env cmp filters codings walk value policy compressors environment tables sequence)
     → IfOk r (λ it. it.env.ghost_name ≡ environment.ghost_name)
-made_reference env cmp filters codings walk value policy compressors environment tables sequence (Ok it) made =
+made_reference keys env cmp filters codings walk value policy compressors environment tables sequence (Ok it) made =
     made.reference
-made_reference env cmp filters codings walk value policy compressors environment tables sequence (Err e) made = tt
+made_reference keys env cmp filters codings walk value policy compressors environment tables sequence (Err e) made = tt
 
 module _ {E C FP F V : Type 0} {B : Boxed} (keys : InternalOrder C) (env : Ghosts E F) (cmp : CmpGhosts C) (filters : FilterGhosts FP)
     (codings : CompressorList B.compressors B.compressor → Codings)
