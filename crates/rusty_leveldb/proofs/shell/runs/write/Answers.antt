@@ -22,5 +22,5 @@ returns-in_err-check_writable-clause-step g c =
 
 pub returns-clause-step : goal.returns-clause-step
 returns-clause-step g c =
-    subst (λ items. Answers g.E.Env (format_of g.C.Cmp g.FP.FilterPolicy (compressors g.dyn-2).codings) (Some c.args.engine.now) c.args.env.now (machine.write items c.args.sync) (done_or c.write.result) (Some c.write.new.self) c.write.new.env)
+    subst (λ items. Answers _ g.E.Env (format_of g.C.Cmp g.FP.FilterPolicy (compressors g.dyn-2).codings) (Some c.args.engine.now) c.args.env.now (machine.write items c.args.sync) (done_or c.write.result) (Some c.write.new.self) c.write.new.env)
     c.in_ok-batch.ensures.ok c.write.ensures.step
