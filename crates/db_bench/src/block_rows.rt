@@ -2,7 +2,7 @@
 ghost use Rattle.std.specs.Prelude.{◌≡◌, ◌<◌, None, length, IfOk, IsTrue};
 ghost use Rattle.std.specs.declared.cmp.Ordering.TheVariants.{Less};
 ghost use Rattle.leveldb_base.specs.Cmp.{bytewise};
-ghost use Rattle.leveldb_table.specs.Block.{pairs_of};
+ghost use Rattle.leveldb_table.specs.Block.{KeysRise, pairs_of};
 ghost use Rattle.leveldb_table.specs.BlockBuilder.{last_added};
 
 use crate::keys::{Numbers, Values, key_of};
@@ -22,12 +22,14 @@ use std::time::Clock;
 
 const BITS_PER_KEY: u32 = 10;
 
-// Whether a key is after all keys of a block.
+// Whether a key is after all keys of a block, which rise.
 fn is_after(builder: &BlockBuilder<DefaultCmp>, key: &[u8]) -> bool
-    ensures { IsTrue result → 0 < length builder.now.entries
+    ensures after { IsTrue result → 0 < length builder.now.entries
         → bytewise (last_added (pairs_of None builder.now.entries)) key.now ≡ Less }
+    ensures rising { KeysRise bytewise (pairs_of None builder.now.entries) }
 {
-    builder.entries() == 0 || DefaultCmp.cmp(builder.last_key(), key).is_lt()
+    let last = builder.last_key();
+    builder.entries() == 0 || DefaultCmp.cmp(last, key).is_lt()
 }
 
 // Adds the pair of a number to a block.

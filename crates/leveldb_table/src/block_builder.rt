@@ -129,9 +129,10 @@ impl<C: Cmp> BlockBuilder<C> {
         self.count
     }
 
-    /// The key that was added last, empty where there is none.
+    /// The key that was added last, empty where there is none. The keys rise up to it.
     pub fn last_key(&self) -> &[u8]
-        ensures { result.now ≡ last_added (pairs_of None self.now.entries) }
+        ensures last { result.now ≡ last_added (pairs_of None self.now.entries) }
+        ensures rising { KeysRise (C.cmp self.now.cmp) (pairs_of None self.now.entries) }
     {
         self.last_key.as_slice()
     }

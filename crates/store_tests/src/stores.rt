@@ -61,7 +61,7 @@ pub fn opened_db<E: Env>(
 
 /// Opens the store, and gives back its lock at once.
 pub fn reopen<E: Env>(alloc: Global, env: &mut E, options: DefaultOptions) -> Result<()> {
-    opened(alloc, env, options)?.abandon(env)
+    Engine::open(alloc, STORE, env, options)?.abandon(env)
 }
 
 /// Opens the store, puts each of these pairs in a batch of its own, and gives back its lock.
