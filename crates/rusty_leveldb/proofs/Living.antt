@@ -34,7 +34,7 @@ module _ {E F : Type 0} {B : Boxed} (C FP : Type 0) (keys : InternalOrder C) (en
       → (first : ℕ) × (turns : List Turn) × AreTurnsOf turns commands (map (λ (reply : ℕ × Reply). reply.1) replies) taken
       × LeadsAt C FP keys env formats store meaning from (open_store opening ∷ requests_in turns) (done ∷ answers_in turns) (first ∷ given) (Some engine) to old
 
-module _ {E F : Type 0} {B : Boxed} (C FP : Type 0) (keys : InternalOrder C) (env : Ghosts E F) (formats : OptionsOf C FP B → Format) (only_now : OnlyNow keys env) (modelled : IsTrue env.models_disk) (store : List ℕ) where
+module _ {E F : Type 0} {B : Boxed} (C FP : Type 0) (keys : InternalOrder C) (env : Ghosts E F) (formats : OptionsOf C FP B → Format) (only_now : OnlyNow env) (modelled : IsTrue env.models_disk) (store : List ℕ) where
   pub lives_first : (from to : E) (wanted : Opening) (engine : EngineOf E C FP F B) → OpensAs C FP keys env formats store from wanted done (Some engine) to → LivesSoFar C FP keys env formats store from wanted [] [] [] [] engine to
   lives_first from to wanted engine opens opening is meaning agrees old represents = ((env.observed to).moment, [], turns_of_none, first_at keys env formats only_now store meaning modelled from to (Some engine) (open_store opening) done old represents (opens opening is meaning agrees))
 

@@ -126,7 +126,7 @@ pub room_tables : {E C FP F P : Type 0} {B : Boxed} {keys : InternalOrder C}
     → EngineMakesRoom env choices before from result after to → IsTrue env.models_disk
     → HasOwnTables keys env (formats_of choices) before (env.observed from).disk.files
     → HasOwnTables keys env (formats_of choices) after (env.observed to).disk.files
-room_tables {E} {C} {FP} {F} {B = B} env choices before from result after to ignores made modelled
+room_tables {E} {C} {FP} {F} {B = B} {keys = keys} env choices before from result after to ignores made modelled
     own = subst (λ (by : TableOptions C FP). AreOpenTablesOf keys env by after.store.set
     (env.observed to).disk.files after.tables)
     (sym (room_by env choices before from result after to ignores made))

@@ -1,5 +1,6 @@
 use Rattle.std.proofs.Common.{rules, ◌≡◌, ◌++◌, ◌∷◌, [], ◌-◌, ◌≤◌, arith, map, take, refl, sym, subst, ◌+◌, ◌∙◌}
 use Rattle.std.proofs.lemmas.List.{take_all}
+use Rattle.leveldb_base.specs.contracts.cmp.internal.InternalKeyCmpCmp.TheImpl.{ghosts as key_order}
 use Rattle.leveldb_env.specs.MemEnvLaws.{record_only_now, record_counts_now}
 use Rattle.leveldb_env.specs.contracts.mem_env.record.RecordEnvEnv.TheImpl.{ghosts}
 use Rattle.leveldb_env.specs.Record.{moment_of}
@@ -22,7 +23,7 @@ loop-command-init g c =
       search rules,
       [],
       subst (λ items. Given (moment_of c.args.env.now) items []) (sym none) refl,
-      subst (λ items. LivesSoFar g.row.C.Denot g.row.FP.Denot _ ghosts (format_of g.C.Cmp g.FP.FilterPolicy (compressors g.dyn-2).codings) c.args.name.now c.args.env.now (opening_of g.C.Cmp g.FP.FilterPolicy (compressors g.dyn-2).codings c.args.options) [] items (map snapshot_of c.new-taken.result.items) [] c.in-Ok.engine c.open.new.env) (sym none)
+      subst (λ items. LivesSoFar g.row.C.Denot g.row.FP.Denot (key_order g.row.C g.C.UserCmp g.C.UserCmp-dict g.C.Cmp g.C.Cmp-dict) ghosts (format_of g.C.Cmp g.FP.FilterPolicy (compressors g.dyn-2).codings) c.args.name.now c.args.env.now (opening_of g.C.Cmp g.FP.FilterPolicy (compressors g.dyn-2).codings c.args.options) [] items (map snapshot_of c.new-taken.result.items) [] c.in-Ok.engine c.open.new.env) (sym none)
           (rw c.new-taken.ensures.items (lives_first g.row.C.Denot g.row.FP.Denot _ ghosts (format_of g.C.Cmp g.FP.FilterPolicy (compressors g.dyn-2).codings) (record_only_now, record_counts_now) refl c.args.name.now c.args.env.now c.open.new.env (opening_of g.C.Cmp g.FP.FilterPolicy (compressors g.dyn-2).codings c.args.options) c.in-Ok.engine c.in-Ok.ensures.step)),
     )
 
@@ -47,7 +48,7 @@ loop-command-preserved g c =
       so_far.2 ++ moment_of c.answer-reply.new.env ∷ [],
       subst (λ items. Given (moment_of c.args.env.now) items (so_far.2 ++ moment_of c.answer-reply.new.env ∷ [])) (sym pushed)
           (given_more (moment_of c.args.env.now) c.loop-command.replies.items so_far.2 (moment_of c.answer-reply.new.env) told reply so_far.3 is),
-      subst (λ items. LivesSoFar g.row.C.Denot g.row.FP.Denot _ ghosts (format_of g.C.Cmp g.FP.FilterPolicy (compressors g.dyn-2).codings) c.args.name.now c.args.env.now (opening_of g.C.Cmp g.FP.FilterPolicy (compressors g.dyn-2).codings c.args.options) (take (c.loop-command.command-index + 1) c.args.commands.now) items (map snapshot_of c.answer-reply.new.taken.items) (so_far.2 ++ moment_of c.answer-reply.new.env ∷ []) c.answer-reply.new.engine c.answer-reply.new.env) (sym pushed)
+      subst (λ items. LivesSoFar g.row.C.Denot g.row.FP.Denot (key_order g.row.C g.C.UserCmp g.C.UserCmp-dict g.C.Cmp g.C.Cmp-dict) ghosts (format_of g.C.Cmp g.FP.FilterPolicy (compressors g.dyn-2).codings) c.args.name.now c.args.env.now (opening_of g.C.Cmp g.FP.FilterPolicy (compressors g.dyn-2).codings c.args.options) (take (c.loop-command.command-index + 1) c.args.commands.now) items (map snapshot_of c.answer-reply.new.taken.items) (so_far.2 ++ moment_of c.answer-reply.new.env ∷ []) c.answer-reply.new.engine c.answer-reply.new.env) (sym pushed)
           (rw behind more),
     )
 

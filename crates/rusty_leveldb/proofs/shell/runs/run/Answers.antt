@@ -15,7 +15,7 @@ pub returns-in_err-reserve-clause-runs : goal.returns-in_err-reserve-clause-runs
 returns-in_err-reserve-clause-runs g c =
     let failed = err_from_is_err_and c.from_residual.result c.from_residual.ensures.1 in
     let none : drop (length c.args.replies.now.items) c.reserve.new.self.items ≡ [] = rw c.reserve.ensures.items (drop-length c.args.replies.now.items) in
-    rw failed.1 (not_begun _ g.E.Env c.args.name.now _ c.args.commands.now c.args.env.now (drop (length c.args.replies.now.items) c.reserve.new.self.items) failed.0 none failed.2)
+    rw failed.1 (not_begun g.E.Env c.args.name.now _ c.args.commands.now c.args.env.now (drop (length c.args.replies.now.items) c.reserve.new.self.items) failed.0 none failed.2)
 
 pub returns-in_err-engine-clause-runs : goal.returns-in_err-engine-clause-runs
 returns-in_err-engine-clause-runs g c =
