@@ -32,6 +32,7 @@ pub struct MemEnv {
 }
 
 impl Drop for MemEnv {
+    // One call for whoever drops one, in place of one for each part of it.
     fn drop(self) {
         let MemEnv {
             alloc: _,

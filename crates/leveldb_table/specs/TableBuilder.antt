@@ -33,56 +33,48 @@ pub record TableBuilt (C FP : Type 0) : Type 0 where
   pub block_size : ℕ
 
 -- how far a builder's table is built
-abbrev pub stage : {C FP : Type 0}
-    → TableBuilt C FP → Stage FP
+abbrev pub stage : {C FP : Type 0} → TableBuilt C FP → Stage FP
 stage core =
     stage_of core.filter core.offset (pairs_of None core.index.entries)
     (pairs_of None core.block.entries) core.count core.block.interval core.index.interval
 
 -- the key that was added last
-abbrev pub last_of : {C FP : Type 0}
-    → TableBuilt C FP → List ℕ
+abbrev pub last_of : {C FP : Type 0} → TableBuilt C FP → List ℕ
 last_of core = last_added (pairs_of None core.block.entries)
 
 -- its comparator, and its filter policy
-abbrev pub order_of : {C FP : Type 0}
-    → TableBuilt C FP → C
+abbrev pub order_of : {C FP : Type 0} → TableBuilt C FP → C
 order_of core = core.block.cmp
 
 -- the filter policy of a table that is built
-abbrev pub policy_of : {C FP : Type 0}
-    → TableBuilt C FP → FP
+abbrev pub policy_of : {C FP : Type 0} → TableBuilt C FP → FP
 policy_of core = core.filter.policy
 
 -- the index's keys and after them those of the open block rise, and the open block's filter is
 -- open
-abbrev pub IsReady : {C FP : Type 0}
-    → (C → List ℕ → Bool) → (C → List ℕ → List ℕ → Ordering) → TableBuilt C FP
-    → Type 0
+abbrev pub IsReady : {C FP : Type 0} → (C → List ℕ → Bool) → (C → List ℕ → List ℕ → Ordering)
+    → TableBuilt C FP → Type 0
 IsReady accepts cmp core =
     AreReady (accepts core.block.cmp) (cmp core.block.cmp) (cmp core.index.cmp) (stage core)
 
 -- and this key is after them
-abbrev pub IsReadyFor : {C FP : Type 0}
-    → (C → List ℕ → Bool) → (C → List ℕ → List ℕ → Ordering) → TableBuilt C FP
-    → List ℕ → Type 0
+abbrev pub IsReadyFor : {C FP : Type 0} → (C → List ℕ → Bool) → (C → List ℕ → List ℕ → Ordering)
+    → TableBuilt C FP → List ℕ → Type 0
 IsReadyFor accepts cmp core next =
     IsReady accepts cmp core
     × Follows (accepts core.block.cmp) (cmp core.block.cmp) (stage core) next
 
 -- the open block can be closed before this key: it has a pair, and the key is accepted and at or
 -- after the last one
-pub record IsClosable {C FP : Type 0}
-    (accepts : C → List ℕ → Bool) (cmp : C → List ℕ → List ℕ → Ordering)
-    (core : TableBuilt C FP) (next : List ℕ) : Type 0 where
+pub record IsClosable {C FP : Type 0} (accepts : C → List ℕ → Bool)
+    (cmp : C → List ℕ → List ℕ → Ordering) (core : TableBuilt C FP) (next : List ℕ) : Type 0 where
   pub ready : IsReady accepts cmp core
   pub some : (stage core).open_pairs ≢ []
   pub accepted : accepts (order_of core) next ≡ true
   pub after : cmp (order_of core) (last_of core) next ≢ Greater
 
 -- the comparator, the policy, the compressor and the sizes stay
-pub record KeepsChoices {C FP : Type 0}
-    (old new : TableBuilt C FP) : Type 0 where
+pub record KeepsChoices {C FP : Type 0} (old new : TableBuilt C FP) : Type 0 where
   pub same_order : order_of new ≡ order_of old
   pub same_policy : policy_of new ≡ policy_of old
   pub same_compressor : new.compressor ≡ old.compressor
@@ -91,8 +83,7 @@ pub record KeepsChoices {C FP : Type 0}
       × (new.index.interval ≡ old.index.interval)
 
 -- no pair was added, and the builder counts as broken until the call is done
-abbrev pub StaysUnfinished : {C FP : Type 0}
-    → TableBuilt C FP → TableBuilt C FP → Type 0
+abbrev pub StaysUnfinished : {C FP : Type 0} → TableBuilt C FP → TableBuilt C FP → Type 0
 StaysUnfinished old new = (new.count ≡ old.count) × (new.broken ≡ true)
 
 -- The builder has put these bytes, and these pairs were added.
@@ -121,14 +112,12 @@ pub record IsNewBuilder {C FP : Type 0} (ordered : CmpGhosts C) (filters : Polic
 
 -- The open block has an entry, and more bytes than a block shall have: the next pair goes into
 -- another.
-abbrev pub IsFull : {C FP : Type 0}
-    → TableBuilt C FP → Type 0
+abbrev pub IsFull : {C FP : Type 0} → TableBuilt C FP → Type 0
 IsFull core = (core.block.entries ≢ []) × (core.block_size < estimate core.block.entries true)
 
 -- how many bytes the table would have: the estimates of the open block, the index and the filters,
 -- what was put, and a footer
-abbrev pub table_estimate : {C FP : Type 0}
-    → TableBuilt C FP → ℕ
+abbrev pub table_estimate : {C FP : Type 0} → TableBuilt C FP → ℕ
 table_estimate core =
     estimate core.block.entries true + estimate core.index.entries true
     + (length (concat core.filter.filters) + 4 * length core.filter.filters + 5) + core.offset

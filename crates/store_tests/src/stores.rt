@@ -61,6 +61,8 @@ pub fn opened_db<E: Env>(
 
 /// Opens the store, and gives back its lock at once.
 pub fn reopen<E: Env>(alloc: Global, env: &mut E, options: DefaultOptions) -> Result<()> {
+    // Not by `opened`: a function that is given boxes, hands them to another of this crate and
+    // returns none isn't covered by the borrow checker.
     Engine::open(alloc, STORE, env, options)?.abandon(env)
 }
 
