@@ -43,9 +43,9 @@ number_in file (first ∷ files) there = ⊎_elim
     (map (λ (f : NewFile). f.number) files) (number_in file files rest))
     (in_cases first file files there)
 
-module _ {E C FP F : Type 0} {order : CmpGhosts (InternalKeyCmp C)} where
+module _ {E C FP F : Type 0} where
   -- what is open was so before
-  pub open_before : {old new : TableCache E C FP F order} → ClosesTables old new → (number : ℕ) → number < 2 ^ 64
+  pub open_before : {old new : TableCache E C FP F} → ClosesTables old new → (number : ℕ) → number < 2 ^ 64
       → IsSome (table_at new number) → IsSome (table_at old number)
   open_before {old} {new} closes number fits is_open = ⊎_elim
       (λ (none : table_at new number ≡ None).
@@ -55,10 +55,10 @@ module _ {E C FP F : Type 0} {order : CmpGhosts (InternalKeyCmp C)} where
 
 -- ---- a removal of obsolete files
 
-module _ {E C FP F : Type 0} {order : CmpGhosts (InternalKeyCmp C)} (env : Ghosts E F)
+module _ {E C FP F : Type 0} (env : Ghosts E F)
     (set : VersionSetValue) where
   -- no table is closed, and no file changes
-  pub no_removal : (from to : E) (cache : TableCache E C FP F order)
+  pub no_removal : (from to : E) (cache : TableCache E C FP F)
       → (IsTrue env.models_disk → files_at env to ≡ files_at env from)
       → ClosesObsolete env set from cache to cache
   no_removal from to cache same = record {
@@ -69,7 +69,7 @@ module _ {E C FP F : Type 0} {order : CmpGhosts (InternalKeyCmp C)} (env : Ghost
   }
 
   -- one removal after another
-  pub removal_then : {e0 e1 e2 : E} {c0 c1 c2 : TableCache E C FP F order}
+  pub removal_then : {e0 e1 e2 : E} {c0 c1 c2 : TableCache E C FP F}
       → ClosesObsolete env set e0 c0 e1 c1 → ClosesObsolete env set e1 c1 e2 c2
       → ClosesObsolete env set e0 c0 e2 c2
   removal_then first second = record {
@@ -84,7 +84,7 @@ module _ {E C FP F : Type 0} {order : CmpGhosts (InternalKeyCmp C)} (env : Ghost
       (change : IsTrue env.models_disk
       → SameBut (in_folder set.store name) (files_at env from) (files_at env to)) where
     -- a file that is no table
-    pub other_removed : (kind ≡ Table → ⊥) → (cache : TableCache E C FP F order)
+    pub other_removed : (kind ≡ Table → ⊥) → (cache : TableCache E C FP F)
         → ClosesObsolete env set from cache to cache
     other_removed other cache = record {
       closes = ClosesTables-refl cache;
@@ -95,7 +95,7 @@ module _ {E C FP F : Type 0} {order : CmpGhosts (InternalKeyCmp C)} (env : Ghost
     }
 
     -- a table, which is closed before that
-    pub table_removed : kind ≡ Table → {result : Bool} {old new : TableCache E C FP F order}
+    pub table_removed : kind ≡ Table → {result : Bool} {old new : TableCache E C FP F}
         → EvictsTable n old result new → ClosesObsolete env set from old to new
     table_removed table {result} {old} {new} evicts = record {
       closes = evicts.closes;
@@ -114,12 +114,12 @@ module _ {E C FP F : Type 0} {order : CmpGhosts (InternalKeyCmp C)} (env : Ghost
 
 -- ---- several calls, of which each gives numbers
 
-module _ {E C FP F : Type 0} {order : CmpGhosts (InternalKeyCmp C)} (env : Ghosts E F)
+module _ {E C FP F : Type 0} (env : Ghosts E F)
     (old new : VersionSetValue) where
   -- what deletes no table closes none
   pub closes_none : {e0 e1 : E}
       → KeepsTables env.models_disk old (env.observed e0) new (env.observed e1)
-      → (cache : TableCache E C FP F order) → ClosesObsolete env old e0 cache e1 cache
+      → (cache : TableCache E C FP F) → ClosesObsolete env old e0 cache e1 cache
   closes_none kept cache = record {
     closes = ClosesTables-refl cache;
     live = λ file is_live fits. refl;
@@ -129,7 +129,7 @@ module _ {E C FP F : Type 0} {order : CmpGhosts (InternalKeyCmp C)} (env : Ghost
   -- one call after another
   pub closes_then : new.store ≡ old.store → old.next_file ≤ new.next_file
       → ((file : NewFile) → Contains old.full.added file → Contains new.full.added file)
-      → {e0 e1 e2 : E} {c0 c1 c2 : TableCache E C FP F order}
+      → {e0 e1 e2 : E} {c0 c1 c2 : TableCache E C FP F}
       → ClosesObsolete env old e0 c0 e1 c1 → ClosesObsolete env new e1 c1 e2 c2
       → ClosesObsolete env old e0 c0 e2 c2
   closes_then store least live {e1 = e1} {e2 = e2} first second = record {
@@ -145,7 +145,7 @@ module _ {E C FP F : Type 0} {order : CmpGhosts (InternalKeyCmp C)} (env : Ghost
   -- tables are closed after a call that deletes none
   pub closes_after : new.store ≡ old.store → old.next_file ≤ new.next_file → {e0 e1 e2 : E}
       → KeepsTables env.models_disk old (env.observed e0) new (env.observed e1)
-      → {c1 c2 : TableCache E C FP F order} → ClosesObsolete env new e1 c1 e2 c2
+      → {c1 c2 : TableCache E C FP F} → ClosesObsolete env new e1 c1 e2 c2
       → ClosesObsolete env old e0 c1 e2 c2
   closes_after store least kept {c1 = c1} second =
       closes_then store least kept.live (closes_none kept c1) second
@@ -157,9 +157,9 @@ module _ {E C FP F : Type 0} {order : CmpGhosts (InternalKeyCmp C)} (env : Ghost
   -- Tables are closed, and no table changes whose number was given, while numbers are given.
   pub stay_open : (set later : VersionSetValue) → later.store ≡ set.store
       → set.next_file ≤ later.next_file → (before after : Files)
-      → KeepsGivenTables set before after → (old new : TableCache E C FP F order)
-      → ClosesTables old new → AreOpenTablesOf env by set before old
-      → AreOpenTablesOf env by later after new
+      → KeepsGivenTables set before after → (old new : TableCache E C FP F)
+      → ClosesTables old new → AreOpenTablesOf order env by set before old
+      → AreOpenTablesOf order env by later after new
   stay_open set later store least before after keeps old new closes are = record {
     path = closes.path ∙ are.path ∙ sym store;
     given = λ number fits is_open.
@@ -174,18 +174,18 @@ module _ {E C FP F : Type 0} {order : CmpGhosts (InternalKeyCmp C)} (env : Ghost
   -- so they are those of the store after a call that adds no batch
   pub open_after_call : {D : Type 0} (old new : OpenStoreValue D) (from to : E)
       → SparesRest env.models_disk old (env.observed from) new (env.observed to)
-      → (before after : TableCache E C FP F order) → ClosesTables before after
-      → IsTrue env.models_disk → AreOpenTablesOf env by old.set (files_at env from) before
-      → AreOpenTablesOf env by new.set (files_at env to) after
+      → (before after : TableCache E C FP F) → ClosesTables before after
+      → IsTrue env.models_disk → AreOpenTablesOf order env by old.set (files_at env from) before
+      → AreOpenTablesOf order env by new.set (files_at env to) after
   open_after_call old new from to rest before after closes modelled =
       stay_open old.set new.set rest.store rest.numbers (files_at env from) (files_at env to)
       (rest.tables modelled) before after closes
 
   -- after one that removes obsolete files
   pub open_after_removal : (set : VersionSetValue) (before after : Files)
-      → RemovesNoOther set before after → (old new : TableCache E C FP F order)
-      → ClosesTables old new → AreOpenTablesOf env by set before old
-      → AreOpenTablesOf env by set after new
+      → RemovesNoOther set before after → (old new : TableCache E C FP F)
+      → ClosesTables old new → AreOpenTablesOf order env by set before old
+      → AreOpenTablesOf order env by set after new
   open_after_removal set before after removes =
       stay_open set set refl (omega arith) before after (given_removed set before after removes)
 
@@ -194,9 +194,9 @@ module _ {E C FP F : Type 0} {order : CmpGhosts (InternalKeyCmp C)} (env : Ghost
       (old new : OpenStoreValue D) (from to : E) (items : List Item) (sync : Bool)
       (result : Result (Unit {0}) Status)
       → WritesBatch env cmp old from items sync result new to → IsTrue env.models_disk
-      → (cache : TableCache E C FP F order)
-      → AreOpenTablesOf env by old.set (files_at env from) cache
-      → AreOpenTablesOf env by new.set (files_at env to) cache
+      → (cache : TableCache E C FP F)
+      → AreOpenTablesOf order env by old.set (files_at env from) cache
+      → AreOpenTablesOf order env by new.set (files_at env to) cache
   open_after_batch cmp old new from to items sync result writes modelled cache =
       let store = ap (λ v. v.set.store) writes.rest in
       let next = ap (λ v. v.set.next_file) writes.rest in

@@ -124,12 +124,12 @@ value_same : (these those : List Entry) (s : ℕ) (key : List ℕ) (found : Opti
 value_same these those s key None same none = λ value there. none value ((same key value).1 there)
 value_same these those s key (Some value) same there = (same key value).0 there
 
-module _ {E F C FP : Type 0} {order : CmpGhosts (InternalKeyCmp C)} (env : EnvGhosts E F)
+module _ {E F C FP : Type 0} (order : CmpGhosts (InternalKeyCmp C)) (env : EnvGhosts E F)
     (by : TableOptions C FP) (old : OpenStoreValue C) (from : E)
-    (tables : TableCache E C FP F order) (sequence : ℕ) (key : List ℕ) where
+    (tables : TableCache E C FP F) (sequence : ℕ) (key : List ℕ) where
   abbrev Gets : Result (Option (List ℕ)) Status → OpenStoreValue C → E
-      → TableCache E C FP F order → Type 0
-  Gets = LooksUpKey env by old from tables sequence key
+      → TableCache E C FP F → Type 0
+  Gets = LooksUpKey order env by old from tables sequence key
 
   -- what memory and tables have is the key's value in the history that they show
   shown : {meaning : Meaning} {files : Files} {history : History} {since : ℕ}
@@ -193,19 +193,19 @@ module _ {E F C FP : Type 0} {order : CmpGhosts (InternalKeyCmp C)} (env : EnvGh
       (apart : AreDisjointLevels by.format.order old.set.full.added)
       (none : FindsInMemory old sequence key None)
       (searched : Result (Option (Option (List ℕ)) × GetStats) Status) {to : E}
-      {now : TableCache E C FP F order}
-      (searches : LooksUpNewest env by (sought_key sequence key) from tables old.current searched to now)
+      {now : TableCache E C FP F}
+      (searches : LooksUpNewest order env by (sought_key sequence key) from tables old.current searched to now)
     where
-      matched : HasOpenTables env by old from tables
-          → AreOpenTablesMatched env by (sought_key sequence key) from tables
+      matched : HasOpenTables order env by old from tables
+          → AreOpenTablesMatched order env by (sought_key sequence key) from tables
       matched opened = record { modelled = opened.modelled; matches = opened.are.matches }
 
       -- the live tables are the version's
-      version_tables : HasOpenTables env by old from tables → (meaning : Meaning)
+      version_tables : HasOpenTables order env by old from tables → (meaning : Meaning)
           → (live : List LiveTable)
           → HasLiveTables by.format.order meaning old (files_at env from) live
           → LevelOrder by.format.order live
-          → AreVersionTables env by (sought_key sequence key) from tables old.current meaning live
+          → AreVersionTables order env by (sought_key sequence key) from tables old.current meaning live
       version_tables opened meaning live has levels = record {
         files_are = subst (λ files. IsPermutation files (new_files_of old.current))
             (sym has.files_are) current.same_files;
@@ -215,7 +215,7 @@ module _ {E F C FP : Type 0} {order : CmpGhosts (InternalKeyCmp C)} (env : EnvGh
       }
 
       -- each table that is open has a number that was given
-      open_given : HasOpenTables env by old from tables → (number : ℕ) → number < 2 ^ 64
+      open_given : HasOpenTables order env by old from tables → (number : ℕ) → number < 2 ^ 64
           → IsSome (table_at now number) → number < old.set.next_file
       open_given opened number fits is_open = ⊎_elim
           (λ before. opened.are.given number fits before)
@@ -229,8 +229,8 @@ module _ {E F C FP : Type 0} {order : CmpGhosts (InternalKeyCmp C)} (env : EnvGh
           subst (λ n. n < old.set.next_file) file.2 below)
           (searches.cache.opened number fits is_open)
 
-      still_open : HasOpenTables env by old from tables
-          → AreOpenTablesOf env by old.set (files_at env to) now
+      still_open : HasOpenTables order env by old from tables
+          → AreOpenTablesOf order env by old.set (files_at env to) now
       still_open opened = record {
         path = searches.cache.path ∙ opened.are.path;
         given = open_given opened;
@@ -238,7 +238,7 @@ module _ {E F C FP : Type 0} {order : CmpGhosts (InternalKeyCmp C)} (env : EnvGh
       }
 
       -- the key's value is what memory and tables have of it
-      finds_value : HasOpenTables env by old from tables → (meaning : Meaning)
+      finds_value : HasOpenTables order env by old from tables → (meaning : Meaning)
           → Agrees by.format meaning → (history : History) (since : ℕ) → since ≤ sequence
           → (shows : Shows by.format.order meaning old (files_at env from) history since)
           → (found : Option (Option (List ℕ)))
@@ -309,7 +309,7 @@ module _ {E F C FP : Type 0} {order : CmpGhosts (InternalKeyCmp C)} (env : EnvGh
   -- ---- there is no memory for the key that is searched for
 
   pub not_searched : (status : Status) → IsOutOfMemory status
-      → LooksUpNewest env by (sought_key sequence key) from tables old.current (Err status) from tables
+      → LooksUpNewest order env by (sought_key sequence key) from tables old.current (Err status) from tables
   not_searched status memory = record {
     finds = λ matched meaning agrees live are. tt;
     goes = λ apart. tt;

@@ -110,11 +110,11 @@ module _ {C : Type 0} (value : OpenStoreValue C) (older : IsOlder (waiting_entri
 
 module _ {E F C FP K M : Type 0} {keys : CmpGhosts (InternalKeyCmp C)} (env : EnvGhosts E F) (cmp : CmpGhosts C) (filters : FilterGhosts FP) (codings : K → Codings)
     (iterator : IteratorGhosts M) (keys_are : (c : C) → key_order keys (record { 0 = c }) ≡ internal_order (any_in_order (cmp.cmp c)))
-    (child : WalkGhosts (StoreWalk C M keys) E (ReadTables E C FP K F keys))
-    (child_over : (world : E × ReadTables E C FP K F keys) (it : StoreWalk C M keys) (order : KeyOrder) (pairs : List Pair) → IsStoreOver env cmp filters codings iterator world it order pairs → child.over world it order pairs)
-    (value : OpenStoreValue C) (exact : IsExactOrder (cmp.cmp value.cmp)) (children : List (StoreWalk C M keys)) (are : AreChildrenOf iterator (cmp.cmp value.cmp) value children)
-    (world : E × ReadTables E C FP K F keys) (order_is : cmp.cmp world.1.cmp ≡ cmp.cmp value.cmp)
-    (tables : List LiveTable) (over : AreOverLayers env cmp filters codings world are.tables tables)
+    (child : WalkGhosts (StoreWalk C M) E (ReadTables E C FP K F))
+    (child_over : (world : E × ReadTables E C FP K F) (it : StoreWalk C M) (order : KeyOrder) (pairs : List Pair) → IsStoreOver keys env cmp filters codings iterator world it order pairs → child.over world it order pairs)
+    (value : OpenStoreValue C) (exact : IsExactOrder (cmp.cmp value.cmp)) (children : List (StoreWalk C M)) (are : AreChildrenOf iterator (cmp.cmp value.cmp) value children)
+    (world : E × ReadTables E C FP K F) (order_is : cmp.cmp world.1.cmp ≡ cmp.cmp value.cmp)
+    (tables : List LiveTable) (over : AreOverLayers keys env cmp filters codings world are.tables tables)
     (waiting_older : IsOlder (waiting_entries value.waiting) value.recent.entries) (tables_older : IsOlder (table_entries tables) (in_memory value)) where
   abbrev ucmp : List ℕ → List ℕ → Ordering
   ucmp = cmp.cmp value.cmp
@@ -122,8 +122,8 @@ module _ {E F C FP K M : Type 0} {keys : CmpGhosts (InternalKeyCmp C)} (env : En
   abbrev order : KeyOrder
   order = internal_order (any_in_order ucmp)
 
-  abbrev Over : StoreWalk C M keys → List Pair → Type 0
-  Over it pairs = IsStoreOver env cmp filters codings iterator world it order pairs
+  abbrev Over : StoreWalk C M → List Pair → Type 0
+  Over it pairs = IsStoreOver keys env cmp filters codings iterator world it order pairs
 
   -- the list of each
   abbrev lists : List (List Pair)
@@ -145,13 +145,13 @@ module _ {E F C FP K M : Type 0} {keys : CmpGhosts (InternalKeyCmp C)} (env : En
   same_order : key_order keys (record { 0 = world.1.cmp }) ≡ order
   same_order = keys_are world.1.cmp ∙ ap (λ (o : List ℕ → List ℕ → Ordering). internal_order (any_in_order o)) order_is
 
-  over_tables : (iters : List (VersionIter C keys)) (pairs : List (List Pair)) → Each (λ it ps. IsOverTables env cmp filters codings world it (key_order keys (record { 0 = world.1.cmp })) ps) iters pairs
+  over_tables : (iters : List (VersionIter C)) (pairs : List (List Pair)) → Each (λ it ps. IsOverTables keys env cmp filters codings world it (key_order keys (record { 0 = world.1.cmp })) ps) iters pairs
       → Each Over (map Tables iters) pairs
   over_tables [] [] each = tt
   over_tables [] (ps ∷ pairs) each = absurd each
   over_tables (it ∷ iters) [] each = absurd each
   over_tables (it ∷ iters) (ps ∷ pairs) each = (
-    subst (λ o. IsOverTables env cmp filters codings world it o ps) same_order each.0,
+    subst (λ o. IsOverTables keys env cmp filters codings world it o ps) same_order each.0,
     over_tables iters pairs each.1,
   )
 
@@ -160,12 +160,12 @@ module _ {E F C FP K M : Type 0} {keys : CmpGhosts (InternalKeyCmp C)} (env : En
       (each_append Over (map Memory are.memory) (map Tables are.tables) (map layer_pairs (memory_layers value)) over.lists
       (over_memory are.memory (memory_layers value) are.over_memory)
       (over_tables are.tables over.lists
-      (each_by_index (λ it ps. IsOverTables env cmp filters codings world it (key_order keys (record { 0 = world.1.cmp })) ps) are.tables over.lists over.counted over.over)))
+      (each_by_index (λ it ps. IsOverTables keys env cmp filters codings world it (key_order keys (record { 0 = world.1.cmp })) ps) are.tables over.lists over.counted over.over)))
 
   are_over : AreOver child world children order lists
   are_over k it at = child_over world it order (slice_index_or lists k []) (each_at Over children lists k it [] each_over at)
 
-  sorted_one : (it : StoreWalk C M keys) (pairs : List Pair) → Over it pairs → IsSortedIn order pairs
+  sorted_one : (it : StoreWalk C M) (pairs : List Pair) → Over it pairs → IsSortedIn order pairs
   sorted_one (Memory it) pairs is = is.sorted
   sorted_one (Tables it) pairs is = is.sorted
 

@@ -157,10 +157,10 @@ module _ {E F T W : Type 0} (env : Ghosts E F) (counts : (e : E) → env.failure
 -- ---- a walk over the view
 
 module _ {E F C FP K W : Type 0} {keys : CmpGhosts (InternalKeyCmp C)} (env : Ghosts E F) (counts : (e : E) → env.failures e < 2 ^ 64)
-    (cmp : CmpGhosts C) (filters : FilterGhosts FP) (codings : K → Codings) (walk : WalkGhosts W E (ReadTables E C FP K F keys))
-    (reads : ReadsAlone env cmp filters codings walk)
-    (value : OpenStoreValue C) (sequence : ℕ) (it : W) (views : ViewsStore env cmp filters codings walk value sequence it)
-    (from to : E) (tables left : ReadTables E C FP K F keys) (new : W) (order_is : cmp.cmp tables.cmp ≡ cmp.cmp value.cmp) (below_is : tables.below ≡ value.set.next_file)
+    (cmp : CmpGhosts C) (filters : FilterGhosts FP) (codings : K → Codings) (walk : WalkGhosts W E (ReadTables E C FP K F))
+    (reads : ReadsAlone keys env cmp filters codings walk)
+    (value : OpenStoreValue C) (sequence : ℕ) (it : W) (views : ViewsStore keys env cmp filters codings walk value sequence it)
+    (from to : E) (tables left : ReadTables E C FP K F) (new : W) (order_is : cmp.cmp tables.cmp ≡ cmp.cmp value.cmp) (below_is : tables.below ≡ value.set.next_file)
     (moves : List Move) (given : List Step) (made : MovesAll walk (from, tables) it moves given (to, left) new) where
   abbrev by : TableOptions C FP
   by = options_in env cmp filters codings (from, tables)
@@ -172,17 +172,17 @@ module _ {E F C FP K W : Type 0} {keys : CmpGhosts (InternalKeyCmp C)} (env : Gh
   pub reference_kept : left.cache.ghost_name ≡ tables.cache.ghost_name
   reference_kept = (reads.leaves (from, tables) (to, left) kept).reference
 
-  rises : (first second : E × ReadTables E C FP K F keys) → walk.keeps first second → env.failures first.0 ≤ env.failures second.0
+  rises : (first second : E × ReadTables E C FP K F) → walk.keeps first second → env.failures first.0 ≤ env.failures second.0
   rises first second keeps = (reads.leaves first second keeps).tables.later
 
-  world : HasOpenTables env by value from tables.cache.now → IsWorldOf env cmp filters codings value (from, tables)
+  world : HasOpenTables keys env by value from tables.cache.now → IsWorldOf keys env cmp filters codings value (from, tables)
   world has_open = record { order_is = order_is; below_is = below_is; has_open = has_open }
 
   abbrev Lacks : Meaning → Status → Type 0
   Lacks meaning = IsOfNoCompressor by.format meaning
 
   -- in the store's order
-  made_in_view : (meaning : Meaning) (history : History) (since : ℕ) → since ≤ sequence → ShowsIn env cmp filters codings value meaning history since (from, tables)
+  made_in_view : (meaning : Meaning) (history : History) (since : ℕ) → since ≤ sequence → ShowsIn keys env cmp filters codings value meaning history since (from, tables)
       → (pairs : List Pair) × IsView (cmp.cmp value.cmp) (entries_of history) sequence pairs
       × MakesMoves (cmp.cmp value.cmp) (Lacks meaning) pairs None (env.failures from) moves given (env.failures to)
   made_in_view meaning history since low shows =
@@ -195,7 +195,7 @@ module _ {E F C FP K W : Type 0} {keys : CmpGhosts (InternalKeyCmp C)} (env : Gh
       )
 
   -- the walk's moves are those in the store's view
-  pub view_walked : WalksStore env by value from tables.cache.now sequence moves given (Ok tt) to left.cache.now
+  pub view_walked : WalksStore keys env by value from tables.cache.now sequence moves given (Ok tt) to left.cache.now
   view_walked = record {
     walks = λ has_open meaning agrees history since low shows.
         subst (λ (order : List ℕ → List ℕ → Ordering). (pairs : List Pair) × IsView order (entries_of history) sequence pairs
@@ -211,15 +211,15 @@ module _ {E F C FP K W : Type 0} {keys : CmpGhosts (InternalKeyCmp C)} (env : Gh
     none = tt;
     kept = (reads.leaves (from, tables) (to, left) kept).tables.disk;
     later = rises (from, tables) (to, left) kept;
-    still_open = λ has_open. subst (λ (options : TableOptions C FP). AreOpenTablesOf env options value.set (files_at env to) left.cache.now)
+    still_open = λ has_open. subst (λ (options : TableOptions C FP). AreOpenTablesOf keys env options value.set (files_at env to) left.cache.now)
         (reading_stays (from, tables) (to, left) (reads.leaves (from, tables) (to, left) kept))
         (reads.stays value (from, tables) (to, left) kept (world has_open)).has_open.are;
   }
 
 -- ---- what is read with
 
-module _ {E F C FP K : Type 0} {keys : CmpGhosts (InternalKeyCmp C)} (env : Ghosts E F) (cmp : CmpGhosts C) (filters : FilterGhosts FP) (codings : K → Codings)
-    (value : OpenStoreValue C) (order : C) (policy : FP) (compressors : K) (tables : TableCache E C FP F keys) (it : ReadTables E C FP K F keys)
+module _ {E F C FP K : Type 0} (env : Ghosts E F) (cmp : CmpGhosts C) (filters : FilterGhosts FP) (codings : K → Codings)
+    (value : OpenStoreValue C) (order : C) (policy : FP) (compressors : K) (tables : TableCache E C FP F) (it : ReadTables E C FP K F)
     (is : IsReadingOf value order policy compressors tables it) where
   -- the options of a reading are those that it is made of
   pub reading_options : reading env cmp filters codings it ≡ options_by cmp filters (codings compressors) order policy
@@ -227,21 +227,24 @@ module _ {E F C FP K : Type 0} {keys : CmpGhosts (InternalKeyCmp C)} (env : Ghos
       ∙ ap (λ (c : C). options_by cmp filters (codings compressors) c it.policy) is.order_is
       ∙ ap (λ (p : FP). options_by cmp filters (codings compressors) order p) is.policy_is
 
+module _ {E F C FP K : Type 0} {keys : CmpGhosts (InternalKeyCmp C)} (env : Ghosts E F) (cmp : CmpGhosts C) (filters : FilterGhosts FP) (codings : K → Codings)
+    (value : OpenStoreValue C) (order : C) (policy : FP) (compressors : K) (tables : TableCache E C FP F) (it : ReadTables E C FP K F)
+    (is : IsReadingOf value order policy compressors tables it) where
   -- beside an environment whose files have the store's tables it is a world of the store
-  pub reading_is_world : (state : E) → cmp.cmp order ≡ cmp.cmp value.cmp → HasOpenTables env (options_by cmp filters (codings compressors) order policy) value state tables
-      → IsWorldOf env cmp filters codings value (state, it)
+  pub reading_is_world : (state : E) → cmp.cmp order ≡ cmp.cmp value.cmp → HasOpenTables keys env (options_by cmp filters (codings compressors) order policy) value state tables
+      → IsWorldOf keys env cmp filters codings value (state, it)
   reading_is_world state same has_open = record {
     order_is = ap cmp.cmp is.order_is ∙ same;
     below_is = is.below_is;
-    has_open = subst (λ (options : TableOptions C FP). HasOpenTables env options value state it.cache.now) (sym reading_options)
-        (subst (λ (cache : TableCache E C FP F keys). HasOpenTables env (options_by cmp filters (codings compressors) order policy) value state cache) (sym is.cache_is) has_open);
+    has_open = subst (λ (options : TableOptions C FP). HasOpenTables keys env options value state it.cache.now) (sym (reading_options env cmp filters codings value order policy compressors tables it is))
+        (subst (λ (cache : TableCache E C FP F). HasOpenTables keys env (options_by cmp filters (codings compressors) order policy) value state cache) (sym is.cache_is) has_open);
   }
 
   -- a walk in the reading is one with these options and these tables
-  pub walked_by : (from : E) (sequence : ℕ) (moves : List Move) (given : List Step) (result : Result (Unit {0}) Status) (to : E) (left now : TableCache E C FP F keys) → now ≡ left
-      → WalksStore env (reading env cmp filters codings it) value from it.cache.now sequence moves given result to left
-      → WalksStore env (options_by cmp filters (codings compressors) order policy) value from tables sequence moves given result to now
+  pub walked_by : (from : E) (sequence : ℕ) (moves : List Move) (given : List Step) (result : Result (Unit {0}) Status) (to : E) (left now : TableCache E C FP F) → now ≡ left
+      → WalksStore keys env (reading env cmp filters codings it) value from it.cache.now sequence moves given result to left
+      → WalksStore keys env (options_by cmp filters (codings compressors) order policy) value from tables sequence moves given result to now
   walked_by from sequence moves given result to left now same walks =
-      subst (λ (after : TableCache E C FP F keys). WalksStore env (options_by cmp filters (codings compressors) order policy) value from tables sequence moves given result to after) (sym same)
-      (subst (λ (cache : TableCache E C FP F keys). WalksStore env (options_by cmp filters (codings compressors) order policy) value from cache sequence moves given result to left) is.cache_is
-      (subst (λ (options : TableOptions C FP). WalksStore env options value from it.cache.now sequence moves given result to left) reading_options walks))
+      subst (λ (after : TableCache E C FP F). WalksStore keys env (options_by cmp filters (codings compressors) order policy) value from tables sequence moves given result to after) (sym same)
+      (subst (λ (cache : TableCache E C FP F). WalksStore keys env (options_by cmp filters (codings compressors) order policy) value from cache sequence moves given result to left) is.cache_is
+      (subst (λ (options : TableOptions C FP). WalksStore keys env options value from it.cache.now sequence moves given result to left) (reading_options env cmp filters codings value order policy compressors tables it is) walks))

@@ -35,12 +35,12 @@ counted_or_not from to fits = ⊎_elim
     (cases_lt to (2 ^ 64 - 1)))
     (cases_lt from to)
 
-module _ {E C FP K F M : Type 0} {order : CmpGhosts (InternalKeyCmp C)} (env : EnvGhosts E F) (counts : (e : E) → env.failures e < 2 ^ 64)
+module _ {E C FP K F M : Type 0} (order : CmpGhosts (InternalKeyCmp C)) (env : EnvGhosts E F) (counts : (e : E) → env.failures e < 2 ^ 64)
     (cmp : CmpGhosts C) (filters : FilterGhosts FP) (codings : K → Codings) (iterator : IteratorGhosts M) where
   -- where no failure was counted, the cause may be there at any time
-  at_any : {Why : Type 0} (from to other : E × ReadTables E C FP K F order) (status : Status)
+  at_any : {Why : Type 0} (from to other : E × ReadTables E C FP K F) (status : Status)
       → (env.failures to.0 ≡ 2 ^ 64 - 1 → ⊥) × (env.failures from.0 < env.failures to.0 → ⊥)
-      → FailsOr {order = order} env cmp filters codings Why from to status → FailsOr {order = order} env cmp filters codings Why from other status
+      → FailsOr env cmp filters codings Why from to status → FailsOr env cmp filters codings Why from other status
   at_any from to other status none fails = ⊎_elim
       (λ (out : IsOutOfMemory status). inl out)
       (⊎_elim
@@ -51,7 +51,7 @@ module _ {E C FP K F M : Type 0} {order : CmpGhosts (InternalKeyCmp C)} (env : E
       fails
 
   -- the errors of a child of a store's merge are counted
-  pub child_counts : CountsErrors env (FailsInStore {order = order} env cmp filters codings iterator)
+  pub child_counts : CountsErrors env (FailsInStore order env cmp filters codings iterator)
   child_counts from to (Memory it) status fails = inr (inr (λ other. fails))
   child_counts from to (Tables it) status fails = ⊎_elim
       (λ (failed : HasFailed (env.failures from.0) (env.failures to.0)). inr (inl failed))
@@ -63,8 +63,8 @@ module _ {E C FP K F M : Type 0} {order : CmpGhosts (InternalKeyCmp C)} (env : E
 
 module _ {E C FP K F : Type 0} {order : CmpGhosts (InternalKeyCmp C)} (env : EnvGhosts E F) (cmp : CmpGhosts C) (filters : FilterGhosts FP) (codings : K → Codings) where
   -- a world of an open store stays that, where tables are only read
-  pub world_stays : (value : OpenStoreValue C) (from to : E × ReadTables E C FP K F order) → KeepsReading env cmp filters codings from to
-      → IsWorldOf env cmp filters codings value from → IsWorldOf env cmp filters codings value to
+  pub world_stays : (value : OpenStoreValue C) (from to : E × ReadTables E C FP K F) → KeepsReading order env cmp filters codings from to
+      → IsWorldOf order env cmp filters codings value from → IsWorldOf order env cmp filters codings value to
   world_stays value from to kept world =
       let opened = world.has_open in
       let from_below = world.below_is in
@@ -78,16 +78,16 @@ module _ {E C FP K F : Type 0} {order : CmpGhosts (InternalKeyCmp C)} (env : Env
           are = record {
             path = kept.tables.path ∙ opened.are.path;
             given = λ number fits is_open. (let less = given number fits is_open in omega (arith, less, from_below, to_below));
-            matches = subst (λ (by : TableOptions C FP). MatchesFiles env by (files_at env to.0) to.1.cache.now) (sym (reading_stays from to kept))
+            matches = subst (λ (by : TableOptions C FP). MatchesFiles order env by (files_at env to.0) to.1.cache.now) (sym (reading_stays from to kept))
                 (kept.tables.matches (record { modelled = opened.modelled; matches = opened.are.matches })).matches;
           };
         };
       }
 
   -- the walk over the view of a merge of such children only reads
-  pub view_reads : {W : Type 0} (walk : WalkGhosts W E (ReadTables E C FP K F order)) → CountsErrors env walk.fails
-      → ((first second : E × ReadTables E C FP K F order) → walk.keeps first second → KeepsReading env cmp filters codings first second)
-      → ReadsAlone env cmp filters codings walk
+  pub view_reads : {W : Type 0} (walk : WalkGhosts W E (ReadTables E C FP K F)) → CountsErrors env walk.fails
+      → ((first second : E × ReadTables E C FP K F) → walk.keeps first second → KeepsReading order env cmp filters codings first second)
+      → ReadsAlone order env cmp filters codings walk
   view_reads walk counted keeps = record {
     leaves = keeps;
     stays = λ value from to kept. world_stays value from to (keeps from to kept);

@@ -54,15 +54,15 @@ module _ {E F C FP K M : Type 0} {keys : CmpGhosts (InternalKeyCmp C)} (env : En
     (cmp : CmpGhosts C) (filters : FilterGhosts FP) (codings : K → Codings)
     (iterator : IteratorGhosts M) (never : (it after : M) (status : Status) → iterator.fails it after status → ⊥)
     (keys_are : (c : C) → key_order keys (record { 0 = c }) ≡ internal_order (any_in_order (cmp.cmp c))) (exact : (c : C) → IsExactOrder (cmp.cmp c))
-    (child : WalkGhosts (StoreWalk C M keys) E (ReadTables E C FP K F keys))
-    (child_over : (world : E × ReadTables E C FP K F keys) (it : StoreWalk C M keys) (order : KeyOrder) (pairs : List Pair) → IsStoreOver env cmp filters codings iterator world it order pairs → child.over world it order pairs)
-    (child_fails : (world : E × ReadTables E C FP K F keys) (it : StoreWalk C M keys) (later : E × ReadTables E C FP K F keys) (status : Status) → child.fails world it later status
-    → FailsInStore env cmp filters codings iterator world it later status)
-    (walk : WalkGhosts (DbIterCore (MergeCore (InternalKeyCmp C) (StoreWalk C M keys))) E (ReadTables E C FP K F keys))
+    (child : WalkGhosts (StoreWalk C M) E (ReadTables E C FP K F))
+    (child_over : (world : E × ReadTables E C FP K F) (it : StoreWalk C M) (order : KeyOrder) (pairs : List Pair) → IsStoreOver keys env cmp filters codings iterator world it order pairs → child.over world it order pairs)
+    (child_fails : (world : E × ReadTables E C FP K F) (it : StoreWalk C M) (later : E × ReadTables E C FP K F) (status : Status) → child.fails world it later status
+    → FailsInStore keys env cmp filters codings iterator world it later status)
+    (walk : WalkGhosts (DbIterCore (MergeCore (InternalKeyCmp C) (StoreWalk C M))) E (ReadTables E C FP K F))
     (value : OpenStoreValue C) (current : IsCurrent (cmp.cmp value.cmp) value.cmp value.set value.current) (given : AreNumbersGiven value.set value.set.full.added)
     (levels : AreInLevels env.models_disk (cmp.cmp value.cmp) value.set.full.added)
-    (children : List (StoreWalk C M keys)) (are : AreChildrenOf iterator (cmp.cmp value.cmp) value children)
-    (sequence : ℕ) (it : DbIterCore (MergeCore (InternalKeyCmp C) (StoreWalk C M keys)))
+    (children : List (StoreWalk C M)) (are : AreChildrenOf iterator (cmp.cmp value.cmp) value children)
+    (sequence : ℕ) (it : DbIterCore (MergeCore (InternalKeyCmp C) (StoreWalk C M)))
     (compares : C) (compares_is : compares ≡ value.cmp) (last : ℕ) (last_is : last ≡ min sequence greatest_sequence) (made : ViewsMerge child keys walk (record { 0 = compares }) children last it) where
   merge : ViewsMerge child keys walk (record { 0 = value.cmp }) children (min sequence greatest_sequence) it
   merge = subst (λ c. ViewsMerge child keys walk (record { 0 = c }) children (min sequence greatest_sequence) it) compares_is
@@ -70,7 +70,7 @@ module _ {E F C FP K M : Type 0} {keys : CmpGhosts (InternalKeyCmp C)} (env : En
 
   -- ---- why a child fails
 
-  between : {Why : Type 0} (from to : E × ReadTables E C FP K F keys) (status : Status) → FailsOr {order = keys} env cmp filters codings Why from to status → FailsBetween env from to (λ e. Why) status
+  between : {Why : Type 0} (from to : E × ReadTables E C FP K F) (status : Status) → FailsOr env cmp filters codings Why from to status → FailsBetween env from to (λ e. Why) status
   between from to status fails = ⊎_elim
       (λ (out : IsOutOfMemory status). inl out)
       (⊎_elim
@@ -83,12 +83,12 @@ module _ {E F C FP K M : Type 0} {keys : CmpGhosts (InternalKeyCmp C)} (env : En
       (λ why. inr (inr why))))
       fails
 
-  fault_one : (from to : E × ReadTables E C FP K F keys) (status : Status) (one : StoreWalk C M keys) → FailsInStore env cmp filters codings iterator from one to status
+  fault_one : (from to : E × ReadTables E C FP K F) (status : Status) (one : StoreWalk C M) → FailsInStore keys env cmp filters codings iterator from one to status
       → FailsBetween env from to (λ e. IsTableFault (options_in env cmp filters codings from).format e.code) status
   fault_one from to status (Memory walk) fails = absurd (never walk.0 fails.0 status fails.1)
   fault_one from to status (Tables walk) fails = between from to status fails.fault
 
-  view_fault : (from to : E × ReadTables E C FP K F keys) (status : Status) → walk.fails from it to status
+  view_fault : (from to : E × ReadTables E C FP K F) (status : Status) → walk.fails from it to status
       → FailsBetween env from to (λ e. IsTableFault (options_in env cmp filters codings from).format e.code) status
   view_fault from to status fails = ⊎_elim
       (λ (any : AnyFails child from children to status). fault_one from to status any.1 (child_fails from any.1 to status any.4))
@@ -97,7 +97,7 @@ module _ {E F C FP K M : Type 0} {keys : CmpGhosts (InternalKeyCmp C)} (env : En
 
   -- ---- where memory and tables show a history
 
-  module _ (world : E × ReadTables E C FP K F keys) (meaning : Meaning) (history : History) (since : ℕ) (shows : ShowsIn env cmp filters codings value meaning history since world) where
+  module _ (world : E × ReadTables E C FP K F) (meaning : Meaning) (history : History) (since : ℕ) (shows : ShowsIn keys env cmp filters codings value meaning history since world) where
     here : OrdersInternalKeys keys (cmp.cmp world.1.cmp) world.1.cmp
     here = orders_keys cmp world.1.cmp (keys_are world.1.cmp)
 
@@ -111,7 +111,7 @@ module _ {E F C FP K M : Type 0} {keys : CmpGhosts (InternalKeyCmp C)} (env : En
         shows.shows.shows.waiting_older shows.shows.shows.tables_older
 
     -- an error of a walk over tables
-    in_tables : (one : StoreWalk C M keys) → Contains (map Tables are.tables) one → (to : E × ReadTables E C FP K F keys) (status : Status) → FailsInStore env cmp filters codings iterator world one to status
+    in_tables : (one : StoreWalk C M) → Contains (map Tables are.tables) one → (to : E × ReadTables E C FP K F) (status : Status) → FailsInStore keys env cmp filters codings iterator world one to status
         → FailsBetween env world to (IsOfNoCompressor (options_in env cmp filters codings world).format meaning) status
     in_tables (Memory walk) c to status fails = absurd (never walk.0 fails.0 status fails.1)
     in_tables (Tables walk) c to status fails =
@@ -121,19 +121,19 @@ module _ {E F C FP K M : Type 0} {keys : CmpGhosts (InternalKeyCmp C)} (env : En
         (exact world.1.cmp) here are.tables are.over_tables walk (subst (Contains are.tables) same from.1) in
         between world to status (fails.lacks meaning there.0 there.1)
 
-    lacks_one : (one : StoreWalk C M keys) → Contains children one → (to : E × ReadTables E C FP K F keys) (status : Status) → FailsInStore env cmp filters codings iterator world one to status
+    lacks_one : (one : StoreWalk C M) → Contains children one → (to : E × ReadTables E C FP K F) (status : Status) → FailsInStore keys env cmp filters codings iterator world one to status
         → FailsBetween env world to (IsOfNoCompressor (options_in env cmp filters codings world).format meaning) status
     lacks_one one c to status fails = ⊎_elim
         (λ (in_mem : Contains (map Memory are.memory) one). of_memory one in_mem fails)
         (λ (in_tab : Contains (map Tables are.tables) one). in_tables one in_tab to status fails)
         (Contains-append_cases (map Memory are.memory) (map Tables are.tables) one (subst (λ cs. Contains cs one) are.are c))
       where
-        of_memory : (one : StoreWalk C M keys) → Contains (map Memory are.memory) one → FailsInStore env cmp filters codings iterator world one to status
+        of_memory : (one : StoreWalk C M) → Contains (map Memory are.memory) one → FailsInStore keys env cmp filters codings iterator world one to status
             → FailsBetween env world to (IsOfNoCompressor (options_in env cmp filters codings world).format meaning) status
         of_memory (Memory walk) c fails = absurd (never walk.0 fails.0 status fails.1)
         of_memory (Tables walk) c fails = let from = in_map Memory are.memory (Tables walk) c in let e : Memory from.0 ≡ Tables walk = from.2 in absurd cc
 
-    view_lacks : (to : E × ReadTables E C FP K F keys) (status : Status) → walk.fails world it to status
+    view_lacks : (to : E × ReadTables E C FP K F) (status : Status) → walk.fails world it to status
         → FailsBetween env world to (IsOfNoCompressor (options_in env cmp filters codings world).format meaning) status
     view_lacks to status fails = ⊎_elim
         (λ (any : AnyFails child world children to status). lacks_one any.1 (any.0, any.2, any.3) to status (child_fails world any.1 to status any.4))
@@ -146,7 +146,7 @@ module _ {E F C FP K M : Type 0} {keys : CmpGhosts (InternalKeyCmp C)} (env : En
         (sym (append_assoc value.recent.entries (waiting_entries value.waiting) (table_entries shows.shows.tables))) (shows.shows.shows.same sequence low)
 
   -- the walk is over the store's view
-  pub views_store : ViewsStore env cmp filters codings walk value sequence it
+  pub views_store : ViewsStore keys env cmp filters codings walk value sequence it
   views_store = record {
     over = λ world meaning history since low shows. (let it = merged world meaning history since shows in (
       view_of (min sequence greatest_sequence) (entries_of_pairs it.0),

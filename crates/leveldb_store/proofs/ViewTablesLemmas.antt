@@ -37,7 +37,7 @@ use Rattle.leveldb_store.specs.Written.{HasLiveTables}
 module _ {E F C FP K : Type 0} {keys : CmpGhosts (InternalKeyCmp C)} (env : EnvGhosts E F) (cmp : CmpGhosts C) (filters : FilterGhosts FP) (codings : K → Codings)
     (value : OpenStoreValue C) (current : IsCurrent (cmp.cmp value.cmp) value.cmp value.set value.current) (given : AreNumbersGiven value.set value.set.full.added)
     (levels : AreInLevels env.models_disk (cmp.cmp value.cmp) value.set.full.added)
-    (world : E × ReadTables E C FP K F keys) (is_world : IsWorldOf env cmp filters codings value world)
+    (world : E × ReadTables E C FP K F) (is_world : IsWorldOf keys env cmp filters codings value world)
     (meaning : Meaning) (agrees : Agrees (options_in env cmp filters codings world).format meaning) (tables : List LiveTable)
     (has : HasLiveTables (cmp.cmp value.cmp) meaning value (files_at env world.0) tables) (ordered : LevelOrder (cmp.cmp value.cmp) tables) where
   abbrev Fits : LiveTable → Type 0
@@ -54,7 +54,7 @@ module _ {E F C FP K : Type 0} {keys : CmpGhosts (InternalKeyCmp C)} (env : EnvG
       (level, fits.0, fits.1, omega (arith, below, bound))
 
   -- the version's tables are there
-  pub tables_to_walk : AreTablesToWalk env cmp filters codings value.current meaning world tables
+  pub tables_to_walk : AreTablesToWalk keys env cmp filters codings value.current meaning world tables
   tables_to_walk = record {
     matched = record { modelled = is_world.has_open.modelled; matches = is_world.has_open.are.matches };
     agrees = agrees;
@@ -69,14 +69,14 @@ module _ {E F C FP K : Type 0} {keys : CmpGhosts (InternalKeyCmp C)} (env : EnvG
   }
 
   module _ (exact : IsExactOrder (cmp.cmp world.1.cmp)) (orders : OrdersInternalKeys keys (cmp.cmp world.1.cmp) world.1.cmp)
-      (iters : List (VersionIter C keys)) (walks : AreVersionIters value.current iters) where
+      (iters : List (VersionIter C)) (walks : AreVersionIters value.current iters) where
     -- each walk's files are tables, by what names and ids mean
-    pub there_for : (it : VersionIter C keys) → Contains iters it → (tabled : List FileTable) × AreTablesThere env cmp filters codings meaning world it tabled
+    pub there_for : (it : VersionIter C) → Contains iters it → (tabled : List FileTable) × AreTablesThere keys env cmp filters codings meaning world it tabled
     there_for it c =
         let part = it.files.now in
-        let among = subst (λ (parts : List (List (ℕ × FileMetaData))). Contains parts part) walks.files (map_in (λ (one : VersionIter C keys). one.files.now) iters it c) in
+        let among = subst (λ (parts : List (List (ℕ × FileMetaData))). Contains parts part) walks.files (map_in (λ (one : VersionIter C). one.files.now) iters it c) in
         let has_pairs = (walk_pairs env cmp filters codings value.current world exact orders meaning tables tables_to_walk part among).1 in
-        let none = All-contains (λ (one : VersionIter C keys). one.core ≡ None) iters it walks.not_begun c in (
+        let none = All-contains (λ (one : VersionIter C). one.core ≡ None) iters it walks.not_begun c in (
           has_pairs.tabled,
           record {
             matched = tables_to_walk.matched;
@@ -85,6 +85,6 @@ module _ {E F C FP K : Type 0} {keys : CmpGhosts (InternalKeyCmp C)} (env : EnvG
                 (λ file table. ((new_file_of file).number < 2 ^ 64) × ((new_file_of file).largest ≡ table.largest)
                 × IsTableAt (cmp.cmp world.1.cmp) meaning (files_at env world.0) (table_path (store_of world.1.cache.now) (new_file_of file).number) table × ((new_file_of file).number < world.1.below))
                 part has_pairs.tabled (λ file table is. is.at) has_pairs.each;
-            indexed = subst (IsIndexedFor (keys.cmp (record { 0 = world.1.cmp })) (table_in has_pairs.tabled it.at).parts) (sym none) tt;
+            indexed = subst (IsIndexedFor keys (keys.cmp (record { 0 = world.1.cmp })) (table_in has_pairs.tabled it.at).parts) (sym none) tt;
           },
         )

@@ -10,20 +10,21 @@ use Rattle.leveldb_version.specs.VersionEdit.{NewFile}
 use Rattle.leveldb_version.specs.VersionSetValue.{VersionSetValue}
 use Rattle.leveldb_version.specs.declared.table_cache.TableCache.{TableCache}
 
-module _ {E C FP F : Type 0} {order : CmpGhosts (InternalKeyCmp C)} (env : Ghosts E F) where
+module _ {E C FP F : Type 0} (order : CmpGhosts (InternalKeyCmp C)) (env : Ghosts E F) where
   -- The open tables of a cache are those of a store: its path is the store's, each one's number was
   -- given, and each is the table in its file.
   pub record AreOpenTablesOf (by : TableOptions C FP) (set : VersionSetValue) (files : Files)
-      (cache : TableCache E C FP F order) : Type 0 where
+      (cache : TableCache E C FP F) : Type 0 where
     pub path : store_of cache ≡ set.store
     pub given : (number : ℕ) → number < 2 ^ 64 → IsSome (table_at cache number)
         → number < set.next_file
-    pub matches : MatchesFiles env by files cache
+    pub matches : MatchesFiles order env by files cache
 
+module _ {E C FP F : Type 0} (env : Ghosts E F) where
   -- What a call leaves of the open tables of a store that may delete obsolete files, by the set
   -- before it: some are closed, and of the others nothing changes but the order of their use.
-  pub record ClosesObsolete (set : VersionSetValue) (from : E) (old : TableCache E C FP F order)
-      (to : E) (new : TableCache E C FP F order) : Type 0 where
+  pub record ClosesObsolete (set : VersionSetValue) (from : E) (old : TableCache E C FP F)
+      (to : E) (new : TableCache E C FP F) : Type 0 where
     pub closes : ClosesTables old new
     -- a live table stays open
     pub live : (file : NewFile) → Contains set.full.added file → file.number < 2 ^ 64

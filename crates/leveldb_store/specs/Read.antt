@@ -61,13 +61,13 @@ with_charge value charge = record value { current = (charged value.current charg
 
 -- `by` says what tables are opened with; the store, the environment and the open tables are those at
 -- the beginning.
-module _ {E F C FP : Type 0} {order : CmpGhosts (InternalKeyCmp C)} (env : Ghosts E F)
+module _ {E F C FP : Type 0} (order : CmpGhosts (InternalKeyCmp C)) (env : Ghosts E F)
     (by : TableOptions C FP) (old : OpenStoreValue C) (from : E)
-    (tables : TableCache E C FP F order) where
+    (tables : TableCache E C FP F) where
   -- the disk is modelled, and the open tables are those of the store
   pub record HasOpenTables : Type 0 where
     pub modelled : IsTrue env.models_disk
-    pub are : AreOpenTablesOf env by old.set (files_at env from) tables
+    pub are : AreOpenTablesOf order env by old.set (files_at env from) tables
 
   -- the live tables are there in their levels, by what names and ids mean, and the open ones are
   -- the store's
@@ -78,7 +78,7 @@ module _ {E F C FP : Type 0} {order : CmpGhosts (InternalKeyCmp C)} (env : Ghost
     pub levels : LevelOrder by.format.order live
 
   module _ (sequence : ℕ) (key : List ℕ) (result : Result (Option (List ℕ)) Status)
-      (new : OpenStoreValue C) (to : E) (now : TableCache E C FP F order) where
+      (new : OpenStoreValue C) (to : E) (now : TableCache E C FP F) where
     -- Memory has the key, whose value is copied. Nothing changes.
     pub record GetsFromMemory : Type 0 where
       pub value : Option (List ℕ)
@@ -94,7 +94,7 @@ module _ {E F C FP : Type 0} {order : CmpGhosts (InternalKeyCmp C)} (env : Ghost
       pub none : FindsInMemory old sequence key None
       pub apart : AreDisjointLevels by.format.order (new_files_of old.current)
       pub searched : Result (Option (Option (List ℕ)) × GetStats) Status
-      pub searches : LooksUpNewest env by (sought_key sequence key) from tables old.current
+      pub searches : LooksUpNewest order env by (sought_key sequence key) from tables old.current
           searched to now
       pub result_is : result ≡ value_searched searched
       pub charges : new ≡ with_charge old (charge_of searched)
@@ -115,6 +115,6 @@ module _ {E F C FP : Type 0} {order : CmpGhosts (InternalKeyCmp C)} (env : Ghost
           → FailsFor env (λ status. (status.code ≡ NotSupported)
           × LacksCompressor by.format meaning) from to result
       -- the open tables are those of the store still
-      pub still_open : HasOpenTables → AreOpenTablesOf env by new.set (files_at env to) now
+      pub still_open : HasOpenTables → AreOpenTablesOf order env by new.set (files_at env to) now
       -- memory first, and then the tables
       pub way : GetsFromMemory ⊎ GetsFromTables

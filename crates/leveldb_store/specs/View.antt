@@ -70,9 +70,8 @@ IsOfNoCompressor format meaning status = (status.code ≡ NotSupported)
 
 -- The open tables of a store as its walks read them, with this order of users' keys, filter
 -- policy and compressors.
-pub record IsReadingOf {E F C FP K : Type 0} {keys : CmpGhosts (InternalKeyCmp C)}
-    (value : OpenStoreValue C) (order : C) (policy : FP) (compressors : K)
-    (tables : TableCache E C FP F keys) (it : ReadTables E C FP K F keys) : Type 0 where
+pub record IsReadingOf {E F C FP K : Type 0} (value : OpenStoreValue C) (order : C) (policy : FP)
+    (compressors : K) (tables : TableCache E C FP F) (it : ReadTables E C FP K F) : Type 0 where
   -- these are open
   pub cache_is : it.cache.now ≡ tables
   -- to be read with these
@@ -83,48 +82,51 @@ pub record IsReadingOf {E F C FP K : Type 0} {keys : CmpGhosts (InternalKeyCmp C
   pub below_is : it.below ≡ value.set.next_file
 
 -- `cmp`, `filters` and `codings` say what comparators, filter policies and compressors mean.
-module _ {E F C FP K : Type 0} {keys : CmpGhosts (InternalKeyCmp C)} (env : Ghosts E F)
-    (cmp : CmpGhosts C) (filters : FilterGhosts FP) (codings : K → Codings) where
+module _ {E F C FP K : Type 0} (env : Ghosts E F) (cmp : CmpGhosts C) (filters : FilterGhosts FP)
+    (codings : K → Codings) where
   -- what tables are opened and read with
-  abbrev pub options_in : E × ReadTables E C FP K F keys → TableOptions C FP
+  abbrev pub options_in : E × ReadTables E C FP K F → TableOptions C FP
   options_in world = reading env cmp filters codings world.1
 
+module _ {E F C FP K : Type 0} (keys : CmpGhosts (InternalKeyCmp C)) (env : Ghosts E F)
+    (cmp : CmpGhosts C) (filters : FilterGhosts FP) (codings : K → Codings) where
   -- An environment, and the tables of an open store, which are read from its files.
-  pub record IsWorldOf (value : OpenStoreValue C) (world : E × ReadTables E C FP K F keys)
+  pub record IsWorldOf (value : OpenStoreValue C) (world : E × ReadTables E C FP K F)
       : Type 0 where
     -- they are read in the store's order of users' keys
     pub order_is : cmp.cmp world.1.cmp ≡ cmp.cmp value.cmp
     -- the numbers that were given are those that the store has given
     pub below_is : world.1.below ≡ value.set.next_file
     -- the tables that are open are the store's
-    pub has_open : HasOpenTables env (options_in world) value world.0 world.1.cache.now
+    pub has_open : HasOpenTables keys env (options_in env cmp filters codings world) value world.0
+        world.1.cache.now
 
   -- In such a world memory and tables show a history, from this number on, by what names and ids
   -- mean.
   pub record ShowsIn (value : OpenStoreValue C) (meaning : Meaning) (history : History) (since : ℕ)
-      (world : E × ReadTables E C FP K F keys) : Type 0 where
+      (world : E × ReadTables E C FP K F) : Type 0 where
     pub is_world : IsWorldOf value world
-    pub agrees : Agrees (options_in world).format meaning
+    pub agrees : Agrees (options_in env cmp filters codings world).format meaning
     pub shows : Shows (cmp.cmp value.cmp) meaning value (files_at env world.0) history since
 
   -- What any walk of this type leaves, and how failures are counted.
-  pub record ReadsAlone {W : Type 0} (walk : WalkGhosts W E (ReadTables E C FP K F keys)) : Type 0
+  pub record ReadsAlone {W : Type 0} (walk : WalkGhosts W E (ReadTables E C FP K F)) : Type 0
     where
       -- tables are read with the same options from the same files, and no failure is forgotten
-      pub leaves : (from to : E × ReadTables E C FP K F keys) → walk.keeps from to
-          → KeepsReading env cmp filters codings from to
+      pub leaves : (from to : E × ReadTables E C FP K F) → walk.keeps from to
+          → KeepsReading keys env cmp filters codings from to
       -- the world of an open store stays that
-      pub stays : (value : OpenStoreValue C) (from to : E × ReadTables E C FP K F keys) → walk.keeps from to
-          → IsWorldOf value from → IsWorldOf value to
+      pub stays : (value : OpenStoreValue C) (from to : E × ReadTables E C FP K F)
+          → walk.keeps from to → IsWorldOf value from → IsWorldOf value to
       -- errors are counted, or may come at any time
       pub counts : CountsErrors env walk.fails
 
   -- A walk over the view of an open store at a sequence number.
-  pub record ViewsStore {W : Type 0} (walk : WalkGhosts W E (ReadTables E C FP K F keys))
+  pub record ViewsStore {W : Type 0} (walk : WalkGhosts W E (ReadTables E C FP K F))
       (value : OpenStoreValue C) (sequence : ℕ) (it : W) : Type 0 where
     -- it is over the view at that number of each history that memory and tables show from there on,
     -- or from a number before it, and at no position
-    pub over : (world : E × ReadTables E C FP K F keys) (meaning : Meaning) (history : History)
+    pub over : (world : E × ReadTables E C FP K F) (meaning : Meaning) (history : History)
         (since : ℕ) → since ≤ sequence → ShowsIn value meaning history since world
         → (pairs : List Pair) × IsView (cmp.cmp value.cmp) (entries_of history) sequence pairs
         × walk.is_at world it (any_in_order (cmp.cmp value.cmp)) pairs None
@@ -133,13 +135,15 @@ module _ {E F C FP K : Type 0} {keys : CmpGhosts (InternalKeyCmp C)} (env : Ghos
     -- what holds of walks holds of this one
     pub laws : WalkLaws walk.over walk.is_at walk.here walk.fails walk.keeps
     -- an error that memory and failures don't explain is the fault of a table
-    pub fault : (from to : E × ReadTables E C FP K F keys) (status : Status) → walk.fails from it to status
-        → FailsBetween env from to (λ e. IsTableFault (options_in from).format e.code) status
+    pub fault : (from to : E × ReadTables E C FP K F) (status : Status)
+        → walk.fails from it to status → FailsBetween env from to (λ e. IsTableFault
+        (options_in env cmp filters codings from).format e.code) status
     -- and where memory and tables show a history, it comes since the format lacks a compressor
-    pub lacks : (from : E × ReadTables E C FP K F keys) (meaning : Meaning) (history : History)
+    pub lacks : (from : E × ReadTables E C FP K F) (meaning : Meaning) (history : History)
         (since : ℕ) → ShowsIn value meaning history since from
-        → (to : E × ReadTables E C FP K F keys) (status : Status) → walk.fails from it to status
-        → FailsBetween env from to (IsOfNoCompressor (options_in from).format meaning) status
+        → (to : E × ReadTables E C FP K F) (status : Status) → walk.fails from it to status
+        → FailsBetween env from to (IsOfNoCompressor
+        (options_in env cmp filters codings from).format meaning) status
 
 -- ---- moves in the view
 
@@ -163,14 +167,14 @@ MakesMoves cmp Why pairs position from moves steps to = ⊥
 
 -- What a call does that makes moves of a walk over the view of a store at a sequence number, from no
 -- position on: `given` are the steps that it adds, `by` says what tables are opened with.
-pub record WalksStore {E F C FP : Type 0} {keys : CmpGhosts (InternalKeyCmp C)} (env : Ghosts E F)
+pub record WalksStore {E F C FP : Type 0} (keys : CmpGhosts (InternalKeyCmp C)) (env : Ghosts E F)
     (by : TableOptions C FP) (value : OpenStoreValue C) (from : E)
-    (tables : TableCache E C FP F keys) (sequence : ℕ) (moves : List Move) (given : List Step)
-    (result : Result (Unit {0}) Status) (to : E) (left : TableCache E C FP F keys) : Type 0 where
+    (tables : TableCache E C FP F) (sequence : ℕ) (moves : List Move) (given : List Step)
+    (result : Result (Unit {0}) Status) (to : E) (left : TableCache E C FP F) : Type 0 where
   -- the moves are made in the view at that number of each history that memory and tables show from
   -- there on, or from a number before it; one fails for no fault of a table but that the format
   -- lacks a compressor
-  pub walks : HasOpenTables env by value from tables → (meaning : Meaning)
+  pub walks : HasOpenTables keys env by value from tables → (meaning : Meaning)
       → Agrees by.format meaning → (history : History) (since : ℕ) → since ≤ sequence
       → Shows by.format.order meaning value (files_at env from) history since
       → OnOk result ((pairs : List Pair)
@@ -187,8 +191,8 @@ pub record WalksStore {E F C FP : Type 0} {keys : CmpGhosts (InternalKeyCmp C)} 
   pub kept : KeepsDisk env from to
   pub later : env.failures from ≤ env.failures to
   -- the open tables stay those of the store
-  pub still_open : HasOpenTables env by value from tables
-      → AreOpenTablesOf env by value.set (files_at env to) left
+  pub still_open : HasOpenTables keys env by value from tables
+      → AreOpenTablesOf keys env by value.set (files_at env to) left
 
 -- ---- over the merge of walks
 
@@ -234,14 +238,14 @@ waiting_layers None = []
 waiting_layers (Some waiting) = waiting.entries ∷ []
 
 -- walks over what is in memory of a store, and then over the tables of its version
-pub record AreChildrenOf {C M : Type 0} {keys : CmpGhosts (InternalKeyCmp C)}
-    (iterator : IteratorGhosts M) (cmp : List ℕ → List ℕ → Ordering) (value : OpenStoreValue C)
-    (children : List (StoreWalk C M keys)) : Type 0 where
+pub record AreChildrenOf {C M : Type 0} (iterator : IteratorGhosts M)
+    (cmp : List ℕ → List ℕ → Ordering) (value : OpenStoreValue C) (children : List (StoreWalk C M))
+    : Type 0 where
   -- over the log's memtable, and over the one that waits
   pub memory : List (Unlent M)
   pub over_memory : Each (IsOverMemory iterator cmp) memory
       (value.recent.entries ∷ waiting_layers value.waiting)
   -- over the tables
-  pub tables : List (VersionIter C keys)
+  pub tables : List (VersionIter C)
   pub over_tables : AreVersionIters value.current tables
   pub are : children ≡ map Memory memory ++ map Tables tables

@@ -13,7 +13,7 @@ use Rattle.leveldb_env.specs.Compressor.{Codings, Decodes}
 use Rattle.leveldb_table.specs.Cache.{Cached, value_of, others, looked_for, put_first}
 use Rattle.leveldb_table.specs.Table.{HasBlockAt}
 use Rattle.leveldb_table.specs.BlockCache.{cache_key, IsBlockOfFile, HoldsOnlyOf, GainsBlocks, IsCachedAt, IsNumbered}
-use Rattle.leveldb_table.specs.declared.block.Block.{Block}
+use Rattle.leveldb_table.specs.Block.{BlockRead}
 use Rattle.leveldb_table.specs.declared.block_cache.CachedBlock.{CachedBlock}
 use Rattle.leveldb_table.proofs.CacheLemmas.{after_look_up, after_put}
 
@@ -92,29 +92,29 @@ handle_at offset size = record { offset = offset; size = size }
 same_handle : (g h : Handle) → g.offset ≡ h.offset → g.size ≡ h.size → g ≡ h
 same_handle g h offset size = ap (λ n. handle_at n g.size) offset ∙ ap (handle_at h.offset) size
 
-module _ {C : Type 0} {order : CmpGhosts C} where
+module _ {C : Type 0} where
   -- no call
-  pub GainsBlocks-refl : (id : ℕ) (Right : ℕ → CachedBlock C order → Type 0) (cache : Cached (CachedBlock C order)) → GainsBlocks id Right cache cache
+  pub GainsBlocks-refl : (id : ℕ) (Right : ℕ → CachedBlock C → Type 0) (cache : Cached (CachedBlock C)) → GainsBlocks id Right cache cache
   GainsBlocks-refl id Right cache = record { capacity = refl; given = refl; each = λ key held found. inl found }
 
   -- one after another
-  pub GainsBlocks-trans : {id : ℕ} {Right : ℕ → CachedBlock C order → Type 0} {old mid new : Cached (CachedBlock C order)} → GainsBlocks id Right old mid → GainsBlocks id Right mid new → GainsBlocks id Right old new
+  pub GainsBlocks-trans : {id : ℕ} {Right : ℕ → CachedBlock C → Type 0} {old mid new : Cached (CachedBlock C)} → GainsBlocks id Right old mid → GainsBlocks id Right mid new → GainsBlocks id Right old new
   GainsBlocks-trans first second =
       record { capacity = second.capacity ∙ first.capacity; given = second.given ∙ first.given; each = λ key held found. ⊎_elim (first.each key held) inr (second.each key held found) }
 
   -- a weaker property
-  pub GainsBlocks-weaker : {id : ℕ} {Right More : ℕ → CachedBlock C order → Type 0} {old new : Cached (CachedBlock C order)} → ((offset : ℕ) (held : CachedBlock C order) → Right offset held → More offset held)
+  pub GainsBlocks-weaker : {id : ℕ} {Right More : ℕ → CachedBlock C → Type 0} {old new : Cached (CachedBlock C)} → ((offset : ℕ) (held : CachedBlock C) → Right offset held → More offset held)
       → GainsBlocks id Right old new → GainsBlocks id More old new
   GainsBlocks-weaker weaker gathers =
       record { capacity = gathers.capacity; given = gathers.given; each = λ key held found. ⊎_elim inl (λ new. inr (new.0, new.1, weaker new.0 held new.2)) (gathers.each key held found) }
 
   -- a look-up
-  pub GainsBlocks-look_up : {id : ℕ} {Right : ℕ → CachedBlock C order → Type 0} {old new : Cached (CachedBlock C order)} (key : List ℕ) → new ≡ after_look_up key old → GainsBlocks id Right old new
+  pub GainsBlocks-look_up : {id : ℕ} {Right : ℕ → CachedBlock C → Type 0} {old new : Cached (CachedBlock C)} (key : List ℕ) → new ≡ after_look_up key old → GainsBlocks id Right old new
   GainsBlocks-look_up {id} {Right} {old} key e =
       subst (GainsBlocks id Right old) (sym e) (record { capacity = refl; given = refl; each = λ q held found. inl (sym (looked_for_same q key old.pairs) ∙ found) })
 
   -- a put
-  pub GainsBlocks-put : {id : ℕ} {Right : ℕ → CachedBlock C order → Type 0} {old new : Cached (CachedBlock C order)} (offset : ℕ) (held : CachedBlock C order) → new ≡ after_put (cache_key id offset) held old → Right offset held
+  pub GainsBlocks-put : {id : ℕ} {Right : ℕ → CachedBlock C → Type 0} {old new : Cached (CachedBlock C)} (offset : ℕ) (held : CachedBlock C) → new ≡ after_put (cache_key id offset) held old → Right offset held
       → GainsBlocks id Right old new
   GainsBlocks-put {id} {Right} {old} offset held e right = subst (GainsBlocks id Right old) (sym e) (record {
     capacity = refl;
@@ -123,38 +123,38 @@ module _ {C : Type 0} {order : CmpGhosts C} where
   })
 
   -- a block's offset has 64 bits
-  IsBlockOfFile-fits : {codings : Codings} {cmp : List ℕ → List ℕ → Ordering} {bytes : List ℕ} {offset : ℕ} {held : CachedBlock C order} → IsBlockOfFile codings cmp bytes offset held → offset < 2 ^ 64
+  IsBlockOfFile-fits : {order : CmpGhosts C} {codings : Codings} {cmp : List ℕ → List ℕ → Ordering} {bytes : List ℕ} {offset : ℕ} {held : CachedBlock C} → IsBlockOfFile order codings cmp bytes offset held → offset < 2 ^ 64
   IsBlockOfFile-fits right = subst (λ n. n < 2 ^ 64) right.begins right.is_there.is_there.fits.offset
 
   -- what is held of a file stays so
-  pub HoldsOnlyOf-after : {codings : Codings} {cmp : List ℕ → List ℕ → Ordering} {id : ℕ} {bytes : List ℕ} {Right : ℕ → CachedBlock C order → Type 0} {old new : Cached (CachedBlock C order)}
-      → ((offset : ℕ) (held : CachedBlock C order) → Right offset held → IsBlockOfFile codings cmp bytes offset held) → GainsBlocks id Right old new → HoldsOnlyOf codings cmp id bytes old → HoldsOnlyOf codings cmp id bytes new
-  HoldsOnlyOf-after {codings} {cmp} {id} {bytes} right gathers holds offset held fits found =
+  pub HoldsOnlyOf-after : {order : CmpGhosts C} {codings : Codings} {cmp : List ℕ → List ℕ → Ordering} {id : ℕ} {bytes : List ℕ} {Right : ℕ → CachedBlock C → Type 0} {old new : Cached (CachedBlock C)}
+      → ((offset : ℕ) (held : CachedBlock C) → Right offset held → IsBlockOfFile order codings cmp bytes offset held) → GainsBlocks id Right old new → HoldsOnlyOf order codings cmp id bytes old → HoldsOnlyOf order codings cmp id bytes new
+  HoldsOnlyOf-after {order} {codings} {cmp} {id} {bytes} right gathers holds offset held fits found =
       ⊎_elim (holds offset held fits)
-      (λ new. (let is = right new.0 held new.2 in subst (λ n. IsBlockOfFile codings cmp bytes n held) (one_offset id id new.0 offset (IsBlockOfFile-fits is) fits (sym new.1)) is))
+      (λ new. (let is = right new.0 held new.2 in subst (λ n. IsBlockOfFile order codings cmp bytes n held) (one_offset id id new.0 offset (IsBlockOfFile-fits is) fits (sym new.1)) is))
       (gathers.each (cache_key id offset) held found)
 
   -- of another table's file too
-  pub HoldsOnlyOf-other : {codings : Codings} {cmp : List ℕ → List ℕ → Ordering} {id other : ℕ} {bytes : List ℕ} {Right : ℕ → CachedBlock C order → Type 0} {old new : Cached (CachedBlock C order)}
-      → id < 2 ^ 64 → other < 2 ^ 64 → id ≢ other → GainsBlocks id Right old new → HoldsOnlyOf codings cmp other bytes old → HoldsOnlyOf codings cmp other bytes new
+  pub HoldsOnlyOf-other : {order : CmpGhosts C} {codings : Codings} {cmp : List ℕ → List ℕ → Ordering} {id other : ℕ} {bytes : List ℕ} {Right : ℕ → CachedBlock C → Type 0} {old new : Cached (CachedBlock C)}
+      → id < 2 ^ 64 → other < 2 ^ 64 → id ≢ other → GainsBlocks id Right old new → HoldsOnlyOf order codings cmp other bytes old → HoldsOnlyOf order codings cmp other bytes new
   HoldsOnlyOf-other {id = id} {other = other} id_fits other_fits apart gathers holds offset held fits found =
       ⊎_elim (holds offset held fits) (λ new. absurd (apart (sym (one_id other id offset new.0 other_fits id_fits new.1)))) (gathers.each (cache_key other offset) held found)
 
   -- under a number that wasn't given nothing is held
-  pub HoldsOnlyOf-new : {codings : Codings} {cmp : List ℕ → List ℕ → Ordering} {id : ℕ} {bytes : List ℕ} (cache : Cached (CachedBlock C order)) → id < 2 ^ 64 → cache.given < id → IsNumbered cache → HoldsOnlyOf codings cmp id bytes cache
+  pub HoldsOnlyOf-new : {order : CmpGhosts C} {codings : Codings} {cmp : List ℕ → List ℕ → Ordering} {id : ℕ} {bytes : List ℕ} (cache : Cached (CachedBlock C)) → id < 2 ^ 64 → cache.given < id → IsNumbered cache → HoldsOnlyOf order codings cmp id bytes cache
   HoldsOnlyOf-new {id = id} cache id_fits new numbered offset held fits found =
       let old = numbered (cache_key id offset) held found in
       let same : id ≡ old.0 = one_id id old.0 offset old.1 id_fits (omega (arith, old.3)) old.2 in
       absurd (omega (arith, old.3))
 
   -- numbers stay given
-  pub IsNumbered-after : {id : ℕ} {Right : ℕ → CachedBlock C order → Type 0} {old new : Cached (CachedBlock C order)} → id ≤ old.given → GainsBlocks id Right old new → IsNumbered old → IsNumbered new
+  pub IsNumbered-after : {id : ℕ} {Right : ℕ → CachedBlock C → Type 0} {old new : Cached (CachedBlock C)} → id ≤ old.given → GainsBlocks id Right old new → IsNumbered old → IsNumbered new
   IsNumbered-after {id} {old = old} {new = new} given gathers numbered key held found =
       let same = gathers.given in
       ⊎_elim (λ (there : value_of key old.pairs ≡ Some held). (let is = numbered key held there in (is.0, is.1, is.2, omega (arith, is.3))))
       (λ fresh. (id, fresh.0, fresh.1, omega arith)) (gathers.each key held found)
 
-  pub IsNumbered-raised : (cache : Cached (CachedBlock C order)) (n : ℕ) → cache.given ≤ n → IsNumbered cache → IsNumbered (record cache { given = n })
+  pub IsNumbered-raised : (cache : Cached (CachedBlock C)) (n : ℕ) → cache.given ≤ n → IsNumbered cache → IsNumbered (record cache { given = n })
   IsNumbered-raised cache n raised numbered key held found =
       let is = numbered key held found in
       (is.0, is.1, is.2, omega (arith, is.3))
@@ -162,9 +162,9 @@ module _ {C : Type 0} {order : CmpGhosts C} where
   -- ---- a block that is asked for
 
   -- what is held at a handle is the file's block there
-  pub IsCachedAt-is_there : {codings : Codings} {cmp : List ℕ → List ℕ → Ordering} {id : ℕ} {handle : Handle} {bytes : List ℕ} {cache : Cached (CachedBlock C order)} {block : Block C order}
-      → IsCachedAt id handle cache block → HoldsOnlyOf codings cmp id bytes cache → HasBlockAt (Decodes codings) bytes handle block.contents × (order.cmp block.cmp ≡ cmp)
-  IsCachedAt-is_there {codings} {handle = handle} {bytes = bytes} {block = block} here holds =
+  pub IsCachedAt-is_there : {order : CmpGhosts C} {codings : Codings} {cmp : List ℕ → List ℕ → Ordering} {id : ℕ} {handle : Handle} {bytes : List ℕ} {cache : Cached (CachedBlock C)} {block : BlockRead C}
+      → IsCachedAt id handle cache block → HoldsOnlyOf order codings cmp id bytes cache → HasBlockAt (Decodes codings) bytes handle block.contents × (order.cmp block.cmp ≡ cmp)
+  IsCachedAt-is_there {order} {codings} {handle = handle} {bytes = bytes} {block = block} here holds =
       let is = holds handle.offset here.held here.fits here.found in
       let same = same_handle here.held.handle handle is.begins here.size in (
         subst (λ z. HasBlockAt (Decodes codings) bytes z block.contents) same (subst (HasBlockAt (Decodes codings) bytes here.held.handle) (sym here.contents) is.is_there),
@@ -172,7 +172,7 @@ module _ {C : Type 0} {order : CmpGhosts C} where
       )
 
   -- a copy of a block that was read is the file's
-  pub IsBlockOfFile-copy : {codings : Codings} {cmp : List ℕ → List ℕ → Ordering} {bytes : List ℕ} (handle : Handle) (block copy : Block C order) → copy.contents ≡ block.contents → copy.cmp ≡ block.cmp
-      → order.cmp block.cmp ≡ cmp → HasBlockAt (Decodes codings) bytes handle block.contents → IsBlockOfFile codings cmp bytes handle.offset (record { handle = handle; block = copy })
-  IsBlockOfFile-copy {codings} {bytes = bytes} handle block copy contents orders ordered is_there =
+  pub IsBlockOfFile-copy : {order : CmpGhosts C} {codings : Codings} {cmp : List ℕ → List ℕ → Ordering} {bytes : List ℕ} (handle : Handle) (block copy : BlockRead C) → copy.contents ≡ block.contents → copy.cmp ≡ block.cmp
+      → order.cmp block.cmp ≡ cmp → HasBlockAt (Decodes codings) bytes handle block.contents → IsBlockOfFile order codings cmp bytes handle.offset (record { handle = handle; block = copy })
+  IsBlockOfFile-copy {order} {codings} {bytes = bytes} handle block copy contents orders ordered is_there =
       record { begins = refl; is_there = subst (HasBlockAt (Decodes codings) bytes handle) (sym contents) is_there; ordered = ap order.cmp orders ∙ ordered }

@@ -1,5 +1,5 @@
 -- Where entries begin and end, and what is there.
-use Rattle.std.proofs.Common.{◌≡◌, ℕ, zero, suc, ◌+◌, ◌-◌, ◌<◌, ◌≤◌, Bool, true, false, nat_lt, if◌then◌else◌, List, [], ◌∷◌, ◌++◌, length, take, drop, get_or, flat_map, slice_get, Option, None, Some, inl, inr, refl, sym, ◌∙◌, ap, subst, arith, append_assoc, length-append, slice_range, IsSome, ◌*◌}
+use Rattle.std.proofs.Common.{slice_index, Result, OnOk, ◌≡◌, ℕ, zero, suc, ◌+◌, ◌-◌, ◌<◌, ◌≤◌, Bool, true, false, nat_lt, if◌then◌else◌, List, [], ◌∷◌, ◌++◌, length, take, drop, get_or, flat_map, slice_get, Option, None, Some, inl, inr, refl, sym, ◌∙◌, ap, subst, arith, append_assoc, length-append, slice_range, IsSome, ◌*◌}
 use Rattle.std.proofs.lemmas.Bool.{cases_lt}
 use Rattle.std.proofs.lemmas.Bool.Decides.{nat_tests}
 use Rattle.std.proofs.lemmas.List.{take_at, drop_at, take_all, append-nil, length-take-le, drop-drop}
@@ -17,7 +17,7 @@ use Rattle.leveldb_base.specs.Types.{Pair, position_within, next_position, previ
 use Rattle.leveldb_base.specs.Varint.{little, varint}
 use Rattle.leveldb_base.specs.Cmp.{IsPreorderOn}
 use Rattle.leveldb_env.proofs.FilterBlockLemmas.{length-fours, number_at}
-use Rattle.leveldb_table.specs.Block.{BlockEntry, entry_bytes, key_of, pairs_of, SharesFrom, AreEntries, points_from, restart_points, parts_bytes, LengthsFit, block_bytes, AreEntriesEndingAt, RiseAfter, KeysRise}
+use Rattle.leveldb_table.specs.Block.{BlockEntry, BlockRead, entry_bytes, key_of, pairs_of, SharesFrom, AreEntries, points_from, restart_points, parts_bytes, LengthsFit, block_bytes, AreEntriesEndingAt, RiseAfter, KeysRise}
 use Rattle.leveldb_table.specs.BlockLaws.{length-entry_bytes-ge, one_entry}
 use Rattle.leveldb_table.specs.BlockWalk.{last_key, start_of, entries_before, IsRestartPoint, SharesPrefixOf, CanLoad, CanSeekFrom, IsSpot, IsWithin, position_of, IsEntryBetween, IsEntryEndingAt, HasKeyAt}
 use Rattle.leveldb_table.specs.BlockCheck.{ReadsEntry, entry_in}
@@ -278,6 +278,10 @@ fronts {entries = entries} held = record {
   ends = held.ends;
   allowed = held.encoded.allowed;
 }
+
+-- by the value of a block
+pub fronts_of : {C : Type 0} {limit : ℕ} {view block : BlockRead C} → view ≡ block → Fronts view.contents limit view.entries → Fronts block.contents limit block.entries
+fronts_of {limit = limit} is f = subst (λ (b : BlockRead _). Fronts b.contents limit b.entries) is f
 
 pub limit_within : {bytes : List ℕ} {limit : ℕ} {entries : List BlockEntry} → Fronts bytes limit entries → limit ≤ length bytes
 limit_within {bytes} {limit} {entries} f = omega (arith, f.ends, ap length f.whole, length-append (flat_map entry_bytes entries) f.rest)
@@ -711,6 +715,16 @@ module _ {cmp : List ℕ → List ℕ → Ordering} {bytes : List ℕ} {limit : 
 
 -- The restart points of a block in memory.
 
+-- there is a restart point
+pub points_some : (entries : List BlockEntry) → AreEntries None entries → 0 < length (restart_points entries)
+points_some [] allowed = omega arith
+points_some (entry ∷ entries) allowed = rw allowed.1.0 (omega arith)
+
+-- and the first one is at the front
+pub points_first : (entries : List BlockEntry) → AreEntries None entries → slice_index (restart_points entries) 0 ≡ 0
+points_first [] allowed = refl
+points_first (entry ∷ entries) allowed = rw allowed.1.0 refl
+
 module _ {accepts : List ℕ → Bool} {cmp : List ℕ → List ℕ → Ordering} {bytes : List ℕ} {limit : ℕ} {accepted : Bool} {entries : List BlockEntry} (held : AreEntriesEndingAt accepts cmp bytes limit accepted entries) where
   -- how long a block is
   pub sizes : length bytes ≡ limit + (4 * length (restart_points entries) + 4)
@@ -800,3 +814,7 @@ pub starts_by : {accepts : List ℕ → Bool} {cmp : List ℕ → List ℕ → O
     → (target : List ℕ) → accepts target ≡ true → (point : ℕ) (key : List ℕ) → HasKeyAt entries point key → is_lt (cmp key target) ≡ true → CanSeekFrom cmp entries target point
 starts_by {cmp = cmp} {entries = entries} o known held target a point key there lt =
     count_front o target a (pairs_of None entries) (entries_before point entries) key there.0 held.encoded.sorted (held.each_accepted known) there.1 (lt_less (cmp key target) lt)
+
+-- a move from one position to another, said of positions that are the same
+pub moved : {T E : Type 0} (result : Result T E) (to : Option ℕ → Option ℕ) {old new from there : Option ℕ} → old ≡ from → new ≡ there → OnOk result (there ≡ to from) → OnOk result (new ≡ to old)
+moved result to {old = old} {there = there} same_old same_new ok = subst (λ z. OnOk result (z ≡ to old)) (sym same_new) (subst (λ z. OnOk result (there ≡ to z)) (sym same_old) ok)

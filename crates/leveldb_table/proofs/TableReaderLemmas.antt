@@ -27,17 +27,15 @@ use Rattle.leveldb_env.specs.declared.env.Env.{Ghosts}
 use Rattle.leveldb_env.specs.Compressor.{Codings, Decodes}
 use Rattle.leveldb_env.specs.FilterBlock.{IsFilterBlock, FiltersRead, passes}
 use Rattle.leveldb_env.specs.FilterBlockLaws.{one_reading}
-use Rattle.leveldb_table.specs.Block.{RiseAfter, KeysRise, IsBlock, HasEntries, pairs_of}
+use Rattle.leveldb_table.specs.Block.{BlockRead, RiseAfter, KeysRise, IsBlock, HasEntries, pairs_of}
 use Rattle.leveldb_table.specs.Table.{first_from, Part, IsPart, StoresAt, HasBlockAt, HasFiltersAt, FiltersHold, AllPass, HasTableBlocks, IsTable, DecodesOne, OneTable, index_pair, filter_key, IsAtOrAfterAll, IsBeforeAll, AreParted, PartPasses, named_part, AreAccepted, offset_for}
-use Rattle.leveldb_table.specs.TableReader.{GivesHandle, HasFiltersBy, IsFiltersAt, EndsInFooter, HasIndex, LacksIndex, no_footer, no_index, HasNoIndex, OpensTable, OpensAs, LacksPart, not_indexed, no_metaindex, no_filters, CannotOpen, CanOpen, HasParts, HandlesFit, pairs_in, KeepsUsersTogether, HasNoneFrom}
+use Rattle.leveldb_table.specs.TableReader.{OpenTable, GivesHandle, HasFiltersBy, IsFiltersAt, EndsInFooter, HasIndex, LacksIndex, no_footer, no_index, HasNoIndex, OpensTable, OpensAs, LacksPart, not_indexed, no_metaindex, no_filters, CannotOpen, CanOpen, HasParts, HandlesFit, pairs_in, KeepsUsersTogether, HasNoneFrom}
 use Rattle.leveldb_table.specs.TableBlock.{HasNoFilters, KeepsDisk, FileHas, IsDamaged, IsLackError, ReadsFile}
 use Rattle.leveldb_table.specs.BlockLaws.{one_block}
 use Rattle.leveldb_table.specs.Footer.{footer_bytes}
 use Rattle.leveldb_table.specs.TableBuilder.{MatchesByUser}
 use Rattle.leveldb_table.specs.Cache.{Cached}
-use Rattle.leveldb_table.specs.declared.block.Block.{Block}
 use Rattle.leveldb_table.specs.declared.block_cache.CachedBlock.{CachedBlock}
-use Rattle.leveldb_table.specs.declared.table_reader.Table.{Table}
 use Rattle.leveldb_table.proofs.FooterLemmas.{one_footer, length-footer_bytes}
 use Rattle.leveldb_table.proofs.TableBlockLemmas.{HasNoBlock, lacks_none, FileHas-after}
 use Rattle.leveldb_table.proofs.TableLemmas.{all_with, has_one_block, stores_one, all_append, all_left, all_right, rise_right, then_less, turned_from}
@@ -195,9 +193,9 @@ module _ {E F : Type 0} (env : Ghosts E F) (codings : Codings) {old mid : E} {fi
       lacks (λ bytes other. Missing bytes × (other.code ≡ Corruption)) (λ bytes other has none. part bytes other has none.0 none.1) status
       (inl why.0, λ bytes has. (why.1 bytes has, why.0))
 
-module _ {E C FP F : Type 0} {order : CmpGhosts C} {env : Ghosts E F} {codings : Codings} {Is : Table E C FP F order → List ℕ → Type 0} {Filters : Option (FiltersRead FP) → Type 0} {Lacks : List ℕ → Status → Type 0} {cmp : C} {from : F} {old_env new_env : E} {old_cache new_cache : Cached (CachedBlock C order)} where
+module _ {E C FP F : Type 0} {env : Ghosts E F} {codings : Codings} {Is : OpenTable C FP F → List ℕ → Type 0} {Filters : Option (FiltersRead FP) → Type 0} {Lacks : List ℕ → Status → Type 0} {cmp : C} {from : F} {old_env new_env : E} {old_cache new_cache : Cached (CachedBlock C)} where
   -- a call that opens no table
-  pub opens_err : (P : Status → Type 0) (result : Result (Table E C FP F order) Status) → IsErrAnd result P
+  pub opens_err : (P : Status → Type 0) (result : Result (OpenTable C FP F) Status) → IsErrAnd result P
       → ReadsFile env (λ status. ((status.code ≡ NotSupported) × (old_cache.given + 1 ≡ 2 ^ 64)) ⊎ IsLackError env codings Lacks old_env from status) old_env new_env result
       → new_cache ≡ old_cache → OpensTable env codings Is Filters Lacks cmp from old_env old_cache result new_env new_cache
   opens_err P (Ok table) none reads same = absurd none
@@ -547,10 +545,10 @@ module _ (cmp : List ℕ → List ℕ → Ordering) (key : List ℕ) where
 pub whole_is : (g h : Handle) → handle_bytes g ≡ handle_bytes h → g ≡ h
 whole_is g h e = (one_handle g h [] [] (append-nil (handle_bytes g) ∙ e ∙ sym (append-nil (handle_bytes h)))).0
 
-module _ {C : Type 0} {order : CmpGhosts C} where
+module _ {C : Type 0} (order : CmpGhosts C) where
   -- what a walk over an index finds, as a search in its lines
-  pub index_sought : {block index : Block C order} {pairs : List Pair} {position : Option ℕ} (key : List ℕ) → block ≡ index → pairs ≡ pairs_of None block.entries.0
-      → position ≡ seek_position (order.cmp block.cmp) (pairs_of None block.entries.0) key → pair_at pairs position ≡ pair_at (pairs_of None index.entries.0) (seek_position (order.cmp index.cmp) (pairs_of None index.entries.0) key)
+  pub index_sought : {block index : BlockRead C} {pairs : List Pair} {position : Option ℕ} (key : List ℕ) → block ≡ index → pairs ≡ pairs_of None block.entries
+      → position ≡ seek_position (order.cmp block.cmp) (pairs_of None block.entries) key → pair_at pairs position ≡ pair_at (pairs_of None index.entries) (seek_position (order.cmp index.cmp) (pairs_of None index.entries) key)
   index_sought {block} {position = position} key e same at =
-      ap (λ lines. pair_at lines position) same ∙ ap (pair_at (pairs_of None block.entries.0)) at
-      ∙ ap (λ (there : Block C order). pair_at (pairs_of None there.entries.0) (seek_position (order.cmp there.cmp) (pairs_of None there.entries.0) key)) e
+      ap (λ lines. pair_at lines position) same ∙ ap (pair_at (pairs_of None block.entries)) at
+      ∙ ap (λ (there : BlockRead C). pair_at (pairs_of None there.entries) (seek_position (order.cmp there.cmp) (pairs_of None there.entries) key)) e

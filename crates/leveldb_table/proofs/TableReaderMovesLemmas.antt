@@ -13,21 +13,17 @@ use Rattle.leveldb_base.specs.declared.error.StatusCode.TheVariants.{Corruption}
 use Rattle.leveldb_base.specs.Error.{IsOutOfMemory}
 use Rattle.leveldb_env.specs.declared.env.Env.{Ghosts as EnvGhosts}
 use Rattle.leveldb_env.specs.Compressor.{Codings}
-use Rattle.leveldb_table.specs.BlockWalk.{pair_with}
+use Rattle.leveldb_table.specs.BlockWalk.{pair_with, pairs_over, position_over, BlockPosition}
 use Rattle.leveldb_table.specs.Cache.{Cached}
 use Rattle.leveldb_table.specs.Table.{Part, index_pair, named_part}
 use Rattle.leveldb_table.specs.BlockCache.{HoldsOnlyOf, IsBlockOfFile, GainsBlocks}
 use Rattle.leveldb_table.specs.TableReaderBlocks.{IsAfterLine, IsBeforeBlock, let_position, IsBlockAt, IsBlockOf, line_of, IsIndexed, MovesFromLine}
-use Rattle.leveldb_table.specs.TableReader.{pairs_in, lines_of, HasParts}
+use Rattle.leveldb_table.specs.TableReader.{OpenTable, pairs_in, lines_of, HasParts}
 use Rattle.leveldb_table.specs.TableBlock.{KeepsDisk, FileHas, ForBytesOf, IsNamedBy, NamesNone, LacksLine, IsLackError, ReadsFile}
-use Rattle.leveldb_table.specs.TableReaderWalk.{IsAtPairOrNone, IsAtPosition, MovesInTable, Outcome, inner_block, inner_pairs, inner_position, pairs_over, position_over, table_position, TablePosition, IsNamed}
-use Rattle.leveldb_table.specs.BlockLaws.{IsWithin-position}
-use Rattle.leveldb_table.specs.declared.block.Block.{Block}
-use Rattle.leveldb_table.specs.declared.block.owned.BlockWalk.{BlockWalk}
+use Rattle.leveldb_table.specs.TableReaderWalk.{TablePlace, IsAtPairOrNone, IsAtPosition, MovesInTable, Outcome, inner_block, inner_pairs, inner_position, table_position, TablePosition, IsNamed}
+use Rattle.leveldb_table.specs.BlockLaws.{position_within-is}
 use Rattle.leveldb_table.specs.declared.block_cache.CachedBlock.{CachedBlock}
-use Rattle.leveldb_table.specs.declared.table_reader.Table.{Table}
-use Rattle.leveldb_table.specs.declared.table_reader.walk.TableCore.{TableCore}
-use Rattle.leveldb_table.specs.Block.{HasEntries}
+use Rattle.leveldb_table.specs.Block.{BlockRead}
 use Rattle.leveldb_table.specs.TableReaderMoves.{LooksUp, found_with, LookUpInTable, HasLine, InsideOr, ToBlock, ToFirstPair, ToLastPair, ToNextPair, ToPreviousPair, ToKeyInBlock, ToKeyByLine, ToKeyByLineIfLet, LookUpByLine, LookUpFromLine, line_for, Forward, Backward, ToFirst, ToNextBlock, ToPreviousBlock, ToKey, ToKeyIfLet}
 use Rattle.leveldb_table.proofs.BlockCacheLemmas.{GainsBlocks-refl, GainsBlocks-trans, GainsBlocks-weaker, HoldsOnlyOf-after}
 use Rattle.leveldb_table.proofs.TableBlockLemmas.{KeepsDisk-refl, FileHas-after, ForBytesOf-before, reads_then, reads_weaker, reads_own, reads_ok, reads_refused}
@@ -84,51 +80,53 @@ pub last_none : (pairs : List Pair) → last_position pairs ≡ None → pairs �
 last_none [] none = refl
 last_none (pair ∷ pairs) none = absurd (some_none none)
 
-module _ {C : Type 0} {order : CmpGhosts C} where
+module _ {C : Type 0} where
   -- the block at the handle is that of the line
-  block_of : (codings : Codings) (cmp : List ℕ → List ℕ → Ordering) (bytes : List ℕ) (line : Option Pair) (handle : Handle) (block : Option (Block C order)) → HandleFits handle → IsSomeAnd line (λ pair. pair.1 ≡ handle_bytes handle)
-      → IsBlockAt codings cmp bytes handle block → IsBlockOf codings cmp bytes line block
-  block_of codings cmp bytes line handle None fits names at = absurd at
-  block_of codings cmp bytes line handle (Some block) fits names at =
+  block_of : (order : CmpGhosts C) (codings : Codings) (cmp : List ℕ → List ℕ → Ordering) (bytes : List ℕ) (line : Option Pair) (handle : Handle) (block : Option (BlockRead C)) → HandleFits handle → IsSomeAnd line (λ pair. pair.1 ≡ handle_bytes handle)
+      → IsBlockAt order codings cmp bytes handle block → IsBlockOf order codings cmp bytes line block
+  block_of order codings cmp bytes line handle None fits names at = absurd at
+  block_of order codings cmp bytes line handle (Some block) fits names at =
       let is = named_line line handle names in
-      (record { key = is.0; handle = handle; fits = fits; names = is.1; is_there = at.0 }, at.1)
+      (record { key = is.0; handle = handle; fits = fits; names = is.1; is_there = at.0 }, at.1, at.2)
 
+module _ {C : Type 0} (order : CmpGhosts C) where
   -- a position of the block in the table's order
-  sought_inner : (codings : Codings) (cmp : List ℕ → List ℕ → Ordering) (bytes : List ℕ) (line : Option Pair) (inner : Option (BlockWalk C order)) (position : Option ℕ) (key : List ℕ)
-      → IfSome inner (λ walk. position ≡ seek_position (order.cmp walk.block.cmp) (pairs_over walk) key) → IsBlockOf codings cmp bytes line (inner_block inner) → position ≡ seek_position cmp (inner_pairs inner) key
+  sought_inner : (codings : Codings) (cmp : List ℕ → List ℕ → Ordering) (bytes : List ℕ) (line : Option Pair) (inner : Option (BlockPosition C)) (position : Option ℕ) (key : List ℕ)
+      → IfSome inner (λ walk. position ≡ seek_position (order.cmp walk.block.cmp) (pairs_over walk) key) → IsBlockOf order codings cmp bytes line (inner_block inner) → position ≡ seek_position cmp (inner_pairs inner) key
   sought_inner codings cmp bytes line None position key sought of = absurd of
   sought_inner codings cmp bytes line (Some walk) position key sought of = sought ∙ ap (λ (o : List ℕ → List ℕ → Ordering). seek_position o (pairs_over walk) key) of.1
 
   -- the walk has the block of its line, and sought a key there
-  pub record IsSought (codings : Codings) (cmp : List ℕ → List ℕ → Ordering) (bytes key : List ℕ) (old new : TableCore C order) : Type 0 where
+  pub record IsSought (codings : Codings) (cmp : List ℕ → List ℕ → Ordering) (bytes key : List ℕ) (old new : TablePlace C) : Type 0 where
     pub index : new.index ≡ old.index
-    pub block : IsBlockOf codings cmp bytes (line_of old) (inner_block new.inner)
+    pub block : IsBlockOf order codings cmp bytes (line_of old) (inner_block new.inner)
     pub position : inner_position new.inner ≡ seek_position cmp (inner_pairs new.inner) key
 
   -- by reading what is at the line's handle, and a search
-  pub is_sought : (codings : Codings) (cmp : List ℕ → List ℕ → Ordering) (bytes key : List ℕ) (old loaded new : TableCore C order) (handle : Handle) → HandleFits handle → IsSomeAnd (line_of old) (λ pair. pair.1 ≡ handle_bytes handle)
-      → loaded.index ≡ old.index → IsBlockAt codings cmp bytes handle (inner_block loaded.inner) → new.index ≡ loaded.index → inner_block new.inner ≡ inner_block loaded.inner → inner_pairs new.inner ≡ inner_pairs loaded.inner
+  pub is_sought : (codings : Codings) (cmp : List ℕ → List ℕ → Ordering) (bytes key : List ℕ) (old loaded new : TablePlace C) (handle : Handle) → HandleFits handle → IsSomeAnd (line_of old) (λ pair. pair.1 ≡ handle_bytes handle)
+      → loaded.index ≡ old.index → IsBlockAt order codings cmp bytes handle (inner_block loaded.inner) → new.index ≡ loaded.index → inner_block new.inner ≡ inner_block loaded.inner → inner_pairs new.inner ≡ inner_pairs loaded.inner
       → IfSome loaded.inner (λ walk. inner_position new.inner ≡ seek_position (order.cmp walk.block.cmp) (pairs_over walk) key) → IsSought codings cmp bytes key old new
   is_sought codings cmp bytes key old loaded new handle fits names same at kept inner pairs sought =
-      let of = block_of codings cmp bytes (line_of old) handle (inner_block loaded.inner) fits names at in
+      let of = block_of order codings cmp bytes (line_of old) handle (inner_block loaded.inner) fits names at in
       record {
         index = kept ∙ same;
-        block = subst (λ b. IsBlockOf codings cmp bytes (line_of old) b) (sym inner) of;
+        block = subst (λ b. IsBlockOf order codings cmp bytes (line_of old) b) (sym inner) of;
         position = sought_inner codings cmp bytes (line_of old) loaded.inner (inner_position new.inner) key sought of ∙ ap (λ z. seek_position cmp z key) (sym pairs);
       }
 
+module _ {C : Type 0} {order : CmpGhosts C} where
   -- ---- one call after another
 
   module _ {E F : Type 0} {env : EnvGhosts E F} {codings : Codings} {accepts : List ℕ → Bool} {cmp : List ℕ → List ℕ → Ordering} {id : ℕ} {file : F} where
     -- after Ok calls that leave the index
-    pub enters_then : {T : Type 0} {Fit Way : List Part → Option ℕ → Type 0} {Part_step Step : Codings → (List ℕ → List ℕ → Ordering) → List ℕ → TableCore C order → Outcome → Type 0} {old_env mid_env new_env : E} {old_cache mid_cache new_cache : Cached (CachedBlock C order)} {mid new : TableCore C order} {result : Result T Status} (old : TableCore C order)
-        → KeepsDisk env old_env mid_env → env.failures mid_env ≡ env.failures old_env → GainsBlocks id (λ offset held. ForBytesOf env old_env file (λ bytes. IsBlockOfFile codings cmp bytes offset held)) old_cache mid_cache → pairs_over mid.index ≡ pairs_over old.index → mid.index.block.cmp ≡ old.index.block.cmp
-        → ((bytes : List ℕ) → FileHas env old_env file bytes → (parts : List Part) (position : Option ℕ) → HasParts codings accepts cmp bytes parts → Fit parts position → HoldsOnlyOf codings cmp id bytes old_cache → IsIndexed cmp parts old → Way parts position)
-        → ((bytes : List ℕ) → FileHas env old_env file bytes → HoldsOnlyOf codings cmp id bytes old_cache → (out : Outcome) → Part_step codings cmp bytes mid out → Step codings cmp bytes old out)
-        → MovesFromLine env codings accepts cmp id file Way Part_step mid_env mid_cache mid result new_env new_cache new → MovesFromLine env codings accepts cmp id file Fit Step old_env old_cache old result new_env new_cache new
+    pub enters_then : {T : Type 0} {Fit Way : List Part → Option ℕ → Type 0} {Part_step Step : Codings → (List ℕ → List ℕ → Ordering) → List ℕ → TablePlace C → Outcome → Type 0} {old_env mid_env new_env : E} {old_cache mid_cache new_cache : Cached (CachedBlock C)} {mid new : TablePlace C} {result : Result T Status} (old : TablePlace C)
+        → KeepsDisk env old_env mid_env → env.failures mid_env ≡ env.failures old_env → GainsBlocks id (λ offset held. ForBytesOf env old_env file (λ bytes. IsBlockOfFile order codings cmp bytes offset held)) old_cache mid_cache → pairs_over mid.index ≡ pairs_over old.index → mid.index.block.cmp ≡ old.index.block.cmp
+        → ((bytes : List ℕ) → FileHas env old_env file bytes → (parts : List Part) (position : Option ℕ) → HasParts codings accepts cmp bytes parts → Fit parts position → HoldsOnlyOf order codings cmp id bytes old_cache → IsIndexed order cmp parts old → Way parts position)
+        → ((bytes : List ℕ) → FileHas env old_env file bytes → HoldsOnlyOf order codings cmp id bytes old_cache → (out : Outcome) → Part_step codings cmp bytes mid out → Step codings cmp bytes old out)
+        → MovesFromLine order env codings accepts cmp id file Way Part_step mid_env mid_cache mid result new_env new_cache new → MovesFromLine order env codings accepts cmp id file Fit Step old_env old_cache old result new_env new_cache new
     enters_then {Part_step = Part_step} {Step = Step} {old_env = old_env} {old_cache = old_cache} {mid_cache = mid_cache} {mid = mid} {new = new} {result = result} old kept_disk counted gathers lines same way step enters =
-        let held : (bytes : List ℕ) → FileHas env old_env file bytes → HoldsOnlyOf codings cmp id bytes old_cache → HoldsOnlyOf codings cmp id bytes mid_cache = λ bytes has. HoldsOnlyOf-after (λ offset held right. right bytes has) gathers in
-        let indexed : (parts : List Part) → IsIndexed cmp parts old → IsIndexed cmp parts mid = λ parts is. record { lines = lines ∙ is.lines; ordered = ap order.cmp same ∙ is.ordered } in
+        let held : (bytes : List ℕ) → FileHas env old_env file bytes → HoldsOnlyOf order codings cmp id bytes old_cache → HoldsOnlyOf order codings cmp id bytes mid_cache = λ bytes has. HoldsOnlyOf-after (λ offset held right. right bytes has) gathers in
+        let indexed : (parts : List Part) → IsIndexed order cmp parts old → IsIndexed order cmp parts mid = λ parts is. record { lines = lines ∙ is.lines; ordered = ap order.cmp same ∙ is.ordered } in
         record {
           reads = reads_then env result kept_disk counted (λ status lacks. (
             lacks.0,
@@ -146,8 +144,8 @@ module _ {C : Type 0} {order : CmpGhosts C} where
         }
 
     -- with another answer
-    pub enters_ok : {T U : Type 0} {Fit : List Part → Option ℕ → Type 0} {Step : Codings → (List ℕ → List ℕ → Ordering) → List ℕ → TableCore C order → Outcome → Type 0} {old_env new_env : E} {old_cache new_cache : Cached (CachedBlock C order)} {old new : TableCore C order} {answer : T} (other : U)
-        → MovesFromLine env codings accepts cmp id file Fit Step old_env old_cache old (Ok answer) new_env new_cache new → MovesFromLine env codings accepts cmp id file Fit Step old_env old_cache old (Ok other) new_env new_cache new
+    pub enters_ok : {T U : Type 0} {Fit : List Part → Option ℕ → Type 0} {Step : Codings → (List ℕ → List ℕ → Ordering) → List ℕ → TablePlace C → Outcome → Type 0} {old_env new_env : E} {old_cache new_cache : Cached (CachedBlock C)} {old new : TablePlace C} {answer : T} (other : U)
+        → MovesFromLine order env codings accepts cmp id file Fit Step old_env old_cache old (Ok answer) new_env new_cache new → MovesFromLine order env codings accepts cmp id file Fit Step old_env old_cache old (Ok other) new_env new_cache new
     enters_ok other enters = record {
       reads = reads_ok env enters.reads.kept_disk enters.reads.cause.ok;
       ok = enters.ok;
@@ -159,8 +157,8 @@ module _ {C : Type 0} {order : CmpGhosts C} where
     }
 
     -- or a refusal that is passed on
-    pub enters_refused : {T U : Type 0} {Fit : List Part → Option ℕ → Type 0} {Step : Codings → (List ℕ → List ℕ → Ordering) → List ℕ → TableCore C order → Outcome → Type 0} {old_env new_env : E} {old_cache new_cache : Cached (CachedBlock C order)} {old new : TableCore C order} {status : Status} (result : Result U Status) → IsErrAnd result (λ other. other ≡ status)
-        → MovesFromLine {T = T} env codings accepts cmp id file Fit Step old_env old_cache old (Err status) new_env new_cache new → MovesFromLine env codings accepts cmp id file Fit Step old_env old_cache old result new_env new_cache new
+    pub enters_refused : {T U : Type 0} {Fit : List Part → Option ℕ → Type 0} {Step : Codings → (List ℕ → List ℕ → Ordering) → List ℕ → TablePlace C → Outcome → Type 0} {old_env new_env : E} {old_cache new_cache : Cached (CachedBlock C)} {old new : TablePlace C} {status : Status} (result : Result U Status) → IsErrAnd result (λ other. other ≡ status)
+        → MovesFromLine order {T = T} env codings accepts cmp id file Fit Step old_env old_cache old (Err status) new_env new_cache new → MovesFromLine order env codings accepts cmp id file Fit Step old_env old_cache old result new_env new_cache new
     enters_refused result same enters = record {
       reads = reads_refused env result same enters.reads;
       ok = λ bytes has parts position right fit holds is. ok_refused _ _ result same;
@@ -172,9 +170,9 @@ module _ {C : Type 0} {order : CmpGhosts C} where
     }
 
     -- no call, and no position
-    pub enters_ends : {T : Type 0} {Fit : List Part → Option ℕ → Type 0} {Step : Codings → (List ℕ → List ℕ → Ordering) → List ℕ → TableCore C order → Outcome → Type 0} {state : E} {cache : Cached (CachedBlock C order)} (old new : TableCore C order) (answer : T) → pairs_over new.index ≡ pairs_over old.index → new.index.block.cmp ≡ old.index.block.cmp
-        → inner_position new.inner ≡ None → ((bytes : List ℕ) → (parts : List Part) (position : Option ℕ) → HasParts codings accepts cmp bytes parts → Fit parts position → IsIndexed cmp parts old → position ≡ None)
-        → ((bytes : List ℕ) → Step codings cmp bytes old (Ok (table_position new))) → MovesFromLine env codings accepts cmp id file Fit Step state cache old (Ok answer) state cache new
+    pub enters_ends : {T : Type 0} {Fit : List Part → Option ℕ → Type 0} {Step : Codings → (List ℕ → List ℕ → Ordering) → List ℕ → TablePlace C → Outcome → Type 0} {state : E} {cache : Cached (CachedBlock C)} (old new : TablePlace C) (answer : T) → pairs_over new.index ≡ pairs_over old.index → new.index.block.cmp ≡ old.index.block.cmp
+        → inner_position new.inner ≡ None → ((bytes : List ℕ) → (parts : List Part) (position : Option ℕ) → HasParts codings accepts cmp bytes parts → Fit parts position → IsIndexed order cmp parts old → position ≡ None)
+        → ((bytes : List ℕ) → Step codings cmp bytes old (Ok (table_position new))) → MovesFromLine order env codings accepts cmp id file Fit Step state cache old (Ok answer) state cache new
     enters_ends {state = state} {cache = cache} old new answer lines same none way step = record {
       reads = reads_ok env (KeepsDisk-refl env state) refl;
       ok = λ bytes has parts position right fit holds is. record {
@@ -190,10 +188,10 @@ module _ {C : Type 0} {order : CmpGhosts C} where
     }
 
     -- no call, and a refusal
-    pub enters_own : {T : Type 0} {P : Status → Type 0} {Fit : List Part → Option ℕ → Type 0} {Step : Codings → (List ℕ → List ℕ → Ordering) → List ℕ → TableCore C order → Outcome → Type 0} {state : E} {cache : Cached (CachedBlock C order)} (old new : TableCore C order) (result : Result T Status) → pairs_over new.index ≡ pairs_over old.index → new.index.block.cmp ≡ old.index.block.cmp
+    pub enters_own : {T : Type 0} {P : Status → Type 0} {Fit : List Part → Option ℕ → Type 0} {Step : Codings → (List ℕ → List ℕ → Ordering) → List ℕ → TablePlace C → Outcome → Type 0} {state : E} {cache : Cached (CachedBlock C)} (old new : TablePlace C) (result : Result T Status) → pairs_over new.index ≡ pairs_over old.index → new.index.block.cmp ≡ old.index.block.cmp
         → inner_position new.inner ≡ None → IsErrAnd result P
-        → ((status : Status) → P status → IsOutOfMemory status ⊎ ((status.code ≡ Corruption) × ((bytes : List ℕ) → ((parts : List Part) (position : Option ℕ) → HasParts codings accepts cmp bytes parts → Fit parts position → IsIndexed cmp parts old → ⊥) × Step codings cmp bytes old (Err status))))
-        → MovesFromLine env codings accepts cmp id file Fit Step state cache old result state cache new
+        → ((status : Status) → P status → IsOutOfMemory status ⊎ ((status.code ≡ Corruption) × ((bytes : List ℕ) → ((parts : List Part) (position : Option ℕ) → HasParts codings accepts cmp bytes parts → Fit parts position → IsIndexed order cmp parts old → ⊥) × Step codings cmp bytes old (Err status))))
+        → MovesFromLine order env codings accepts cmp id file Fit Step state cache old result state cache new
     enters_own {state = state} {cache = cache} old new result lines same none refused why = record {
       reads = reads_own env result (KeepsDisk-refl env state) refl refused (λ status is. ⊎_elim inl (λ lacks. inr (inl lacks.0, λ bytes has. (λ parts position right fit holds indexed. (lacks.1 bytes).0 parts position right fit indexed, λ holds. (lacks.1 bytes).1))) (why status is));
       ok = λ bytes has parts position right fit holds is. ok_refused _ _ result refused;
@@ -205,13 +203,13 @@ module _ {C : Type 0} {order : CmpGhosts C} where
     }
 
     -- from no position to the first pair is by a step
-    pub moves_first : {T : Type 0} {Part_step Step : Codings → (List ℕ → List ℕ → Ordering) → List ℕ → TableCore C order → Outcome → Type 0} {old_env new_env : E} {old_cache new_cache : Cached (CachedBlock C order)} {mid new : TableCore C order} {result : Result T Status} (old : TableCore C order) → mid.index ≡ old.index → mid.inner ≡ None
-        → ((bytes : List ℕ) (out : Outcome) → Part_step codings cmp bytes mid out → Step codings cmp bytes old out) → MovesInTable env codings accepts cmp id file (λ _. Unit {0}) next_position Part_step old_env old_cache mid result new_env new_cache new
-        → MovesInTable env codings accepts cmp id file (λ _. Unit {0}) (λ pairs _. position_within pairs 0) Step old_env old_cache old result new_env new_cache new
+    pub moves_first : {T : Type 0} {Part_step Step : Codings → (List ℕ → List ℕ → Ordering) → List ℕ → TablePlace C → Outcome → Type 0} {old_env new_env : E} {old_cache new_cache : Cached (CachedBlock C)} {mid new : TablePlace C} {result : Result T Status} (old : TablePlace C) → mid.index ≡ old.index → mid.inner ≡ None
+        → ((bytes : List ℕ) (out : Outcome) → Part_step codings cmp bytes mid out → Step codings cmp bytes old out) → MovesInTable order env codings accepts cmp id file (λ _. Unit {0}) next_position Part_step old_env old_cache mid result new_env new_cache new
+        → MovesInTable order env codings accepts cmp id file (λ _. Unit {0}) (λ pairs _. position_within pairs 0) Step old_env old_cache old result new_env new_cache new
     moves_first {Part_step = Part_step} {Step = Step} {mid = mid} {new = new} {result = result} old index none step moves =
-        let at : (parts : List Part) (position : Option ℕ) → IsAtPosition cmp parts old position → IsAtPosition cmp parts mid None = λ parts position is_there. record {
+        let at : (parts : List Part) (position : Option ℕ) → IsAtPosition order cmp parts old position → IsAtPosition order cmp parts mid None = λ parts position is_there. record {
           lines = ap pairs_over index ∙ is_there.lines;
-          ordered = ap (λ (z : BlockWalk C order). order.cmp z.block.cmp) index ∙ is_there.ordered;
+          ordered = ap (λ (z : BlockPosition C). order.cmp z.block.cmp) index ∙ is_there.ordered;
           at = ap inner_position none;
         } in
         record {
@@ -227,11 +225,11 @@ module _ {C : Type 0} {order : CmpGhosts C} where
           err = moves.err;
           gathers = moves.gathers;
           same_lines = moves.same_lines ∙ ap pairs_over index;
-          same_order = moves.same_order ∙ ap (λ (z : BlockWalk C order). z.block.cmp) index;
+          same_order = moves.same_order ∙ ap (λ (z : BlockPosition C). z.block.cmp) index;
         }
 
-    pub moves_ok : {T U : Type 0} {Fit : List Part → Type 0} {to : List Pair → Option ℕ → Option ℕ} {Step : Codings → (List ℕ → List ℕ → Ordering) → List ℕ → TableCore C order → Outcome → Type 0} {old_env new_env : E} {old_cache new_cache : Cached (CachedBlock C order)} {old new : TableCore C order} {answer : T} (other : U)
-        → MovesInTable env codings accepts cmp id file Fit to Step old_env old_cache old (Ok answer) new_env new_cache new → MovesInTable env codings accepts cmp id file Fit to Step old_env old_cache old (Ok other) new_env new_cache new
+    pub moves_ok : {T U : Type 0} {Fit : List Part → Type 0} {to : List Pair → Option ℕ → Option ℕ} {Step : Codings → (List ℕ → List ℕ → Ordering) → List ℕ → TablePlace C → Outcome → Type 0} {old_env new_env : E} {old_cache new_cache : Cached (CachedBlock C)} {old new : TablePlace C} {answer : T} (other : U)
+        → MovesInTable order env codings accepts cmp id file Fit to Step old_env old_cache old (Ok answer) new_env new_cache new → MovesInTable order env codings accepts cmp id file Fit to Step old_env old_cache old (Ok other) new_env new_cache new
     moves_ok other moves = record {
       reads = reads_ok env moves.reads.kept_disk moves.reads.cause.ok;
       ok = moves.ok;
@@ -242,8 +240,8 @@ module _ {C : Type 0} {order : CmpGhosts C} where
       same_order = moves.same_order;
     }
 
-    pub moves_refused : {T U : Type 0} {Fit : List Part → Type 0} {to : List Pair → Option ℕ → Option ℕ} {Step : Codings → (List ℕ → List ℕ → Ordering) → List ℕ → TableCore C order → Outcome → Type 0} {old_env new_env : E} {old_cache new_cache : Cached (CachedBlock C order)} {old new : TableCore C order} {status : Status} (result : Result U Status)
-        → IsErrAnd result (λ other. other ≡ status) → MovesInTable {T = T} env codings accepts cmp id file Fit to Step old_env old_cache old (Err status) new_env new_cache new → MovesInTable env codings accepts cmp id file Fit to Step old_env old_cache old result new_env new_cache new
+    pub moves_refused : {T U : Type 0} {Fit : List Part → Type 0} {to : List Pair → Option ℕ → Option ℕ} {Step : Codings → (List ℕ → List ℕ → Ordering) → List ℕ → TablePlace C → Outcome → Type 0} {old_env new_env : E} {old_cache new_cache : Cached (CachedBlock C)} {old new : TablePlace C} {status : Status} (result : Result U Status)
+        → IsErrAnd result (λ other. other ≡ status) → MovesInTable order {T = T} env codings accepts cmp id file Fit to Step old_env old_cache old (Err status) new_env new_cache new → MovesInTable order env codings accepts cmp id file Fit to Step old_env old_cache old result new_env new_cache new
     moves_refused result same moves = record {
       reads = reads_refused env result same moves.reads;
       ok = λ bytes has parts position right fit holds is_there. ok_refused _ _ result same;
@@ -254,42 +252,44 @@ module _ {C : Type 0} {order : CmpGhosts C} where
       same_order = moves.same_order;
     }
 
+module _ {C : Type 0} where
   -- ---- the line for a key
 
   -- no line is at no position alone
-  pub none_at : (index : BlockWalk C order) → pair_at (pairs_over index) (position_over index) ≡ None → position_over index ≡ None
-  none_at index is = position_none_at (pairs_over index) (position_over index) (IsWithin-position index.block.contents index.block.entries.0 index.core.key.items index.core.spot index.within) is
+  pub none_at : (index : BlockPosition C) → pair_at (pairs_over index) (position_over index) ≡ None → position_over index ≡ None
+  none_at index is = position_none_at (pairs_over index) (position_over index) (position_within-is (pairs_over index) index.at) is
 
   -- the line for a key, by the order and the lines of the data blocks
-  pub index_line : {cmp : List ℕ → List ℕ → Ordering} (parts : List Part) (index : BlockWalk C order) (key : List ℕ) (position : Option ℕ) → pairs_over index ≡ map index_pair parts → order.cmp index.block.cmp ≡ cmp
+  pub index_line : (order : CmpGhosts C) {cmp : List ℕ → List ℕ → Ordering} (parts : List Part) (index : BlockPosition C) (key : List ℕ) (position : Option ℕ) → pairs_over index ≡ map index_pair parts → order.cmp index.block.cmp ≡ cmp
       → position ≡ seek_position (order.cmp index.block.cmp) (pairs_over index) key → seek_position cmp (map index_pair parts) key ≡ position
-  index_line parts index key position lines ordered line =
+  index_line order parts index key position lines ordered line =
       ap (λ (o : List ℕ → List ℕ → Ordering). seek_position o (map index_pair parts) key) (sym ordered) ∙ ap (λ z. seek_position (order.cmp index.block.cmp) z key) (sym lines) ∙ sym line
 
-  module _ {codings : Codings} {accepts : List ℕ → Bool} {cmp : List ℕ → List ℕ → Ordering} {bytes : List ℕ} {parts : List Part} {old : TableCore C order} (key : List ℕ) (has : HasParts codings accepts cmp bytes parts) (indexed : IsIndexed cmp parts old)
+module _ {C : Type 0} {order : CmpGhosts C} where
+  module _ {codings : Codings} {accepts : List ℕ → Bool} {cmp : List ℕ → List ℕ → Ordering} {bytes : List ℕ} {parts : List Part} {old : TablePlace C} (key : List ℕ) (has : HasParts codings accepts cmp bytes parts) (indexed : IsIndexed order cmp parts old)
       (line : position_over old.index ≡ seek_position (order.cmp old.index.block.cmp) (pairs_over old.index) key) where
     sought_line : seek_position cmp (map index_pair parts) key ≡ position_over old.index
-    sought_line = index_line parts old.index key (position_over old.index) indexed.lines indexed.ordered line
+    sought_line = index_line order parts old.index key (position_over old.index) indexed.lines indexed.ordered line
 
     module _ (preorder : IsPreorderOn accepts cmp) (fit : accepts key ≡ true) where
       -- in the line's block
-      pub sought_in : (new : TableCore C order) → is_some (position_over old.index) ≡ true → IsSought codings cmp bytes key old new → is_some (inner_position new.inner) ≡ true → IsAtPosition cmp parts new (seek_position cmp (pairs_in parts) key)
+      pub sought_in : (new : TablePlace C) → is_some (position_over old.index) ≡ true → IsSought order codings cmp bytes key old new → is_some (inner_position new.inner) ≡ true → IsAtPosition order cmp parts new (seek_position cmp (pairs_in parts) key)
       sought_in new some sought there =
           let at = line_is_of old.index has indexed.lines some in
-          let pairs = part_pairs codings new.inner at.is (subst (λ l. IsBlockOf codings cmp bytes l (inner_block new.inner)) at.line sought.block) in
+          let pairs = part_pairs order codings new.inner at.is (subst (λ l. IsBlockOf order codings cmp bytes l (inner_block new.inner)) at.line sought.block) in
           let found = some_there (inner_position new.inner) there in
           record {
             lines = ap pairs_over sought.index ∙ indexed.lines;
-            ordered = ap (λ (z : BlockWalk C order). order.cmp z.block.cmp) sought.index ∙ indexed.ordered;
+            ordered = ap (λ (z : BlockPosition C). order.cmp z.block.cmp) sought.index ∙ indexed.ordered;
             at = is_there_along parts (seek_position cmp (pairs_in parts) key) (ap position_over sought.index ∙ at.at_line) pairs found.1
                 (seek_in preorder has.parted has.accepted key fit at.i at.part found.0 (sought_line ∙ at.at_line) at.there (ap (λ z. seek_position cmp z key) (sym pairs) ∙ sym sought.position ∙ found.1));
           }
 
       -- or in the next one
-      pub sought_after : (new : TableCore C order) → is_some (position_over old.index) ≡ true → IsSought codings cmp bytes key old new → inner_position new.inner ≡ None → IsAfterLine parts (position_over new.index) (seek_position cmp (pairs_in parts) key)
+      pub sought_after : (new : TablePlace C) → is_some (position_over old.index) ≡ true → IsSought order codings cmp bytes key old new → inner_position new.inner ≡ None → IsAfterLine parts (position_over new.index) (seek_position cmp (pairs_in parts) key)
       sought_after new some sought none =
           let at = line_is_of old.index has indexed.lines some in
-          let pairs = part_pairs codings new.inner at.is (subst (λ l. IsBlockOf codings cmp bytes l (inner_block new.inner)) at.line sought.block) in
+          let pairs = part_pairs order codings new.inner at.is (subst (λ l. IsBlockOf order codings cmp bytes l (inner_block new.inner)) at.line sought.block) in
           let found_after = seek_after preorder has.parted has.accepted key fit (parts_some has) at.i at.part (sought_line ∙ at.at_line) at.there (ap (λ z. seek_position cmp z key) (sym pairs) ∙ sym sought.position ∙ none) in
           record {
             before = found_after.before;
@@ -299,8 +299,9 @@ module _ {C : Type 0} {order : CmpGhosts C} where
             to = found_after.to;
           }
 
+module _ {C : Type 0} where
   -- where the filters let the key pass or not at the handle of the line
-  pub let_by : {codings : Codings} {accepts : List ℕ → Bool} {cmp : List ℕ → List ℕ → Ordering} {bytes : List ℕ} {parts : List Part} (index : BlockWalk C order) (key line_key value : List ℕ) (handle : Handle) (lets : ℕ → List ℕ → Bool) (b : Bool)
+  pub let_by : {codings : Codings} {accepts : List ℕ → Bool} {cmp : List ℕ → List ℕ → Ordering} {bytes : List ℕ} {parts : List Part} (index : BlockPosition C) (key line_key value : List ℕ) (handle : Handle) (lets : ℕ → List ℕ → Bool) (b : Bool)
       → HasParts codings accepts cmp bytes parts → pairs_over index ≡ map index_pair parts → seek_position cmp (map index_pair parts) key ≡ position_over index → pair_at (pairs_over index) (position_over index) ≡ Some (line_key, value)
       → value ≡ handle_bytes handle → lets handle.offset key ≡ b → let_position cmp lets key parts ≡ (if b then seek_position cmp (pairs_in parts) key else None)
   let_by {cmp = cmp} {parts = parts} index key line_key value handle lets b has lines sought is names passes =
@@ -308,16 +309,17 @@ module _ {C : Type 0} {order : CmpGhosts C} where
       let same : at.part.handle ≡ handle = same_handle at.part.handle handle (same_value (index_pair at.part) (line_key, value) (sym at.line ∙ is) ∙ names) in
       let_named cmp lets key parts at.part b (named_at cmp key parts at.i at.part (sought ∙ at.at_line) at.there) (ap (λ h. lets h.offset key) same ∙ passes)
 
+module _ {C : Type 0} {order : CmpGhosts C} where
   -- ---- back
 
-  module _ {codings : Codings} {accepts : List ℕ → Bool} {cmp : List ℕ → List ℕ → Ordering} {bytes : List ℕ} {parts : List Part} {position : Option ℕ} {old : TableCore C order} (has : HasParts codings accepts cmp bytes parts)
-      (before : IsBeforeBlock parts (position_over old.index) position) (indexed : IsIndexed cmp parts old) where
+  module _ {codings : Codings} {accepts : List ℕ → Bool} {cmp : List ℕ → List ℕ → Ordering} {bytes : List ℕ} {parts : List Part} {position : Option ℕ} {old : TablePlace C} (has : HasParts codings accepts cmp bytes parts)
+      (before : IsBeforeBlock parts (position_over old.index) position) (indexed : IsIndexed order cmp parts old) where
     -- to its last pair
-    pub previous_is_there : (new : TableCore C order) → IsInto codings cmp bytes (previous_position (position_over old.index)) last_position old new → ((k : ℕ) × (inner_position new.inner ≡ Some k)) × IsAtPosition cmp parts new position
+    pub previous_is_there : (new : TablePlace C) → IsInto order codings cmp bytes (previous_position (position_over old.index)) last_position old new → ((k : ℕ) × (inner_position new.inner ≡ Some k)) × IsAtPosition order cmp parts new position
     previous_is_there new next =
         let lines = next.lines ∙ indexed.lines in
         let at = line_is_of new.index has lines next.some in
-        let pairs = part_pairs codings new.inner at.is (subst (λ l. IsBlockOf codings cmp bytes l (inner_block new.inner)) at.line next.block) in
+        let pairs = part_pairs order codings new.inner at.is (subst (λ l. IsBlockOf order codings cmp bytes l (inner_block new.inner)) at.line next.block) in
         let last = last_there at.part.pairs at.is.some in
         let there : inner_position new.inner ≡ Some last.0 = next.position ∙ ap last_position pairs ∙ last.1 in (
           (last.0, there),
@@ -331,14 +333,14 @@ module _ {C : Type 0} {order : CmpGhosts C} where
 
   -- ---- to the end
 
-  module _ {codings : Codings} {accepts : List ℕ → Bool} {cmp : List ℕ → List ℕ → Ordering} {bytes : List ℕ} {parts : List Part} {old : TableCore C order} (has : HasParts codings accepts cmp bytes parts) (indexed : IsIndexed cmp parts old) where
+  module _ {codings : Codings} {accepts : List ℕ → Bool} {cmp : List ℕ → List ℕ → Ordering} {bytes : List ℕ} {parts : List Part} {old : TablePlace C} (has : HasParts codings accepts cmp bytes parts) (indexed : IsIndexed order cmp parts old) where
     -- to the last pair of the last block
-    pub last_is_there : (new : TableCore C order) → IsInto codings cmp bytes (last_position (pairs_over old.index)) last_position old new
-        → ((k : ℕ) × (inner_position new.inner ≡ Some k)) × IsAtPosition cmp parts new (last_position (pairs_in parts))
+    pub last_is_there : (new : TablePlace C) → IsInto order codings cmp bytes (last_position (pairs_over old.index)) last_position old new
+        → ((k : ℕ) × (inner_position new.inner ≡ Some k)) × IsAtPosition order cmp parts new (last_position (pairs_in parts))
     last_is_there new into =
         let lines = into.lines ∙ indexed.lines in
         let at = line_is_of new.index has lines into.some in
-        let pairs = part_pairs codings new.inner at.is (subst (λ l. IsBlockOf codings cmp bytes l (inner_block new.inner)) at.line into.block) in
+        let pairs = part_pairs order codings new.inner at.is (subst (λ l. IsBlockOf order codings cmp bytes l (inner_block new.inner)) at.line into.block) in
         let last = last_there at.part.pairs at.is.some in
         let there : inner_position new.inner ≡ Some last.0 = into.position ∙ ap last_position pairs ∙ last.1 in (
           (last.0, there),
@@ -359,25 +361,25 @@ is_there_on parts line pairs inner None k some on at = absurd (some at)
 is_there_on parts line pairs inner (Some n) k some on at = next_in at k on
 
 module _ {C E F T : Type 0} {order : CmpGhosts C} {env : EnvGhosts E F} {codings : Codings} {accepts : List ℕ → Bool} {cmp : List ℕ → List ℕ → Ordering} {id : ℕ} {file : F} {Fit : List Part → Type 0}
-    {Step : Codings → (List ℕ → List ℕ → Ordering) → List ℕ → TableCore C order → Outcome → Type 0} {state : E} {cache : Cached (CachedBlock C order)} where
+    {Step : Codings → (List ℕ → List ℕ → Ordering) → List ℕ → TablePlace C → Outcome → Type 0} {state : E} {cache : Cached (CachedBlock C)} where
   -- a step to the next pair of the block
-  pub moves_inside : (old new : TableCore C order) (answer : T) → inner_position old.inner ≢ None → new.index ≡ old.index → inner_pairs new.inner ≡ inner_pairs old.inner
+  pub moves_inside : (old new : TablePlace C) (answer : T) → inner_position old.inner ≢ None → new.index ≡ old.index → inner_pairs new.inner ≡ inner_pairs old.inner
       → inner_position new.inner ≡ next_position (inner_pairs old.inner) (inner_position old.inner) → is_some (inner_position new.inner) ≡ true → ((bytes : List ℕ) → Step codings cmp bytes old (Ok (table_position new)))
-      → MovesInTable env codings accepts cmp id file Fit next_position Step state cache old (Ok answer) state cache new
+      → MovesInTable order env codings accepts cmp id file Fit next_position Step state cache old (Ok answer) state cache new
   moves_inside old new answer some index pairs on there step =
       let found = some_there (inner_position new.inner) there in
       record {
         reads = reads_ok env (KeepsDisk-refl env state) refl;
         ok = λ bytes has parts position right fit holds is_there. record {
           lines = ap pairs_over index ∙ is_there.lines;
-          ordered = ap (λ (z : BlockWalk C order). order.cmp z.block.cmp) index ∙ is_there.ordered;
+          ordered = ap (λ (z : BlockPosition C). order.cmp z.block.cmp) index ∙ is_there.ordered;
           at = is_there_along parts (next_position (pairs_in parts) position) (ap position_over index) pairs found.1 (is_there_on parts (position_over old.index) (inner_pairs old.inner) (inner_position old.inner) position found.0 some (sym on ∙ found.1) is_there.at);
         };
         steps = λ bytes has holds. step bytes;
         err = tt;
         gathers = GainsBlocks-refl id _ cache;
         same_lines = ap pairs_over index;
-        same_order = ap (λ (z : BlockWalk C order). z.block.cmp) index;
+        same_order = ap (λ (z : BlockPosition C). z.block.cmp) index;
       }
 
 -- ---- positions
@@ -494,18 +496,18 @@ no_position_in : (pairs : List Pair) (i : ℕ) → i < length pairs → pairs �
 no_position_in [] i within = absurd (omega (arith, within))
 no_position_in (pair ∷ pairs) i within = λ e. cc
 
-module _ {C : Type 0} {order : CmpGhosts C} where
+module _ {C : Type 0} where
   -- where a walk is at a pair, its block has some
-  some_pairs : (inner : Option (BlockWalk C order)) → is_some (inner_position inner) ≡ true → inner_pairs inner ≢ []
+  some_pairs : (inner : Option (BlockPosition C)) → is_some (inner_position inner) ≡ true → inner_pairs inner ≢ []
   some_pairs None there = cc
   some_pairs (Some walk) there =
       let at = some_there (position_over walk) there in
       let P : Option ℕ → Type 0 = IsPosition (pairs_over walk) in
-      no_position_in (pairs_over walk) at.0 (subst P at.1 (IsWithin-position walk.block.contents walk.block.entries.0 walk.core.key.items walk.core.spot walk.within))
+      no_position_in (pairs_over walk) at.0 (subst P at.1 (position_within-is (pairs_over walk) walk.at))
 
-module _ {C : Type 0} {order : CmpGhosts C} (codings : Codings) (cmp : List ℕ → List ℕ → Ordering) (bytes : List ℕ) where
+module _ {C : Type 0} (order : CmpGhosts C) (codings : Codings) (cmp : List ℕ → List ℕ → Ordering) (bytes : List ℕ) where
   -- the block of a line has the walk's pairs
-  has_line : (lines : List Pair) (line : Option ℕ) (i : ℕ) (inner : Option (BlockWalk C order)) → line ≡ Some i → IsBlockOf codings cmp bytes (pair_at lines line) (inner_block inner) → HasLine codings cmp bytes lines i (inner_pairs inner)
+  has_line : (lines : List Pair) (line : Option ℕ) (i : ℕ) (inner : Option (BlockPosition C)) → line ≡ Some i → IsBlockOf order codings cmp bytes (pair_at lines line) (inner_block inner) → HasLine codings cmp bytes lines i (inner_pairs inner)
   has_line lines line i None at of = absurd of
   has_line lines line i (Some walk) at of =
       let block = walk.block in
@@ -513,32 +515,32 @@ module _ {C : Type 0} {order : CmpGhosts C} (codings : Codings) (cmp : List ℕ 
         text = block.contents;
         named = subst (λ z. IsNamed codings bytes (pair_at lines z) block.contents) at of.0;
         block = record {
-          entries = block.entries.0;
-          encoded = subst (λ (o : List ℕ → List ℕ → Ordering). HasEntries o block.contents block.entries.0) of.1 block.entries.1.encoded;
+          entries = block.entries;
+          encoded = of.2;
           pairs_are = refl;
         };
       }
 
   -- ---- to a line's block
 
-  into_line : (lines : List Pair) (to : List Pair → Option ℕ) (line : Option ℕ) (new : TableCore C order) → is_some line ≡ true → position_over new.index ≡ line → IsBlockOf codings cmp bytes (pair_at lines line) (inner_block new.inner)
+  into_line : (lines : List Pair) (to : List Pair → Option ℕ) (line : Option ℕ) (new : TablePlace C) → is_some line ≡ true → position_over new.index ≡ line → IsBlockOf order codings cmp bytes (pair_at lines line) (inner_block new.inner)
       → inner_position new.inner ≡ to (inner_pairs new.inner) → is_some (inner_position new.inner) ≡ true → ToBlock codings cmp bytes lines to line (Ok (table_position new))
   into_line lines to None new some at of position there = cc
   into_line lines to (Some i) new some at of position there =
       record { at_line = at; block = has_line lines (Some i) i new.inner refl of; some = some_pairs new.inner there; position = position }
 
   -- an empty one shuts the way
-  empty_line : (lines : List Pair) (to : List Pair → Option ℕ) (line : Option ℕ) (inner : Option (BlockWalk C order)) (status : Status) → is_some line ≡ true → IsBlockOf codings cmp bytes (pair_at lines line) (inner_block inner) → inner_pairs inner ≡ []
+  empty_line : (lines : List Pair) (to : List Pair → Option ℕ) (line : Option ℕ) (inner : Option (BlockPosition C)) (status : Status) → is_some line ≡ true → IsBlockOf order codings cmp bytes (pair_at lines line) (inner_block inner) → inner_pairs inner ≡ []
       → status.code ≡ Corruption → ToBlock codings cmp bytes lines to line (Err status)
   empty_line lines to None inner status some of empty code = cc
   empty_line lines to (Some i) inner status some of empty code = inr (subst (HasLine codings cmp bytes lines i) empty (has_line lines (Some i) i inner refl of), code)
 
-  module _ {line : Option ℕ} {to : List Pair → Option ℕ} (old new : TableCore C order) (into : IsInto codings cmp bytes line to old new) where
+  module _ {line : Option ℕ} {to : List Pair → Option ℕ} (old new : TablePlace C) (into : IsInto order codings cmp bytes line to old new) where
     into_some : is_some line ≡ true
     into_some = ap is_some (sym into.at_line) ∙ into.some
 
-    into_block : IsBlockOf codings cmp bytes (pair_at (pairs_over old.index) line) (inner_block new.inner)
-    into_block = subst (λ z. IsBlockOf codings cmp bytes (pair_at z line) (inner_block new.inner)) into.lines (subst (λ z. IsBlockOf codings cmp bytes (pair_at (pairs_over new.index) z) (inner_block new.inner)) into.at_line into.block)
+    into_block : IsBlockOf order codings cmp bytes (pair_at (pairs_over old.index) line) (inner_block new.inner)
+    into_block = subst (λ z. IsBlockOf order codings cmp bytes (pair_at z line) (inner_block new.inner)) into.lines (subst (λ z. IsBlockOf order codings cmp bytes (pair_at (pairs_over new.index) z) (inner_block new.inner)) into.at_line into.block)
 
     pub into_at : is_some (inner_position new.inner) ≡ true → ToBlock codings cmp bytes (pairs_over old.index) to line (Ok (table_position new))
     into_at there = into_line (pairs_over old.index) to line new into_some into.at_line into_block into.position there
@@ -548,63 +550,63 @@ module _ {C : Type 0} {order : CmpGhosts C} (codings : Codings) (cmp : List ℕ 
 
   -- ---- moves
 
-  pub forward_first : (old mid : TableCore C order) (out : Outcome) → pairs_over mid.index ≡ pairs_over old.index → position_over mid.index ≡ None → inner_position old.inner ≡ None → ToNextBlock codings cmp bytes mid out → Forward codings cmp bytes old out
+  pub forward_first : (old mid : TablePlace C) (out : Outcome) → pairs_over mid.index ≡ pairs_over old.index → position_over mid.index ≡ None → inner_position old.inner ≡ None → ToNextBlock codings cmp bytes mid out → Forward codings cmp bytes old out
   forward_first old mid out lines line none next =
       on_from_none codings cmp bytes (pairs_over old.index) (inner_position old.inner) (table_position old) out none (next_along codings cmp bytes (pairs_over old.index) {line = None} out lines line next)
 
-  pub forward_inside : (old new : TableCore C order) → inner_position old.inner ≢ None → new.index ≡ old.index → inner_pairs new.inner ≡ inner_pairs old.inner
+  pub forward_inside : (old new : TablePlace C) → inner_position old.inner ≢ None → new.index ≡ old.index → inner_pairs new.inner ≡ inner_pairs old.inner
       → inner_position new.inner ≡ next_position (inner_pairs old.inner) (inner_position old.inner) → is_some (inner_position new.inner) ≡ true → Forward codings cmp bytes old (Ok (table_position new))
   forward_inside old new some index pairs on there = on_inside codings cmp bytes (pairs_over old.index) (inner_position old.inner) (table_position old) (table_position new) some (ap position_over index) pairs on there
 
-  pub forward_next : (old mid : TableCore C order) (out : Outcome) → mid.index ≡ old.index → inner_position old.inner ≢ None → next_position (inner_pairs old.inner) (inner_position old.inner) ≡ None → ToNextBlock codings cmp bytes mid out → Forward codings cmp bytes old out
+  pub forward_next : (old mid : TablePlace C) (out : Outcome) → mid.index ≡ old.index → inner_position old.inner ≢ None → next_position (inner_pairs old.inner) (inner_position old.inner) ≡ None → ToNextBlock codings cmp bytes mid out → Forward codings cmp bytes old out
   forward_next old mid out index some last next =
       on_outside codings cmp bytes (pairs_over old.index) (inner_position old.inner) (table_position old) out some last (next_along codings cmp bytes (pairs_over old.index) out (ap pairs_over index) (ap position_over index) next)
 
-  pub forward_to_first : (old mid : TableCore C order) (out : Outcome) → mid.index ≡ old.index → mid.inner ≡ None → Forward codings cmp bytes mid out → ToFirst codings cmp bytes old out
+  pub forward_to_first : (old mid : TablePlace C) (out : Outcome) → mid.index ≡ old.index → mid.inner ≡ None → Forward codings cmp bytes mid out → ToFirst codings cmp bytes old out
   forward_to_first old mid out index none forward =
-      subst (λ (z : BlockWalk C order). ToFirstPair codings cmp bytes (pairs_over z) (position_within (pairs_over z) 0) out) index
+      subst (λ (z : BlockPosition C). ToFirstPair codings cmp bytes (pairs_over z) (position_within (pairs_over z) 0) out) index
       (on_to_first codings cmp bytes (pairs_over mid.index) (inner_position mid.inner) (table_position mid) out (ap inner_position none) forward)
 
-  pub backward_previous : (old mid : TableCore C order) (out : Outcome) → mid.index ≡ old.index → inner_position old.inner ≢ None → previous_position (inner_position old.inner) ≡ None → ToPreviousBlock codings cmp bytes mid out → Backward codings cmp bytes old out
+  pub backward_previous : (old mid : TablePlace C) (out : Outcome) → mid.index ≡ old.index → inner_position old.inner ≢ None → previous_position (inner_position old.inner) ≡ None → ToPreviousBlock codings cmp bytes mid out → Backward codings cmp bytes old out
   backward_previous old mid out index some first previous =
       back_outside codings cmp bytes (pairs_over old.index) (inner_position old.inner) (table_position old) out some first (previous_along codings cmp bytes (pairs_over old.index) out (ap pairs_over index) (ap position_over index) previous)
 
   -- ---- a key
 
-  seeks_along : (lines : List Pair) (line : Option ℕ) (key : List ℕ) (old mid : TableCore C order) (out : Outcome) → pairs_over old.index ≡ lines → is_some line ≡ true → position_over old.index ≡ line → IsSought codings cmp bytes key old mid
+  seeks_along : (lines : List Pair) (line : Option ℕ) (key : List ℕ) (old mid : TablePlace C) (out : Outcome) → pairs_over old.index ≡ lines → is_some line ≡ true → position_over old.index ≡ line → IsSought order codings cmp bytes key old mid
       → InsideOr (seek_position cmp (inner_pairs mid.inner) key) (record { line = line; pairs = inner_pairs mid.inner; inner = None }) out (ToFirstPair codings cmp bytes lines (next_position lines line) out)
       → ToKeyByLine codings cmp bytes lines key line out
   seeks_along lines None key old mid out same some at sought outcome = cc
   seeks_along lines (Some i) key old mid out same some at sought outcome = seeks_in codings cmp bytes lines key i out (record {
     pairs = inner_pairs mid.inner;
-    block = has_line lines (position_over old.index) i mid.inner at (subst (λ z. IsBlockOf codings cmp bytes (pair_at z (position_over old.index)) (inner_block mid.inner)) same sought.block);
+    block = has_line lines (position_over old.index) i mid.inner at (subst (λ z. IsBlockOf order codings cmp bytes (pair_at z (position_over old.index)) (inner_block mid.inner)) same sought.block);
     outcome = outcome;
   })
 
   -- in its line's block, and in the next
-  pub sought_inside : (key : List ℕ) (old new : TableCore C order) → position_over old.index ≡ line_for key old → is_some (position_over old.index) ≡ true → IsSought codings cmp bytes key old new → is_some (inner_position new.inner) ≡ true
-      → ToKey key codings cmp bytes old (Ok (table_position new))
+  pub sought_inside : (key : List ℕ) (old new : TablePlace C) → position_over old.index ≡ line_for order key old → is_some (position_over old.index) ≡ true → IsSought order codings cmp bytes key old new → is_some (inner_position new.inner) ≡ true
+      → ToKey order key codings cmp bytes old (Ok (table_position new))
   sought_inside key old new line some sought there =
       let lines = pairs_over old.index in
-      seeks_along lines (line_for key old) key old new (Ok (table_position new)) refl (ap is_some (sym line) ∙ some) line sought
-      (inside (seek_position cmp (inner_pairs new.inner) key) (record { line = line_for key old; pairs = inner_pairs new.inner; inner = None }) (table_position new) (ToFirstPair codings cmp bytes lines (next_position lines (line_for key old)) (Ok (table_position new)))
+      seeks_along lines (line_for order key old) key old new (Ok (table_position new)) refl (ap is_some (sym line) ∙ some) line sought
+      (inside (seek_position cmp (inner_pairs new.inner) key) (record { line = line_for order key old; pairs = inner_pairs new.inner; inner = None }) (table_position new) (ToFirstPair codings cmp bytes lines (next_position lines (line_for order key old)) (Ok (table_position new)))
       (ap position_over sought.index ∙ line) refl sought.position there)
 
-  pub sought_next : (key : List ℕ) (old mid : TableCore C order) (out : Outcome) → position_over old.index ≡ line_for key old → is_some (position_over old.index) ≡ true → IsSought codings cmp bytes key old mid → inner_position mid.inner ≡ None
-      → ToNextBlock codings cmp bytes mid out → ToKey key codings cmp bytes old out
+  pub sought_next : (key : List ℕ) (old mid : TablePlace C) (out : Outcome) → position_over old.index ≡ line_for order key old → is_some (position_over old.index) ≡ true → IsSought order codings cmp bytes key old mid → inner_position mid.inner ≡ None
+      → ToNextBlock codings cmp bytes mid out → ToKey order key codings cmp bytes old out
   sought_next key old mid out line some sought none next =
       let lines = pairs_over old.index in
-      seeks_along lines (line_for key old) key old mid out refl (ap is_some (sym line) ∙ some) line sought
-      (outside (seek_position cmp (inner_pairs mid.inner) key) (record { line = line_for key old; pairs = inner_pairs mid.inner; inner = None }) out (ToFirstPair codings cmp bytes lines (next_position lines (line_for key old)) out)
+      seeks_along lines (line_for order key old) key old mid out refl (ap is_some (sym line) ∙ some) line sought
+      (outside (seek_position cmp (inner_pairs mid.inner) key) (record { line = line_for order key old; pairs = inner_pairs mid.inner; inner = None }) out (ToFirstPair codings cmp bytes lines (next_position lines (line_for order key old)) out)
       (sym sought.position ∙ none) (next_along codings cmp bytes lines out (ap pairs_over sought.index) (ap position_over sought.index ∙ line) next))
 
   -- refused at its line
-  pub sought_lacking : (key : List ℕ) (old : TableCore C order) {status : Status} → position_over old.index ≡ line_for key old → LacksLine codings cmp bytes (line_of old) status → ToKey key codings cmp bytes old (Err status)
+  pub sought_lacking : (key : List ℕ) (old : TablePlace C) {status : Status} → position_over old.index ≡ line_for order key old → LacksLine codings cmp bytes (line_of old) status → ToKey order key codings cmp bytes old (Err status)
   sought_lacking key old {status} line lacks =
-      seeks_lacking codings cmp bytes (pairs_over old.index) key (line_for key old) (subst (λ z. LacksLine codings cmp bytes (pair_at (pairs_over old.index) z) status) line lacks)
+      seeks_lacking codings cmp bytes (pairs_over old.index) key (line_for order key old) (subst (λ z. LacksLine codings cmp bytes (pair_at (pairs_over old.index) z) status) line lacks)
 
   -- by another walk's index of the same lines and order
-  pub sought_along : (key : List ℕ) (old mid : TableCore C order) (out : Outcome) → pairs_over mid.index ≡ pairs_over old.index → mid.index.block.cmp ≡ old.index.block.cmp → ToKey key codings cmp bytes mid out → ToKey key codings cmp bytes old out
+  pub sought_along : (key : List ℕ) (old mid : TablePlace C) (out : Outcome) → pairs_over mid.index ≡ pairs_over old.index → mid.index.block.cmp ≡ old.index.block.cmp → ToKey order key codings cmp bytes mid out → ToKey order key codings cmp bytes old out
   sought_along key old mid out lines same sought =
       subst (λ (o : C). ToKeyByLine codings cmp bytes (pairs_over old.index) key (seek_position (order.cmp o) (pairs_over old.index) key) out) same
       (subst (λ z. ToKeyByLine codings cmp bytes z key (seek_position (order.cmp mid.index.block.cmp) z key) out) lines sought)
@@ -612,27 +614,27 @@ module _ {C : Type 0} {order : CmpGhosts C} (codings : Codings) (cmp : List ℕ 
   -- ---- a look-up
 
   -- where the filters let the key pass
-  pub looked_up : (lets : ℕ → List ℕ → Bool) (key : List ℕ) (handle : Handle) (old mid : TableCore C order) (out : Outcome) → pairs_over mid.index ≡ pairs_over old.index → mid.index.block.cmp ≡ old.index.block.cmp
-      → HandleFits handle → IsNamedBy (pair_at (pairs_over old.index) (line_for key old)) handle → lets handle.offset key ≡ true → ToKey key codings cmp bytes mid out → ToKeyIfLet lets key codings cmp bytes old out
+  pub looked_up : (lets : ℕ → List ℕ → Bool) (key : List ℕ) (handle : Handle) (old mid : TablePlace C) (out : Outcome) → pairs_over mid.index ≡ pairs_over old.index → mid.index.block.cmp ≡ old.index.block.cmp
+      → HandleFits handle → IsNamedBy (pair_at (pairs_over old.index) (line_for order key old)) handle → lets handle.offset key ≡ true → ToKey order key codings cmp bytes mid out → ToKeyIfLet order lets key codings cmp bytes old out
   looked_up lets key handle old mid out lines same fits names passes sought =
-      looks_passed codings cmp bytes (pairs_over old.index) lets key (line_for key old) out handle fits names passes (sought_along key old mid out lines same sought)
+      looks_passed codings cmp bytes (pairs_over old.index) lets key (line_for order key old) out handle fits names passes (sought_along key old mid out lines same sought)
 
   -- by other lines and another order that are the same
-  pub looked_along : (lets : ℕ → List ℕ → Bool) (key : List ℕ) {lines : List Pair} {index_cmp : List ℕ → List ℕ → Ordering} (old : TableCore C order) (out : Outcome) → pairs_over old.index ≡ lines → order.cmp old.index.block.cmp ≡ index_cmp
-      → ToKeyIfLet lets key codings cmp bytes old out → LookUpFromLine codings cmp bytes lines lets key (seek_position index_cmp lines key) out
+  pub looked_along : (lets : ℕ → List ℕ → Bool) (key : List ℕ) {lines : List Pair} {index_cmp : List ℕ → List ℕ → Ordering} (old : TablePlace C) (out : Outcome) → pairs_over old.index ≡ lines → order.cmp old.index.block.cmp ≡ index_cmp
+      → ToKeyIfLet order lets key codings cmp bytes old out → LookUpFromLine codings cmp bytes lines lets key (seek_position index_cmp lines key) out
   looked_along lets key {lines} {index_cmp} old out same ordered looked =
       subst (λ (o : List ℕ → List ℕ → Ordering). LookUpFromLine codings cmp bytes lines lets key (seek_position o lines key) out) ordered
       (subst (λ z. LookUpFromLine codings cmp bytes z lets key (seek_position (order.cmp old.index.block.cmp) z key) out) same looked)
 
-module _ {E C FP F : Type 0} {order : CmpGhosts C} {env : EnvGhosts E F} {codings : Codings} {matches : FP → List ℕ → List ℕ → Bool} {table : Table E C FP F order} {key : List ℕ} {old_env new_env : E} {old_cache new_cache : Cached (CachedBlock C order)} where
+module _ {E C FP F : Type 0} {order : CmpGhosts C} {env : EnvGhosts E F} {codings : Codings} {matches : FP → List ℕ → List ℕ → Bool} {table : OpenTable C FP F} {key : List ℕ} {old_env new_env : E} {old_cache new_cache : Cached (CachedBlock C)} where
   -- a look-up that fails
   pub looks_up_err : (P : Status → Type 0) (result : Result (Option Pair) Status) → IsErrAnd result P
       → ReadsFile env (IsLackError env codings (λ bytes status.
       ((parts : List Part) → lines_of table ≡ map index_pair parts → order.cmp table.index.cmp ≡ order.cmp table.cmp → HasParts codings (order.accepts table.cmp) (order.cmp table.cmp) bytes parts → order.accepts table.cmp key ≡ true
-      → HoldsOnlyOf codings (order.cmp table.cmp) table.id bytes old_cache → ⊥)
-      × (HoldsOnlyOf codings (order.cmp table.cmp) table.id bytes old_cache → LookUpInTable codings matches table key bytes (Err status))) old_env table.file) old_env new_env result
-      → GainsBlocks table.id (λ offset held. ForBytesOf env old_env table.file (λ bytes. IsBlockOfFile codings (order.cmp table.cmp) bytes offset held)) old_cache new_cache
-      → LooksUp env codings matches table key old_env old_cache result new_env new_cache
+      → HoldsOnlyOf order codings (order.cmp table.cmp) table.id bytes old_cache → ⊥)
+      × (HoldsOnlyOf order codings (order.cmp table.cmp) table.id bytes old_cache → LookUpInTable order codings matches table key bytes (Err status))) old_env table.file) old_env new_env result
+      → GainsBlocks table.id (λ offset held. ForBytesOf env old_env table.file (λ bytes. IsBlockOfFile order codings (order.cmp table.cmp) bytes offset held)) old_cache new_cache
+      → LooksUp order env codings matches table key old_env old_cache result new_env new_cache
   looks_up_err P (Ok found) none reads gathers = absurd none
   looks_up_err P (Err status) some reads gathers =
       record { reads = reads; ok = λ bytes has parts lines ordered right fit holds. tt; finds = λ bytes has holds. tt; gathers = gathers }

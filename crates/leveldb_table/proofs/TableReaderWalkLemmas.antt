@@ -21,15 +21,13 @@ use Rattle.leveldb_env.specs.declared.env.Env.{Ghosts as EnvGhosts}
 use Rattle.leveldb_table.specs.Table.{Part, IsPart, AreParted, IsAtOrAfterAll, IsBeforeAll, index_pair, first_from, named_part, AreAccepted, HasBlockAt}
 use Rattle.leveldb_table.specs.TableReaderBlocks.{IsAfterLine, IsBlockOf, line_of, IsIndexed, MovesFromLine, let_position}
 use Rattle.leveldb_table.specs.TableReader.{pairs_in, HasParts, found_in}
-use Rattle.leveldb_table.specs.TableReaderWalk.{IsAtPair, IsAtPairOrNone, IsAtPosition, MovesInTable, Outcome, inner_block, inner_pairs, inner_position, pairs_over, position_over, table_position, current_of}
+use Rattle.leveldb_table.specs.BlockWalk.{pairs_over, position_over, BlockPosition}
+use Rattle.leveldb_table.specs.TableReaderWalk.{TablePlace, IsAtPair, IsAtPairOrNone, IsAtPosition, MovesInTable, Outcome, inner_block, inner_pairs, inner_position, table_position, current_of}
 use Rattle.leveldb_table.specs.Cache.{Cached}
-use Rattle.leveldb_table.specs.Block.{HasEntries, pairs_of}
-use Rattle.leveldb_table.specs.BlockLaws.{one_block, IsWithin-position}
+use Rattle.leveldb_table.specs.Block.{BlockRead, HasEntries, pairs_of}
+use Rattle.leveldb_table.specs.BlockLaws.{one_block, position_within-is}
 use Rattle.leveldb_table.specs.TableBlock.{LacksBlock, LacksLine, unnamed, lacking, IsNamedBy, NamesNone}
-use Rattle.leveldb_table.specs.declared.block.Block.{Block}
-use Rattle.leveldb_table.specs.declared.block.owned.BlockWalk.{BlockWalk}
 use Rattle.leveldb_table.specs.declared.block_cache.CachedBlock.{CachedBlock}
-use Rattle.leveldb_table.specs.declared.table_reader.walk.TableCore.{TableCore}
 use Rattle.leveldb_table.proofs.TableLemmas.{all_left, all_right, all_with, then_less, turned_from, has_one_block, OnOk-with}
 use Rattle.leveldb_table.proofs.TableBlockLemmas.{lacks_none, reads_weaker}
 
@@ -634,9 +632,9 @@ pub after_last : (parts : List Part) (line : Option ℕ) (pairs : List Pair) (in
 after_last parts line pairs inner None some last at = absurd (some at)
 after_last parts line pairs inner (Some n) some last at = after_block at last
 
-module _ {C : Type 0} {order : CmpGhosts C} where
+module _ {C : Type 0} where
   -- the line of the index is that of a data block of the file
-  pub record IsLineOf (codings : Codings) (cmp : List ℕ → List ℕ → Ordering) (bytes : List ℕ) (parts : List Part) (index : BlockWalk C order) : Type 0 where
+  pub record IsLineOf (codings : Codings) (cmp : List ℕ → List ℕ → Ordering) (bytes : List ℕ) (parts : List Part) (index : BlockPosition C) : Type 0 where
     pub i : ℕ
     pub part : Part
     pub at_line : position_over index ≡ Some i
@@ -645,13 +643,13 @@ module _ {C : Type 0} {order : CmpGhosts C} where
     pub is : IsPart (Decodes codings) cmp bytes part
 
   -- the pairs stay with the block
-  pub block_lines : (walk other : BlockWalk C order) → walk.block ≡ other.block → pairs_over walk ≡ pairs_over other
-  block_lines walk other e = ap (λ (b : Block C order). pairs_of None b.entries.0) e
+  pub block_lines : (walk other : BlockPosition C) → walk.block ≡ other.block → pairs_over walk ≡ pairs_over other
+  block_lines walk other e = ap (λ (b : BlockRead C). pairs_of None b.entries) e
 
-  within_lines : (index : BlockWalk C order) (i : ℕ) → position_over index ≡ Some i → i < length (pairs_over index)
-  within_lines index i e = let P : Option ℕ → Type 0 = IsPosition (pairs_over index) in subst P e (IsWithin-position index.block.contents index.block.entries.0 index.core.key.items index.core.spot index.within)
+  within_lines : (index : BlockPosition C) (i : ℕ) → position_over index ≡ Some i → i < length (pairs_over index)
+  within_lines index i e = let P : Option ℕ → Type 0 = IsPosition (pairs_over index) in subst P e (position_within-is (pairs_over index) index.at)
 
-  pub line_is_of : {codings : Codings} {accepts : List ℕ → Bool} {cmp : List ℕ → List ℕ → Ordering} {bytes : List ℕ} {parts : List Part} (index : BlockWalk C order) → HasParts codings accepts cmp bytes parts → pairs_over index ≡ map index_pair parts
+  pub line_is_of : {codings : Codings} {accepts : List ℕ → Bool} {cmp : List ℕ → List ℕ → Ordering} {bytes : List ℕ} {parts : List Part} (index : BlockPosition C) → HasParts codings accepts cmp bytes parts → pairs_over index ≡ map index_pair parts
       → is_some (position_over index) ≡ true → IsLineOf codings cmp bytes parts index
   line_is_of {codings} {cmp} {bytes} {parts} index has lines there =
       let at = some_there (position_over index) there in
@@ -667,61 +665,63 @@ module _ {C : Type 0} {order : CmpGhosts C} where
       }
 
   -- where the line's block is lacking, the file isn't as it is said
-  pub line_lacks : {codings : Codings} {accepts : List ℕ → Bool} {cmp : List ℕ → List ℕ → Ordering} {bytes : List ℕ} {parts : List Part} {status : Status} (index : BlockWalk C order) → HasParts codings accepts cmp bytes parts → pairs_over index ≡ map index_pair parts
+  pub line_lacks : {codings : Codings} {accepts : List ℕ → Bool} {cmp : List ℕ → List ℕ → Ordering} {bytes : List ℕ} {parts : List Part} {status : Status} (index : BlockPosition C) → HasParts codings accepts cmp bytes parts → pairs_over index ≡ map index_pair parts
       → LacksLine codings cmp bytes (pair_at (pairs_over index) (position_over index)) status → ⊥
   line_lacks index has lines lacks =
       let at = line_is_of index has lines (lacks_there (pairs_over index) (position_over index) lacks) in
       lacks_part at.part lacks at.line at.is
 
+module _ {C : Type 0} (order : CmpGhosts C) where
   -- ---- blocks
 
   -- the block that the file has for a data block has its pairs
-  pub part_pairs : (codings : Codings) {cmp : List ℕ → List ℕ → Ordering} {bytes : List ℕ} {part : Part} (inner : Option (BlockWalk C order)) → IsPart (Decodes codings) cmp bytes part
-      → IsBlockOf codings cmp bytes (Some (index_pair part)) (inner_block inner) → inner_pairs inner ≡ part.pairs
+  pub part_pairs : (codings : Codings) {cmp : List ℕ → List ℕ → Ordering} {bytes : List ℕ} {part : Part} (inner : Option (BlockPosition C)) → IsPart (Decodes codings) cmp bytes part
+      → IsBlockOf order codings cmp bytes (Some (index_pair part)) (inner_block inner) → inner_pairs inner ≡ part.pairs
   part_pairs codings None is of = absurd of
   part_pairs codings {cmp} {bytes} {part} (Some walk) is of =
       let named = of.0 in
       let block = walk.block in
       let same : part.handle ≡ named.handle = same_handle part.handle named.handle (same_value (index_pair part) (named.key, handle_bytes named.handle) named.names) in
       let text = has_one_block codings is.is_there (subst (λ h. HasBlockAt (Decodes codings) bytes h block.contents) (sym same) named.is_there) in
-      let encoded = subst (λ (o : List ℕ → List ℕ → Ordering). HasEntries o block.contents block.entries.0) of.1 block.entries.1.encoded in
-      sym (is.block.pairs_are ∙ ap (pairs_of None) (one_block is.block.encoded (subst (λ t. HasEntries cmp t block.entries.0) (sym text) encoded)))
+      let encoded = of.2 in
+      sym (is.block.pairs_are ∙ ap (pairs_of None) (one_block is.block.encoded (subst (λ t. HasEntries cmp t block.entries) (sym text) encoded)))
 
   -- ---- into the next block
 
   -- the walk went to a line, and has its block, at a position of it
-  pub record IsInto (codings : Codings) (cmp : List ℕ → List ℕ → Ordering) (bytes : List ℕ) (line : Option ℕ) (to : List Pair → Option ℕ) (old new : TableCore C order) : Type 0 where
+  pub record IsInto (codings : Codings) (cmp : List ℕ → List ℕ → Ordering) (bytes : List ℕ) (line : Option ℕ) (to : List Pair → Option ℕ) (old new : TablePlace C) : Type 0 where
     pub lines : pairs_over new.index ≡ pairs_over old.index
     pub same_order : new.index.block.cmp ≡ old.index.block.cmp
     pub at_line : position_over new.index ≡ line
     pub some : is_some (position_over new.index) ≡ true
-    pub block : IsBlockOf codings cmp bytes (line_of new) (inner_block new.inner)
+    pub block : IsBlockOf order codings cmp bytes (line_of new) (inner_block new.inner)
     pub position : inner_position new.inner ≡ to (inner_pairs new.inner)
 
   -- by reading what the line names, and a step
-  pub is_into : (codings : Codings) (cmp : List ℕ → List ℕ → Ordering) (bytes : List ℕ) (line : Option ℕ) (to : List Pair → Option ℕ) (old loaded new : TableCore C order) (index : BlockWalk C order) → index.block ≡ old.index.block
-      → position_over index ≡ line → is_some (position_over index) ≡ true → loaded.index ≡ index → IsBlockOf codings cmp bytes (pair_at (pairs_over index) (position_over index)) (inner_block loaded.inner)
+  pub is_into : (codings : Codings) (cmp : List ℕ → List ℕ → Ordering) (bytes : List ℕ) (line : Option ℕ) (to : List Pair → Option ℕ) (old loaded new : TablePlace C) (index : BlockPosition C) → index.block ≡ old.index.block
+      → position_over index ≡ line → is_some (position_over index) ≡ true → loaded.index ≡ index → IsBlockOf order codings cmp bytes (pair_at (pairs_over index) (position_over index)) (inner_block loaded.inner)
       → new.index ≡ loaded.index → inner_block new.inner ≡ inner_block loaded.inner → inner_pairs new.inner ≡ inner_pairs loaded.inner → inner_position new.inner ≡ to (inner_pairs loaded.inner) → IsInto codings cmp bytes line to old new
   is_into codings cmp bytes line to old loaded new index block at some same of kept inner pairs position =
       let all = kept ∙ same in
       record {
         lines = ap pairs_over all ∙ block_lines index old.index block;
-        same_order = ap (λ (z : BlockWalk C order). z.block.cmp) all ∙ ap (λ (b : Block C order). b.cmp) block;
+        same_order = ap (λ (z : BlockPosition C). z.block.cmp) all ∙ ap (λ (b : BlockRead C). b.cmp) block;
         at_line = ap position_over all ∙ at;
-        some = ap (λ (z : BlockWalk C order). is_some (position_over z)) all ∙ some;
-        block = subst (λ (z : BlockWalk C order). IsBlockOf codings cmp bytes (pair_at (pairs_over z) (position_over z)) (inner_block new.inner)) (sym all) (subst (λ b. IsBlockOf codings cmp bytes (pair_at (pairs_over index) (position_over index)) b) (sym inner) of);
+        some = ap (λ (z : BlockPosition C). is_some (position_over z)) all ∙ some;
+        block = subst (λ (z : BlockPosition C). IsBlockOf order codings cmp bytes (pair_at (pairs_over z) (position_over z)) (inner_block new.inner)) (sym all) (subst (λ b. IsBlockOf order codings cmp bytes (pair_at (pairs_over index) (position_over index)) b) (sym inner) of);
         position = position ∙ ap to (sym pairs);
       }
 
-  module _ {codings : Codings} {accepts : List ℕ → Bool} {cmp : List ℕ → List ℕ → Ordering} {bytes : List ℕ} {parts : List Part} {position : Option ℕ} {old : TableCore C order} (has : HasParts codings accepts cmp bytes parts)
-      (after : IsAfterLine parts (position_over old.index) position) (indexed : IsIndexed cmp parts old) where
+module _ {C : Type 0} {order : CmpGhosts C} where
+  module _ {codings : Codings} {accepts : List ℕ → Bool} {cmp : List ℕ → List ℕ → Ordering} {bytes : List ℕ} {parts : List Part} {position : Option ℕ} {old : TablePlace C} (has : HasParts codings accepts cmp bytes parts)
+      (after : IsAfterLine parts (position_over old.index) position) (indexed : IsIndexed order cmp parts old) where
     -- to its first pair
-    pub next_is_there : (new : TableCore C order) → IsInto codings cmp bytes (next_position (pairs_over old.index) (position_over old.index)) (λ pairs. position_within pairs 0) old new → (inner_position new.inner ≡ Some 0) × IsAtPosition cmp parts new position
+    pub next_is_there : (new : TablePlace C) → IsInto order codings cmp bytes (next_position (pairs_over old.index) (position_over old.index)) (λ pairs. position_within pairs 0) old new → (inner_position new.inner ≡ Some 0) × IsAtPosition order cmp parts new position
     next_is_there new next =
         let lines = next.lines ∙ indexed.lines in
         let at = line_is_of new.index has lines next.some in
         let line : next_position (map index_pair parts) (position_over old.index) ≡ Some at.i = ap (λ z. next_position z (position_over old.index)) (sym indexed.lines) ∙ sym next.at_line ∙ at.at_line in
-        let pairs = part_pairs codings new.inner at.is (subst (λ l. IsBlockOf codings cmp bytes l (inner_block new.inner)) at.line next.block) in
+        let pairs = part_pairs order codings new.inner at.is (subst (λ l. IsBlockOf order codings cmp bytes l (inner_block new.inner)) at.line next.block) in
         let first : inner_position new.inner ≡ Some 0 = next.position ∙ ap (λ z. position_within z 0) pairs ∙ first_in at.part.pairs at.is.some in (
           first,
           record {
@@ -734,13 +734,13 @@ module _ {C : Type 0} {order : CmpGhosts C} where
   -- ---- moves by entering a block
 
   pub moves_enters : {E F T : Type 0} {env : EnvGhosts E F} {codings : Codings} {accepts : List ℕ → Bool} {cmp : List ℕ → List ℕ → Ordering} {id : ℕ} {file : F} {Fit : List Part → Type 0} {Way : List Part → Option ℕ → Type 0} {to : List Pair → Option ℕ → Option ℕ}
-      {Part_step Step : Codings → (List ℕ → List ℕ → Ordering) → List ℕ → TableCore C order → Outcome → Type 0} {old_env new_env : E} {old_cache new_cache : Cached (CachedBlock C order)} {mid new : TableCore C order} {result : Result T Status} (old : TableCore C order)
+      {Part_step Step : Codings → (List ℕ → List ℕ → Ordering) → List ℕ → TablePlace C → Outcome → Type 0} {old_env new_env : E} {old_cache new_cache : Cached (CachedBlock C)} {mid new : TablePlace C} {result : Result T Status} (old : TablePlace C)
       → pairs_over mid.index ≡ pairs_over old.index → mid.index.block.cmp ≡ old.index.block.cmp
-      → ((parts : List Part) (position : Option ℕ) → Fit parts → IsAtPosition cmp parts old position → Way parts (to (pairs_in parts) position))
+      → ((parts : List Part) (position : Option ℕ) → Fit parts → IsAtPosition order cmp parts old position → Way parts (to (pairs_in parts) position))
       → ((bytes : List ℕ) (out : Outcome) → Part_step codings cmp bytes mid out → Step codings cmp bytes old out)
-      → MovesFromLine env codings accepts cmp id file Way Part_step old_env old_cache mid result new_env new_cache new → MovesInTable env codings accepts cmp id file Fit to Step old_env old_cache old result new_env new_cache new
+      → MovesFromLine order env codings accepts cmp id file Way Part_step old_env old_cache mid result new_env new_cache new → MovesInTable order env codings accepts cmp id file Fit to Step old_env old_cache old result new_env new_cache new
   moves_enters {env = env} {codings = codings} {cmp = cmp} {to = to} {Part_step = Part_step} {Step = Step} {mid = mid} {new = new} {result = result} old lines same way step enters =
-      let indexed : (parts : List Part) (position : Option ℕ) → IsAtPosition cmp parts old position → IsIndexed cmp parts mid = λ parts position is_there. record { lines = lines ∙ is_there.lines; ordered = ap order.cmp same ∙ is_there.ordered } in
+      let indexed : (parts : List Part) (position : Option ℕ) → IsAtPosition order cmp parts old position → IsIndexed order cmp parts mid = λ parts position is_there. record { lines = lines ∙ is_there.lines; ordered = ap order.cmp same ∙ is_there.ordered } in
       record {
         reads = reads_weaker env result (λ status lacks. (
           lacks.0,
@@ -780,6 +780,6 @@ module _ (cmp : List ℕ → List ℕ → Ordering) (lets : ℕ → List ℕ →
 
 module _ {C : Type 0} {order : CmpGhosts C} where
   -- so a walk that is there has found it
-  pub found_by : {cmp : List ℕ → List ℕ → Ordering} {parts : List Part} (lets : ℕ → List ℕ → Bool) (key : List ℕ) (core : TableCore C order) → IsAtPosition cmp parts core (let_position cmp lets key parts) → current_of core ≡ found_in cmp lets key parts
+  pub found_by : {cmp : List ℕ → List ℕ → Ordering} {parts : List Part} (lets : ℕ → List ℕ → Bool) (key : List ℕ) (core : TablePlace C) → IsAtPosition order cmp parts core (let_position cmp lets key parts) → current_of core ≡ found_in cmp lets key parts
   found_by {cmp} {parts} lets key core is_there =
       current_at parts (position_over core.index) (inner_pairs core.inner) (inner_position core.inner) (let_position cmp lets key parts) is_there.at ∙ found_at cmp lets key parts

@@ -117,3 +117,10 @@ abbrev pub HasEntriesEndingAt : (List ℕ → Bool) → (List ℕ → List ℕ �
     → Type 0
 HasEntriesEndingAt accepts cmp bytes limit accepted =
     (entries : List BlockEntry) × AreEntriesEndingAt accepts cmp bytes limit accepted entries
+
+-- What a block in memory is to its callers: the order of its keys, its bytes, and the entries that
+-- these are.
+pub record BlockRead (C : Type 0) : Type 0 where
+  pub cmp : C
+  pub contents : List ℕ
+  pub entries : List BlockEntry

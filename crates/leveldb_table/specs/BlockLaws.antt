@@ -1,20 +1,20 @@
 -- A block has one reading, and a position in it is one of its pairs. This is in specs/ since ghost
 -- fields cite it.
-use Rattle.std.proofs.Common.{◌≡◌, ℕ, ◌+◌, ◌*◌, ◌^◌, ◌<◌, ◌≤◌, Bool, true, false, if◌then◌else◌, List, [], ◌∷◌, ◌++◌, length, flat_map, Option, None, Some, refl, sym, ◌∙◌, ap, arith, append_assoc, length-append}
+use Rattle.std.proofs.Common.{◌≡◌, ℕ, ◌+◌, ◌*◌, ◌^◌, ◌<◌, ◌≤◌, Bool, true, false, nat_lt, if◌then◌else◌, List, [], ◌∷◌, ◌++◌, length, flat_map, Option, None, Some, refl, sym, ◌∙◌, ap, arith, append_assoc, length-append}
 use Rattle.std.proofs.Props.{props}
 use Rattle.std.proofs.lemmas.Bool.Decides.{nat_tests}
 use Rattle.std.specs.declared.cmp.Ordering.{Ordering}
 use Rattle.std.specs.Prelude.{slice_range}
 use Rattle.std.proofs.lemmas.Option.{slice_get_within}
 use mathlib.Core.HLevel.{Σ_prop_path}
-use Rattle.leveldb_base.specs.Types.{Pair, IsPosition}
+use Rattle.leveldb_base.specs.Types.{Pair, IsPosition, position_within}
 use Rattle.leveldb_base.specs.Varint.{little, varint}
 use Rattle.leveldb_base.proofs.VarintLemmas.{apart, apart_right, one_number, length-varint-pos}
 use Rattle.leveldb_env.proofs.FilterBlockLemmas.{length-fours}
 use Rattle.leveldb_env.specs.FilterBlockLaws.{one_fixed, one_numbers}
 use Rattle.leveldb_table.specs.BlockCheck.{begins, points_after}
 use Rattle.leveldb_table.specs.Block.{BlockEntry, parts_bytes, entry_bytes, key_of, pairs_of, SharesFrom, AreEntries, RiseAfter, points_from, restart_points, block_bytes, HasEntries, AreEntriesEndingAt, HasEntriesEndingAt}
-use Rattle.leveldb_table.specs.BlockWalk.{entries_before, IsSpot, IsWithin, position_of}
+use Rattle.leveldb_table.specs.BlockWalk.{entries_before, IsSpot, IsWithin, number_of, position_of}
 use Rattle.leveldb_table.specs.declared.block.walk.Spot.{Spot}
 
 -- ---- one entry
@@ -220,7 +220,7 @@ HasEntriesEndingAt-prop accepts cmp bytes limit accepted =
     λ u v. Σ_prop_path (AreEntriesEndingAt-prop accepts cmp bytes limit accepted)
     (one_block u.1.encoded v.1.encoded)
 
--- A position in a block is one in one way, and is a position of its pairs.
+-- A position in a block is one in one way.
 
 IsSpot-prop : (bytes : List ℕ) (entries : List BlockEntry) (key : List ℕ) (spot : Spot)
     → IsProp (IsSpot bytes entries key spot)
@@ -231,10 +231,31 @@ pub IsWithin-prop : (bytes : List ℕ) (entries : List BlockEntry) (key : List �
 IsWithin-prop bytes entries key None = hlevel props
 IsWithin-prop bytes entries key (Some spot) = IsSpot-prop bytes entries key spot
 
-pub IsWithin-position : (bytes : List ℕ) (entries : List BlockEntry) (key : List ℕ)
+-- The position as a number of pairs before it.
+
+number_within : (pairs : List Pair) (i : ℕ) → i < length pairs
+    → position_within pairs i ≡ Some i
+number_within pairs i h = grind (arith, nat_tests)
+
+number_past : (pairs : List Pair) → position_within pairs (length pairs) ≡ None
+number_past pairs = grind (arith, nat_tests)
+
+position_within-if : (b : Bool) (pairs : List Pair) (i : ℕ) → (b ≡ true → i < length pairs)
+    → IsPosition pairs (if b then Some i else None)
+position_within-if true pairs i h = h refl
+position_within-if false pairs i h = tt
+
+-- each number is at no position, or at one that the list has
+pub position_within-is : (pairs : List Pair) (i : ℕ) → IsPosition pairs (position_within pairs i)
+position_within-is pairs i =
+    position_within-if (nat_lt i (length pairs)) pairs i (λ h. grind (h, arith, nat_tests))
+
+-- the position of what is within a block is that of its number
+pub IsWithin-number : (bytes : List ℕ) (entries : List BlockEntry) (key : List ℕ)
     (spot : Option Spot) → IsWithin bytes entries key spot
-    → IsPosition (pairs_of None entries) (position_of entries spot)
-IsWithin-position bytes entries key None h = tt
-IsWithin-position bytes entries key (Some spot) h =
-    slice_get_within (pairs_of None entries) (entries_before spot.start entries)
-    (key, slice_range bytes spot.value spot.next) h.pair
+    → position_within (pairs_of None entries) (number_of entries spot) ≡ position_of entries spot
+IsWithin-number bytes entries key None h = number_past (pairs_of None entries)
+IsWithin-number bytes entries key (Some spot) h =
+    number_within (pairs_of None entries) (entries_before spot.start entries)
+    (slice_get_within (pairs_of None entries) (entries_before spot.start entries)
+    (key, slice_range bytes spot.value spot.next) h.pair)

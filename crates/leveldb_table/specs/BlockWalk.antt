@@ -2,8 +2,8 @@
 use Rattle.std.specs.Prelude.{◌≡◌, ℕ, suc, ◌-◌, ◌<◌, ◌≤◌, nat_lt, if◌then◌else◌, List, [], ◌∷◌, ◌++◌, length, take, drop, flat_map, slice_get, slice_index, slice_range, Option, None, Some, IfSome, IsSomeAnd}
 use Rattle.std.specs.Option.{option_map}
 use Rattle.std.specs.declared.cmp.Ordering.{Ordering}
-use Rattle.leveldb_base.specs.Types.{Pair, count_before}
-use Rattle.leveldb_table.specs.Block.{BlockEntry, entry_bytes, key_of, pairs_of, restart_points}
+use Rattle.leveldb_base.specs.Types.{Pair, count_before, position_within}
+use Rattle.leveldb_table.specs.Block.{BlockEntry, BlockRead, entry_bytes, key_of, pairs_of, restart_points}
 use Rattle.leveldb_table.specs.declared.block.walk.Spot.{Spot}
 
 -- the key of the last entry, or the one before all of them
@@ -62,6 +62,12 @@ pub record IsSpot (bytes : List ℕ) (entries : List BlockEntry) (key : List ℕ
   pub ends : spot.next ≡ start_of entries (suc (entries_before spot.start entries))
   pub ordered : spot.value ≤ spot.next
 
+-- What a position in a block is to its callers: the bytes in its room for a key, which are the key
+-- of the entry where it is at one, and where that entry lies.
+pub record BlockPlace : Type 0 where
+  pub key : List ℕ
+  pub spot : Option Spot
+
 -- no position, or one of the block
 abbrev pub IsWithin : List ℕ → List BlockEntry → List ℕ → Option Spot → Type 0
 IsWithin bytes entries key spot = IfSome spot (IsSpot bytes entries key)
@@ -69,6 +75,28 @@ IsWithin bytes entries key spot = IfSome spot (IsSpot bytes entries key)
 -- the position, as a number of pairs before it
 abbrev pub position_of : List BlockEntry → Option Spot → Option ℕ
 position_of entries spot = option_map (λ spot. entries_before spot.start entries) spot
+
+-- the number of the pair at the position, or how many pairs there are where there is no position
+abbrev pub number_of : List BlockEntry → Option Spot → ℕ
+number_of entries None = length (pairs_of None entries)
+number_of entries (Some spot) = entries_before spot.start entries
+
+-- What a walk over a block is to its callers: the block, the bytes in its room for a key, which are
+-- the key of the pair where it is at one, and how many pairs are before the position: all of them
+-- where it is at none.
+pub record BlockPosition (C : Type 0) : Type 0 where
+  pub block : BlockRead C
+  pub key : List ℕ
+  pub at : ℕ
+
+module _ {C : Type 0} where
+  -- a walk's pairs: those of its block
+  abbrev pub pairs_over : BlockPosition C → List Pair
+  pairs_over walk = pairs_of None walk.block.entries
+
+  -- its position among them, if it has one
+  abbrev pub position_over : BlockPosition C → Option ℕ
+  position_over walk = position_within (pairs_over walk) walk.at
 
 -- the pair of this key and a value, if there is one
 abbrev pub pair_with : List ℕ → Option (List ℕ) → Option Pair

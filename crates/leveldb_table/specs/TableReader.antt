@@ -14,15 +14,14 @@ use Rattle.leveldb_base.specs.declared.error.StatusCode.TheVariants.{Corruption,
 use Rattle.leveldb_env.specs.declared.env.Env.{Ghosts as EnvGhosts}
 use Rattle.leveldb_env.specs.Compressor.{Codings, Decodes}
 use Rattle.leveldb_env.specs.FilterBlock.{IsFilterBlock, FiltersRead, passes}
-use Rattle.leveldb_table.specs.Block.{IsBlock, KeysRise, pairs_of}
+use Rattle.leveldb_table.specs.Block.{BlockRead, IsBlock, KeysRise, pairs_of}
 use Rattle.leveldb_table.specs.Footer.{footer_bytes}
 use Rattle.leveldb_table.specs.Table.{Part, IsPart, HasBlockAt, StoresAt, AreParted, AreAccepted, AllPass, filter_key, first_from, named_part, offset_for}
 use Rattle.leveldb_table.specs.Cache.{Cached}
 use Rattle.leveldb_table.specs.BlockCache.{IsBlockOfFile, GainsBlocks}
 use Rattle.leveldb_table.specs.TableBlock.{LacksBlock, ForBytesOf, IsLackError, ReadsFile}
-use Rattle.leveldb_table.specs.declared.block.Block.{Block}
 use Rattle.leveldb_table.specs.declared.block_cache.CachedBlock.{CachedBlock}
-use Rattle.leveldb_table.specs.declared.table_reader.Table.{Table}
+use Rattle.leveldb_table.specs.declared.table_builder.footer.Footer.{Footer}
 
 -- ---- what is read when a table is opened
 
@@ -194,60 +193,73 @@ HasNoneFrom cmp user key pairs =
 
 -- ---- an open table
 
+-- What an open table is to its callers, as what it was opened: the order of its keys, its file, the
+-- number that is in the keys of its blocks in a cache, its footer, its index, and its filters where
+-- they were read.
+pub record OpenTable (C FP F : Type 0) : Type 0 where
+  pub cmp : C
+  pub file : F
+  pub id : ℕ
+  pub footer : Footer
+  pub index : BlockRead C
+  pub filters : Option (FiltersRead FP)
+
 -- the value that a block has under a key
-abbrev pub value_under : {C : Type 0} {order : CmpGhosts C} → List ℕ → Block C order
-    → Option (List ℕ)
-value_under key block = lookup (bytes_eq key) (pairs_of None block.entries.0)
+abbrev pub value_under : {C : Type 0} → List ℕ → BlockRead C → Option (List ℕ)
+value_under key block = lookup (bytes_eq key) (pairs_of None block.entries)
 
 -- the filters, where they were read
 abbrev pub filters_in : {FP : Type 0} → Option (FiltersRead FP) → Option (List (List ℕ))
 filters_in None = None
 filters_in (Some reader) = Some reader.filters
 
-module _ {E C FP F : Type 0} {order : CmpGhosts C} where
+module _ {C FP F : Type 0} where
   -- the index's pairs
-  abbrev pub lines_of : Table E C FP F order → List Pair
-  lines_of table = pairs_of None table.index.entries.0
+  abbrev pub lines_of : OpenTable C FP F → List Pair
+  lines_of table = pairs_of None table.index.entries
 
   -- the filters
-  abbrev pub filters_of : Table E C FP F order → Option (List (List ℕ))
+  abbrev pub filters_of : OpenTable C FP F → Option (List (List ℕ))
   filters_of table = filters_in table.filters
 
+  -- where its metaindex is
+  abbrev pub meta_of : OpenTable C FP F → Handle
+  meta_of table = table.footer.meta_index
+
   -- whether the filters let a key pass at an offset; without filters each key passes
-  abbrev pub lets : (FP → List ℕ → List ℕ → Bool) → Table E C FP F order → ℕ → List ℕ → Bool
+  abbrev pub lets : (FP → List ℕ → List ℕ → Bool) → OpenTable C FP F → ℕ → List ℕ → Bool
   lets matches table offset key = elim table.filters [
     | None ↦ true
     | Some reader ↦ passes (matches reader.policy) reader.filters offset key
   ]
 
+module _ {C FP F : Type 0} (order : CmpGhosts C) where
   -- the line of its index for a key
-  abbrev pub line_in : Table E C FP F order → List ℕ → Option Pair
+  abbrev pub line_in : OpenTable C FP F → List ℕ → Option Pair
   line_in table key = key_line (order.cmp table.index.cmp) key (lines_of table)
 
-  -- where its metaindex is
-  abbrev pub meta_of : Table E C FP F order → Handle
-  meta_of table = table.footer.meta_index
-
   -- where the block is that would hold a key, if its index is that of these data blocks
-  abbrev pub offset_in : Table E C FP F order → List ℕ → List Part → ℕ
+  abbrev pub offset_in : OpenTable C FP F → List ℕ → List Part → ℕ
   offset_in table key parts = offset_for (order.cmp table.index.cmp) key parts (meta_of table)
 
   -- a cache gains blocks of the table's file alone
-  abbrev pub GainsBlocksOf : EnvGhosts E F → Codings → Table E C FP F order → E
-      → Cached (CachedBlock C order) → Cached (CachedBlock C order) → Type 0
+  abbrev pub GainsBlocksOf : {E : Type 0} → EnvGhosts E F → Codings → OpenTable C FP F → E
+      → Cached (CachedBlock C) → Cached (CachedBlock C) → Type 0
   GainsBlocksOf env codings table old_env old_cache new_cache =
       GainsBlocks table.id (λ offset held. ForBytesOf env old_env table.file
-      (λ bytes. IsBlockOfFile codings (order.cmp table.cmp) bytes offset held)) old_cache new_cache
+      (λ bytes. IsBlockOfFile order codings (order.cmp table.cmp) bytes offset held)) old_cache
+      new_cache
 
+module _ {C FP F : Type 0} where
   -- the file, of these bytes, has this table with its filters
   abbrev pub IsOpenedAs : Codings → (List ℕ → List ℕ → Ordering) → List ℕ → ℕ
-      → Table E C FP F order → List ℕ → Type 0
+      → OpenTable C FP F → List ℕ → Type 0
   IsOpenedAs codings cmp key size table bytes =
       OpensAs codings cmp key bytes size (lines_of table) table.footer.meta_index
       table.footer.index (filters_of table)
 
   -- the file, of these bytes, has this table, whatever its metaindex and its filters are
-  abbrev pub IsIndexedAs : Codings → (List ℕ → List ℕ → Ordering) → ℕ → Table E C FP F order
+  abbrev pub IsIndexedAs : Codings → (List ℕ → List ℕ → Ordering) → ℕ → OpenTable C FP F
       → List ℕ → Type 0
   IsIndexedAs codings cmp size table bytes =
       HasIndex codings cmp bytes size (lines_of table) table.footer.meta_index table.footer.index
@@ -256,15 +268,15 @@ module _ {E C FP F : Type 0} {order : CmpGhosts C} where
 abbrev pub AreOfPolicy : {FP : Type 0} → FP → Option (FiltersRead FP) → Type 0
 AreOfPolicy policy filters = IfSome filters (λ reader. reader.policy ≡ policy)
 
-module _ {E C FP F : Type 0} {ordered : CmpGhosts C} where
+module _ {E C FP F : Type 0} where
   -- What a call says that opens a table in a file, in this order of keys: what the table then is
   -- by the file's bytes, what its filters are, and what these bytes lack where it fails.
   pub record OpensTable (env : EnvGhosts E F) (codings : Codings)
-      (Is : Table E C FP F ordered → List ℕ → Type 0)
+      (Is : OpenTable C FP F → List ℕ → Type 0)
       (Filters : Option (FiltersRead FP) → Type 0) (Lacks : List ℕ → Status → Type 0) (cmp : C)
-      (from : F) (old_env : E) (old_cache : Cached (CachedBlock C ordered))
-      (result : Result (Table E C FP F ordered) Status) (new_env : E)
-      (new_cache : Cached (CachedBlock C ordered)) : Type 0 where
+      (from : F) (old_env : E) (old_cache : Cached (CachedBlock C))
+      (result : Result (OpenTable C FP F) Status) (new_env : E)
+      (new_cache : Cached (CachedBlock C)) : Type 0 where
     -- it fails out of memory, at a failure of the device, since the cache's numbers are used up,
     -- or since a part of the file is lacking
     pub reads : ReadsFile env

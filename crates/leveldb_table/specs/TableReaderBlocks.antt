@@ -9,16 +9,15 @@ use Rattle.leveldb_base.specs.declared.cmp.Cmp.{Ghosts as CmpGhosts}
 use Rattle.leveldb_base.specs.declared.error.Status.{Status}
 use Rattle.leveldb_env.specs.declared.env.Env.{Ghosts as EnvGhosts}
 use Rattle.leveldb_env.specs.Compressor.{Codings, Decodes}
+use Rattle.leveldb_table.specs.Block.{BlockRead, HasEntries}
 use Rattle.leveldb_table.specs.Cache.{Cached}
 use Rattle.leveldb_table.specs.Table.{Part, HasBlockAt, index_pair, named_part}
 use Rattle.leveldb_table.specs.BlockCache.{HoldsOnlyOf, IsBlockOfFile, GainsBlocks}
-use Rattle.leveldb_table.specs.TableReader.{pairs_in, lines_of}
+use Rattle.leveldb_table.specs.TableReader.{OpenTable, pairs_in, lines_of}
 use Rattle.leveldb_table.specs.TableBlock.{ForBytesOf, IsLackError, ReadsFile}
-use Rattle.leveldb_table.specs.TableReaderWalk.{Outcome, IsNamed, IsAtPair, IsAtPosition, GivenParts, inner_position, pairs_over, position_over, table_position}
-use Rattle.leveldb_table.specs.declared.block.Block.{Block}
+use Rattle.leveldb_table.specs.BlockWalk.{pairs_over, position_over}
+use Rattle.leveldb_table.specs.TableReaderWalk.{TablePlace, Outcome, IsNamed, IsAtPair, IsAtPosition, GivenParts, inner_position, table_position}
 use Rattle.leveldb_table.specs.declared.block_cache.CachedBlock.{CachedBlock}
-use Rattle.leveldb_table.specs.declared.table_reader.Table.{Table}
-use Rattle.leveldb_table.specs.declared.table_reader.walk.TableCore.{TableCore}
 
 -- the one borrow is the other: of the same place, with the same value
 pub record IsSameBorrow {A : Type 0} (old new : MutBor A) : Type 0 where
@@ -67,35 +66,37 @@ abbrev pub IsLetPosition : (List ℕ → Bool) → (List ℕ → List ℕ → Or
 IsLetPosition accepts cmp lets key parts position =
     (accepts key ≡ true) × (position ≡ let_position cmp lets key parts)
 
-module _ {C : Type 0} {order : CmpGhosts C} where
+module _ {C : Type 0} (order : CmpGhosts C) where
   -- the block that a file has at a handle, in this order of keys
   abbrev pub IsBlockAt : Codings → (List ℕ → List ℕ → Ordering) → List ℕ → Handle
-      → Option (Block C order) → Type 0
+      → Option (BlockRead C) → Type 0
   IsBlockAt codings cmp bytes handle block =
       IsSomeAnd block (λ there. HasBlockAt (Decodes codings) bytes handle there.contents
-      × (order.cmp there.cmp ≡ cmp))
+      × (order.cmp there.cmp ≡ cmp) × HasEntries cmp there.contents there.entries)
 
   -- the block that the file has where a line of the index says
   abbrev pub IsBlockOf : Codings → (List ℕ → List ℕ → Ordering) → List ℕ → Option Pair
-      → Option (Block C order) → Type 0
+      → Option (BlockRead C) → Type 0
   IsBlockOf codings cmp bytes line block =
-      IsSomeAnd block
-      (λ there. IsNamed codings bytes line there.contents × (order.cmp there.cmp ≡ cmp))
+      IsSomeAnd block (λ there. IsNamed codings bytes line there.contents
+      × (order.cmp there.cmp ≡ cmp) × HasEntries cmp there.contents there.entries)
 
+module _ {C : Type 0} where
   -- the line of the index
-  abbrev pub line_of : TableCore C order → Option Pair
+  abbrev pub line_of : TablePlace C → Option Pair
   line_of core = pair_at (pairs_over core.index) (position_over core.index)
 
   -- a walk over this table that is at no position: its index is the table's
-  pub record StartsOver {E FP F : Type 0} (table : Table E C FP F order)
-      (core : TableCore C order) : Type 0 where
+  pub record StartsOver {FP F : Type 0} (table : OpenTable C FP F)
+      (core : TablePlace C) : Type 0 where
     pub lines : pairs_over core.index ≡ lines_of table
     pub ordered : core.index.block.cmp ≡ table.index.cmp
     pub position : core.inner ≡ None
 
+module _ {C : Type 0} (order : CmpGhosts C) where
   -- the index is that of these data blocks, in this order of keys
   pub record IsIndexed (cmp : List ℕ → List ℕ → Ordering) (parts : List Part)
-      (core : TableCore C order) : Type 0 where
+      (core : TablePlace C) : Type 0 where
     pub lines : pairs_over core.index ≡ map index_pair parts
     pub ordered : order.cmp core.index.block.cmp ≡ cmp
 
@@ -104,35 +105,35 @@ module _ {C : Type 0} {order : CmpGhosts C} where
   pub record MovesFromLine {E F T : Type 0} (env : EnvGhosts E F) (codings : Codings)
       (accepts : List ℕ → Bool) (cmp : List ℕ → List ℕ → Ordering) (id : ℕ) (file : F)
       (Fit : List Part → Option ℕ → Type 0) (Step : Codings → (List ℕ → List ℕ → Ordering) → List ℕ
-      → TableCore C order → Outcome → Type 0)
-      (old_env : E) (old_cache : Cached (CachedBlock C order)) (old : TableCore C order)
+      → TablePlace C → Outcome → Type 0)
+      (old_env : E) (old_cache : Cached (CachedBlock C)) (old : TablePlace C)
       (result : Result T Status)
-      (new_env : E) (new_cache : Cached (CachedBlock C order))
-      (new : TableCore C order) : Type 0 where
+      (new_env : E) (new_cache : Cached (CachedBlock C))
+      (new : TablePlace C) : Type 0 where
     pub reads : ReadsFile env (IsLackError env codings (λ bytes status.
-        GivenParts codings accepts cmp id bytes old_cache Fit
+        GivenParts order codings accepts cmp id bytes old_cache Fit
         (λ parts position. IsIndexed cmp parts old) (λ parts position. ⊥)
-        × (HoldsOnlyOf codings cmp id bytes old_cache → Step codings cmp bytes old (Err status)))
-        old_env file) old_env new_env result
+        × (HoldsOnlyOf order codings cmp id bytes old_cache → Step codings cmp bytes old
+        (Err status))) old_env file) old_env new_env result
     pub ok : ForBytesOf env old_env file (λ bytes.
-        GivenParts codings accepts cmp id bytes old_cache Fit
+        GivenParts order codings accepts cmp id bytes old_cache Fit
         (λ parts position. IsIndexed cmp parts old)
-        (λ parts position. OnOk result (IsAtPosition cmp parts new position)))
-    pub steps : ForBytesOf env old_env file (λ bytes. HoldsOnlyOf codings cmp id bytes old_cache
-        → OnOk result (Step codings cmp bytes old (Ok (table_position new))))
+        (λ parts position. OnOk result (IsAtPosition order cmp parts new position)))
+    pub steps : ForBytesOf env old_env file (λ bytes. HoldsOnlyOf order codings cmp id bytes
+        old_cache → OnOk result (Step codings cmp bytes old (Ok (table_position new))))
     pub err : OnErr result (inner_position new.inner ≡ None)
     pub gathers : GainsBlocks id (λ offset held. ForBytesOf env old_env file
-        (λ bytes. IsBlockOfFile codings cmp bytes offset held)) old_cache new_cache
+        (λ bytes. IsBlockOfFile order codings cmp bytes offset held)) old_cache new_cache
     pub same_lines : pairs_over new.index ≡ pairs_over old.index
     pub same_order : new.index.block.cmp ≡ old.index.block.cmp
 
-module _ {E C FP F T : Type 0} {order : CmpGhosts C} where
+module _ {E C FP F T : Type 0} (order : CmpGhosts C) where
   -- such a move over an open table
-  abbrev pub MovesOverFromLine : EnvGhosts E F → Codings → Table E C FP F order
+  abbrev pub MovesOverFromLine : EnvGhosts E F → Codings → OpenTable C FP F
       → (List Part → Option ℕ → Type 0)
-      → (Codings → (List ℕ → List ℕ → Ordering) → List ℕ → TableCore C order → Outcome → Type 0)
-      → E → Cached (CachedBlock C order) → TableCore C order → Result T Status
-      → E → Cached (CachedBlock C order) → TableCore C order → Type 0
+      → (Codings → (List ℕ → List ℕ → Ordering) → List ℕ → TablePlace C → Outcome → Type 0)
+      → E → Cached (CachedBlock C) → TablePlace C → Result T Status
+      → E → Cached (CachedBlock C) → TablePlace C → Type 0
   MovesOverFromLine env codings table Fit Step old_env old_cache old result new_env new_cache new =
-      MovesFromLine env codings (order.accepts table.cmp) (order.cmp table.cmp) table.id table.file
-      Fit Step old_env old_cache old result new_env new_cache new
+      MovesFromLine order env codings (order.accepts table.cmp) (order.cmp table.cmp) table.id
+      table.file Fit Step old_env old_cache old result new_env new_cache new

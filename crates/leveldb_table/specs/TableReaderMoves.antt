@@ -12,16 +12,14 @@ use Rattle.leveldb_base.specs.declared.error.StatusCode.TheVariants.{Corruption}
 use Rattle.leveldb_env.specs.declared.env.Env.{Ghosts as EnvGhosts}
 use Rattle.leveldb_env.specs.Compressor.{Codings}
 use Rattle.leveldb_table.specs.Block.{IsBlock}
-use Rattle.leveldb_table.specs.BlockWalk.{pair_with}
+use Rattle.leveldb_table.specs.BlockWalk.{pair_with, pairs_over, position_over}
 use Rattle.leveldb_table.specs.Cache.{Cached}
 use Rattle.leveldb_table.specs.BlockCache.{HoldsOnlyOf}
 use Rattle.leveldb_table.specs.Table.{Part, index_pair}
-use Rattle.leveldb_table.specs.TableReader.{lines_of, lets, HasParts, found_in, GainsBlocksOf}
+use Rattle.leveldb_table.specs.TableReader.{OpenTable, lines_of, lets, HasParts, found_in, GainsBlocksOf}
 use Rattle.leveldb_table.specs.TableBlock.{IsNamedBy, NamesNone, LacksLine, ForBytesOf, IsLackError, ReadsFile}
-use Rattle.leveldb_table.specs.TableReaderWalk.{MovesInTable, TablePosition, Outcome, IsNamed, inner_position, pairs_over, position_over, table_position}
+use Rattle.leveldb_table.specs.TableReaderWalk.{TablePlace, MovesInTable, TablePosition, Outcome, IsNamed, inner_position, table_position}
 use Rattle.leveldb_table.specs.declared.block_cache.CachedBlock.{CachedBlock}
-use Rattle.leveldb_table.specs.declared.table_reader.Table.{Table}
-use Rattle.leveldb_table.specs.declared.table_reader.walk.TableCore.{TableCore}
 
 -- it comes to no line, and to no pair
 abbrev pub IsNowhere : Outcome → Type 0
@@ -123,9 +121,9 @@ module _ (codings : Codings) (cmp : List ℕ → List ℕ → Ordering) (bytes :
       (NamesNone (pair_at lines (Some line)) × (status.code ≡ Corruption))
       ⊎ LookUpByLine lets key line (Err status)
 
-module _ {E C FP F : Type 0} {order : CmpGhosts C} where
+module _ {C FP F : Type 0} (order : CmpGhosts C) where
   -- what a look-up of a key in an open table comes to
-  abbrev pub LookUpInTable : Codings → (FP → List ℕ → List ℕ → Bool) → Table E C FP F order
+  abbrev pub LookUpInTable : Codings → (FP → List ℕ → List ℕ → Bool) → OpenTable C FP F
       → List ℕ → List ℕ → Outcome → Type 0
   LookUpInTable codings matches table key bytes out =
       LookUpFromLine codings (order.cmp table.cmp) bytes (lines_of table) (lets matches table) key
@@ -133,7 +131,7 @@ module _ {E C FP F : Type 0} {order : CmpGhosts C} where
 
   -- What it finds: the pair at the position to which it comes, if that is one.
   pub record FindsPair (codings : Codings) (matches : FP → List ℕ → List ℕ → Bool)
-      (table : Table E C FP F order) (key bytes : List ℕ) (found : Option Pair) : Type 0 where
+      (table : OpenTable C FP F) (key bytes : List ℕ) (found : Option Pair) : Type 0 where
     pub position : TablePosition
     pub look_up : LookUpInTable codings matches table key bytes (Ok position)
     pub is : found ≡ pair_at position.pairs position.inner
@@ -143,13 +141,13 @@ abbrev pub found_with : List ℕ → Result (Option (List ℕ)) Status → Resul
 found_with key (Ok value) = Ok (pair_with key value)
 found_with key (Err status) = Err status
 
-module _ {E C FP F : Type 0} {order : CmpGhosts C} where
+module _ {E C FP F : Type 0} (order : CmpGhosts C) where
   -- What a look-up of a key in an open table says, whatever its file is.
   pub record LooksUp (env : EnvGhosts E F) (codings : Codings)
-      (matches : FP → List ℕ → List ℕ → Bool) (table : Table E C FP F order) (key : List ℕ)
-      (old_env : E) (old_cache : Cached (CachedBlock C order))
+      (matches : FP → List ℕ → List ℕ → Bool) (table : OpenTable C FP F) (key : List ℕ)
+      (old_env : E) (old_cache : Cached (CachedBlock C))
       (result : Result (Option Pair) Status)
-      (new_env : E) (new_cache : Cached (CachedBlock C order)) : Type 0 where
+      (new_env : E) (new_cache : Cached (CachedBlock C)) : Type 0 where
     -- it fails out of memory, at a failure of the device, or since a block on its way is lacking;
     -- for none where the file has data blocks that are those of the index
     pub reads : ReadsFile env (IsLackError env codings (λ bytes status.
@@ -157,9 +155,9 @@ module _ {E C FP F : Type 0} {order : CmpGhosts C} where
         → order.cmp table.index.cmp ≡ order.cmp table.cmp
         → HasParts codings (order.accepts table.cmp) (order.cmp table.cmp) bytes parts
         → order.accepts table.cmp key ≡ true
-        → HoldsOnlyOf codings (order.cmp table.cmp) table.id bytes old_cache → ⊥)
-        × (HoldsOnlyOf codings (order.cmp table.cmp) table.id bytes old_cache
-        → LookUpInTable codings matches table key bytes (Err status))) old_env table.file)
+        → HoldsOnlyOf order codings (order.cmp table.cmp) table.id bytes old_cache → ⊥)
+        × (HoldsOnlyOf order codings (order.cmp table.cmp) table.id bytes old_cache
+        → LookUpInTable order codings matches table key bytes (Err status))) old_env table.file)
         old_env new_env result
     -- where the file has such data blocks, it finds the first pair of theirs at or after the key,
     -- but none where the filters rule the key out
@@ -168,113 +166,114 @@ module _ {E C FP F : Type 0} {order : CmpGhosts C} where
         → order.cmp table.index.cmp ≡ order.cmp table.cmp
         → HasParts codings (order.accepts table.cmp) (order.cmp table.cmp) bytes parts
         → order.accepts table.cmp key ≡ true
-        → HoldsOnlyOf codings (order.cmp table.cmp) table.id bytes old_cache
+        → HoldsOnlyOf order codings (order.cmp table.cmp) table.id bytes old_cache
         → IfOk result (λ found. found ≡ found_in (order.cmp table.cmp) (lets matches table) key
         parts))
     -- in each file it finds what the block of the key's line says, or that of the next line
     pub finds : ForBytesOf env old_env table.file (λ bytes.
-        HoldsOnlyOf codings (order.cmp table.cmp) table.id bytes old_cache
-        → IfOk result (FindsPair codings matches table key bytes))
+        HoldsOnlyOf order codings (order.cmp table.cmp) table.id bytes old_cache
+        → IfOk result (FindsPair order codings matches table key bytes))
     -- the cache gains blocks of this file alone
-    pub gathers : GainsBlocksOf env codings table old_env old_cache new_cache
+    pub gathers : GainsBlocksOf order env codings table old_env old_cache new_cache
 
 -- ---- the moves of a walk
 
-module _ {C : Type 0} {order : CmpGhosts C} where
-  -- the line of its index for a key
-  abbrev pub line_for : List ℕ → TableCore C order → Option ℕ
-  line_for key core = seek_position (order.cmp core.index.block.cmp) (pairs_over core.index) key
-
+module _ {C : Type 0} where
   -- to the next pair, and to the one before
-  abbrev pub Forward : Codings → (List ℕ → List ℕ → Ordering) → List ℕ → TableCore C order
+  abbrev pub Forward : Codings → (List ℕ → List ℕ → Ordering) → List ℕ → TablePlace C
       → Outcome → Type 0
   Forward codings cmp bytes old out =
       ToNextPair codings cmp bytes (pairs_over old.index) (inner_position old.inner)
       (table_position old) out
 
   -- from where the iterator is to the pair before
-  abbrev pub Backward : Codings → (List ℕ → List ℕ → Ordering) → List ℕ → TableCore C order
+  abbrev pub Backward : Codings → (List ℕ → List ℕ → Ordering) → List ℕ → TablePlace C
       → Outcome → Type 0
   Backward codings cmp bytes old out =
       ToPreviousPair codings cmp bytes (pairs_over old.index) (inner_position old.inner)
       (table_position old) out
 
   -- to the first pair of the first block
-  abbrev pub ToFirst : Codings → (List ℕ → List ℕ → Ordering) → List ℕ → TableCore C order
+  abbrev pub ToFirst : Codings → (List ℕ → List ℕ → Ordering) → List ℕ → TablePlace C
       → Outcome → Type 0
   ToFirst codings cmp bytes old out =
       ToFirstPair codings cmp bytes (pairs_over old.index)
       (position_within (pairs_over old.index) 0) out
 
   -- to the last pair of the last block
-  abbrev pub ToLast : Codings → (List ℕ → List ℕ → Ordering) → List ℕ → TableCore C order
+  abbrev pub ToLast : Codings → (List ℕ → List ℕ → Ordering) → List ℕ → TablePlace C
       → Outcome → Type 0
   ToLast codings cmp bytes old out =
       ToLastPair codings cmp bytes (pairs_over old.index) (last_position (pairs_over old.index)) out
 
   -- to the first pair of the next line's block, and to the last of that of the line before
-  abbrev pub ToNextBlock : Codings → (List ℕ → List ℕ → Ordering) → List ℕ → TableCore C order
+  abbrev pub ToNextBlock : Codings → (List ℕ → List ℕ → Ordering) → List ℕ → TablePlace C
       → Outcome → Type 0
   ToNextBlock codings cmp bytes old out =
       ToFirstPair codings cmp bytes (pairs_over old.index)
       (next_position (pairs_over old.index) (position_over old.index)) out
 
   -- to the last pair of the block of the line before the index's
-  abbrev pub ToPreviousBlock : Codings → (List ℕ → List ℕ → Ordering) → List ℕ → TableCore C order
+  abbrev pub ToPreviousBlock : Codings → (List ℕ → List ℕ → Ordering) → List ℕ → TablePlace C
       → Outcome → Type 0
   ToPreviousBlock codings cmp bytes old out =
       ToLastPair codings cmp bytes (pairs_over old.index)
       (previous_position (position_over old.index)) out
 
+module _ {C : Type 0} (order : CmpGhosts C) where
+  -- the line of its index for a key
+  abbrev pub line_for : List ℕ → TablePlace C → Option ℕ
+  line_for key core = seek_position (order.cmp core.index.block.cmp) (pairs_over core.index) key
+
   -- to the first pair at or after a key by the line that the index has for it, and the same where
   -- the filters let the key pass
-  abbrev pub ToKey : List ℕ → Codings → (List ℕ → List ℕ → Ordering) → List ℕ → TableCore C order
+  abbrev pub ToKey : List ℕ → Codings → (List ℕ → List ℕ → Ordering) → List ℕ → TablePlace C
       → Outcome → Type 0
   ToKey key codings cmp bytes old out =
       ToKeyByLine codings cmp bytes (pairs_over old.index) key (line_for key old) out
 
   -- as ToKey, where the filters let the key pass
   abbrev pub ToKeyIfLet : (ℕ → List ℕ → Bool) → List ℕ → Codings → (List ℕ → List ℕ → Ordering)
-      → List ℕ → TableCore C order → Outcome → Type 0
+      → List ℕ → TablePlace C → Outcome → Type 0
   ToKeyIfLet lets key codings cmp bytes old out =
       LookUpFromLine codings cmp bytes (pairs_over old.index) lets key (line_for key old) out
 
 -- ---- the moves of a walk over an open table
 
-module _ {E C FP F T : Type 0} {order : CmpGhosts C} (env : EnvGhosts E F) (codings : Codings)
-    (table : Table E C FP F order) where
+module _ {E C FP F T : Type 0} (order : CmpGhosts C) (env : EnvGhosts E F) (codings : Codings)
+    (table : OpenTable C FP F) where
   -- a move over the table's file, which leads to a position and is this step
   abbrev pub MovesOver : (List Part → Type 0) → (List Pair → Option ℕ → Option ℕ)
-      → (Codings → (List ℕ → List ℕ → Ordering) → List ℕ → TableCore C order → Outcome → Type 0)
-      → E → Cached (CachedBlock C order) → TableCore C order → Result T Status
-      → E → Cached (CachedBlock C order) → TableCore C order → Type 0
+      → (Codings → (List ℕ → List ℕ → Ordering) → List ℕ → TablePlace C → Outcome → Type 0)
+      → E → Cached (CachedBlock C) → TablePlace C → Result T Status
+      → E → Cached (CachedBlock C) → TablePlace C → Type 0
   MovesOver Fit to Step old_env old_cache old result new_env new_cache new =
-      MovesInTable env codings (order.accepts table.cmp) (order.cmp table.cmp) table.id table.file
-      Fit to Step old_env old_cache old result new_env new_cache new
+      MovesInTable order env codings (order.accepts table.cmp) (order.cmp table.cmp) table.id
+      table.file Fit to Step old_env old_cache old result new_env new_cache new
 
   -- to the next pair
-  abbrev pub Advances : E → Cached (CachedBlock C order) → TableCore C order → Result T Status
-      → E → Cached (CachedBlock C order) → TableCore C order → Type 0
+  abbrev pub Advances : E → Cached (CachedBlock C) → TablePlace C → Result T Status
+      → E → Cached (CachedBlock C) → TablePlace C → Type 0
   Advances = MovesOver (λ _. Unit {0}) next_position Forward
 
   -- to the pair before
-  abbrev pub StepsBack : E → Cached (CachedBlock C order) → TableCore C order → Result T Status
-      → E → Cached (CachedBlock C order) → TableCore C order → Type 0
+  abbrev pub StepsBack : E → Cached (CachedBlock C) → TablePlace C → Result T Status
+      → E → Cached (CachedBlock C) → TablePlace C → Type 0
   StepsBack = MovesOver (λ _. Unit {0}) (λ _. previous_position) Backward
 
   -- to the first pair at or after a key, which is accepted
-  abbrev pub SeeksKey : List ℕ → E → Cached (CachedBlock C order) → TableCore C order
-      → Result T Status → E → Cached (CachedBlock C order) → TableCore C order → Type 0
+  abbrev pub SeeksKey : List ℕ → E → Cached (CachedBlock C) → TablePlace C
+      → Result T Status → E → Cached (CachedBlock C) → TablePlace C → Type 0
   SeeksKey key =
       MovesOver (λ _. order.accepts table.cmp key ≡ true)
-      (λ pairs _. seek_position (order.cmp table.cmp) pairs key) (ToKey key)
+      (λ pairs _. seek_position (order.cmp table.cmp) pairs key) (ToKey order key)
 
   -- to the first pair
-  abbrev pub SeeksFirst : E → Cached (CachedBlock C order) → TableCore C order → Result T Status
-      → E → Cached (CachedBlock C order) → TableCore C order → Type 0
+  abbrev pub SeeksFirst : E → Cached (CachedBlock C) → TablePlace C → Result T Status
+      → E → Cached (CachedBlock C) → TablePlace C → Type 0
   SeeksFirst = MovesOver (λ _. Unit {0}) (λ pairs _. position_within pairs 0) ToFirst
 
   -- to the last pair
-  abbrev pub SeeksLast : E → Cached (CachedBlock C order) → TableCore C order → Result T Status
-      → E → Cached (CachedBlock C order) → TableCore C order → Type 0
+  abbrev pub SeeksLast : E → Cached (CachedBlock C) → TablePlace C → Result T Status
+      → E → Cached (CachedBlock C) → TablePlace C → Type 0
   SeeksLast = MovesOver (λ _. Unit {0}) (λ pairs _. last_position pairs) ToLast

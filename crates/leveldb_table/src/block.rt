@@ -2,7 +2,8 @@
 ghost use Rattle.std.specs.Prelude.{◌≡◌, ◌⊎◌, None, IfOk, IfErr, IsErrAnd};
 ghost use Rattle.leveldb_base.specs.Error.{IsOutOfMemory};
 ghost use Rattle.leveldb_base.specs.declared.error.StatusCode.TheVariants.{Corruption};
-ghost use Rattle.leveldb_table.specs.Block.{HasEntriesEndingAt, IsBlock, IsNoBlock, pairs_of};
+ghost use Rattle.leveldb_table.specs.Block.{HasEntries, HasEntriesEndingAt, IsBlock, IsNoBlock, pairs_of};
+ghost use Rattle.leveldb_table.specs.BlockWalk.{position_over};
 ghost use Rattle.leveldb_table.specs.BlockLaws.{HasEntriesEndingAt-prop};
 
 use bytes::Bytes;
@@ -10,6 +11,7 @@ use check::{check_parts, entries_end};
 use leveldb_base::cmp::Cmp;
 use leveldb_base::error::{Result, StatusCode, err};
 use std::alloc::{AllocError, Global};
+use std::marker::Model;
 
 mod check;
 mod entry;
@@ -36,9 +38,21 @@ pub struct Block<C: Cmp> {
 
     // whether it is known that the comparator accepts all keys
     accepted: bool,
-    pub ghost entries: { HasEntriesEndingAt (C.accepts cmp)
+    ghost entries: { HasEntriesEndingAt (C.accepts cmp)
         (C.cmp cmp) contents limit accepted } by { HasEntriesEndingAt-prop (C.accepts cmp)
             (C.cmp cmp) contents limit accepted },
+}
+
+impl<C: Cmp> Model for Block<C> {
+    ghost use Rattle.leveldb_table.specs.Block.{BlockRead};
+
+    ghost Value = { BlockRead C };
+
+    ghost view = { λ it. record {
+      cmp = it.cmp;
+      contents = it.contents;
+      entries = it.entries.0;
+    } };
 }
 
 impl<C: Cmp + Drop> Block<C> {
@@ -46,7 +60,9 @@ impl<C: Cmp + Drop> Block<C> {
     /// `Corruption` where they are none.
     pub fn new(alloc: Global, cmp: C, contents: BlockContents) -> Result<Block<C>>
         ensures ok { IfOk result
-            (λ block. IsBlock (C.cmp cmp) contents (pairs_of None block.entries.0)) }
+            (λ block. IsBlock (C.cmp cmp) contents (pairs_of None block.entries)) }
+        ensures encoded { IfOk result
+            (λ block. HasEntries (C.cmp block.cmp) block.contents block.entries) }
         ensures same_contents { IfOk result (λ block. block.contents ≡ contents) }
         ensures same_order { IfOk result (λ block. block.cmp ≡ cmp) }
         ensures damage { IsErrAnd result (λ status. status.code ≡ Corruption)
@@ -71,9 +87,13 @@ impl<C: Cmp + Drop> Block<C> {
 
     /// A walk over the block's pairs, at no position.
     pub fn iter(&self, alloc: Global) -> BlockIter<'_, C>
-        ensures block { result.block.now ≡ self.entry.now }
-        ensures position { result.core.spot ≡ None }
+        ensures block { result.block ≡ self.entry.now }
+        ensures position { position_over result ≡ None }
+        ensures encoded { HasEntries (C.cmp self.entry.now.cmp) self.entry.now.contents
+            self.entry.now.entries }
     {
+        // what holds of every block is known where one of its fields is used
+        let _ = &self.contents;
         BlockIter::new(alloc, self)
     }
 
@@ -87,7 +107,8 @@ impl<C: Cmp + Drop> Block<C> {
 }
 
 impl<C: Cmp + Copy> Clone for Block<C> {
-    ghost is_clone = { λ block copy. (copy.contents ≡ block.contents) × (copy.cmp ≡ block.cmp) };
+    ghost is_clone = { λ block copy. (copy ≡ block)
+        × HasEntries (C.cmp block.cmp) block.contents block.entries };
 
     fn clone(&self) -> std::result::Result<Block<C>, AllocError> {
         Ok(Block {

@@ -161,6 +161,6 @@ pub fn cache_keys_are_distinct()
 /// and what is held under each other number.
 pub fn new_tables_hold_none<C: Cmp>()
     ensures none { NewIdsHoldNone C.Cmp }
-    ensures numbered { StayNumbered C.Cmp }
+    ensures numbered { StayNumbered C }
     ensures held { StayHeld C.Cmp }
 {}

@@ -4,6 +4,7 @@ ghost use Rattle.leveldb_base.specs.declared.error.StatusCode.TheVariants.{Inval
 ghost use Rattle.leveldb_env.specs.Compressor.{Decodes};
 ghost use Rattle.leveldb_env.specs.Env.{ReadsFrom};
 ghost use Rattle.leveldb_env.specs.FilterBlock.{IsFilterBlock};
+ghost use Rattle.leveldb_table.specs.Block.{HasEntries};
 ghost use Rattle.leveldb_table.specs.Table.{StoresAt, HasBlockAt, with_trailer};
 ghost use Rattle.leveldb_table.specs.TableBlock.{EndsBefore, StoresNothing, HasNoFilters, LacksBlock, ReadsFile, ForBytesOf, IsDamaged, IsLackError};
 
@@ -47,6 +48,8 @@ pub fn read_table_block<E: Env, C: Cmp + Drop>(
         (λ bytes. HasBlockAt (Decodes (⟦<CompressorList as Compressors>⟧.codings compressors.now))
         bytes location block.contents)) }
     ensures order { IfOk result (λ block. block.cmp ≡ cmp) }
+    ensures encoded { IfOk result
+        (λ block. HasEntries (C.cmp block.cmp) block.contents block.entries) }
 {
     let (id, stored) = read_stored(alloc, env, file, location)?;
     let block = compressors.get(alloc, id)?.decode(alloc, stored)?;

@@ -6,7 +6,7 @@ ghost use Rattle.leveldb_base.specs.Types.{Pair};
 ghost use Rattle.leveldb_base.specs.Error.{IsOutOfMemory};
 ghost use Rattle.leveldb_base.specs.declared.error.StatusCode.TheVariants.{Corruption, NotSupported};
 ghost use Rattle.leveldb_env.specs.Compressor.{Codings, Decodes};
-ghost use Rattle.leveldb_table.specs.Block.{IsBlock, pairs_of};
+ghost use Rattle.leveldb_table.specs.Block.{HasEntries, IsBlock, pairs_of};
 ghost use Rattle.leveldb_table.specs.Table.{Part, HasBlockAt, index_pair, filter_key, offset_for};
 ghost use Rattle.leveldb_table.specs.Cache.{looked_for};
 ghost use Rattle.leveldb_table.specs.BlockCache.{HoldsOnlyOf, IsBlockOfFile, GainsBlocks, IsCachedAt, cache_key};
@@ -30,6 +30,7 @@ use leveldb_env::filter_block::FilterBlockReader;
 use leveldb_env::options::Options;
 use open::{read_filters, read_index};
 use std::alloc::Global;
+use std::marker::Model;
 
 mod finder;
 mod iter;
@@ -41,6 +42,7 @@ pub use iter::TableIterator;
 pub use walk::{TableCore, TableStep};
 
 /// An open table: its file, its index, and its filters where it has some under the policy's name.
+#[derive(Drop)]
 pub struct Table<E: Env, C: Cmp, FP: FilterPolicy> {
     cmp: C,
     file: E::File,
@@ -52,22 +54,19 @@ pub struct Table<E: Env, C: Cmp, FP: FilterPolicy> {
     filters: Option<FilterBlockReader<FP>>,
 }
 
-impl<E: Env, C: Cmp + Drop, FP: FilterPolicy + Drop> Drop for Table<E, C, FP> {
-    // One call for whoever drops one, in place of one for each part of it.
-    fn drop(self) {
-        let Table {
-            cmp,
-            file,
-            id: _,
-            footer: _,
-            index,
-            filters,
-        } = self;
-        drop(cmp);
-        drop(file);
-        drop(index);
-        drop(filters);
-    }
+impl<E: Env, C: Cmp, FP: FilterPolicy> Model for Table<E, C, FP> {
+    ghost use Rattle.leveldb_table.specs.TableReader.{OpenTable};
+
+    ghost Value = { OpenTable C FP E.File };
+
+    ghost view = { λ it. record {
+      cmp = it.cmp;
+      file = it.file;
+      id = it.id;
+      footer = it.footer;
+      index = it.index;
+      filters = it.filters;
+    } };
 }
 
 impl<E: Env, C: UserCmp + Copy + Drop, FP: FilterPolicy + Copy + Drop> Table<
@@ -218,11 +217,11 @@ impl<E: Env, C: Cmp + Copy + Drop, FP: FilterPolicy> Table<E, C, FP> {
     pub fn approx_offset_of(&self, alloc: Global, key: &[u8]) -> Result<usize>
         ensures ok { (parts : List Part) → lines_of self.now ≡ map index_pair parts
             → HandlesFit parts
-            → IfOk result (λ offset. offset ≡ offset_in self.now key.now parts) }
+            → IfOk result (λ offset. offset ≡ offset_in C.Cmp self.now key.now parts) }
         ensures line { IfOk result
-            (IsOffsetBy (line_in self.now key.now) (meta_of self.now).offset) }
+            (IsOffsetBy (line_in C.Cmp self.now key.now) (meta_of self.now).offset) }
         ensures cause { IfErr result (λ status. IsOutOfMemory status
-            ⊎ ((status.code ≡ Corruption) × NamesNone (line_in self.now key.now))) }
+            ⊎ ((status.code ≡ Corruption) × NamesNone (line_in C.Cmp self.now key.now))) }
     {
         let mut lines = self.index.iter(alloc);
         lines.seek(key)?;
@@ -244,7 +243,7 @@ impl<E: Env, C: Cmp + Copy + Drop, FP: FilterPolicy> Table<E, C, FP> {
         key: &[u8],
     ) -> Result<Option<(Bytes, Bytes)>>
         ensures { let codings = ⟦<CompressorList as Compressors>⟧.codings compressors.now in
-            LooksUp E.Env codings FP.matches self.now key.now env.old cache.old result env.new
+            LooksUp C.Cmp E.Env codings FP.matches self.now key.now env.old cache.old result env.new
             cache.new }
     {
         let mut finder = Finder::new(alloc);
@@ -267,7 +266,7 @@ impl<E: Env, C: Cmp + Copy + Drop, FP: FilterPolicy> Table<E, C, FP> {
         finder: &mut Finder,
     ) -> Result<Option<Bytes>>
         ensures { let codings = ⟦<CompressorList as Compressors>⟧.codings compressors.now in
-            LooksUp E.Env codings FP.matches self.now key.now env.old cache.old
+            LooksUp C.Cmp E.Env codings FP.matches self.now key.now env.old cache.old
             (found_with finder.new result) env.new cache.new }
     {
         let mut core = TableCore::with_finder(alloc, self, finder)?;
@@ -310,10 +309,12 @@ impl<E: Env, C: Cmp + Copy + Drop, FP: FilterPolicy> Table<E, C, FP> {
             env.old env.new result }
         ensures ok { let codings = ⟦<CompressorList as Compressors>⟧.codings compressors.now in
             IfOk result (λ block. ForBytesOf E.Env env.old self.now.file
-            (λ bytes. HoldsOnlyOf codings (C.cmp self.now.cmp) self.now.id bytes cache.old
+            (λ bytes. HoldsOnlyOf C.Cmp codings (C.cmp self.now.cmp) self.now.id bytes cache.old
             → HasBlockAt (Decodes codings) bytes handle block.contents
             × (C.cmp block.cmp ≡ C.cmp self.now.cmp))) }
-        ensures gathers { GainsBlocksOf E.Env (⟦<CompressorList as Compressors>⟧.codings
+        ensures encoded { IfOk result
+            (λ block. HasEntries (C.cmp block.cmp) block.contents block.entries) }
+        ensures gathers { GainsBlocksOf C.Cmp E.Env (⟦<CompressorList as Compressors>⟧.codings
             compressors.now) self.now env.old cache.old cache.new }
     {
         if let Some(found) = self.cached_block(cache, handle)? {

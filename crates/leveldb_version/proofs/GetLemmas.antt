@@ -55,17 +55,17 @@ charge_more (first ∷ second ∷ files) file = refl
 
 -- ---- after calls that leave the disk as it is
 
-module _ {E C FP F : Type 0} {order : CmpGhosts (InternalKeyCmp C)} (env : EnvGhosts E F) (by : TableOptions C FP) (key : List ℕ) (from mid : E) (old cache : TableCache E C FP F order)
+module _ {E C FP F : Type 0} (order : CmpGhosts (InternalKeyCmp C)) (env : EnvGhosts E F) (by : TableOptions C FP) (key : List ℕ) (from mid : E) (old cache : TableCache E C FP F)
     (kept : KeepsDisk env from mid) (path : store_of cache ≡ store_of old) (modelled : IsTrue env.models_disk) where
   bytes_after : (number : ℕ) {bytes : List ℕ} → HasBytesAt (files_at env from) (path_at old number) bytes → HasBytesAt (files_at env mid) (path_at cache number) bytes
   bytes_after number {bytes} has =
       subst (λ files. HasBytesAt files (path_at cache number) bytes) (sym (same_files env kept modelled))
       (subst (λ store. HasBytesAt (files_at env from) (table_path store number) bytes) (sym path) has)
 
-  found_before : (number : ℕ) (found : Option (Option (List ℕ))) → FindsInTable env by key mid cache number found → FindsInTable env by key from old number found
+  found_before : (number : ℕ) (found : Option (Option (List ℕ))) → FindsInTable order env by key mid cache number found → FindsInTable order env by key from old number found
   found_before number found finds = λ bytes has. finds bytes (bytes_after number has)
 
-  unread_before : (number : ℕ) (status : Status) → IsUnread env by key mid cache number status → IsUnread env by key from old number status
+  unread_before : (number : ℕ) (status : Status) → IsUnread order env by key mid cache number status → IsUnread order env by key from old number status
   unread_before number status (unopened why) = unopened
       (subst (λ store. IsTableUnopened by.format (files_at env from) (table_path store number) status) path
       (subst (λ files. IsTableUnopened by.format files (path_at cache number) status) (same_files env kept modelled) why))
@@ -75,30 +75,30 @@ module _ {E C FP F : Type 0} {order : CmpGhosts (InternalKeyCmp C)} (env : EnvGh
 -- ---- files
 
 -- in the last one this is found, and in the others nothing
-last_finds : {E C FP F : Type 0} {order : CmpGhosts (InternalKeyCmp C)} (env : EnvGhosts E F) (by : TableOptions C FP) (key : List ℕ) (from : E) (old : TableCache E C FP F order) (looked : List NewFile) (file : NewFile) (found : Option (Option (List ℕ)))
-    → FindsInNone env by key from old looked → FindsInTable env by key from old file.number found → FindsInLast env by key from old (looked ++ file ∷ []) found
-last_finds env by key from old [] file found none finds = finds
-last_finds env by key from old (one ∷ looked) file found none finds =
-    let here = All-head (λ (f : NewFile). FindsInTable env by key from old f.number None) one looked none in
-    let rest = last_finds env by key from old looked file found (All-tail (λ (f : NewFile). FindsInTable env by key from old f.number None) one looked none) finds in
+last_finds : {E C FP F : Type 0} {order : CmpGhosts (InternalKeyCmp C)} (env : EnvGhosts E F) (by : TableOptions C FP) (key : List ℕ) (from : E) (old : TableCache E C FP F) (looked : List NewFile) (file : NewFile) (found : Option (Option (List ℕ)))
+    → FindsInNone order env by key from old looked → FindsInTable order env by key from old file.number found → FindsInLast order env by key from old (looked ++ file ∷ []) found
+last_finds {order = order} env by key from old [] file found none finds = finds
+last_finds {order = order} env by key from old (one ∷ looked) file found none finds =
+    let here = All-head (λ (f : NewFile). FindsInTable order env by key from old f.number None) one looked none in
+    let rest = last_finds env by key from old looked file found (All-tail (λ (f : NewFile). FindsInTable order env by key from old f.number None) one looked none) finds in
     with_more looked here rest
   where
-    with_more : (more : List NewFile) → FindsInTable env by key from old one.number None → FindsInLast env by key from old (more ++ file ∷ []) found → FindsInLast env by key from old (one ∷ (more ++ file ∷ [])) found
+    with_more : (more : List NewFile) → FindsInTable order env by key from old one.number None → FindsInLast order env by key from old (more ++ file ∷ []) found → FindsInLast order env by key from old (one ∷ (more ++ file ∷ [])) found
     with_more [] here rest = (here, rest)
     with_more (second ∷ more) here rest = (here, rest)
 
-none_finds : {E C FP F : Type 0} {order : CmpGhosts (InternalKeyCmp C)} (env : EnvGhosts E F) (by : TableOptions C FP) (key : List ℕ) (from : E) (old : TableCache E C FP F order) (looked : List NewFile)
-    → FindsInNone env by key from old looked → FindsInLast env by key from old looked None
-none_finds env by key from old [] none = refl
-none_finds env by key from old (file ∷ []) none = All-head (λ (f : NewFile). FindsInTable env by key from old f.number None) file [] none
-none_finds env by key from old (file ∷ second ∷ looked) none = (
-  All-head (λ (f : NewFile). FindsInTable env by key from old f.number None) file (second ∷ looked) none,
-  none_finds env by key from old (second ∷ looked) (All-tail (λ (f : NewFile). FindsInTable env by key from old f.number None) file (second ∷ looked) none),
+none_finds : {E C FP F : Type 0} {order : CmpGhosts (InternalKeyCmp C)} (env : EnvGhosts E F) (by : TableOptions C FP) (key : List ℕ) (from : E) (old : TableCache E C FP F) (looked : List NewFile)
+    → FindsInNone order env by key from old looked → FindsInLast order env by key from old looked None
+none_finds {order = order} env by key from old [] none = refl
+none_finds {order = order} env by key from old (file ∷ []) none = All-head (λ (f : NewFile). FindsInTable order env by key from old f.number None) file [] none
+none_finds {order = order} env by key from old (file ∷ second ∷ looked) none = (
+  All-head (λ (f : NewFile). FindsInTable order env by key from old f.number None) file (second ∷ looked) none,
+  none_finds env by key from old (second ∷ looked) (All-tail (λ (f : NewFile). FindsInTable order env by key from old f.number None) file (second ∷ looked) none),
 )
 
 -- ---- the search
 
-module _ {E C FP F : Type 0} {order : CmpGhosts (InternalKeyCmp C)} (env : EnvGhosts E F) (by : TableOptions C FP) (key : List ℕ) (from : E) (old : TableCache E C FP F order) (version : VersionValue C) where
+module _ {E C FP F : Type 0} (order : CmpGhosts (InternalKeyCmp C)) (env : EnvGhosts E F) (by : TableOptions C FP) (key : List ℕ) (from : E) (old : TableCache E C FP F) (version : VersionValue C) where
   abbrev cmp : List ℕ → List ℕ → Ordering
   cmp = by.format.order
 
@@ -116,10 +116,10 @@ module _ {E C FP F : Type 0} {order : CmpGhosts (InternalKeyCmp C)} (env : EnvGh
     pub others : (file : NewFile) → Contains files file → IsInRange cmp file (user_part key) → Contains looked file ⊎ Contains left file
 
   -- how far a look-up has come in which nothing is found yet
-  pub record SearchedSoFar (first charge : Option LevelFile) (left : List NewFile) (mid : E) (cache : TableCache E C FP F order) : Type 0 where
+  pub record SearchedSoFar (first charge : Option LevelFile) (left : List NewFile) (mid : E) (cache : TableCache E C FP F) : Type 0 where
     pub kept : KeepsDisk env from mid
     pub counted : env.failures mid ≡ env.failures from
-    pub opens : OpensTablesOf env by key from old numbers mid cache
+    pub opens : OpensTablesOf order env by key from old numbers mid cache
     pub was_there : (number : ℕ) → number < 2 ^ 64 → IsSome (table_at cache number) → IsOpenOrThere env from old number
     pub sorted : AreInVersionOrder cmp left
     pub looked : List NewFile
@@ -129,7 +129,7 @@ module _ {E C FP F : Type 0} {order : CmpGhosts (InternalKeyCmp C)} (env : EnvGh
     pub first_is : first ≡ first_of looked
     pub charge_is : charge ≡ file_to_charge looked
     pub turns : AreDisjointLevels cmp files → AreInTurn looked left
-    pub nothing : AreOpenTablesMatched env by key from old → FindsInNone env by key from old looked
+    pub nothing : AreOpenTablesMatched order env by key from old → FindsInNone order env by key from old looked
 
   pub not_begun : (left : List NewFile) → left ≡ files → AreInVersionOrder cmp files → SearchedSoFar None None left from old
   not_begun left is sorted = record {
@@ -150,11 +150,11 @@ module _ {E C FP F : Type 0} {order : CmpGhosts (InternalKeyCmp C)} (env : EnvGh
       before = λ one file c d. absurd (in_none one c);
       others = λ file c has. inr (subst (λ fs. Contains fs file) (sym is) c);
     };
-    nothing = λ matched. All-nil (λ (file : NewFile). FindsInTable env by key from old file.number None);
+    nothing = λ matched. All-nil (λ (file : NewFile). FindsInTable order env by key from old file.number None);
   }
 
-  module _ {first charge : Option LevelFile} {left : List NewFile} {mid : E} {cache : TableCache E C FP F order} (so_far : SearchedSoFar first charge left mid cache) where
-    matched_mid : AreOpenTablesMatched env by key from old → AreOpenTablesMatched env by key mid cache
+  module _ {first charge : Option LevelFile} {left : List NewFile} {mid : E} {cache : TableCache E C FP F} (so_far : SearchedSoFar first charge left mid cache) where
+    matched_mid : AreOpenTablesMatched order env by key from old → AreOpenTablesMatched order env by key mid cache
     matched_mid matched = record { modelled = matched.modelled; matches = so_far.opens.matches matched }
 
     left_in : (file : NewFile) → Contains left file → Contains files file
@@ -226,8 +226,8 @@ module _ {E C FP F : Type 0} {order : CmpGhosts (InternalKeyCmp C)} (env : EnvGh
           subst (λ fs. IsSome (fs (path_at old file.number))) (same_files env so_far.kept modelled)
           (subst (λ store. IsSome (files_at env mid (table_path store file.number))) so_far.opens.path (is_there modelled)))
 
-      module _ {to : E} {new : TableCache E C FP F order} (fits : file.number < 2 ^ 64) where
-        opens_more : OpensTablesOf env by key mid cache (file.number ∷ []) to new → OpensTablesOf env by key from old numbers to new
+      module _ {to : E} {new : TableCache E C FP F} (fits : file.number < 2 ^ 64) where
+        opens_more : OpensTablesOf order env by key mid cache (file.number ∷ []) to new → OpensTablesOf order env by key from old numbers to new
         opens_more opens = record {
           path = opens.path ∙ so_far.opens.path;
           room = opens.room ∙ so_far.opens.room;
@@ -243,7 +243,7 @@ module _ {E C FP F : Type 0} {order : CmpGhosts (InternalKeyCmp C)} (env : EnvGh
             only number c = ⊎_elim (λ (same : file.number ≡ number). same) (λ (none : Contains [] number). absurd (in_none number none)) (in_cases file.number number [] c)
 
         -- nothing is found in it
-        pub goes_on : SearchesTable env by key mid cache file.number (Ok None) to new → SearchedSoFar (option_or first (Some (level_file file))) first left_after to new
+        pub goes_on : SearchesTable order env by key mid cache file.number (Ok None) to new → SearchedSoFar (option_or first (Some (level_file file))) first left_after to new
         goes_on search = record {
           kept = KeepsDisk-trans env so_far.kept search.reads.kept_disk;
           counted = search.reads.cause.ok ∙ so_far.counted;
@@ -260,8 +260,8 @@ module _ {E C FP F : Type 0} {order : CmpGhosts (InternalKeyCmp C)} (env : EnvGh
           first_is = ap (λ o. option_or o (Some (level_file file))) so_far.first_is ∙ first_more so_far.looked file;
           charge_is = so_far.first_is ∙ charge_more so_far.looked file;
           turns = turns_more;
-          nothing = λ matched. All-push (λ (f : NewFile). FindsInTable env by key from old f.number None) so_far.looked file (so_far.nothing matched)
-              (found_before env by key from mid old cache so_far.kept so_far.opens.path matched.modelled file.number None (search.finds (matched_mid matched)));
+          nothing = λ matched. All-push (λ (f : NewFile). FindsInTable order env by key from old f.number None) so_far.looked file (so_far.nothing matched)
+              (found_before order env by key from mid old cache so_far.kept so_far.opens.path matched.modelled file.number None (search.finds (matched_mid matched)));
         }
           where
             only : (number : ℕ) → Contains (file.number ∷ []) number → file.number ≡ number
@@ -269,15 +269,15 @@ module _ {E C FP F : Type 0} {order : CmpGhosts (InternalKeyCmp C)} (env : EnvGh
 
         module _ (exact : IsExactOrder by.format.order) (order_is : order.cmp (record { 0 = by.cmp }) ≡ internal_cmp by.format.order) (tagged : 8 ≤ length key) (sizes : (one : NewFile) → Contains files one → one.size < 2 ^ 64) where
           -- a value or a deletion is found in it
-          pub stops_here : (value : Option (List ℕ)) (stats : GetStats) → stats.file ≡ first → SearchesTable env by key mid cache file.number (Ok (Some value)) to new → LooksUpNewest env by key from old version (Ok (Some value, stats)) to new
+          pub stops_here : (value : Option (List ℕ)) (stats : GetStats) → stats.file ≡ first → SearchesTable order env by key mid cache file.number (Ok (Some value)) to new → LooksUpNewest order env by key from old version (Ok (Some value, stats)) to new
           stops_here value stats charged search = record {
             finds = λ matched meaning agrees tables are.
                 some_found exact meaning (store_of old) (files_at env from) tables are.each files are.files_are (sequence_part key) (user_part key) are.levels so_far.looked file
                 (first_more_tried (disjoint_levels exact meaning (store_of old) (files_at env from) tables are.each files are.files_are are.levels))
-                (λ one c table d same. table_finds env by exact order_is key tagged from old agrees table (there exact meaning (store_of old) (files_at env from) tables are.each table d) (small tables are.files_are table d) None
-                (subst (λ (f : NewFile). FindsInTable env by key from old f.number None) (sym same) (All-contains (λ (f : NewFile). FindsInTable env by key from old f.number None) so_far.looked one (so_far.nothing matched) c)))
-                (λ table d same. table_finds env by exact order_is key tagged from old agrees table (there exact meaning (store_of old) (files_at env from) tables are.each table d) (small tables are.files_are table d) (Some value)
-                (subst (λ (f : NewFile). FindsInTable env by key from old f.number (Some value)) (sym same) (here matched)));
+                (λ one c table d same. table_finds order env by exact order_is key tagged from old agrees table (there exact meaning (store_of old) (files_at env from) tables are.each table d) (small tables are.files_are table d) None
+                (subst (λ (f : NewFile). FindsInTable order env by key from old f.number None) (sym same) (All-contains (λ (f : NewFile). FindsInTable order env by key from old f.number None) so_far.looked one (so_far.nothing matched) c)))
+                (λ table d same. table_finds order env by exact order_is key tagged from old agrees table (there exact meaning (store_of old) (files_at env from) tables are.each table d) (small tables are.files_are table d) (Some value)
+                (subst (λ (f : NewFile). FindsInTable order env by key from old f.number (Some value)) (sym same) (here matched)));
             goes = λ levels. record {
               looked = looked_more;
               first = first_more_tried levels;
@@ -293,17 +293,17 @@ module _ {E C FP F : Type 0} {order : CmpGhosts (InternalKeyCmp C)} (env : EnvGh
             cache = opens_more search.cache;
           }
             where
-              here : AreOpenTablesMatched env by key from old → FindsInTable env by key from old file.number (Some value)
-              here matched = found_before env by key from mid old cache so_far.kept so_far.opens.path matched.modelled file.number (Some value) (search.finds (matched_mid matched))
+              here : AreOpenTablesMatched order env by key from old → FindsInTable order env by key from old file.number (Some value)
+              here matched = found_before order env by key from mid old cache so_far.kept so_far.opens.path matched.modelled file.number (Some value) (search.finds (matched_mid matched))
 
               small : (tables : List LiveTable) → IsPermutation (map (λ table. table.file) tables) files → (table : LiveTable) → Contains tables table → table.file.size < 2 ^ 64
               small tables files_are table c = sizes table.file (Contains-permutation (map (λ table. table.file) tables) files table.file files_are (map_in (λ (one : LiveTable). one.file) tables table c))
 
           -- it can't be read
-          pub stops_unread : (status : Status) (result : Result (Option (Option (List ℕ)) × GetStats) Status) → IsErrAnd result (λ other. other ≡ status) → SearchesTable env by key mid cache file.number (Err status) to new → LooksUpNewest env by key from old version result to new
+          pub stops_unread : (status : Status) (result : Result (Option (Option (List ℕ)) × GetStats) Status) → IsErrAnd result (λ other. other ≡ status) → SearchesTable order env by key mid cache file.number (Err status) to new → LooksUpNewest order env by key from old version result to new
           stops_unread status result same search = record {
             finds = λ matched meaning agrees tables are. if_refused (λ found. FindsNewest (table_entries tables) (sequence_part key) (user_part key) found.0) result same;
-            goes = λ levels. if_refused (λ found. SearchesFiles env by key from old version found.0 found.1.file) result same;
+            goes = λ levels. if_refused (λ found. SearchesFiles order env by key from old version found.0 found.1.file) result same;
             reads = reads_refused env result same (reads_then env {Part = λ other. IsTableFault by.format other.code} (Err status) so_far.kept so_far.counted (λ other why. why) search.reads);
             unread = λ matched. fails_refused env result same (fails_after env (Err status) so_far.kept so_far.counted (λ other why. (file, file_in, before matched other why)) (search.unread (matched_mid matched)));
             stops = λ levels matched. fails_refused env result same (fails_after env (Err status) so_far.kept so_far.counted (λ other why. record {
@@ -321,28 +321,28 @@ module _ {E C FP F : Type 0} {order : CmpGhosts (InternalKeyCmp C)} (env : EnvGh
               if_refused P (Ok found) refused = absurd refused
               if_refused P (Err other) refused = tt
 
-              before : AreOpenTablesMatched env by key from old → (other : Status) → IsUnread env by key mid cache file.number other → IsUnread env by key from old file.number other
-              before matched other why = unread_before env by key from mid old cache so_far.kept so_far.opens.path matched.modelled file.number other why
+              before : AreOpenTablesMatched order env by key from old → (other : Status) → IsUnread order env by key mid cache file.number other → IsUnread order env by key from old file.number other
+              before matched other why = unread_before order env by key from mid old cache so_far.kept so_far.opens.path matched.modelled file.number other why
 
-              wants : AreOpenTablesMatched env by key from old → {meaning : Meaning} → Agrees by.format meaning → (tables : List LiveTable) → AreVersionTables env by key from old version meaning tables → (other : Status) → IsUnread env by key from old file.number other
+              wants : AreOpenTablesMatched order env by key from old → {meaning : Meaning} → Agrees by.format meaning → (tables : List LiveTable) → AreVersionTables order env by key from old version meaning tables → (other : Status) → IsUnread order env by key from old file.number other
                   → (other.code ≡ NotSupported) × LacksCompressor by.format meaning
               wants matched {meaning} agrees tables are other why =
                   let table = table_of exact meaning (store_of old) (files_at env from) tables are.each files are.files_are file file_in in
                   let has = there exact meaning (store_of old) (files_at env from) tables are.each table.0 table.1 in
                   let small = sizes file file_in in
-                  unread_wants env by exact order_is key tagged from old agrees table.0 has (subst (λ (f : NewFile). f.size < 2 ^ 64) (sym table.2) small) other (subst (λ (f : NewFile). IsUnread env by key from old f.number other) (sym table.2) why)
+                  unread_wants order env by exact order_is key tagged from old agrees table.0 has (subst (λ (f : NewFile). f.size < 2 ^ 64) (sym table.2) small) other (subst (λ (f : NewFile). IsUnread order env by key from old f.number other) (sym table.2) why)
 
     -- ---- no file is left
 
     module _ (exact : IsExactOrder by.format.order) (order_is : order.cmp (record { 0 = by.cmp }) ≡ internal_cmp by.format.order) (tagged : 8 ≤ length key) (sizes : (one : NewFile) → Contains files one → one.size < 2 ^ 64) where
-      pub ends_there : {left_after : List NewFile} → TakesNextFile cmp (user_part key) left None left_after → (stats : GetStats) → stats.file ≡ charge → LooksUpNewest env by key from old version (Ok (None, stats)) mid cache
+      pub ends_there : {left_after : List NewFile} → TakesNextFile cmp (user_part key) left None left_after → (stats : GetStats) → stats.file ≡ charge → LooksUpNewest order env by key from old version (Ok (None, stats)) mid cache
       ends_there {left_after} takes stats charged = record {
         finds = λ matched meaning agrees tables are.
             none_found exact meaning (store_of old) (files_at env from) tables are.each files are.files_are (sequence_part key) (user_part key) so_far.looked
             (all_tried (disjoint_levels exact meaning (store_of old) (files_at env from) tables are.each files are.files_are are.levels))
-            (λ one c table d same. table_finds env by exact order_is key tagged from old agrees table (there exact meaning (store_of old) (files_at env from) tables are.each table d)
+            (λ one c table d same. table_finds order env by exact order_is key tagged from old agrees table (there exact meaning (store_of old) (files_at env from) tables are.each table d)
             (sizes table.file (file_of exact meaning (store_of old) (files_at env from) tables are.each files are.files_are table d)) None
-            (subst (λ (f : NewFile). FindsInTable env by key from old f.number None) (sym same) (All-contains (λ (f : NewFile). FindsInTable env by key from old f.number None) so_far.looked one (so_far.nothing matched) c)));
+            (subst (λ (f : NewFile). FindsInTable order env by key from old f.number None) (sym same) (All-contains (λ (f : NewFile). FindsInTable order env by key from old f.number None) so_far.looked one (so_far.nothing matched) c)));
         goes = λ levels. record {
           looked = so_far.looked;
           first = record {
@@ -383,18 +383,18 @@ some_of : {A : Type 0} (o : Option A) → is_some o ≡ true → (x : A) × (o �
 some_of None e = cc
 some_of (Some x) e = (x, refl)
 
-module _ {E C FP F : Type 0} {order : CmpGhosts (InternalKeyCmp C)} (env : EnvGhosts E F) (by : TableOptions C FP) (key : List ℕ) (from : E) (old : TableCache E C FP F order) (version : VersionValue C)
-    {first charge : Option LevelFile} {left : List NewFile} {mid : E} {cache : TableCache E C FP F order} (so_far : SearchedSoFar env by key from old version first charge left mid cache)
-    {file : NewFile} {left_after : List NewFile} (takes : TakesNextFile by.format.order (user_part key) left (Some file) left_after) {to : E} {new : TableCache E C FP F order} (fits : file.number < 2 ^ 64) where
-  pub goes_on_without : (found : Option (Option (List ℕ))) → is_some found ≡ false → (next : Option LevelFile) → next ≡ option_or first (Some (level_file file)) → SearchesTable env by key mid cache file.number (Ok found) to new
-      → SearchedSoFar env by key from old version next first left_after to new
+module _ {E C FP F : Type 0} (order : CmpGhosts (InternalKeyCmp C)) (env : EnvGhosts E F) (by : TableOptions C FP) (key : List ℕ) (from : E) (old : TableCache E C FP F) (version : VersionValue C)
+    {first charge : Option LevelFile} {left : List NewFile} {mid : E} {cache : TableCache E C FP F} (so_far : SearchedSoFar order env by key from old version first charge left mid cache)
+    {file : NewFile} {left_after : List NewFile} (takes : TakesNextFile by.format.order (user_part key) left (Some file) left_after) {to : E} {new : TableCache E C FP F} (fits : file.number < 2 ^ 64) where
+  pub goes_on_without : (found : Option (Option (List ℕ))) → is_some found ≡ false → (next : Option LevelFile) → next ≡ option_or first (Some (level_file file)) → SearchesTable order env by key mid cache file.number (Ok found) to new
+      → SearchedSoFar order env by key from old version next first left_after to new
   goes_on_without found none next is finds =
-      subst (λ o. SearchedSoFar env by key from old version o first left_after to new) (sym is)
-      (goes_on env by key from old version so_far takes fits (subst (λ o. SearchesTable env by key mid cache file.number (Ok o) to new) (none_of found none) finds))
+      subst (λ o. SearchedSoFar order env by key from old version o first left_after to new) (sym is)
+      (goes_on order env by key from old version so_far takes fits (subst (λ o. SearchesTable order env by key mid cache file.number (Ok o) to new) (none_of found none) finds))
 
   pub stops_with : IsExactOrder by.format.order → order.cmp (record { 0 = by.cmp }) ≡ internal_cmp by.format.order → 8 ≤ length key → ((one : NewFile) → Contains (new_files_of version) one → one.size < 2 ^ 64)
-      → (found : Option (Option (List ℕ))) → is_some found ≡ true → (stats : GetStats) → stats.file ≡ first → SearchesTable env by key mid cache file.number (Ok found) to new → LooksUpNewest env by key from old version (Ok (found, stats)) to new
+      → (found : Option (Option (List ℕ))) → is_some found ≡ true → (stats : GetStats) → stats.file ≡ first → SearchesTable order env by key mid cache file.number (Ok found) to new → LooksUpNewest order env by key from old version (Ok (found, stats)) to new
   stops_with exact order_is tagged sizes found some stats charged finds =
       let value = some_of found some in
-      subst (λ o. LooksUpNewest env by key from old version (Ok (o, stats)) to new) (sym value.1)
-      (stops_here env by key from old version so_far takes fits exact order_is tagged sizes value.0 stats charged (subst (λ o. SearchesTable env by key mid cache file.number (Ok o) to new) value.1 finds))
+      subst (λ o. LooksUpNewest order env by key from old version (Ok (o, stats)) to new) (sym value.1)
+      (stops_here order env by key from old version so_far takes fits exact order_is tagged sizes value.0 stats charged (subst (λ o. SearchesTable order env by key mid cache file.number (Ok o) to new) value.1 finds))

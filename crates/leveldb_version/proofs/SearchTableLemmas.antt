@@ -54,15 +54,15 @@ fault_of env format status (inr lacks) = by (format.codings lacks.0) refl lacks.
 pub unopened_wants : (format : Format) {bytes : List ℕ} {meaning : Meaning} (agrees : Agrees format meaning) {pairs : List Pair} (is : IsTableOf format.order meaning bytes pairs) (status : Status) → IsNoStoreTable format bytes status → Wants agrees status
 unopened_wants format agrees is status none = lacks_part agrees (opens_well is format.policy_name (λ sought. format.matches (user_part sought)) agrees.filters).opens none.1
 
-module _ {E C FP F : Type 0} {order : CmpGhosts (InternalKeyCmp C)} (by : TableOptions C FP) (exact : IsExactOrder by.format.order)
+module _ {C FP F : Type 0} (order : CmpGhosts (InternalKeyCmp C)) (by : TableOptions C FP) (exact : IsExactOrder by.format.order)
     (order_is : order.cmp (record { 0 = by.cmp }) ≡ internal_cmp by.format.order) (key : List ℕ) (tagged : 8 ≤ length key)
     {bytes : List ℕ} {meaning : Meaning} (agrees : Agrees by.format meaning) {pairs : List Pair} (is : IsTableOf by.format.order meaning bytes pairs) where
-  module _ (table : StoreTable E C FP F order) (opened : IsOpenedWith by table bytes) where
+  module _ (table : StoreTable C FP F) (opened : IsOpenedWith by table bytes) where
     lines_are : lines_of table ≡ map index_pair is.parts
     lines_are = (index_read is.tabled (opens_more agrees opened.opened).indexed).0
 
     -- a look-up goes by the lines of its data blocks
-    along : (out : Outcome) → LookUpInTable by.format.codings (key_matches by.format) table key bytes out
+    along : (out : Outcome) → LookUpInTable order by.format.codings (key_matches by.format) table key bytes out
         → LookUpFromLine by.format.codings (internal_cmp by.format.order) bytes (map index_pair is.parts) (lets (key_matches by.format) table) key (seek_position (internal_cmp by.format.order) (map index_pair is.parts) key) out
     along out look_up =
         let same : order.cmp table.cmp ≡ internal_cmp by.format.order = ap order.cmp opened.ordered.0 ∙ order_is in
@@ -71,10 +71,10 @@ module _ {E C FP F : Type 0} {order : CmpGhosts (InternalKeyCmp C)} (by : TableO
         (subst (λ (o : List ℕ → List ℕ → Ordering). LookUpFromLine by.format.codings (internal_cmp by.format.order) bytes (lines_of table) (lets (key_matches by.format) table) key (seek_position o (lines_of table) key) out) same_index
         (subst (λ (o : List ℕ → List ℕ → Ordering). LookUpFromLine by.format.codings o bytes (lines_of table) (lets (key_matches by.format) table) key (seek_position (order.cmp table.index.cmp) (lines_of table) key) out) same look_up))
 
-    pub look_up_wants : (status : Status) → LookUpInTable by.format.codings (key_matches by.format) table key bytes (Err status) → Wants agrees status
+    pub look_up_wants : (status : Status) → LookUpInTable order by.format.codings (key_matches by.format) table key bytes (Err status) → Wants agrees status
     look_up_wants status look_up = look_up_lacks agrees (store_order exact) (parts_there is) (lets (key_matches by.format) table) key (accepted_key key tagged) status (along (Err status) look_up)
 
-    pub pair_says : (found : Option Pair) → FindsPair by.format.codings (key_matches by.format) table key bytes found → SaysNewest pairs key found
+    pub pair_says : (found : Option Pair) → FindsPair order by.format.codings (key_matches by.format) table key bytes found → SaysNewest pairs key found
     pair_says found finds =
         let parts = parts_there is in
         let at = look_up_finds agrees (store_order exact) parts (lets (key_matches by.format) table) key (accepted_key key tagged) finds.position (along (Ok finds.position) finds.look_up) in
@@ -84,14 +84,14 @@ module _ {E C FP F : Type 0} {order : CmpGhosts (InternalKeyCmp C)} (by : TableO
 -- ---- a call that uses the table of a number
 
 -- the room for blocks stays when a cache is renewed
-renewed_block_room : {E C FP F : Type 0} {order : CmpGhosts (InternalKeyCmp C)} (cache : TableCache E C FP F order) → (blocks_of (renewed cache)).capacity ≡ (blocks_of cache).capacity
+renewed_block_room : {E C FP F : Type 0} (cache : TableCache E C FP F) → (blocks_of (renewed cache)).capacity ≡ (blocks_of cache).capacity
 renewed_block_room cache = by ((blocks_of cache).given + 1 == 2 ^ 64)
   where
     by : (b : Bool) → (blocks_of (if b then record cache { tables = empty_cache (tables_of cache).capacity; blocks = empty_cache (blocks_of cache).capacity } else cache)).capacity ≡ (blocks_of cache).capacity
     by true = refl
     by false = refl
 
-own_room : {E C FP F : Type 0} {order : CmpGhosts (InternalKeyCmp C)} {number : ℕ} (old new : TableCache E C FP F order) → GainsOwnBlocks number old new → (blocks_of new).capacity ≡ (blocks_of old).capacity
+own_room : {E C FP F : Type 0} {number : ℕ} (old new : TableCache E C FP F) → GainsOwnBlocks number old new → (blocks_of new).capacity ≡ (blocks_of old).capacity
 own_room old new (of_open table there gains) = gains.capacity
 own_room old new (of_none none (inl same)) = ap (λ cache. (blocks_of cache).capacity) same
 own_room old new (of_none none (inr same)) = ap (λ cache. (blocks_of cache).capacity) same ∙ renewed_block_room old
@@ -103,19 +103,20 @@ some_before old None some same = cc
 some_before old (Some x) some (inl none) = cc
 some_before old (Some x) some (inr same) = subst IsSome same some
 
-module _ {E C FP F : Type 0} {order : CmpGhosts (InternalKeyCmp C)} (env : EnvGhosts E F) (by : TableOptions C FP) (key : List ℕ) (from : E) (old : TableCache E C FP F order) (number : ℕ) where
+module _ {E C FP F : Type 0} (env : EnvGhosts E F) (by : TableOptions C FP) (key : List ℕ) (from : E) (old : TableCache E C FP F) (number : ℕ) where
   -- why it fails
   may_fail : (status : Status) → MayFail env by from old number status → IsTableFault by.format status.code
   may_fail status (inl (none, not)) = fault_of env by.format status not.code
   may_fail status (inr (there, lack)) = fault_of env by.format status lack
 
-  not_read : AreOpenTablesMatched env by key from old → (status : Status) → IsNotOpened env by from old number status ⊎ LacksBlockFor env by key (files_at env from) old number status → IsUnread env by key from old number status
+module _ {E C FP F : Type 0} {order : CmpGhosts (InternalKeyCmp C)} (env : EnvGhosts E F) (by : TableOptions C FP) (key : List ℕ) (from : E) (old : TableCache E C FP F) (number : ℕ) where
+  not_read : AreOpenTablesMatched order env by key from old → (status : Status) → IsNotOpened env by from old number status ⊎ LacksBlockFor order env by key (files_at env from) old number status → IsUnread order env by key from old number status
   not_read matched status (inl (none, not)) = unopened (not.cause matched.modelled)
   not_read matched status (inr lacks) = lacks_block lacks
 
-module _ {E C FP F : Type 0} {order : CmpGhosts (InternalKeyCmp C)} (env : EnvGhosts E F) (by : TableOptions C FP) (key : List ℕ) (from : E) (old : TableCache E C FP F order) (number : ℕ) {to : E} {new : TableCache E C FP F order} where
+module _ {E C FP F : Type 0} {order : CmpGhosts (InternalKeyCmp C)} (env : EnvGhosts E F) (by : TableOptions C FP) (key : List ℕ) (from : E) (old : TableCache E C FP F) (number : ℕ) {to : E} {new : TableCache E C FP F} where
   used_tables : {T : Type 0} {Why : Status → Type 0} {result : Result T Status} → UsesTable env Why number from old result to new
-      → (AreOpenTablesMatched env by key from old → MatchesFiles env by (files_at env to) new) → OpensTablesOf env by key from old (number ∷ []) to new
+      → (AreOpenTablesMatched order env by key from old → MatchesFiles order env by (files_at env to) new) → OpensTablesOf order env by key from old (number ∷ []) to new
   used_tables uses matches = record {
     path = uses.path;
     room = uses.room;
@@ -130,10 +131,10 @@ module _ {E C FP F : Type 0} {order : CmpGhosts (InternalKeyCmp C)} (env : EnvGh
   -- the table isn't looked up in
   pub search_refused : (status : Status) (result : Result (Option (Option (List ℕ))) Status) → IsErrAnd result (λ other. other ≡ status)
       → UsesTable env {T = Option Pair} (MayFail env by from old number) number from old (Err status) to new
-      → (IsTrue env.models_disk → MatchesFiles env by (files_at env from) old → GetsPair env by number key from old (Err status) to new)
-      → SearchesTable env by key from old number result to new
+      → (IsTrue env.models_disk → MatchesFiles order env by (files_at env from) old → GetsPair order env by number key from old (Err status) to new)
+      → SearchesTable order env by key from old number result to new
   search_refused status result same uses gets = record {
-    finds = λ matched. refused_if (FindsInTable env by key from old number) result same;
+    finds = λ matched. refused_if (FindsInTable order env by key from old number) result same;
     there = refused_ok (λ other. other ≡ status) (IsOpenOrThere env from old number) result same;
     reads = reads_refused env result same (reads_weaker env (Err status) (may_fail env by key from old number) uses.reads);
     unread = λ matched. fails_refused env result same (fails_weaker env (Err status) (not_read env by key from old number matched) (gets matched.modelled matched.matches).cause);
@@ -147,9 +148,9 @@ module _ {E C FP F : Type 0} {order : CmpGhosts (InternalKeyCmp C)} (env : EnvGh
   -- what the pair that it finds says
   pub search_answers : (pair : Option Pair) (result : Result (Option (Option (List ℕ))) Status)
       → UsesTable env (MayFail env by from old number) number from old (Ok pair) to new
-      → (IsTrue env.models_disk → MatchesFiles env by (files_at env from) old → GetsPair env by number key from old (Ok pair) to new)
+      → (IsTrue env.models_disk → MatchesFiles order env by (files_at env from) old → GetsPair order env by number key from old (Ok pair) to new)
       → IfOk result (λ value. value ≡ found_at (user_part key) pair) → IfErr result (λ status. (status.code ≡ Corruption) × IsSomeAnd pair (λ it. length it.0 < 8))
-      → SearchesTable env by key from old number result to new
+      → SearchesTable order env by key from old number result to new
   search_answers pair (Ok value) uses gets is damaged = record {
     finds = λ matched bytes has. let found = (gets matched.modelled matched.matches).finds bytes has in (found.0, found.1, (pair, found.2, is));
     there = uses.there;
@@ -168,8 +169,8 @@ module _ {E C FP F : Type 0} {order : CmpGhosts (InternalKeyCmp C)} (env : EnvGh
 
 -- ---- a table of the store
 
-module _ {E C FP F : Type 0} {order : CmpGhosts (InternalKeyCmp C)} (env : EnvGhosts E F) (by : TableOptions C FP) (exact : IsExactOrder by.format.order) (order_is : order.cmp (record { 0 = by.cmp }) ≡ internal_cmp by.format.order)
-    (key : List ℕ) (tagged : 8 ≤ length key) (from : E) (old : TableCache E C FP F order) {meaning : Meaning} (agrees : Agrees by.format meaning) (table : LiveTable)
+module _ {E C FP F : Type 0} (order : CmpGhosts (InternalKeyCmp C)) (env : EnvGhosts E F) (by : TableOptions C FP) (exact : IsExactOrder by.format.order) (order_is : order.cmp (record { 0 = by.cmp }) ≡ internal_cmp by.format.order)
+    (key : List ℕ) (tagged : 8 ≤ length key) (from : E) (old : TableCache E C FP F) {meaning : Meaning} (agrees : Agrees by.format meaning) (table : LiveTable)
     (has : HasTable (store_of old) by.format.order (IsTableOf by.format.order meaning) (files_at env from) table) (small : table.file.size < 2 ^ 64) where
   has_bytes : HasBytesAt (files_at env from) (path_at old table.file.number) (bytes_of has.file)
   has_bytes = record {
@@ -178,24 +179,24 @@ module _ {E C FP F : Type 0} {order : CmpGhosts (InternalKeyCmp C)} (env : EnvGh
   }
 
   -- what is found in it, its entries have
-  pub table_finds : (found : Option (Option (List ℕ))) → FindsInTable env by key from old table.file.number found → FindsNewest table.entries (sequence_part key) (user_part key) found
+  pub table_finds : (found : Option (Option (List ℕ))) → FindsInTable order env by key from old table.file.number found → FindsNewest table.entries (sequence_part key) (user_part key) found
   table_finds found finds =
       let it = finds (bytes_of has.file) has_bytes in
-      let says = pair_says by exact order_is key tagged agrees has.read it.0 it.1 it.2.0 it.2.1 in
+      let says = pair_says order by exact order_is key tagged agrees has.read it.0 it.1 it.2.0 it.2.1 in
       subst (FindsNewest table.entries (sequence_part key) (user_part key)) (sym it.2.2)
       (subst (λ (es : List Entry). FindsNewest es (sequence_part key) (user_part key) (found_at (user_part key) it.2.0)) (entries_are has.pairs table.entries has.each) says.newest)
 
   -- it can't be read only where a compressor is wanting
-  pub unread_wants : (status : Status) → IsUnread env by key from old table.file.number status → Wants agrees status
+  pub unread_wants : (status : Status) → IsUnread order env by key from old table.file.number status → Wants agrees status
   unread_wants status (unopened (missing none code)) = absurd (never has.there none)
     where
       never : {o : Option File} {file : File} → o ≡ Some file → o ≡ None → ⊥
       never p q = cc
   unread_wants status (unopened (no_table some lacks)) = unopened_wants by.format agrees has.read status (lacks (bytes_of has.file) has_bytes)
-  unread_wants status (lacks_block lacks) = let it = lacks (bytes_of has.file) has_bytes in look_up_wants by exact order_is key tagged agrees has.read it.0 it.1 status it.2
+  unread_wants status (lacks_block lacks) = let it = lacks (bytes_of has.file) has_bytes in look_up_wants order by exact order_is key tagged agrees has.read it.0 it.1 status it.2
   unread_wants status (untagged code short) =
       let it = short (bytes_of has.file) has_bytes in
-      let says = pair_says by exact order_is key tagged agrees has.read it.0 it.1 it.2.0 it.2.1 in
+      let says = pair_says order by exact order_is key tagged agrees has.read it.0 it.1 it.2.0 it.2.1 in
       absurd (never it.2.0 says.tagged it.2.2)
     where
       never : (pair : Option Pair) → IfSome pair (λ one. 8 ≤ length one.0) → IsSomeAnd pair (λ one. length one.0 < 8) → ⊥

@@ -80,29 +80,29 @@ module _ {E F : Type 0} (env : EnvGhosts E F) where
 
 -- ---- a cache that is renewed
 
-module _ {E C FP F : Type 0} {order : CmpGhosts (InternalKeyCmp C)} where
+module _ {E C FP F : Type 0} where
   -- what holds of a cache and of one that is empty holds of a renewed one
-  renewed_has : (P : TableCache E C FP F order → Type 0) (cache : TableCache E C FP F order) → P cache → P (record cache { tables = empty_cache (tables_of cache).capacity; blocks = empty_cache (blocks_of cache).capacity }) → P (renewed cache)
+  renewed_has : (P : TableCache E C FP F → Type 0) (cache : TableCache E C FP F) → P cache → P (record cache { tables = empty_cache (tables_of cache).capacity; blocks = empty_cache (blocks_of cache).capacity }) → P (renewed cache)
   renewed_has P cache same empty =
       elim ((blocks_of cache).given + 1 == 2 ^ 64) as (λ b. P (if b then record cache { tables = empty_cache (tables_of cache).capacity; blocks = empty_cache (blocks_of cache).capacity } else cache)) [
         | true ↦ empty
         | false ↦ same
       ]
 
-  pub renewed_store : (cache : TableCache E C FP F order) → store_of (renewed cache) ≡ store_of cache
+  pub renewed_store : (cache : TableCache E C FP F) → store_of (renewed cache) ≡ store_of cache
   renewed_store cache = renewed_has (λ new. store_of new ≡ store_of cache) cache refl refl
 
-  pub renewed_room : (cache : TableCache E C FP F order) → (tables_of (renewed cache)).capacity ≡ (tables_of cache).capacity
+  pub renewed_room : (cache : TableCache E C FP F) → (tables_of (renewed cache)).capacity ≡ (tables_of cache).capacity
   renewed_room cache = renewed_has (λ new. (tables_of new).capacity ≡ (tables_of cache).capacity) cache refl refl
 
-  pub renewed_closes : (cache : TableCache E C FP F order) (number : ℕ) → IsSameOrClosed number cache (renewed cache)
+  pub renewed_closes : (cache : TableCache E C FP F) (number : ℕ) → IsSameOrClosed number cache (renewed cache)
   renewed_closes cache number = renewed_has (λ new. IsSameOrClosed number cache new) cache (inr refl) (inl refl)
 
-  pub renewed_none : (cache : TableCache E C FP F order) (number : ℕ) → table_at cache number ≡ None → table_at (renewed cache) number ≡ None
+  pub renewed_none : (cache : TableCache E C FP F) (number : ℕ) → table_at cache number ≡ None → table_at (renewed cache) number ≡ None
   renewed_none cache number none = renewed_has (λ new. table_at new number ≡ None) cache none refl
 
   -- it gives a next id
-  pub renewed_gives : (cache : TableCache E C FP F order) → (blocks_of (renewed cache)).given + 1 ≢ 2 ^ 64
+  pub renewed_gives : (cache : TableCache E C FP F) → (blocks_of (renewed cache)).given + 1 ≢ 2 ^ 64
   renewed_gives cache = ⊎_elim
       (λ full. rw full.0 (λ e. absurd (omega (arith, e))))
       (λ some. rw some.0 some.1)
@@ -110,9 +110,9 @@ module _ {E C FP F : Type 0} {order : CmpGhosts (InternalKeyCmp C)} where
 
 -- ---- opening in a cache
 
-module _ {E C FP F : Type 0} {order : CmpGhosts (InternalKeyCmp C)} (env : EnvGhosts E F) (by : TableOptions C FP) (number : ℕ) (from : E) (old : TableCache E C FP F order) where
+module _ {E C FP F : Type 0} (env : EnvGhosts E F) (by : TableOptions C FP) (number : ℕ) (from : E) (old : TableCache E C FP F) where
   -- no table is opened
-  pub numbered_err : {T : Type 0} {to : E} {new : TableCache E C FP F order} (result : Result (StoreTable E C FP F order) Status) {status : Status} → IsErrAnd result (λ other. other ≡ status)
+  pub numbered_err : {T : Type 0} {to : E} {new : TableCache E C FP F} (result : Result (StoreTable C FP F) Status) {status : Status} → IsErrAnd result (λ other. other ≡ status)
       → ReadsFile env {T = T} (IsUnopened env by.format from (path_at old number)) from to (Err status) → NoneOpened old new → OpensNumbered env by number from old result to new
   numbered_err (Ok table) same reads left = absurd same
   numbered_err {T = T} (Err other) same reads left = record {
@@ -126,7 +126,7 @@ module _ {E C FP F : Type 0} {order : CmpGhosts (InternalKeyCmp C)} (env : EnvGh
   }
 
   -- a file is, and then the table in it
-  module _ (now : TableCache E C FP F order) (now_is : now ≡ renewed old) {mid : E} (file : F) (size : ℕ) (named : IsTrue env.models_disk → (env.name_of file ≡ path_at old number)
+  module _ (now : TableCache E C FP F) (now_is : now ≡ renewed old) {mid : E} (file : F) (size : ℕ) (named : IsTrue env.models_disk → (env.name_of file ≡ path_at old number)
       × IsSomeAnd (files_at env from (path_at old number)) (λ f. size ≡ length (bytes_of f))) (kept : KeepsDisk env from mid) (counted : env.failures mid ≡ env.failures from) where
     has_mid : {bytes : List ℕ} → IsTrue env.models_disk → HasBytesAt (files_at env from) (path_at old number) bytes → FileHas env mid file bytes
     has_mid modelled has = FileHas-at env modelled (named modelled).0 kept has
@@ -138,7 +138,7 @@ module _ {E C FP F : Type 0} {order : CmpGhosts (InternalKeyCmp C)} (env : EnvGh
     is_there modelled = some_there (λ f. size ≡ length (bytes_of f)) (files_at env from (path_at old number)) (named modelled).1
 
     more_ids : (blocks_of now).given + 1 ≢ 2 ^ 64
-    more_ids = subst (λ (c : TableCache E C FP F order). (blocks_of c).given + 1 ≢ 2 ^ 64) (sym now_is) (renewed_gives old)
+    more_ids = subst (λ (c : TableCache E C FP F). (blocks_of c).given + 1 ≢ 2 ^ 64) (sym now_is) (renewed_gives old)
 
     why : (status : Status) → ((status.code ≡ NotSupported) × ((blocks_of now).given + 1 ≡ 2 ^ 64))
         ⊎ IsLackError env by.format.codings (IsNoTable by.format.codings (key_order by.format) (filter_key by.format.policy_name) size) mid file status → IsUnopened env by.format from (path_at old number) status
@@ -149,7 +149,7 @@ module _ {E C FP F : Type 0} {order : CmpGhosts (InternalKeyCmp C)} (env : EnvGh
           (λ bytes has. subst (λ n. IsNoTable by.format.codings (key_order by.format) (filter_key by.format.policy_name) n bytes status) (sized modelled has) (lack.1 bytes (has_mid modelled has)));
     }
 
-    pub numbered : {to : E} {after : Cached (CachedBlock (InternalKeyCmp C) order)} (result : Result (StoreTable E C FP F order) Status)
+    pub numbered : {to : E} {after : Cached (CachedBlock (InternalKeyCmp C))} (result : Result (StoreTable C FP F) Status)
         → OpensTable env by.format.codings (IsOpenedAs by.format.codings (key_order by.format) (filter_key by.format.policy_name) size) (AreOfPolicy by.policy) (IsNoTable by.format.codings (key_order by.format) (filter_key by.format.policy_name) size)
         (record { 0 = by.cmp }) file mid (blocks_of now) result to after
         → OpensNumbered env by number from old result to (record now { blocks = after })
@@ -162,8 +162,8 @@ module _ {E C FP F : Type 0} {order : CmpGhosts (InternalKeyCmp C)} (env : EnvGh
         ordered = opens.order;
         filtered = opens.policy;
       };
-      id = (opens.id.0 ∙ ap (λ (c : TableCache E C FP F order). (blocks_of c).given + 1) now_is, opens.id_fits);
-      cache = ap (λ b. record now { blocks = b }) opens.id.1 ∙ ap (λ (c : TableCache E C FP F order). record c { blocks = record (blocks_of c) { given = id_of table } }) now_is;
+      id = (opens.id.0 ∙ ap (λ (c : TableCache E C FP F). (blocks_of c).given + 1) now_is, opens.id_fits);
+      cache = ap (λ b. record now { blocks = b }) opens.id.1 ∙ ap (λ (c : TableCache E C FP F). record c { blocks = record (blocks_of c) { given = id_of table } }) now_is;
       err = tt;
     }
     numbered {after = after} (Err status) opens = record {
@@ -231,20 +231,20 @@ same_or_gone old None (Some file) first second = absurd second
 same_or_gone None (Some between) (Some file) first second = absurd first
 same_or_gone (Some before) (Some between) (Some file) first second = first ∙ second
 
-module _ {E C FP F : Type 0} {order : CmpGhosts (InternalKeyCmp C)} where
+module _ {E C FP F : Type 0} where
   -- no file changes, and one change after another
-  pub AreSameOrGone-refl : (cache : TableCache E C FP F order) (files : Files) → AreSameOrGone cache files files
+  pub AreSameOrGone-refl : (cache : TableCache E C FP F) (files : Files) → AreSameOrGone cache files files
   AreSameOrGone-refl cache files number fits there = not_changed (files (path_at cache number))
 
-  pub AreSameOrGone-trans : (cache : TableCache E C FP F order) (old mid new : Files) → AreSameOrGone cache old mid → AreSameOrGone cache mid new → AreSameOrGone cache old new
+  pub AreSameOrGone-trans : (cache : TableCache E C FP F) (old mid new : Files) → AreSameOrGone cache old mid → AreSameOrGone cache mid new → AreSameOrGone cache old new
   AreSameOrGone-trans cache old mid new first second number fits there =
       same_or_gone (old (path_at cache number)) (mid (path_at cache number)) (new (path_at cache number)) (first number fits there) (second number fits there)
 
   -- no table is closed, and some and then others
-  pub ClosesTables-refl : (cache : TableCache E C FP F order) → ClosesTables cache cache
+  pub ClosesTables-refl : (cache : TableCache E C FP F) → ClosesTables cache cache
   ClosesTables-refl cache = record { path = refl; blocks = refl; room = refl; found = refl; each = λ number fits. inr refl }
 
-  pub ClosesTables-trans : {old mid new : TableCache E C FP F order} → ClosesTables old mid → ClosesTables mid new → ClosesTables old new
+  pub ClosesTables-trans : {old mid new : TableCache E C FP F} → ClosesTables old mid → ClosesTables mid new → ClosesTables old new
   ClosesTables-trans first second = record {
     path = second.path ∙ first.path;
     blocks = second.blocks ∙ first.blocks;
@@ -254,18 +254,18 @@ module _ {E C FP F : Type 0} {order : CmpGhosts (InternalKeyCmp C)} where
   }
 
   -- what is open was open
-  pub was_there : (old new : TableCache E C FP F order) (number : ℕ) {table : StoreTable E C FP F order} → IsSameOrClosed number old new → table_at new number ≡ Some table → table_at old number ≡ Some table
+  pub was_there : (old new : TableCache E C FP F) (number : ℕ) {table : StoreTable C FP F} → IsSameOrClosed number old new → table_at new number ≡ Some table → table_at old number ≡ Some table
   was_there old new number closed there = ⊎_elim (λ none. absurd (none_value none there)) (λ same. sym same ∙ there) closed
 
   -- so fewer files are those of open tables
-  pub AreSameOrGone-fewer : {old new : TableCache E C FP F order} (before after : Files) → ClosesTables old new → AreSameOrGone old before after → AreSameOrGone new before after
+  pub AreSameOrGone-fewer : {old new : TableCache E C FP F} (before after : Files) → ClosesTables old new → AreSameOrGone old before after → AreSameOrGone new before after
   AreSameOrGone-fewer {old} {new} before after closes kept number fits there =
       let table = some_of (table_at new number) there in
       subst (λ store. IsSameOrGone (before (table_path store number)) (after (table_path store number))) (sym closes.path)
       (kept number fits (some_is (was_there old new number (closes.each number fits) table.1)))
 
 module _ {E C FP F : Type 0} {order : CmpGhosts (InternalKeyCmp C)} (env : EnvGhosts E F) (by : TableOptions C FP) where
-  pub matches_changed : (cache : TableCache E C FP F order) {old new : Files} → AreSameOrGone cache old new → MatchesFiles env by old cache → MatchesFiles env by new cache
+  pub matches_changed : (cache : TableCache E C FP F) {old new : Files} → AreSameOrGone cache old new → MatchesFiles order env by old cache → MatchesFiles order env by new cache
   matches_changed cache {old} {new} kept was = record {
     each = λ number table fits there.
         (let is = was.each number table fits there in
@@ -284,28 +284,28 @@ module _ {E C FP F : Type 0} {order : CmpGhosts (InternalKeyCmp C)} (env : EnvGh
   }
 
   -- a call that only reads changes no file
-  pub matches_later : (cache : TableCache E C FP F order) {old new : E} → IsTrue env.models_disk → KeepsDisk env old new → MatchesFiles env by (files_at env old) cache → MatchesFiles env by (files_at env new) cache
-  matches_later cache {old} {new} modelled kept was = subst (λ files. MatchesFiles env by files cache) (sym (same_files env kept modelled)) was
+  pub matches_later : (cache : TableCache E C FP F) {old new : E} → IsTrue env.models_disk → KeepsDisk env old new → MatchesFiles order env by (files_at env old) cache → MatchesFiles order env by (files_at env new) cache
+  matches_later cache {old} {new} modelled kept was = subst (λ files. MatchesFiles order env by files cache) (sym (same_files env kept modelled)) was
 
-  pub matches_closed : {old new : TableCache E C FP F order} (files : Files) → ClosesTables old new → MatchesFiles env by files old → MatchesFiles env by files new
+  pub matches_closed : {old new : TableCache E C FP F} (files : Files) → ClosesTables old new → MatchesFiles order env by files old → MatchesFiles order env by files new
   matches_closed {old} {new} files closes was = record {
     each = λ number table fits there.
         (let is = was.each number table fits (was_there old new number (closes.each number fits) there) in record {
           path = λ modelled. is.path modelled ∙ ap (λ store. table_path store number) (sym closes.path);
           opened = subst (λ store. ForBytesAt files (table_path store number) (IsOpenedWith by table)) (sym closes.path) is.opened;
-          blocks = subst (λ store. ForBytesAt files (table_path store number) (λ bytes. HoldsOnlyOf by.format.codings (key_order by.format) (id_of table) bytes (blocks_of new))) (sym closes.path)
-              (subst (λ b. ForBytesAt files (path_at old number) (λ bytes. HoldsOnlyOf by.format.codings (key_order by.format) (id_of table) bytes b)) (sym closes.blocks) is.blocks);
-          given = subst (λ (b : Cached (CachedBlock (InternalKeyCmp C) order)). id_of table ≤ b.given) (sym closes.blocks) is.given;
+          blocks = subst (λ store. ForBytesAt files (table_path store number) (λ bytes. HoldsOnlyOf order by.format.codings (key_order by.format) (id_of table) bytes (blocks_of new))) (sym closes.path)
+              (subst (λ b. ForBytesAt files (path_at old number) (λ bytes. HoldsOnlyOf order by.format.codings (key_order by.format) (id_of table) bytes b)) (sym closes.blocks) is.blocks);
+          given = subst (λ (b : Cached (CachedBlock (InternalKeyCmp C))). id_of table ≤ b.given) (sym closes.blocks) is.given;
         });
     apart = λ m n a b m_fits n_fits at_m at_n same.
         was.apart m n a b m_fits n_fits (was_there old new m (closes.each m m_fits) at_m) (was_there old new n (closes.each n n_fits) at_n) same;
-    ids = subst (λ (b : Cached (CachedBlock (InternalKeyCmp C) order)). b.given < 2 ^ 64) (sym closes.blocks) was.ids;
+    ids = subst (λ (b : Cached (CachedBlock (InternalKeyCmp C))). b.given < 2 ^ 64) (sym closes.blocks) was.ids;
     numbered = subst IsNumbered (sym closes.blocks) was.numbered;
   }
 
   -- a renewed cache matches too, since it has less
-  pub matches_renewed : (cache : TableCache E C FP F order) (files : Files) → MatchesFiles env by files cache → MatchesFiles env by files (renewed cache)
-  matches_renewed cache files was = renewed_has (λ new. MatchesFiles env by files new) cache was (record {
+  pub matches_renewed : (cache : TableCache E C FP F) (files : Files) → MatchesFiles order env by files cache → MatchesFiles order env by files (renewed cache)
+  matches_renewed cache files was = renewed_has (λ new. MatchesFiles order env by files new) cache was (record {
     each = λ number table fits there. absurd (none_value refl there);
     apart = λ m n a b m_fits n_fits at_m at_n same. absurd (none_value refl at_m);
     ids = omega arith;
@@ -313,7 +313,7 @@ module _ {E C FP F : Type 0} {order : CmpGhosts (InternalKeyCmp C)} (env : EnvGh
   })
 
   -- which key was found last says nothing of the tables
-  pub matches_found : (cache : TableCache E C FP F order) (found : List ℕ) (files : Files) → MatchesFiles env by files cache → MatchesFiles env by files (record cache { finder = found })
+  pub matches_found : (cache : TableCache E C FP F) (found : List ℕ) (files : Files) → MatchesFiles order env by files cache → MatchesFiles order env by files (record cache { finder = found })
   matches_found cache found files was = record {
     each = λ number table fits there.
         (let is = was.each number table fits there in record { path = is.path; opened = is.opened; blocks = is.blocks; given = is.given });
@@ -325,9 +325,9 @@ module _ {E C FP F : Type 0} {order : CmpGhosts (InternalKeyCmp C)} (env : EnvGh
   -- ---- other tables
 
   -- the tables that are left are those that were there
-  pub matches_left : (cache : TableCache E C FP F order) (tables : Cached (StoreTable E C FP F order)) (files : Files)
-      → ((number : ℕ) (table : StoreTable E C FP F order) → number < 2 ^ 64 → value_of (table_key number) tables.pairs ≡ Some table → table_at cache number ≡ Some table)
-      → MatchesFiles env by files cache → MatchesFiles env by files (record cache { tables = tables })
+  pub matches_left : (cache : TableCache E C FP F) (tables : Cached (StoreTable C FP F)) (files : Files)
+      → ((number : ℕ) (table : StoreTable C FP F) → number < 2 ^ 64 → value_of (table_key number) tables.pairs ≡ Some table → table_at cache number ≡ Some table)
+      → MatchesFiles order env by files cache → MatchesFiles order env by files (record cache { tables = tables })
   matches_left cache tables files left was = record {
     each = λ number table fits there.
         (let is = was.each number table fits (left number table fits there) in record { path = is.path; opened = is.opened; blocks = is.blocks; given = is.given });
@@ -337,22 +337,22 @@ module _ {E C FP F : Type 0} {order : CmpGhosts (InternalKeyCmp C)} (env : EnvGh
   }
 
   -- a look-up leaves all
-  pub matches_looked : (cache : TableCache E C FP F order) (tables : Cached (StoreTable E C FP F order)) (files : Files) (number : ℕ) → tables ≡ record (tables_of cache) { pairs = looked_for (table_key number) (tables_of cache).pairs }
-      → MatchesFiles env by files cache → MatchesFiles env by files (record cache { tables = tables })
+  pub matches_looked : (cache : TableCache E C FP F) (tables : Cached (StoreTable C FP F)) (files : Files) (number : ℕ) → tables ≡ record (tables_of cache) { pairs = looked_for (table_key number) (tables_of cache).pairs }
+      → MatchesFiles order env by files cache → MatchesFiles order env by files (record cache { tables = tables })
   matches_looked cache tables files number is was =
       matches_left cache tables files
-      (λ n table fits there. sym (looked_for_same (table_key n) (table_key number) (tables_of cache).pairs) ∙ ap (λ (c : Cached (StoreTable E C FP F order)). value_of (table_key n) c.pairs) (sym is) ∙ there) was
+      (λ n table fits there. sym (looked_for_same (table_key n) (table_key number) (tables_of cache).pairs) ∙ ap (λ (c : Cached (StoreTable C FP F)). value_of (table_key n) c.pairs) (sym is) ∙ there) was
 
   -- one more table, which matches and has an id of its own
-  pub matches_put : (cache : TableCache E C FP F order) (tables : Cached (StoreTable E C FP F order)) (files : Files) (number : ℕ) (table : StoreTable E C FP F order) → number < 2 ^ 64
+  pub matches_put : (cache : TableCache E C FP F) (tables : Cached (StoreTable C FP F)) (files : Files) (number : ℕ) (table : StoreTable C FP F) → number < 2 ^ 64
       → tables ≡ record (tables_of cache) { pairs = put_first (tables_of cache).capacity (table_key number) table (tables_of cache).pairs }
-      → MatchesFile env by files cache number table → ((n : ℕ) (other : StoreTable E C FP F order) → n < 2 ^ 64 → table_at cache n ≡ Some other → id_of other ≢ id_of table)
-      → MatchesFiles env by files cache → MatchesFiles env by files (record cache { tables = tables })
+      → MatchesFile order env by files cache number table → ((n : ℕ) (other : StoreTable C FP F) → n < 2 ^ 64 → table_at cache n ≡ Some other → id_of other ≢ id_of table)
+      → MatchesFiles order env by files cache → MatchesFiles order env by files (record cache { tables = tables })
   matches_put cache tables files number table fits is it apart was = record {
     each = λ n other n_fits there. ⊎_elim
         (λ before. (let m = was.each n other n_fits before in record { path = m.path; opened = m.opened; blocks = m.blocks; given = m.given }))
-        (λ own. subst (λ k. MatchesFile env by files (record cache { tables = tables }) k other) (sym own.0)
-        (subst (MatchesFile env by files (record cache { tables = tables }) number) own.1 (record { path = it.path; opened = it.opened; blocks = it.blocks; given = it.given })))
+        (λ own. subst (λ k. MatchesFile order env by files (record cache { tables = tables }) k other) (sym own.0)
+        (subst (MatchesFile order env by files (record cache { tables = tables }) number) own.1 (record { path = it.path; opened = it.opened; blocks = it.blocks; given = it.given })))
         (found n other n_fits there);
     apart = λ m n a b m_fits n_fits at_m at_n same.
         ⊎_elim
@@ -365,18 +365,18 @@ module _ {E C FP F : Type 0} {order : CmpGhosts (InternalKeyCmp C)} (env : EnvGh
     numbered = was.numbered;
   }
     where
-      found : (n : ℕ) (other : StoreTable E C FP F order) → n < 2 ^ 64 → value_of (table_key n) tables.pairs ≡ Some other → (table_at cache n ≡ Some other) ⊎ ((n ≡ number) × (table ≡ other))
+      found : (n : ℕ) (other : StoreTable C FP F) → n < 2 ^ 64 → value_of (table_key n) tables.pairs ≡ Some other → (table_at cache n ≡ Some other) ⊎ ((n ≡ number) × (table ≡ other))
       found n other n_fits there =
           ⊎_elim (λ before. inl before) (λ own. inr (one_number n number n_fits fits own.0, own.1))
-          (put_finds (table_key n) (tables_of cache).capacity (table_key number) table other (tables_of cache).pairs (ap (λ (c : Cached (StoreTable E C FP F order)). value_of (table_key n) c.pairs) (sym is) ∙ there))
+          (put_finds (table_key n) (tables_of cache).capacity (table_key number) table other (tables_of cache).pairs (ap (λ (c : Cached (StoreTable C FP F)). value_of (table_key n) c.pairs) (sym is) ∙ there))
 
   -- ---- other blocks
 
   -- what blocks are in memory of an open table are its file's still
-  pub matches_blocks : (cache : TableCache E C FP F order) (blocks : Cached (CachedBlock (InternalKeyCmp C) order)) (files : Files) → MatchesFiles env by files cache → blocks.given < 2 ^ 64 → (blocks_of cache).given ≤ blocks.given → IsNumbered blocks
-      → ((number : ℕ) (table : StoreTable E C FP F order) → number < 2 ^ 64 → table_at cache number ≡ Some table → (bytes : List ℕ) → HasBytesAt files (path_at cache number) bytes
-      → HoldsOnlyOf by.format.codings (key_order by.format) (id_of table) bytes blocks)
-      → MatchesFiles env by files (record cache { blocks = blocks })
+  pub matches_blocks : (cache : TableCache E C FP F) (blocks : Cached (CachedBlock (InternalKeyCmp C))) (files : Files) → MatchesFiles order env by files cache → blocks.given < 2 ^ 64 → (blocks_of cache).given ≤ blocks.given → IsNumbered blocks
+      → ((number : ℕ) (table : StoreTable C FP F) → number < 2 ^ 64 → table_at cache number ≡ Some table → (bytes : List ℕ) → HasBytesAt files (path_at cache number) bytes
+      → HoldsOnlyOf order by.format.codings (key_order by.format) (id_of table) bytes blocks)
+      → MatchesFiles order env by files (record cache { blocks = blocks })
   matches_blocks cache blocks files was ids given numbered holds = record {
     each = λ number table fits there.
         (let is = was.each number table fits there in record { path = is.path; opened = is.opened; blocks = λ bytes has. holds number table fits there bytes has; given = le_trans is.given given });

@@ -14,14 +14,14 @@ use Rattle.leveldb_table.proofs.TableLemmas.{has_one_block}
 use Rattle.leveldb_table.proofs.TableReaderLemmas.{blocks_one}
 use Rattle.leveldb_table.proofs.TableReaderMovesLemmas.{last_none}
 use Rattle.leveldb_table.proofs.TableReaderWalkLemmas.{after_none, all_at, is_there_along, lacks_some, last_block, last_of_none, pairs_cut, part_at, parts_some, position_in, position_none, position_out, previous_block, same_handle, seek_after, seek_in, seek_none, to_block}
+use Rattle.leveldb_table.specs.BlockWalk.{pairs_over, position_over}
 use Rattle.leveldb_table.specs.Table.{HasBlockAt, IsPart, Part, index_pair}
 use Rattle.leveldb_table.specs.TableBlock.{LacksBlock, LacksLine, lacking, unnamed}
 use Rattle.leveldb_table.specs.TableReader.{HasParts, pairs_in}
 use Rattle.leveldb_table.specs.TableReaderBlocks.{IsAfterLine, IsBeforeBlock, IsIndexed}
 use Rattle.leveldb_table.specs.TableReaderMoves.{HasLine, InsideOr, ToBlock, ToFirstPair, ToKeyByLine, ToKeyInBlock, ToLastPair}
 use Rattle.leveldb_table.specs.TableReaderSteps.{step_to}
-use Rattle.leveldb_table.specs.TableReaderWalk.{IsAtPair, IsAtPairOrNone, TablePosition, position_over, pairs_over, table_position}
-use Rattle.leveldb_table.specs.declared.table_reader.walk.TableCore.{TableCore}
+use Rattle.leveldb_table.specs.TableReaderWalk.{IsAtPair, IsAtPairOrNone, TablePlace, TablePosition, table_position}
 use Rattle.leveldb_table.specs.declared.table_reader.walk.TableStep.{TableStep}
 use Rattle.leveldb_table.specs.declared.table_reader.walk.TableStep.TheVariants.{First, Last, NextBlock, BlockBefore, Seek}
 use Rattle.leveldb_version.proofs.ReadTableLemmas.{Wants, block_more, lacks_block, same_outcome, value_of}
@@ -184,12 +184,12 @@ module _ {format : Format} {meaning : Meaning} (agrees : Agrees format meaning) 
 
   -- ---- the steps of a walk
 
-  module _ {C : Type 0} {ordered : CmpGhosts C} (old : TableCore C ordered) (indexed : IsIndexed cmp parts old) where
+  module _ {C : Type 0} {ordered : CmpGhosts C} (old : TablePlace C) (indexed : IsIndexed ordered cmp parts old) where
     -- by the lines of the data blocks
     along : (P : List Pair → (List ℕ → List ℕ → Ordering) → Type 0) → P (pairs_over old.index) (ordered.cmp old.index.block.cmp) → P lines cmp
     along P is = subst (λ ls. P ls cmp) indexed.lines (subst (λ (o : List ℕ → List ℕ → Ordering). P (pairs_over old.index) o) indexed.ordered is)
 
-    pub step_leads : (accepts_is : (key : List ℕ) → internal_accepts any_user_key key ≡ true → accepts key ≡ true) (to : TableStep) (new : TablePosition) (position : Option ℕ) → step_to to format.codings cmp bytes old (Ok new)
+    pub step_leads : (accepts_is : (key : List ℕ) → internal_accepts any_user_key key ≡ true → accepts key ≡ true) (to : TableStep) (new : TablePosition) (position : Option ℕ) → step_to ordered to format.codings cmp bytes old (Ok new)
         → IsLedTo to cmp parts (Some old) position → IsAtPairOrNone parts new.line new.pairs new.inner position
     step_leads accepts_is First new position step led =
         subst (λ p. IsAtPairOrNone parts new.line new.pairs new.inner p) (sym led)
@@ -209,7 +209,7 @@ module _ {format : Format} {meaning : Meaning} (agrees : Agrees format meaning) 
         (to_key key.now (accepts_is key.now led.1) (seek_position cmp lines key.now) new refl
         (along (λ ls o. ToKeyByLine format.codings cmp bytes ls key.now (seek_position o ls key.now) (Ok new)) step))
 
-    pub step_wants : (to : TableStep) (status : Status) → step_to to format.codings cmp bytes old (Err status) → Wants agrees status
+    pub step_wants : (to : TableStep) (status : Status) → step_to ordered to format.codings cmp bytes old (Err status) → Wants agrees status
     step_wants First status step =
         block_wants (λ pairs. position_within pairs 0) (position_within lines 0) status (along (λ ls o. ToFirstPair format.codings cmp bytes ls (position_within ls 0) (Err status)) step)
     step_wants Last status step = block_wants last_position (last_position lines) status (along (λ ls o. ToLastPair format.codings cmp bytes ls (last_position ls) (Err status)) step)

@@ -23,8 +23,7 @@ use Rattle.leveldb_iter.specs.Walk.{KeyOrder, MovesWalk}
 use Rattle.leveldb_table.proofs.TableReaderWalkLemmas.{position_in, position_out, seek_after, seek_in, seek_none}
 use Rattle.leveldb_table.specs.Table.{AreParted, IsAtOrAfterAll, IsBeforeAll, Part, index_pair}
 use Rattle.leveldb_table.specs.TableReader.{pairs_in}
-use Rattle.leveldb_table.specs.TableReaderWalk.{IsAtPairOrNone}
-use Rattle.leveldb_table.specs.declared.table_reader.walk.TableCore.{TableCore}
+use Rattle.leveldb_table.specs.TableReaderWalk.{IsAtPairOrNone, TablePlace}
 use Rattle.leveldb_table.specs.declared.table_reader.walk.TableStep.TheVariants.{First, Seek}
 use Rattle.leveldb_version.proofs.TableMoveLemmas.{left_position}
 use Rattle.leveldb_version.proofs.VersionIterLemmas.{each_in, file_first, inner_none, last_key_some, moves_made, no_some, none_after, over_after, part_in, tables_long, there_left, there_turned, walk_moves}
@@ -89,44 +88,44 @@ all_some R link (x ∷ files) [] each = absurd each
 all_some R link (x ∷ files) (t ∷ tables) each = (link x t each.0, all_some R link files tables each.1)
 
 -- a walk that has a pair is at a position
-is_there : {C : Type 0} {order : CmpGhosts C} (cmp : List ℕ → List ℕ → Ordering) (parts : List Part) (core : Option (TableCore C order)) (inner : Option ℕ) → IsAtInTable cmp parts core inner → true ≡ is_some (core_position core) → (j : ℕ) × (inner ≡ Some j)
-is_there cmp parts None inner at there = absurd (never there)
+is_there : {C : Type 0} (order : CmpGhosts C) (cmp : List ℕ → List ℕ → Ordering) (parts : List Part) (core : Option (TablePlace C)) (inner : Option ℕ) → IsAtInTable order cmp parts core inner → true ≡ is_some (core_position core) → (j : ℕ) × (inner ≡ Some j)
+is_there order cmp parts None inner at there = absurd (never there)
   where
     never : true ≡ false → ⊥
     never e = cc
-is_there cmp parts (Some core) None at there = absurd (never (there ∙ ap is_some at.at))
+is_there order cmp parts (Some core) None at there = absurd (never (there ∙ ap is_some at.at))
   where
     never : true ≡ false → ⊥
     never e = cc
-is_there cmp parts (Some core) (Some n) at there = (n, refl)
+is_there order cmp parts (Some core) (Some n) at there = (n, refl)
 
 -- what holds of three values holds of what is the same
 pub at_same : {A B C : Type 0} (P : A → B → C → Type 0) {a x : A} {b y : B} {c z : C} → a ≡ x → b ≡ y → c ≡ z → P x y z → P a b c
 at_same P {a} {x} {b} {y} {c} {z} one two three is = subst (λ k. P k b c) (sym one) (subst (λ k. P x k c) (sym two) (subst (λ k. P x y k) (sym three) is))
 
-module _ {E C FP K F : Type 0} {order : CmpGhosts (InternalKeyCmp C)} (env : EnvGhosts E F) (cmp : CmpGhosts C) (filters : FilterGhosts FP) (codings : K → Codings) where
+module _ {E C FP K F : Type 0} (order : CmpGhosts (InternalKeyCmp C)) (env : EnvGhosts E F) (cmp : CmpGhosts C) (filters : FilterGhosts FP) (codings : K → Codings) where
   -- ---- moves that follow each other
 
   -- after a turn to a file
-  pub moves_turned : {R : Type 0} (world : E × ReadTables E C FP K F order) (old turned : VersionIter C order) → TurnsTo old.at old.core turned.at turned.core → turned.files.now ≡ old.files.now
-      → (result : Result R Status) (later : E × ReadTables E C FP K F order) (new : VersionIter C order) → MovesThere env cmp filters codings world turned result later new → MovesThere env cmp filters codings world old result later new
+  pub moves_turned : {R : Type 0} (world : E × ReadTables E C FP K F) (old turned : VersionIter C) → TurnsTo old.at old.core turned.at turned.core → turned.files.now ≡ old.files.now
+      → (result : Result R Status) (later : E × ReadTables E C FP K F) (new : VersionIter C) → MovesThere order env cmp filters codings world turned result later new → MovesThere order env cmp filters codings world old result later new
   moves_turned {R} world old turned turns files result later new moves = let stays = moves.stays in record {
     stays = record {
       kept = stays.kept;
       files = stays.files ∙ files;
-      there = λ meaning tables there. stays.there meaning tables (there_turned env cmp filters codings world old turned turns files meaning tables there);
+      there = λ meaning tables there. stays.there meaning tables (there_turned order env cmp filters codings world old turned turns files meaning tables there);
     };
     cause = before result moves.cause;
     err = moves.err;
   }
     where
-      before : (r : Result R Status) → IfErr r (FailsInTables env cmp filters codings world turned later) → IfErr r (FailsInTables env cmp filters codings world old later)
+      before : (r : Result R Status) → IfErr r (FailsInTables order env cmp filters codings world turned later) → IfErr r (FailsInTables order env cmp filters codings world old later)
       before (Ok x) fails = tt
-      before (Err status) fails = fails_before world world (reading_kept world) old turned (λ meaning tables there. there_turned env cmp filters codings world old turned turns files meaning tables there) later status fails
+      before (Err status) fails = fails_before world world (reading_kept world) old turned (λ meaning tables there. there_turned order env cmp filters codings world old turned turns files meaning tables there) later status fails
 
   -- one after the other
-  pub moves_on : {R S : Type 0} (world : E × ReadTables E C FP K F order) (old : VersionIter C order) (first : Result R Status) (mid : E × ReadTables E C FP K F order) (between : VersionIter C order) → MovesThere env cmp filters codings world old first mid between
-      → (result : Result S Status) (later : E × ReadTables E C FP K F order) (new : VersionIter C order) → MovesThere env cmp filters codings mid between result later new → MovesThere env cmp filters codings world old result later new
+  pub moves_on : {R S : Type 0} (world : E × ReadTables E C FP K F) (old : VersionIter C) (first : Result R Status) (mid : E × ReadTables E C FP K F) (between : VersionIter C) → MovesThere order env cmp filters codings world old first mid between
+      → (result : Result S Status) (later : E × ReadTables E C FP K F) (new : VersionIter C) → MovesThere order env cmp filters codings mid between result later new → MovesThere order env cmp filters codings world old result later new
   moves_on {S = S} world old first mid between one result later new two = let a = one.stays in let b = two.stays in record {
     stays = record {
       kept = reading_kept_on world mid later a.kept b.kept;
@@ -137,7 +136,7 @@ module _ {E C FP K F : Type 0} {order : CmpGhosts (InternalKeyCmp C)} (env : Env
     err = two.err;
   }
     where
-      before : (r : Result S Status) → IfErr r (FailsInTables env cmp filters codings mid between later) → IfErr r (FailsInTables env cmp filters codings world old later)
+      before : (r : Result S Status) → IfErr r (FailsInTables order env cmp filters codings mid between later) → IfErr r (FailsInTables order env cmp filters codings world old later)
       before (Ok x) fails = tt
       before (Err status) fails = let a = one.stays in fails_before world mid a.kept old between a.there later status fails
 
@@ -145,7 +144,7 @@ module _ {E C FP K F : Type 0} {order : CmpGhosts (InternalKeyCmp C)} (env : Env
 
   module _ (order_is : (c : C) → order.cmp (record { 0 = c }) ≡ internal_cmp (cmp.cmp c)) (total : (c : C) → IsTotalOrder (cmp.cmp c)) (preorder : (c : C) → IsPreorderOn (order.accepts (record { 0 = c })) (order.cmp (record { 0 = c })))
       (any_accepted : (c : C) (key : List ℕ) → order.accepts (record { 0 = c }) key ≡ true → internal_accepts any_user_key key ≡ true) where
-    module _ {world : E × ReadTables E C FP K F order} {old : VersionIter C order} {keys : KeyOrder} {pairs : List Pair} (over : IsOverTables env cmp filters codings world old keys pairs) (sought : Bor (List ℕ)) (fit : keys.accepts sought.now ≡ true)
+    module _ {world : E × ReadTables E C FP K F} {old : VersionIter C} {keys : KeyOrder} {pairs : List Pair} (over : IsOverTables order env cmp filters codings world old keys pairs) (sought : Bor (List ℕ)) (fit : keys.accepts sought.now ≡ true)
         (i : ℕ) (bound : i ≤ length old.files.now)
         (point : IsPartitionedBy (ends_before_key (cmp.cmp world.1.cmp) sought.now) old.files.now
         → IsPartitionPoint (λ file. ends_before_key (cmp.cmp world.1.cmp) sought.now file ≡ true) (λ file. ends_before_key (cmp.cmp world.1.cmp) sought.now file ≡ false) old.files.now i) where
@@ -160,7 +159,7 @@ module _ {E C FP K F : Type 0} {order : CmpGhosts (InternalKeyCmp C)} (env : Env
       rows = let there = over.there in there.each
 
       long : length old.files.now ≡ length over.tables
-      long = tables_long env cmp filters codings over
+      long = tables_long order env cmp filters codings over
 
       lines_long : length Lines ≡ length over.tables
       lines_long = length-map (table_parts over.tables) index_pair ∙ length-map over.tables table_part
@@ -210,36 +209,36 @@ module _ {E C FP K F : Type 0} {order : CmpGhosts (InternalKeyCmp C)} (env : Env
           ap (λ ps. seek_position keys.cmp ps sought.now) over.pairs_are
           ∙ seek_none pre over.parted over.accepted sought.now fit (line_at ∙ position_out Lines i (let same = long in let lines = lines_long in omega (arith, same, lines, past)))
 
-      module _ (inside : i < length old.files.now) (turned : VersionIter C order) (turns : TurnsTo old.at old.core turned.at turned.core) (turned_at : turned.at ≡ i) (files : turned.files.now ≡ old.files.now)
-          (there : Bool) (later : E × ReadTables E C FP K F order) (new : VersionIter C order) (step : StepsInFile env cmp filters codings (Seek sought) world turned (Ok there) later new) where
+      module _ (inside : i < length old.files.now) (turned : VersionIter C) (turns : TurnsTo old.at old.core turned.at turned.core) (turned_at : turned.at ≡ i) (files : turned.files.now ≡ old.files.now)
+          (there : Bool) (later : E × ReadTables E C FP K F) (new : VersionIter C) (step : StepsInFile order env cmp filters codings (Seek sought) world turned (Ok there) later new) where
         within : i < length over.tables
         within = let same = long in omega (arith, inside, same)
 
-        stays : StaysThere env cmp filters codings world old later new
+        stays : StaysThere order env cmp filters codings world old later new
         stays = let moves = moves_turned world old turned turns files (Ok there) later new step.moves in moves.stays
 
         line_is : seek_position keys.cmp Lines sought.now ≡ Some i
         line_is = line_at ∙ position_in Lines i (let lines = lines_long in let less = within in omega (arith, lines, less))
 
-        landed : IsAtInTable keys.cmp (table_in over.tables i).parts new.core (seek_position keys.cmp (table_pairs (table_in over.tables i)) sought.now)
+        landed : IsAtInTable order keys.cmp (table_in over.tables i).parts new.core (seek_position keys.cmp (table_pairs (table_in over.tables i)) sought.now)
         landed =
-            subst (λ (n : ℕ). IsAtInTable keys.cmp (table_in over.tables n).parts new.core (seek_position keys.cmp (table_pairs (table_in over.tables n)) sought.now)) turned_at
-            (subst (λ (o : List ℕ → List ℕ → Ordering). IsAtInTable o (table_in over.tables turned.at).parts new.core (seek_position o (table_pairs (table_in over.tables turned.at)) sought.now)) (ap (λ (o : KeyOrder). o.cmp) (sym over.keys_are))
-            (step.ok over.meaning over.tables (there_turned env cmp filters codings world old turned turns files over.meaning over.tables over.there) (let less = within in omega (arith, less, turned_at))
+            subst (λ (n : ℕ). IsAtInTable order keys.cmp (table_in over.tables n).parts new.core (seek_position keys.cmp (table_pairs (table_in over.tables n)) sought.now)) turned_at
+            (subst (λ (o : List ℕ → List ℕ → Ordering). IsAtInTable order o (table_in over.tables turned.at).parts new.core (seek_position o (table_pairs (table_in over.tables turned.at)) sought.now)) (ap (λ (o : KeyOrder). o.cmp) (sym over.keys_are))
+            (step.ok over.meaning over.tables (there_turned order env cmp filters codings world old turned turns files over.meaning over.tables over.there) (let less = within in omega (arith, less, turned_at))
             (seek_position (order.cmp (record { 0 = world.1.cmp })) (table_pairs (table_in over.tables turned.at)) sought.now)
             (refl, any_accepted world.1.cmp sought.now (subst (λ (o : KeyOrder). o.accepts sought.now ≡ true) over.keys_are fit))))
 
         -- a pair of the file's table
-        pub sought_there : there ≡ true → IsAtInTables env cmp filters codings later new keys pairs (seek_position keys.cmp pairs sought.now)
+        pub sought_there : there ≡ true → IsAtInTables order env cmp filters codings later new keys pairs (seek_position keys.cmp pairs sought.now)
         unfolding over_after
         sought_there is =
             let inner = seek_position keys.cmp (table_pairs (table_in over.tables i)) sought.now in
-            let j = is_there keys.cmp (table_in over.tables i).parts new.core inner landed (sym is ∙ step.there) in
+            let j = is_there order keys.cmp (table_in over.tables i).parts new.core inner landed (sym is ∙ step.there) in
             let at = step.at ∙ turned_at in
             record {
-              over = over_after env cmp filters codings world old later new stays keys pairs over;
+              over = over_after order env cmp filters codings world old later new stays keys pairs over;
               inner = inner;
-              in_table = subst (λ (n : ℕ). IsAtInTable keys.cmp (table_in over.tables n).parts new.core inner) (sym at) landed;
+              in_table = subst (λ (n : ℕ). IsAtInTable order keys.cmp (table_in over.tables n).parts new.core inner) (sym at) landed;
               at = subst (λ (n : ℕ). IsAtPairOrNone (table_parts over.tables) (Some n) (table_pairs (table_in over.tables n)) inner (seek_position keys.cmp pairs sought.now)) (sym at)
                   (subst (λ (ps : List Pair). IsAtPairOrNone (table_parts over.tables) (Some i) (table_pairs (table_in over.tables i)) inner (seek_position keys.cmp ps sought.now)) (sym over.pairs_are)
                   (subst (λ (o : Option ℕ). IsAtPairOrNone (table_parts over.tables) (Some i) (table_pairs (table_in over.tables i)) o (seek_position keys.cmp (pairs_in (table_parts over.tables)) sought.now)) (sym j.1)
@@ -247,46 +246,46 @@ module _ {E C FP K F : Type 0} {order : CmpGhosts (InternalKeyCmp C)} (env : Env
             }
 
         -- or the first pair of the next file's
-        pub sought_after : there ≡ false → (result : Result Bool Status) (last_world : E × ReadTables E C FP K F order) (last : VersionIter C order) → MovesToFile env cmp filters codings (i + 1) First later new result last_world last
-            → OnOk result (IsAtInTables env cmp filters codings last_world last keys pairs (seek_position keys.cmp pairs sought.now))
+        pub sought_after : there ≡ false → (result : Result Bool Status) (last_world : E × ReadTables E C FP K F) (last : VersionIter C) → MovesToFile order env cmp filters codings (i + 1) First later new result last_world last
+            → OnOk result (IsAtInTables order env cmp filters codings last_world last keys pairs (seek_position keys.cmp pairs sought.now))
         unfolding over_after
         sought_after is result last_world last moves =
-            let none = inner_none keys.cmp (table_in over.tables i).parts new.core (seek_position keys.cmp (table_pairs (table_in over.tables i)) sought.now) landed (no_some (core_position new.core) (sym is ∙ step.there)) in
-            subst (λ (ps : List Pair). OnOk result (IsAtInTables env cmp filters codings last_world last keys pairs (seek_position keys.cmp ps sought.now))) (sym over.pairs_are)
-            (file_first env cmp filters codings (over_after env cmp filters codings world old later new stays keys pairs over) (i + 1) result last_world last moves (Some i) (seek_position keys.cmp (pairs_in (table_parts over.tables)) sought.now)
+            let none = inner_none order keys.cmp (table_in over.tables i).parts new.core (seek_position keys.cmp (table_pairs (table_in over.tables i)) sought.now) landed (no_some (core_position new.core) (sym is ∙ step.there)) in
+            subst (λ (ps : List Pair). OnOk result (IsAtInTables order env cmp filters codings last_world last keys pairs (seek_position keys.cmp ps sought.now))) (sym over.pairs_are)
+            (file_first order env cmp filters codings (over_after order env cmp filters codings world old later new stays keys pairs over) (i + 1) result last_world last moves (Some i) (seek_position keys.cmp (pairs_in (table_parts over.tables)) sought.now)
             (seek_after pre over.parted over.accepted sought.now fit some i (table_part (table_in over.tables i)) line_is (part_in over.tables i within) none) refl)
 
     -- ---- the move
 
-    module _ (world : E × ReadTables E C FP K F order) (old : VersionIter C order) (sought : Bor (List ℕ)) (i : ℕ) (bound : i ≤ length old.files.now)
+    module _ (world : E × ReadTables E C FP K F) (old : VersionIter C) (sought : Bor (List ℕ)) (i : ℕ) (bound : i ≤ length old.files.now)
         (point : IsPartitionedBy (ends_before_key (cmp.cmp world.1.cmp) sought.now) old.files.now
         → IsPartitionPoint (λ file. ends_before_key (cmp.cmp world.1.cmp) sought.now file ≡ true) (λ file. ends_before_key (cmp.cmp world.1.cmp) sought.now file ≡ false) old.files.now i) where
       -- what such a move comes to
-      abbrev pub Sought : E × ReadTables E C FP K F order → VersionIter C order → Type 0
+      abbrev pub Sought : E × ReadTables E C FP K F → VersionIter C → Type 0
       Sought later new =
-          MovesWalk (IsOverTables env cmp filters codings) (IsAtInTables env cmp filters codings) version_here (FailsInTables env cmp filters codings) (KeepsReading env cmp filters codings) {R = Unit {0}}
-          (λ world it keys pairs position. IsOverTables env cmp filters codings world it keys pairs × (keys.accepts sought.now ≡ true)) (λ keys pairs position. seek_position keys.cmp pairs sought.now) world old (Ok tt) later new
+          MovesWalk (IsOverTables order env cmp filters codings) (IsAtInTables order env cmp filters codings) version_here (FailsInTables order env cmp filters codings) (KeepsReading order env cmp filters codings) {R = Unit {0}}
+          (λ world it keys pairs position. IsOverTables order env cmp filters codings world it keys pairs × (keys.accepts sought.now ≡ true)) (λ keys pairs position. seek_position keys.cmp pairs sought.now) world old (Ok tt) later new
 
-      pub seeks_none : (new : VersionIter C order) → LeavesPairs old.core new.core → new.at ≡ old.at → new.files.now ≡ old.files.now → i ≡ length old.files.now → Sought world new
+      pub seeks_none : (new : VersionIter C) → LeavesPairs old.core new.core → new.at ≡ old.at → new.files.now ≡ old.files.now → i ≡ length old.files.now → Sought world new
       seeks_none new left same files past =
-          walk_moves env cmp filters codings (λ world it keys pairs position. IsOverTables env cmp filters codings world it keys pairs × (keys.accepts sought.now ≡ true)) (λ keys pairs position. seek_position keys.cmp pairs sought.now) world old (Ok tt) world new
+          walk_moves order env cmp filters codings (λ world it keys pairs position. IsOverTables order env cmp filters codings world it keys pairs × (keys.accepts sought.now ≡ true)) (λ keys pairs position. seek_position keys.cmp pairs sought.now) world old (Ok tt) world new
           (record { stays = stays_left; cause = tt; err = tt })
-          (λ keys pairs position from. subst (IsAtInTables env cmp filters codings world new keys pairs) (sym (sought_none from.0 sought from.1 i bound point (omega (arith, past))))
-          (none_after env cmp filters codings world new (left_position old.core new.core left) keys pairs (over_after env cmp filters codings world old world new stays_left keys pairs from.0)))
+          (λ keys pairs position from. subst (IsAtInTables order env cmp filters codings world new keys pairs) (sym (sought_none from.0 sought from.1 i bound point (omega (arith, past))))
+          (none_after order env cmp filters codings world new (left_position old.core new.core left) keys pairs (over_after order env cmp filters codings world old world new stays_left keys pairs from.0)))
         where
-          stays_left : StaysThere env cmp filters codings world old world new
-          stays_left = record { kept = reading_kept world; files = files; there = λ meaning tables there. there_left env cmp filters codings world old new left same files meaning tables there }
+          stays_left : StaysThere order env cmp filters codings world old world new
+          stays_left = record { kept = reading_kept world; files = files; there = λ meaning tables there. there_left order env cmp filters codings world old new left same files meaning tables there }
 
-      module _ (inside : i < length old.files.now) (turned : VersionIter C order) (turns : TurnsTo old.at old.core turned.at turned.core) (turned_at : turned.at ≡ i) (files : turned.files.now ≡ old.files.now)
-          (there : Bool) (later : E × ReadTables E C FP K F order) (new : VersionIter C order) (step : StepsInFile env cmp filters codings (Seek sought) world turned (Ok there) later new) where
+      module _ (inside : i < length old.files.now) (turned : VersionIter C) (turns : TurnsTo old.at old.core turned.at turned.core) (turned_at : turned.at ≡ i) (files : turned.files.now ≡ old.files.now)
+          (there : Bool) (later : E × ReadTables E C FP K F) (new : VersionIter C) (step : StepsInFile order env cmp filters codings (Seek sought) world turned (Ok there) later new) where
         pub seeks_in : there ≡ true → Sought later new
         seeks_in is =
-            walk_moves env cmp filters codings (λ world it keys pairs position. IsOverTables env cmp filters codings world it keys pairs × (keys.accepts sought.now ≡ true)) (λ keys pairs position. seek_position keys.cmp pairs sought.now) world old (Ok tt) later new
-            (moves_made env cmp filters codings tt (moves_turned world old turned turns files (Ok there) later new step.moves))
+            walk_moves order env cmp filters codings (λ world it keys pairs position. IsOverTables order env cmp filters codings world it keys pairs × (keys.accepts sought.now ≡ true)) (λ keys pairs position. seek_position keys.cmp pairs sought.now) world old (Ok tt) later new
+            (moves_made order env cmp filters codings tt (moves_turned world old turned turns files (Ok there) later new step.moves))
             (λ keys pairs position from. sought_there from.0 sought from.1 i bound point inside turned turns turned_at files there later new step is)
 
-        pub seeks_after : there ≡ false → (any : Bool) (last_world : E × ReadTables E C FP K F order) (last : VersionIter C order) → MovesToFile env cmp filters codings (i + 1) First later new (Ok any) last_world last → Sought last_world last
+        pub seeks_after : there ≡ false → (any : Bool) (last_world : E × ReadTables E C FP K F) (last : VersionIter C) → MovesToFile order env cmp filters codings (i + 1) First later new (Ok any) last_world last → Sought last_world last
         seeks_after is any last_world last moves =
-            walk_moves env cmp filters codings (λ world it keys pairs position. IsOverTables env cmp filters codings world it keys pairs × (keys.accepts sought.now ≡ true)) (λ keys pairs position. seek_position keys.cmp pairs sought.now) world old (Ok tt) last_world last
-            (moves_made env cmp filters codings tt (moves_on world old (Ok there) later new (moves_turned world old turned turns files (Ok there) later new step.moves) (Ok any) last_world last moves.moves))
+            walk_moves order env cmp filters codings (λ world it keys pairs position. IsOverTables order env cmp filters codings world it keys pairs × (keys.accepts sought.now ≡ true)) (λ keys pairs position. seek_position keys.cmp pairs sought.now) world old (Ok tt) last_world last
+            (moves_made order env cmp filters codings tt (moves_on world old (Ok there) later new (moves_turned world old turned turns files (Ok there) later new step.moves) (Ok any) last_world last moves.moves))
             (λ keys pairs position from. sought_after from.0 sought from.1 i bound point inside turned turns turned_at files there later new step is (Ok any) last_world last moves)

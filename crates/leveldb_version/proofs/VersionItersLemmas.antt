@@ -6,8 +6,6 @@ use Rattle.std.proofs.lemmas.List.{append-nil, length-append, map-append}
 use Rattle.std.proofs.lemmas.List.Concat.{flat_map-append}
 use Rattle.std.proofs.lemmas.List.Elements.{All-append, All-nil, All-push}
 use Rattle.std.proofs.lemmas.Grind.{reverse_onto}
-use Rattle.leveldb_base.specs.declared.cmp.Cmp.{Ghosts as CmpGhosts}
-use Rattle.leveldb_base.specs.declared.cmp.internal.InternalKeyCmp.{InternalKeyCmp}
 use Rattle.leveldb_base.specs.declared.types.FileMetaData.{FileMetaData}
 use Rattle.leveldb_version.proofs.SearchLemmas.{empty}
 use Rattle.leveldb_version.specs.Version.{VersionValue, at_level}
@@ -70,28 +68,28 @@ last_alone left files file is =
     let one : length left - length files ≡ 1 = omega (arith, long) in
     ap (λ n. take n (drop (length files) left)) one ∙ ap (λ fs. take 1 (drop (length files) fs)) is ∙ ap (take 1) (drop_front files (file ∷ []))
 
-module _ {C : Type 0} {order : CmpGhosts (InternalKeyCmp C)} where
-  pub walks_none : (old : List (VersionIter C order)) → AreWalksOf old [] old
-  walks_none old = ([], sym (append-nil old), refl, All-nil (λ (it : VersionIter C order). it.core ≡ None))
+module _ {C : Type 0} where
+  pub walks_none : (old : List (VersionIter C)) → AreWalksOf old [] old
+  walks_none old = ([], sym (append-nil old), refl, All-nil (λ (it : VersionIter C). it.core ≡ None))
 
-  pub walks_push : (old new : List (VersionIter C order)) (files : List (List (ℕ × FileMetaData))) (it : VersionIter C order)
+  pub walks_push : (old new : List (VersionIter C)) (files : List (List (ℕ × FileMetaData))) (it : VersionIter C)
       → AreWalksOf old files new → it.core ≡ None → AreWalksOf old (files ++ it.files.now ∷ []) (new ++ it ∷ [])
   walks_push old new files it (more, is, walks, begun) none = (
     more ++ it ∷ [],
     ap (λ its. its ++ it ∷ []) is ∙ append_assoc old more (it ∷ []),
-    map-append (λ (one : VersionIter C order). one.files.now) more (it ∷ []) ∙ ap (λ fs. fs ++ it.files.now ∷ []) walks,
-    All-push (λ (one : VersionIter C order). one.core ≡ None) more it begun none,
+    map-append (λ (one : VersionIter C). one.files.now) more (it ∷ []) ∙ ap (λ fs. fs ++ it.files.now ∷ []) walks,
+    All-push (λ (one : VersionIter C). one.core ≡ None) more it begun none,
   )
 
   -- a walk over one file more
-  pub walks_alone : (old new : List (VersionIter C order)) (file : ℕ × FileMetaData) (files : List (ℕ × FileMetaData)) (it : VersionIter C order)
+  pub walks_alone : (old new : List (VersionIter C)) (file : ℕ × FileMetaData) (files : List (ℕ × FileMetaData)) (it : VersionIter C)
       → AreWalksOf old (each_alone files) new → it.files.now ≡ file ∷ [] → it.core ≡ None → AreWalksOf old (each_alone (file ∷ files)) (new ++ it ∷ [])
   walks_alone old new file files it walks is none =
       subst (λ fs. AreWalksOf old fs (new ++ it ∷ [])) (ap (λ f. each_alone files ++ f ∷ []) is ∙ sym (alone_more file files))
       (walks_push old new (each_alone files) it walks none)
 
   -- a level that has no files
-  pub walks_empty : (old new : List (VersionIter C order)) (level : ℕ) (files : List (ℕ × FileMetaData)) → 1 ≤ level → level < 7
+  pub walks_empty : (old new : List (VersionIter C)) (level : ℕ) (files : List (ℕ × FileMetaData)) → 1 ≤ level → level < 7
       → AreWalksOf old (levels_among (take (level - 1) deep_levels) files) new → at_level level files ≡ []
       → AreWalksOf old (levels_among (take level deep_levels) files) new
   walks_empty old new level files from to walks none =
@@ -99,7 +97,7 @@ module _ {C : Type 0} {order : CmpGhosts (InternalKeyCmp C)} where
       (sym (levels_more level files from to ∙ ap (λ part. levels_among (take (level - 1) deep_levels) files ++ if_some part) none ∙ append-nil (levels_among (take (level - 1) deep_levels) files))) walks
 
   -- a walk over a level that has some
-  pub walks_level : (old new : List (VersionIter C order)) (level : ℕ) (files : List (ℕ × FileMetaData)) (it : VersionIter C order) → 1 ≤ level → level < 7
+  pub walks_level : (old new : List (VersionIter C)) (level : ℕ) (files : List (ℕ × FileMetaData)) (it : VersionIter C) → 1 ≤ level → level < 7
       → AreWalksOf old (levels_among (take (level - 1) deep_levels) files) new → it.files.now ≡ at_level level files → 0 < length (at_level level files) → it.core ≡ None
       → AreWalksOf old (levels_among (take level deep_levels) files) (new ++ it ∷ [])
   walks_level old new level files it from to walks is some none =
@@ -112,12 +110,12 @@ module _ {C : Type 0} {order : CmpGhosts (InternalKeyCmp C)} where
       alone (x ∷ xs) some = refl
 
   -- walks over all files of a version
-  pub walks_of_version : (version : VersionValue C) (alone iters : List (VersionIter C order))
+  pub walks_of_version : (version : VersionValue C) (alone iters : List (VersionIter C))
       → AreWalksOf [] (each_alone (at_level 0 version.files)) alone → AreWalksOf alone (levels_of_walks version.files) iters → AreVersionIters version iters
   walks_of_version version alone iters (first, first_is, first_files, first_begun) (more, more_is, more_files, more_begun) = record {
-    files = ap files_of_iters is ∙ map-append (λ (one : VersionIter C order). one.files.now) first more
+    files = ap files_of_iters is ∙ map-append (λ (one : VersionIter C). one.files.now) first more
         ∙ ap (λ fs. fs ++ files_of_iters more) first_files ∙ ap (λ fs. each_alone (at_level 0 version.files) ++ fs) more_files;
-    not_begun = subst (All (λ (it : VersionIter C order). it.core ≡ None)) (sym is) (All-append (λ (it : VersionIter C order). it.core ≡ None) first more first_begun more_begun);
+    not_begun = subst (All (λ (it : VersionIter C). it.core ≡ None)) (sym is) (All-append (λ (it : VersionIter C). it.core ≡ None) first more first_begun more_begun);
   }
     where
       is : iters ≡ first ++ more

@@ -51,8 +51,8 @@ each_here {A} {B} R (a ∷ xs) (b ∷ ys) zero x y e p q = (subst (Contains (a �
 each_here R (a ∷ xs) (b ∷ ys) (suc k) x y e p q = let rest = each_here R xs ys k x y e.1 p q in (in_rest a x xs rest.0, rest.1)
 
 module _ {E C FP K F : Type 0} {order : CmpGhosts (InternalKeyCmp C)} (env : EnvGhosts E F) (cmp : CmpGhosts C) (filters : FilterGhosts FP) (codings : K → Codings)
-    (version : VersionValue C) (world : E × ReadTables E C FP K F order) (exact : IsExactOrder (cmp.cmp world.1.cmp)) (orders : OrdersInternalKeys order (cmp.cmp world.1.cmp) world.1.cmp)
-    (meaning : Meaning) (tables : List LiveTable) (are : AreTablesToWalk env cmp filters codings version meaning world tables) where
+    (version : VersionValue C) (world : E × ReadTables E C FP K F) (exact : IsExactOrder (cmp.cmp world.1.cmp)) (orders : OrdersInternalKeys order (cmp.cmp world.1.cmp) world.1.cmp)
+    (meaning : Meaning) (tables : List LiveTable) (are : AreTablesToWalk order env cmp filters codings version meaning world tables) where
   abbrev parts : List (List (ℕ × FileMetaData))
   parts = files_of_walks version.files
 
@@ -101,18 +101,18 @@ module _ {E C FP K F : Type 0} {order : CmpGhosts (InternalKeyCmp C)} (env : Env
         flat_in (λ (batch : List Entry). batch) (map entries_of_pairs lists) (entries_of_pairs list.0) entry (map_in entries_of_pairs lists list.0 list.1)
         (entry_to env cmp filters codings version world exact orders meaning tables are part.0 list.0 list.2 file.0 part.2 table.0 table.1 (sym file.2) entry table.2)
 
-    module _ (iters : List (VersionIter C order)) (walks : AreVersionIters version iters) where
-      each_iter : Each (λ (it : VersionIter C order) pairs. Has it.files.now pairs) iters lists
-      each_iter = each_from_map Has (λ (it : VersionIter C order). it.files.now) iters lists (subst (λ ps. Each Has ps lists) (sym walks.files) each)
+    module _ (iters : List (VersionIter C)) (walks : AreVersionIters version iters) where
+      each_iter : Each (λ (it : VersionIter C) pairs. Has it.files.now pairs) iters lists
+      each_iter = each_from_map Has (λ (it : VersionIter C). it.files.now) iters lists (subst (λ ps. Each Has ps lists) (sym walks.files) each)
 
-      pub are_layers : AreOverLayers env cmp filters codings world iters tables
+      pub are_layers : AreOverLayers order env cmp filters codings world iters tables
       are_layers = record {
         lists = lists;
-        counted = as_long (λ (it : VersionIter C order) pairs. Has it.files.now pairs) iters lists each_iter;
+        counted = as_long (λ (it : VersionIter C) pairs. Has it.files.now pairs) iters lists each_iter;
         over = λ k it pairs at_it at_pairs.
-            let here = each_here (λ (one : VersionIter C order) ps. Has one.files.now ps) iters lists k it pairs each_iter at_it at_pairs in
+            let here = each_here (λ (one : VersionIter C) ps. Has one.files.now ps) iters lists k it pairs each_iter at_it at_pairs in
             walk_over env cmp filters codings version world exact orders meaning tables are it.files.now pairs here.1 it refl
-            (All-contains (λ (one : VersionIter C order). one.core ≡ None) iters it walks.not_begun here.0);
+            (All-contains (λ (one : VersionIter C). one.core ≡ None) iters it walks.not_begun here.0);
         layered = all_pairs (λ newer old. IsOlder old newer) (map entries_of_pairs lists)
             (pairwise_map (λ newer old. IsOlder old newer) entries_of_pairs lists
             (pairwise_each Has AreWalkedBefore (λ b y. IsOlder (entries_of_pairs y) (entries_of_pairs b)) parts lists each

@@ -21,7 +21,6 @@ use Rattle.leveldb_env.specs.declared.filter.FilterPolicy.{Ghosts as FilterGhost
 use Rattle.leveldb_iter.specs.Walk.{key_order}
 use Rattle.leveldb_table.specs.Table.{AreParted, Part}
 use Rattle.leveldb_table.specs.TableReader.{pairs_in}
-use Rattle.leveldb_table.specs.declared.table_reader.walk.TableCore.{TableCore}
 use Rattle.leveldb_version.proofs.NewestTablesLemmas.{one_number, table_of, there}
 use Rattle.leveldb_version.proofs.OneStoreLemmas.{flat_in, in_flat}
 use Rattle.leveldb_version.proofs.PairwiseLemmas.{choose, each_first, each_more_of, each_of_map, each_second}
@@ -46,8 +45,8 @@ use Rattle.leveldb_version.specs.declared.table_cache.moves.ReadTables.{ReadTabl
 use Rattle.leveldb_version.specs.declared.version_iter.VersionIter.{VersionIter}
 
 module _ {E C FP K F : Type 0} {order : CmpGhosts (InternalKeyCmp C)} (env : EnvGhosts E F) (cmp : CmpGhosts C) (filters : FilterGhosts FP) (codings : K → Codings)
-    (version : VersionValue C) (world : E × ReadTables E C FP K F order) (exact : IsExactOrder (cmp.cmp world.1.cmp)) (orders : OrdersInternalKeys order (cmp.cmp world.1.cmp) world.1.cmp)
-    (meaning : Meaning) (tables : List LiveTable) (are : AreTablesToWalk env cmp filters codings version meaning world tables) where
+    (version : VersionValue C) (world : E × ReadTables E C FP K F) (exact : IsExactOrder (cmp.cmp world.1.cmp)) (orders : OrdersInternalKeys order (cmp.cmp world.1.cmp) world.1.cmp)
+    (meaning : Meaning) (tables : List LiveTable) (are : AreTablesToWalk order env cmp filters codings version meaning world tables) where
   abbrev ucmp : List ℕ → List ℕ → Ordering
   ucmp = cmp.cmp world.1.cmp
 
@@ -115,11 +114,11 @@ module _ {E C FP K F : Type 0} {order : CmpGhosts (InternalKeyCmp C)} (env : Env
     runs : Each (IsRun ucmp) (map new_file_of part) has.tabled
     runs = each_of_map (IsRun ucmp) new_file_of part has.tabled (each_more_of IsTableFor (λ f t. IsRun ucmp (new_file_of f) t) part has.tabled (λ f t is. is.run) has.each)
 
-    indexed : (it : VersionIter C order) → it.core ≡ None → IsIndexedFor (order.cmp (record { 0 = world.1.cmp })) (table_in has.tabled it.at).parts it.core
-    indexed it none = subst (IsIndexedFor (order.cmp (record { 0 = world.1.cmp })) (table_in has.tabled it.at).parts) (sym none) tt
+    indexed : (it : VersionIter C) → it.core ≡ None → IsIndexedFor order (order.cmp (record { 0 = world.1.cmp })) (table_in has.tabled it.at).parts it.core
+    indexed it none = subst (IsIndexedFor order (order.cmp (record { 0 = world.1.cmp })) (table_in has.tabled it.at).parts) (sym none) tt
 
     -- a walk over the files that has not begun is over the pairs
-    pub walk_over : (it : VersionIter C order) → it.files.now ≡ part → it.core ≡ None → IsOverTables env cmp filters codings world it (key_order order (record { 0 = world.1.cmp })) pairs
+    pub walk_over : (it : VersionIter C) → it.files.now ≡ part → it.core ≡ None → IsOverTables order env cmp filters codings world it (key_order order (record { 0 = world.1.cmp })) pairs
     walk_over it files none =
         let total = exact_total exact in
         let accepted = turns_accepted ucmp (order.accepts (record { 0 = world.1.cmp })) orders.accepts (map new_file_of part) has.tabled runs in

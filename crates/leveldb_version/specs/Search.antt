@@ -94,18 +94,19 @@ module _ (cmp : List ℕ → List ℕ → Ordering) where
 
 -- `by` says what tables are opened with, and `key` is an internal key; the environment and the cache
 -- are those at the beginning.
-module _ {E C FP F : Type 0} {order : CmpGhosts (InternalKeyCmp C)} (env : EnvGhosts E F)
-    (by : TableOptions C FP) (key : List ℕ) (from : E) (old : TableCache E C FP F order) where
+module _ {E C FP F : Type 0} (order : CmpGhosts (InternalKeyCmp C)) (env : EnvGhosts E F)
+    (by : TableOptions C FP) (key : List ℕ) (from : E) (old : TableCache E C FP F) where
   -- the disk is observed, and the open tables are those in its files
   pub record AreOpenTablesMatched : Type 0 where
     pub modelled : IsTrue env.models_disk
-    pub matches : MatchesFiles env by (files_at env from) old
+    pub matches : MatchesFiles order env by (files_at env from) old
 
   -- whatever bytes the file of a number's table has, the table's pair for the key has this property
   abbrev pub ForPairAt : ℕ → (Option Pair → Type 0) → Type 0
   ForPairAt number P = ForBytesAt (files_at env from) (path_at old number) (λ bytes.
-      SomeTable by bytes (λ (table : StoreTable E C FP F order). (pair : Option Pair)
-      × FindsPair by.format.codings (key_matches by.format) table key bytes pair × P pair))
+      SomeTable by bytes (λ (table : StoreTable C FP F). (pair : Option Pair)
+      × FindsPair order by.format.codings (key_matches by.format) table key bytes pair
+      × P pair))
 
   -- what a number's table has of the key: a value, a deletion, or nothing
   abbrev pub FindsInTable : ℕ → Option (Option (List ℕ)) → Type 0
@@ -127,7 +128,7 @@ module _ {E C FP F : Type 0} {order : CmpGhosts (InternalKeyCmp C)} (env : EnvGh
   pub data IsUnread (number : ℕ) (status : Status) : Type 0 where
     unopened : IsTableUnopened by.format (files_at env from) (path_at old number) status
         → IsUnread number status
-    lacks_block : LacksBlockFor env by key (files_at env from) old number status
+    lacks_block : LacksBlockFor order env by key (files_at env from) old number status
         → IsUnread number status
     untagged : status.code ≡ Corruption
         → ForPairAt number (λ pair. IsSomeAnd pair (λ it. length it.0 < 8))
@@ -135,18 +136,18 @@ module _ {E C FP F : Type 0} {order : CmpGhosts (InternalKeyCmp C)} (env : EnvGh
 
   -- Tables of these numbers may be opened, and any closed: the cache goes on to match the files of
   -- the same store, and its room stays.
-  pub record OpensTablesOf (numbers : List ℕ) (to : E) (new : TableCache E C FP F order)
+  pub record OpensTablesOf (numbers : List ℕ) (to : E) (new : TableCache E C FP F)
       : Type 0 where
     pub path : store_of new ≡ store_of old
     pub room : (tables_of new).capacity ≡ (tables_of old).capacity
     pub block_room : (blocks_of new).capacity ≡ (blocks_of old).capacity
-    pub matches : AreOpenTablesMatched → MatchesFiles env by (files_at env to) new
+    pub matches : AreOpenTablesMatched → MatchesFiles order env by (files_at env to) new
     pub opened : (number : ℕ) → number < 2 ^ 64 → IsSome (table_at new number)
         → IsSome (table_at old number) ⊎ Contains numbers number
 
   -- what a search for the key in the table of a number returns and leaves
   pub record SearchesTable (number : ℕ) (result : Result (Option (Option (List ℕ))) Status)
-      (to : E) (new : TableCache E C FP F order) : Type 0 where
+      (to : E) (new : TableCache E C FP F) : Type 0 where
     pub finds : AreOpenTablesMatched → IfOk result (FindsInTable number)
     pub there : OnOk result (IsOpenOrThere env from old number)
     pub reads : ReadsFile env (λ status. IsTableFault by.format status.code) from to result
@@ -201,7 +202,7 @@ module _ {E C FP F : Type 0} {order : CmpGhosts (InternalKeyCmp C)} (env : EnvGh
 
     -- what a look-up in the version returns and leaves
     pub record LooksUpNewest (result : Result (Option (Option (List ℕ)) × GetStats) Status)
-        (to : E) (new : TableCache E C FP F order) : Type 0 where
+        (to : E) (new : TableCache E C FP F) : Type 0 where
       -- the value or the deletion of the newest entry of the user's key at or below the key's
       -- number, or nothing if no table has such an entry
       pub finds : ForVersionTables (λ meaning tables. IfOk result (λ found.

@@ -27,64 +27,64 @@ stays_alone : {W M : Type 0} {iterator : IteratorGhosts M} (first second : W) (i
 stays_alone first second it keys pairs over =
     record { order_is = over.order_is; pairs_are = over.pairs_are; sorted = over.sorted }
 
-module _ {E C FP K F M : Type 0} {order : CmpGhosts (InternalKeyCmp C)} (env : EnvGhosts E F)
+module _ {E C FP K F M : Type 0} (order : CmpGhosts (InternalKeyCmp C)) (env : EnvGhosts E F)
     (cmp : CmpGhosts C) (filters : FilterGhosts FP) (codings : K → Codings)
     (iterator : IteratorGhosts M) where
-  abbrev Over : E × ReadTables E C FP K F order → StoreWalk C M order → KeyOrder → List Pair
+  abbrev Over : E × ReadTables E C FP K F → StoreWalk C M → KeyOrder → List Pair
       → Type 0
-  Over = IsStoreOver env cmp filters codings iterator
+  Over = IsStoreOver order env cmp filters codings iterator
 
-  abbrev At : E × ReadTables E C FP K F order → StoreWalk C M order → KeyOrder → List Pair
+  abbrev At : E × ReadTables E C FP K F → StoreWalk C M → KeyOrder → List Pair
       → Option ℕ → Type 0
-  At = IsStoreAt env cmp filters codings iterator
+  At = IsStoreAt order env cmp filters codings iterator
 
-  abbrev Fails : E × ReadTables E C FP K F order → StoreWalk C M order
-      → E × ReadTables E C FP K F order → Status → Type 0
-  Fails = FailsInStore env cmp filters codings iterator
+  abbrev Fails : E × ReadTables E C FP K F → StoreWalk C M
+      → E × ReadTables E C FP K F → Status → Type 0
+  Fails = FailsInStore order env cmp filters codings iterator
 
-  abbrev Keeps : E × ReadTables E C FP K F order → E × ReadTables E C FP K F order → Type 0
-  Keeps = KeepsReading env cmp filters codings
+  abbrev Keeps : E × ReadTables E C FP K F → E × ReadTables E C FP K F → Type 0
+  Keeps = KeepsReading order env cmp filters codings
 
-  store_sorted : (world : E × ReadTables E C FP K F order) (it : StoreWalk C M order)
+  store_sorted : (world : E × ReadTables E C FP K F) (it : StoreWalk C M)
       (keys : KeyOrder) (pairs : List Pair) → Over world it keys pairs → IsSortedIn keys pairs
   store_sorted world (Memory it) keys pairs over = over.sorted
   store_sorted world (Tables it) keys pairs over = over.sorted
 
-  store_over_list : (world : E × ReadTables E C FP K F order) (it : StoreWalk C M order)
+  store_over_list : (world : E × ReadTables E C FP K F) (it : StoreWalk C M)
       (keys : KeyOrder) (pairs : List Pair) (position : Option ℕ)
       → At world it keys pairs position → Over world it keys pairs
   store_over_list world (Memory it) keys pairs position at = at.over
   store_over_list world (Tables it) keys pairs position at = at.over
 
   store_in_range : ((it : M) → IsPosition (iterator.pairs it) (iterator.position it))
-      → (world : E × ReadTables E C FP K F order) (it : StoreWalk C M order) (keys : KeyOrder)
+      → (world : E × ReadTables E C FP K F) (it : StoreWalk C M) (keys : KeyOrder)
       (pairs : List Pair) (position : Option ℕ) → At world it keys pairs position
       → IsPosition pairs position
   store_in_range within world (Memory it) keys pairs position at =
-      (alone_laws {W = E × ReadTables E C FP K F order} within).in_range world it keys pairs position at
+      (alone_laws {W = E × ReadTables E C FP K F} within).in_range world it keys pairs position at
   store_in_range within world (Tables it) keys pairs position at =
       version_laws.in_range world it keys pairs position at
 
   store_at_position : ((it : M) → IsPosition (iterator.pairs it) (iterator.position it))
-      → (world : E × ReadTables E C FP K F order) (it : StoreWalk C M order) (keys : KeyOrder)
+      → (world : E × ReadTables E C FP K F) (it : StoreWalk C M) (keys : KeyOrder)
       (pairs : List Pair) (position : Option ℕ) → At world it keys pairs position
       → store_here iterator it ≡ pair_at pairs position
   store_at_position within world (Memory it) keys pairs position at =
-      (alone_laws {W = E × ReadTables E C FP K F order} within).at_position world it keys pairs
+      (alone_laws {W = E × ReadTables E C FP K F} within).at_position world it keys pairs
       position at
   store_at_position within world (Tables it) keys pairs position at =
       version_laws.at_position world it keys pairs position at
 
-  store_stays_over : (first second : E × ReadTables E C FP K F order) → Keeps first second
-      → (it : StoreWalk C M order) (keys : KeyOrder) (pairs : List Pair)
+  store_stays_over : (first second : E × ReadTables E C FP K F) → Keeps first second
+      → (it : StoreWalk C M) (keys : KeyOrder) (pairs : List Pair)
       → Over first it keys pairs → Over second it keys pairs
   store_stays_over first second kept (Memory it) keys pairs over =
       stays_alone first second it keys pairs over
   store_stays_over first second kept (Tables it) keys pairs over =
       version_laws.stays_over first second kept it keys pairs over
 
-  store_stays : (first second : E × ReadTables E C FP K F order) → Keeps first second
-      → (it : StoreWalk C M order) (keys : KeyOrder) (pairs : List Pair) (position : Option ℕ)
+  store_stays : (first second : E × ReadTables E C FP K F) → Keeps first second
+      → (it : StoreWalk C M) (keys : KeyOrder) (pairs : List Pair) (position : Option ℕ)
       → At first it keys pairs position → At second it keys pairs position
   store_stays first second kept (Memory it) keys pairs position at = record {
     over = stays_alone first second it keys pairs at.over;
@@ -93,8 +93,8 @@ module _ {E C FP K F M : Type 0} {order : CmpGhosts (InternalKeyCmp C)} (env : E
   store_stays first second kept (Tables it) keys pairs position at =
       version_laws.stays first second kept it keys pairs position at
 
-  store_excuses : (first second : E × ReadTables E C FP K F order) → Keeps first second
-      → (it : StoreWalk C M order) (later : E × ReadTables E C FP K F order) (status : Status)
+  store_excuses : (first second : E × ReadTables E C FP K F) → Keeps first second
+      → (it : StoreWalk C M) (later : E × ReadTables E C FP K F) (status : Status)
       → Fails second it later status → Fails first it later status
   store_excuses first second kept (Memory it) later status fails = fails
   store_excuses first second kept (Tables it) later status fails =
@@ -105,17 +105,18 @@ module _ {E C FP K F M : Type 0} {order : CmpGhosts (InternalKeyCmp C)} {env : E
     {iterator : IteratorGhosts M} where
   -- those of a walk over memory, and those of a walk over tables
   pub store_laws : ((it : M) → IsPosition (iterator.pairs it) (iterator.position it))
-      → WalkLaws (IsStoreOver {order = order} env cmp filters codings iterator)
-      (IsStoreAt env cmp filters codings iterator) (store_here iterator)
-      (FailsInStore env cmp filters codings iterator) (KeepsReading env cmp filters codings)
+      → WalkLaws (IsStoreOver order env cmp filters codings iterator)
+      (IsStoreAt order env cmp filters codings iterator) (store_here iterator)
+      (FailsInStore order env cmp filters codings iterator)
+      (KeepsReading order env cmp filters codings)
   store_laws within = record {
-    sorted = store_sorted env cmp filters codings iterator;
-    over_list = store_over_list env cmp filters codings iterator;
-    in_range = store_in_range env cmp filters codings iterator within;
-    at_position = store_at_position env cmp filters codings iterator within;
+    sorted = store_sorted order env cmp filters codings iterator;
+    over_list = store_over_list order env cmp filters codings iterator;
+    in_range = store_in_range order env cmp filters codings iterator within;
+    at_position = store_at_position order env cmp filters codings iterator within;
     keeps_itself = reading_kept;
     keeps_on = reading_kept_on;
-    stays_over = store_stays_over env cmp filters codings iterator;
-    stays = store_stays env cmp filters codings iterator;
-    excuses = store_excuses env cmp filters codings iterator;
+    stays_over = store_stays_over order env cmp filters codings iterator;
+    stays = store_stays order env cmp filters codings iterator;
+    excuses = store_excuses order env cmp filters codings iterator;
   }

@@ -13,17 +13,16 @@ use Rattle.leveldb_env.specs.Compressor.{Codings}
 use Rattle.leveldb_env.specs.Env.{Files}
 use Rattle.leveldb_env.specs.declared.env.Env.{Ghosts as EnvGhosts}
 use Rattle.leveldb_env.specs.declared.filter.FilterPolicy.{Ghosts as FilterGhosts}
+use Rattle.leveldb_table.specs.BlockWalk.{position_over}
 use Rattle.leveldb_table.specs.Cache.{Cached}
 use Rattle.leveldb_table.specs.OpenTable.{file_of, id_of}
 use Rattle.leveldb_table.specs.Table.{Part}
 use Rattle.leveldb_table.specs.TableBlock.{FailsFor, KeepsDisk, ReadsFile}
-use Rattle.leveldb_table.specs.TableReader.{pairs_in}
+use Rattle.leveldb_table.specs.TableReader.{OpenTable, pairs_in}
 use Rattle.leveldb_table.specs.TableReaderBlocks.{IsAfterLine, IsBeforeBlock, IsIndexed, StartsOver}
 use Rattle.leveldb_table.specs.TableReaderSteps.{StepsInTable, step_to}
-use Rattle.leveldb_table.specs.TableReaderWalk.{IsAtPosition, StepsInside, current_of, inner_pairs, inner_position, position_over}
+use Rattle.leveldb_table.specs.TableReaderWalk.{IsAtPosition, StepsInside, TablePlace, current_of, inner_pairs, inner_position}
 use Rattle.leveldb_table.specs.declared.block_cache.CachedBlock.{CachedBlock}
-use Rattle.leveldb_table.specs.declared.table_reader.Table.{Table}
-use Rattle.leveldb_table.specs.declared.table_reader.walk.TableCore.{TableCore}
 use Rattle.leveldb_table.specs.declared.table_reader.walk.TableStep.{TableStep}
 use Rattle.leveldb_table.specs.declared.table_reader.walk.TableStep.TheVariants.{First, Last, NextBlock, BlockBefore, Seek}
 use Rattle.leveldb_version.specs.Format.{Agrees, IsTableFault, IsTableOf, LacksCompressor, Meaning}
@@ -61,38 +60,26 @@ IsToEnd (Seek key) = ⊥
 
 -- ---- a walk over a table, which may not have begun
 
-module _ {C : Type 0} {order : CmpGhosts C} where
+module _ {C : Type 0} where
   -- the pair that it is at
-  abbrev pub core_here : Option (TableCore C order) → Option Pair
+  abbrev pub core_here : Option (TablePlace C) → Option Pair
   core_here None = None
   core_here (Some core) = current_of core
 
   -- its position in its block
-  abbrev pub core_position : Option (TableCore C order) → Option ℕ
+  abbrev pub core_position : Option (TablePlace C) → Option ℕ
   core_position None = None
   core_position (Some core) = inner_position core.inner
 
-  -- if it has begun, its index is that of these data blocks
-  abbrev pub IsIndexedFor : (List ℕ → List ℕ → Ordering) → List Part
-      → Option (TableCore C order) → Type 0
-  IsIndexedFor cmp parts None = Unit {0}
-  IsIndexedFor cmp parts (Some core) = IsIndexed cmp parts core
-
-  -- it is at this position of their pairs
-  abbrev pub IsAtInTable : (List ℕ → List ℕ → Ordering) → List Part
-      → Option (TableCore C order) → Option ℕ → Type 0
-  IsAtInTable cmp parts None position = position ≡ None
-  IsAtInTable cmp parts (Some core) position = IsAtPosition cmp parts core position
-
   -- it is at no pair, and its index stays
-  abbrev pub LeavesPairs : Option (TableCore C order) → Option (TableCore C order) → Type 0
+  abbrev pub LeavesPairs : Option (TablePlace C) → Option (TablePlace C) → Type 0
   LeavesPairs None new = new ≡ None
   LeavesPairs (Some old) None = ⊥
   LeavesPairs (Some old) (Some new) = (new.inner ≡ None) × (new.index ≡ old.index)
 
   -- a step inside the block where it is, if it has begun
-  abbrev pub StepsInBlock : (List Pair → Option ℕ → Option ℕ) → Option (TableCore C order)
-      → Result Bool Status → Option (TableCore C order) → Type 0
+  abbrev pub StepsInBlock : (List Pair → Option ℕ → Option ℕ) → Option (TablePlace C)
+      → Result Bool Status → Option (TablePlace C) → Type 0
   StepsInBlock to None result new = (new ≡ None) × (result ≡ Ok false)
   StepsInBlock to (Some old) result None = ⊥
   StepsInBlock to (Some old) result (Some new) = StepsInside (inner_position new.inner
@@ -100,7 +87,7 @@ module _ {C : Type 0} {order : CmpGhosts C} where
 
   -- from where the walk is, this move leads to this position in a table of these data blocks
   abbrev pub IsLedTo : TableStep → (List ℕ → List ℕ → Ordering) → List Part
-      → Option (TableCore C order) → Option ℕ → Type 0
+      → Option (TablePlace C) → Option ℕ → Type 0
   IsLedTo First cmp parts core position = position ≡ position_within (pairs_in parts) 0
   IsLedTo Last cmp parts core position = position ≡ last_position (pairs_in parts)
   IsLedTo (Seek key) cmp parts core position =
@@ -113,21 +100,35 @@ module _ {C : Type 0} {order : CmpGhosts C} where
   IsLedTo BlockBefore cmp parts (Some core) position =
       IsBeforeBlock parts (position_over core.index) position
 
-module _ {E C FP F : Type 0} {order : CmpGhosts C} where
+module _ {C : Type 0} (order : CmpGhosts C) where
+  -- if it has begun, its index is that of these data blocks
+  abbrev pub IsIndexedFor : (List ℕ → List ℕ → Ordering) → List Part
+      → Option (TablePlace C) → Type 0
+  IsIndexedFor cmp parts None = Unit {0}
+  IsIndexedFor cmp parts (Some core) = IsIndexed order cmp parts core
+
+  -- it is at this position of their pairs
+  abbrev pub IsAtInTable : (List ℕ → List ℕ → Ordering) → List Part
+      → Option (TablePlace C) → Option ℕ → Type 0
+  IsAtInTable cmp parts None position = position ≡ None
+  IsAtInTable cmp parts (Some core) position = IsAtPosition order cmp parts core position
+
+module _ {C FP F : Type 0} where
   -- the walk that makes a move in an open table: the one that has begun, or a new one
-  abbrev pub IsWalkIn : Table E C FP F order → Option (TableCore C order) → TableCore C order
+  abbrev pub IsWalkIn : OpenTable C FP F → Option (TablePlace C) → TablePlace C
       → Type 0
   IsWalkIn table None walk = StartsOver table walk
   IsWalkIn table (Some core) walk = walk ≡ core
 
+module _ {E C FP F : Type 0} (order : CmpGhosts C) where
   -- What a move in an open table comes to: the walk makes it, or there is no memory to begin one.
-  pub data StepsInOpen (env : EnvGhosts E F) (codings : Codings) (table : Table E C FP F order)
-      (to : TableStep) (old_env : E) (old_blocks : Cached (CachedBlock C order))
-      (old : Option (TableCore C order)) (result : Result Bool Status) (new_env : E)
-      (new_blocks : Cached (CachedBlock C order)) (new : Option (TableCore C order)) : Type 0 where
-    stepped : (from at : TableCore C order) → IsWalkIn table old from → new ≡ Some at
-        → StepsInTable env codings (order.cmp table.cmp) (id_of table) (file_of table) (step_to to)
-        old_env old_blocks from result new_env new_blocks at
+  pub data StepsInOpen (env : EnvGhosts E F) (codings : Codings) (table : OpenTable C FP F)
+      (to : TableStep) (old_env : E) (old_blocks : Cached (CachedBlock C))
+      (old : Option (TablePlace C)) (result : Result Bool Status) (new_env : E)
+      (new_blocks : Cached (CachedBlock C)) (new : Option (TablePlace C)) : Type 0 where
+    stepped : (from at : TablePlace C) → IsWalkIn table old from → new ≡ Some at
+        → StepsInTable order env codings (order.cmp table.cmp) (id_of table) (file_of table)
+        (step_to order to) old_env old_blocks from result new_env new_blocks at
         → StepsInOpen env codings table to old_env old_blocks old result new_env new_blocks new
     not_begun : old ≡ None → new ≡ None → new_env ≡ old_env → new_blocks ≡ old_blocks
         → IsErrAnd result IsOutOfMemory
@@ -135,16 +136,16 @@ module _ {E C FP F : Type 0} {order : CmpGhosts C} where
 
 -- ---- the cache
 
-module _ {E C FP F : Type 0} {order : CmpGhosts (InternalKeyCmp C)} (env : EnvGhosts E F)
+module _ {E C FP F : Type 0} (order : CmpGhosts (InternalKeyCmp C)) (env : EnvGhosts E F)
     (by : TableOptions C FP) where
   -- the disk is modelled, and each open table is that of its number, opened with these options
-  pub record AreTablesMatched (state : E) (cache : TableCache E C FP F order) : Type 0 where
+  pub record AreTablesMatched (state : E) (cache : TableCache E C FP F) : Type 0 where
     pub modelled : IsTrue env.models_disk
-    pub matches : MatchesFiles env by (files_at env state) cache
+    pub matches : MatchesFiles order env by (files_at env state) cache
 
   -- What a call that only reads leaves of the disk and of the open tables.
-  pub record KeepsTables (old_env : E) (old : TableCache E C FP F order) (new_env : E)
-      (new : TableCache E C FP F order) : Type 0 where
+  pub record KeepsTables (old_env : E) (old : TableCache E C FP F) (new_env : E)
+      (new : TableCache E C FP F) : Type 0 where
     -- the disk stays as it is
     pub disk : KeepsDisk env old_env new_env
     -- the count of failures doesn't fall
@@ -157,19 +158,19 @@ module _ {E C FP F : Type 0} {order : CmpGhosts (InternalKeyCmp C)} (env : EnvGh
 
   -- What a move in the table of a number comes to.
   pub record MovesInNumbered (number : ℕ) (to : TableStep) (old_env : E)
-      (old : TableCache E C FP F order) (core : Option (TableCore (InternalKeyCmp C) order))
-      (result : Result Bool Status) (new_env : E) (new : TableCache E C FP F order)
-      (new_core : Option (TableCore (InternalKeyCmp C) order)) : Type 0 where
+      (old : TableCache E C FP F) (core : Option (TablePlace (InternalKeyCmp C)))
+      (result : Result Bool Status) (new_env : E) (new : TableCache E C FP F)
+      (new_core : Option (TablePlace (InternalKeyCmp C))) : Type 0 where
     -- Where the number's file is a table by a meaning that the format agrees with, and the walk is
     -- over it, the move leads to its position, unless it fails, which it does for no fault of the
     -- table but that the format lacks a compressor. The walk is over the table still.
     pub table : AreTablesMatched old_env old → (meaning : Meaning) → Agrees by.format meaning
         → (table : FileTable)
         → IsTableAt by.format.order meaning (files_at env old_env) (path_at old number) table
-        → IsIndexedFor (key_order by.format) table.parts core
+        → IsIndexedFor order (key_order by.format) table.parts core
         → ((position : Option ℕ) → IsLedTo to (key_order by.format) table.parts core position
-        → OnOk result (IsAtInTable (key_order by.format) table.parts new_core position))
-        × IsIndexedFor (key_order by.format) table.parts new_core
+        → OnOk result (IsAtInTable order (key_order by.format) table.parts new_core position))
+        × IsIndexedFor order (key_order by.format) table.parts new_core
         × FailsFor env (λ status. (status.code ≡ NotSupported) × LacksCompressor by.format meaning)
         old_env new_env result
     -- the result says whether it is at a pair

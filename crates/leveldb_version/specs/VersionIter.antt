@@ -17,8 +17,7 @@ use Rattle.leveldb_env.specs.declared.filter.FilterPolicy.{Ghosts as FilterGhost
 use Rattle.leveldb_iter.specs.Walk.{KeyOrder, IsSortedIn, key_order}
 use Rattle.leveldb_table.specs.Table.{AreAccepted, AreParted, Part}
 use Rattle.leveldb_table.specs.TableReader.{pairs_in}
-use Rattle.leveldb_table.specs.TableReaderWalk.{IsAtPairOrNone}
-use Rattle.leveldb_table.specs.declared.table_reader.walk.TableCore.{TableCore}
+use Rattle.leveldb_table.specs.TableReaderWalk.{IsAtPairOrNone, TablePlace}
 use Rattle.leveldb_table.specs.declared.table_reader.walk.TableStep.{TableStep}
 use Rattle.leveldb_version.specs.Batches.{Each}
 use Rattle.leveldb_version.specs.Format.{Agrees, IsTableFault, LacksCompressor, Meaning}
@@ -47,34 +46,44 @@ abbrev pub table_in : List FileTable → ℕ → FileTable
 table_in tables i = slice_index_or tables i (record { bytes = []; parts = []; largest = [] })
 
 -- each open table's number was given
-abbrev pub AreOpenGiven : {E C FP K F : Type 0} {order : CmpGhosts (InternalKeyCmp C)}
-    → E × ReadTables E C FP K F order → Type 0
+abbrev pub AreOpenGiven : {E C FP K F : Type 0} → E × ReadTables E C FP K F → Type 0
 AreOpenGiven world = (number : ℕ) → number < 2 ^ 64
     → IsSome (table_at world.1.cache.now number) → number < world.1.below
 
-module _ {E C FP K F : Type 0} {order : CmpGhosts (InternalKeyCmp C)} (env : EnvGhosts E F)
-    (cmp : CmpGhosts C) (filters : FilterGhosts FP) (codings : K → Codings) where
+module _ {E C FP K F : Type 0} (env : EnvGhosts E F) (cmp : CmpGhosts C) (filters : FilterGhosts FP)
+    (codings : K → Codings) where
   -- what tables are opened with
-  abbrev pub reading : ReadTables E C FP K F order → TableOptions C FP
+  abbrev pub reading : ReadTables E C FP K F → TableOptions C FP
   reading tables = options_by cmp filters (codings tables.compressors.now) tables.cmp tables.policy
 
+  -- out of memory, at a failure of the device that was counted from one world to another, or for
+  -- this reason
+  abbrev pub FailsOr : Type 0 → E × ReadTables E C FP K F → E × ReadTables E C FP K F
+      → Status → Type 0
+  FailsOr Why world later status = IsOutOfMemory status
+      ⊎ (env.failures world.0 < env.failures later.0) ⊎ (env.failures later.0 ≡ 2 ^ 64 - 1) ⊎ Why
+
+module _ {E C FP K F : Type 0} (order : CmpGhosts (InternalKeyCmp C)) (env : EnvGhosts E F)
+    (cmp : CmpGhosts C) (filters : FilterGhosts FP) (codings : K → Codings) where
   -- the files are these tables, by what names and ids mean, their numbers were given, and the walk
   -- that has begun is over the one of the file where it is
-  pub record AreTablesThere (meaning : Meaning) (world : E × ReadTables E C FP K F order)
-      (it : VersionIter C order) (tables : List FileTable) : Type 0 where
-    pub matched : AreTablesMatched env (reading world.1) world.0 world.1.cache.now
-    pub agrees : Agrees (reading world.1).format meaning
+  pub record AreTablesThere (meaning : Meaning) (world : E × ReadTables E C FP K F)
+      (it : VersionIter C) (tables : List FileTable) : Type 0 where
+    pub matched : AreTablesMatched order env (reading env cmp filters codings world.1) world.0
+        world.1.cache.now
+    pub agrees : Agrees (reading env cmp filters codings world.1).format meaning
     pub each : Each (λ file table. ((new_file_of file).number < 2 ^ 64)
         × ((new_file_of file).largest ≡ table.largest)
-        × IsTableAt (reading world.1).format.order meaning (files_at env world.0)
+        × IsTableAt (reading env cmp filters codings world.1).format.order meaning
+        (files_at env world.0)
         (path_at world.1.cache.now (new_file_of file).number) table
         × ((new_file_of file).number < world.1.below)) it.files.now tables
-    pub indexed : IsIndexedFor (order.cmp (record { 0 = world.1.cmp })) (table_in tables it.at).parts
-        it.core
+    pub indexed : IsIndexedFor order (order.cmp (record { 0 = world.1.cmp }))
+        (table_in tables it.at).parts it.core
 
   -- The walk is over the pairs of these tables, which are in the order of internal keys, one table
   -- after the other.
-  pub record IsOverTables (world : E × ReadTables E C FP K F order) (it : VersionIter C order)
+  pub record IsOverTables (world : E × ReadTables E C FP K F) (it : VersionIter C)
       (keys : KeyOrder) (pairs : List Pair) : Type 0 where
     pub meaning : Meaning
     pub tables : List FileTable
@@ -86,49 +95,44 @@ module _ {E C FP K F : Type 0} {order : CmpGhosts (InternalKeyCmp C)} (env : Env
     pub accepted : AreAccepted keys.accepts (table_parts tables)
 
   -- and at this position of them
-  pub record IsAtInTables (world : E × ReadTables E C FP K F order) (it : VersionIter C order)
+  pub record IsAtInTables (world : E × ReadTables E C FP K F) (it : VersionIter C)
       (keys : KeyOrder) (pairs : List Pair) (position : Option ℕ) : Type 0 where
     pub over : IsOverTables world it keys pairs
     -- the position in the table where it is
     pub inner : Option ℕ
-    pub in_table : IsAtInTable keys.cmp (table_in over.tables it.at).parts it.core inner
+    pub in_table : IsAtInTable order keys.cmp (table_in over.tables it.at).parts it.core inner
     pub at : IsAtPairOrNone (table_parts over.tables) (Some it.at)
         (table_pairs (table_in over.tables it.at)) inner position
 
-  -- out of memory, at a failure of the device that was counted from one world to another, or for
-  -- this reason
-  abbrev pub FailsOr : Type 0 → E × ReadTables E C FP K F order → E × ReadTables E C FP K F order
-      → Status → Type 0
-  FailsOr Why world later status = IsOutOfMemory status
-      ⊎ (env.failures world.0 < env.failures later.0) ⊎ (env.failures later.0 ≡ 2 ^ 64 - 1) ⊎ Why
-
   -- Why a move fails that begins in one world and ends in another: for a fault of a table; and where
   -- the files are tables, only since the format lacks a compressor.
-  pub record FailsInTables (world : E × ReadTables E C FP K F order) (it : VersionIter C order)
-      (later : E × ReadTables E C FP K F order) (status : Status) : Type 0 where
-    pub fault : FailsOr (IsTableFault (reading world.1).format status.code) world later status
+  pub record FailsInTables (world : E × ReadTables E C FP K F) (it : VersionIter C)
+      (later : E × ReadTables E C FP K F) (status : Status) : Type 0 where
+    pub fault : FailsOr env cmp filters codings (IsTableFault
+        (reading env cmp filters codings world.1).format status.code) world later status
     pub lacks : (meaning : Meaning) (tables : List FileTable)
         → AreTablesThere meaning world it tables
-        → FailsOr ((status.code ≡ NotSupported)
-        × LacksCompressor (reading world.1).format meaning) world later status
+        → FailsOr env cmp filters codings ((status.code ≡ NotSupported)
+        × LacksCompressor (reading env cmp filters codings world.1).format meaning) world later
+        status
 
   -- What a move leaves of the world: tables are read by the same cache, with the same options, and
   -- none is opened whose number wasn't given.
-  pub record KeepsReading (first second : E × ReadTables E C FP K F order) : Type 0 where
+  pub record KeepsReading (first second : E × ReadTables E C FP K F) : Type 0 where
     pub cmp_stays : second.1.cmp ≡ first.1.cmp
     pub policy_stays : second.1.policy ≡ first.1.policy
     pub compressors_stay : second.1.compressors ≡ first.1.compressors
     pub below_stays : second.1.below ≡ first.1.below
     pub reference : second.1.cache.ghost_name ≡ first.1.cache.ghost_name
-    pub tables : KeepsTables env (reading first.1) first.0 first.1.cache.now second.0
-        second.1.cache.now
+    pub tables : KeepsTables order env (reading env cmp filters codings first.1) first.0
+        first.1.cache.now second.0 second.1.cache.now
     pub given : AreOpenGiven first → AreOpenGiven second
 
   -- ---- its steps
 
   -- What a call leaves of a walk and its world: this, and tables that were there are there.
-  pub record StaysThere (old_world : E × ReadTables E C FP K F order) (old : VersionIter C order)
-      (new_world : E × ReadTables E C FP K F order) (new : VersionIter C order) : Type 0 where
+  pub record StaysThere (old_world : E × ReadTables E C FP K F) (old : VersionIter C)
+      (new_world : E × ReadTables E C FP K F) (new : VersionIter C) : Type 0 where
     pub kept : KeepsReading old_world new_world
     pub files : new.files.now ≡ old.files.now
     pub there : (meaning : Meaning) (tables : List FileTable)
@@ -136,17 +140,17 @@ module _ {E C FP K F : Type 0} {order : CmpGhosts (InternalKeyCmp C)} (env : Env
         → AreTablesThere meaning new_world new tables
 
   -- a move, its result and its errors, wherever it leads
-  pub record MovesThere {R : Type 0} (old_world : E × ReadTables E C FP K F order)
-      (old : VersionIter C order) (result : Result R Status)
-      (new_world : E × ReadTables E C FP K F order) (new : VersionIter C order) : Type 0 where
+  pub record MovesThere {R : Type 0} (old_world : E × ReadTables E C FP K F)
+      (old : VersionIter C) (result : Result R Status)
+      (new_world : E × ReadTables E C FP K F) (new : VersionIter C) : Type 0 where
     pub stays : StaysThere old_world old new_world new
     pub cause : IfErr result (FailsInTables old_world old new_world)
     pub err : OnErr result (core_position new.core ≡ None)
 
   -- a move in the table of the file where it is
-  pub record StepsInFile (to : TableStep) (old_world : E × ReadTables E C FP K F order)
-      (old : VersionIter C order) (result : Result Bool Status)
-      (new_world : E × ReadTables E C FP K F order) (new : VersionIter C order) : Type 0 where
+  pub record StepsInFile (to : TableStep) (old_world : E × ReadTables E C FP K F)
+      (old : VersionIter C) (result : Result Bool Status)
+      (new_world : E × ReadTables E C FP K F) (new : VersionIter C) : Type 0 where
     pub moves : MovesThere old_world old result new_world new
     pub there : IfOk result (λ there. there ≡ is_some (core_position new.core))
     pub at : new.at ≡ old.at
@@ -155,12 +159,12 @@ module _ {E C FP K F : Type 0} {order : CmpGhosts (InternalKeyCmp C)} (env : Env
         → let keys = order.cmp (record { 0 = old_world.1.cmp }) in
         let parts = (table_in tables old.at).parts in (position : Option ℕ)
         → IsLedTo to keys parts old.core position
-        → OnOk result (IsAtInTable keys parts new.core position)
+        → OnOk result (IsAtInTable order keys parts new.core position)
 
   -- a move in the table of the file of this index, or past the last to no position
-  pub record MovesToFile (at : ℕ) (to : TableStep) (old_world : E × ReadTables E C FP K F order)
-      (old : VersionIter C order) (result : Result Bool Status)
-      (new_world : E × ReadTables E C FP K F order) (new : VersionIter C order) : Type 0 where
+  pub record MovesToFile (at : ℕ) (to : TableStep) (old_world : E × ReadTables E C FP K F)
+      (old : VersionIter C) (result : Result Bool Status)
+      (new_world : E × ReadTables E C FP K F) (new : VersionIter C) : Type 0 where
     pub moves : MovesThere old_world old result new_world new
     pub there : IfOk result (λ there. there ≡ is_some (core_position new.core))
     pub past : length old.files.now ≤ at → core_position new.core ≡ None
@@ -169,19 +173,18 @@ module _ {E C FP K F : Type 0} {order : CmpGhosts (InternalKeyCmp C)} (env : Env
         → AreTablesThere meaning old_world old tables → at < length tables
         → let keys = order.cmp (record { 0 = old_world.1.cmp }) in
         let parts = (table_in tables at).parts in (position : Option ℕ)
-        → IsLedTo {order = order} to keys parts None position
-        → OnOk result (IsAtInTable keys parts new.core position)
+        → IsLedTo {C = InternalKeyCmp C} to keys parts None position
+        → OnOk result (IsAtInTable order keys parts new.core position)
 
 -- a file's largest key is before this one
 abbrev pub ends_before_key : (List ℕ → List ℕ → Ordering) → List ℕ → ℕ × FileMetaData → Bool
 ends_before_key cmp key file = is_lt (internal_cmp cmp (new_file_of file).largest key)
 
 -- a turn to a file: the walk in it is the one that had begun, or none if that was in another
-abbrev pub TurnsTo : {C : Type 0} {order : CmpGhosts C} → ℕ → Option (TableCore C order) → ℕ
-    → Option (TableCore C order) → Type 0
+abbrev pub TurnsTo : {C : Type 0} → ℕ → Option (TablePlace C) → ℕ
+    → Option (TablePlace C) → Type 0
 TurnsTo old_at old at new = (new ≡ None) ⊎ ((old_at ≡ at) × (new ≡ old))
 
 -- the pair that it is at
-abbrev pub version_here : {C : Type 0} {order : CmpGhosts (InternalKeyCmp C)} → VersionIter C order
-    → Option Pair
+abbrev pub version_here : {C : Type 0} → VersionIter C → Option Pair
 version_here it = core_here it.core

@@ -16,10 +16,10 @@ use Rattle.leveldb_env.specs.declared.filter.FilterPolicy.{Ghosts as FilterGhost
 use Rattle.leveldb_iter.specs.Walk.{KeyOrder, WalkLaws, key_order}
 use Rattle.leveldb_table.proofs.TableBlockLemmas.{KeepsDisk-refl, KeepsDisk-trans, same_files}
 use Rattle.leveldb_table.proofs.TableReaderWalkLemmas.{current_at, within_in}
+use Rattle.leveldb_table.specs.BlockWalk.{position_over}
 use Rattle.leveldb_table.specs.Table.{Part}
 use Rattle.leveldb_table.specs.TableReader.{pairs_in}
-use Rattle.leveldb_table.specs.TableReaderWalk.{IsAtPairOrNone, inner_pairs, inner_position, position_over}
-use Rattle.leveldb_table.specs.declared.table_reader.walk.TableCore.{TableCore}
+use Rattle.leveldb_table.specs.TableReaderWalk.{IsAtPairOrNone, TablePlace, inner_pairs, inner_position}
 use Rattle.leveldb_version.specs.Batches.{Each}
 use Rattle.leveldb_version.specs.Format.{Agrees, IsTableFault, LacksCompressor, Meaning}
 use Rattle.leveldb_version.specs.Paths.{table_path}
@@ -32,11 +32,11 @@ use Rattle.leveldb_version.specs.declared.table_cache.moves.ReadTables.{ReadTabl
 use Rattle.leveldb_version.specs.declared.version_iter.VersionIter.{VersionIter}
 
 -- the pair of a walk over a table is the one at its position there
-here_in_table : {C : Type 0} {order : CmpGhosts C} (cmp : List ℕ → List ℕ → Ordering)
-    (parts : List Part) (core : Option (TableCore C order)) (inner : Option ℕ)
-    → IsAtInTable cmp parts core inner → core_here core ≡ pair_at (pairs_in parts) inner
-here_in_table cmp parts None inner at = sym (ap (pair_at (pairs_in parts)) at)
-here_in_table cmp parts (Some core) inner at =
+here_in_table : {C : Type 0} (order : CmpGhosts C) (cmp : List ℕ → List ℕ → Ordering)
+    (parts : List Part) (core : Option (TablePlace C)) (inner : Option ℕ)
+    → IsAtInTable order cmp parts core inner → core_here core ≡ pair_at (pairs_in parts) inner
+here_in_table order cmp parts None inner at = sym (ap (pair_at (pairs_in parts)) at)
+here_in_table order cmp parts (Some core) inner at =
     current_at parts (position_over core.index) (inner_pairs core.inner) (inner_position core.inner)
     inner at.at
 
@@ -46,13 +46,13 @@ in_range_of : (parts : List Part) (line : Option ℕ) (pairs : List Pair) (inner
 in_range_of parts line pairs inner None at = tt
 in_range_of parts line pairs inner (Some n) at = within_in at
 
-module _ {E C FP K F : Type 0} {order : CmpGhosts (InternalKeyCmp C)} (env : EnvGhosts E F)
-    (cmp : CmpGhosts C) (filters : FilterGhosts FP) (codings : K → Codings) where
+module _ {E C FP K F : Type 0} (env : EnvGhosts E F) (cmp : CmpGhosts C) (filters : FilterGhosts FP)
+    (codings : K → Codings) where
   -- a reason in a later world is one in an earlier
-  fails_or_before : (first second : E × ReadTables E C FP K F order)
+  fails_or_before : (first second : E × ReadTables E C FP K F)
       → env.failures first.0 ≤ env.failures second.0
       → (These Those : Type 0) → (These → Those)
-      → (later : E × ReadTables E C FP K F order) (status : Status)
+      → (later : E × ReadTables E C FP K F) (status : Status)
       → FailsOr env cmp filters codings These second later status
       → FailsOr env cmp filters codings Those first later status
   fails_or_before first second counted These Those along later status (inl out) = inl out
@@ -66,8 +66,8 @@ module _ {E C FP K F : Type 0} {order : CmpGhosts (InternalKeyCmp C)} (env : Env
 module _ {E C FP K F : Type 0} {order : CmpGhosts (InternalKeyCmp C)} {env : EnvGhosts E F}
     {cmp : CmpGhosts C} {filters : FilterGhosts FP} {codings : K → Codings} where
   -- tables are read with the same options
-  pub reading_stays : (first second : E × ReadTables E C FP K F order)
-      → KeepsReading env cmp filters codings first second
+  pub reading_stays : (first second : E × ReadTables E C FP K F)
+      → KeepsReading order env cmp filters codings first second
       → reading env cmp filters codings second.1 ≡ reading env cmp filters codings first.1
   reading_stays first second kept =
       ap (λ (c : C). options_by cmp filters (codings second.1.compressors.now) c second.1.policy)
@@ -78,11 +78,11 @@ module _ {E C FP K F : Type 0} {order : CmpGhosts (InternalKeyCmp C)} {env : Env
       kept.compressors_stay
 
   -- tables that are there stay there, for the same files
-  pub there_stays : (first second : E × ReadTables E C FP K F order)
-      → KeepsReading env cmp filters codings first second
-      → (it : VersionIter C order) (meaning : Meaning) (tables : List FileTable)
-      → AreTablesThere env cmp filters codings meaning first it tables
-      → AreTablesThere env cmp filters codings meaning second it tables
+  pub there_stays : (first second : E × ReadTables E C FP K F)
+      → KeepsReading order env cmp filters codings first second
+      → (it : VersionIter C) (meaning : Meaning) (tables : List FileTable)
+      → AreTablesThere order env cmp filters codings meaning first it tables
+      → AreTablesThere order env cmp filters codings meaning second it tables
   there_stays first second kept it meaning tables there =
       let e = sym (reading_stays first second kept) in
       let keeps = kept.tables in let matched = there.matched in
@@ -93,7 +93,7 @@ module _ {E C FP K F : Type 0} {order : CmpGhosts (InternalKeyCmp C)} {env : Env
       × ((new_file_of file).number < below)) it.files.now tables in
       record {
         matched = subst (λ (by : TableOptions C FP).
-            AreTablesMatched env by second.0 second.1.cache.now) e (keeps.matches matched);
+            AreTablesMatched order env by second.0 second.1.cache.now) e (keeps.matches matched);
         agrees = subst (λ (by : TableOptions C FP). Agrees by.format meaning) e there.agrees;
         each = subst (λ (by : TableOptions C FP). Each-in second.1.below by
             (files_at env second.0) (store_of second.1.cache.now)) e
@@ -106,20 +106,20 @@ module _ {E C FP K F : Type 0} {order : CmpGhosts (InternalKeyCmp C)} {env : Env
             (subst (λ (below : ℕ). Each-in below (reading env cmp filters codings first.1)
             (files_at env first.0) (store_of first.1.cache.now)) (sym kept.below_stays)
             there.each)));
-        indexed = subst (λ (c : C). IsIndexedFor (order.cmp (record { 0 = c }))
+        indexed = subst (λ (c : C). IsIndexedFor order (order.cmp (record { 0 = c }))
             (table_in tables it.at).parts it.core) (sym kept.cmp_stays) there.indexed;
       }
 
   -- an error that a walk may have later it may have before, if the tables of the one before are
   -- there for it
-  pub fails_before : (first second : E × ReadTables E C FP K F order)
-      → KeepsReading env cmp filters codings first second → (old new : VersionIter C order)
+  pub fails_before : (first second : E × ReadTables E C FP K F)
+      → KeepsReading order env cmp filters codings first second → (old new : VersionIter C)
       → ((meaning : Meaning) (tables : List FileTable)
-      → AreTablesThere env cmp filters codings meaning first old tables
-      → AreTablesThere env cmp filters codings meaning second new tables)
-      → (later : E × ReadTables E C FP K F order) (status : Status)
-      → FailsInTables env cmp filters codings second new later status
-      → FailsInTables env cmp filters codings first old later status
+      → AreTablesThere order env cmp filters codings meaning first old tables
+      → AreTablesThere order env cmp filters codings meaning second new tables)
+      → (later : E × ReadTables E C FP K F) (status : Status)
+      → FailsInTables order env cmp filters codings second new later status
+      → FailsInTables order env cmp filters codings first old later status
   fails_before first second kept old new there later status fails =
       let e = reading_stays first second kept in
       let keeps = kept.tables in
@@ -142,11 +142,11 @@ module _ {E C FP K F : Type 0} {order : CmpGhosts (InternalKeyCmp C)} {env : Env
             later status (fails.lacks meaning tables (there meaning tables was));
       }
 
-  over_stays : (first second : E × ReadTables E C FP K F order)
-      → KeepsReading env cmp filters codings first second → (it : VersionIter C order)
+  over_stays : (first second : E × ReadTables E C FP K F)
+      → KeepsReading order env cmp filters codings first second → (it : VersionIter C)
       (keys : KeyOrder) (pairs : List Pair)
-      → IsOverTables env cmp filters codings first it keys pairs
-      → IsOverTables env cmp filters codings second it keys pairs
+      → IsOverTables order env cmp filters codings first it keys pairs
+      → IsOverTables order env cmp filters codings second it keys pairs
   over_stays first second kept it keys pairs over = record {
     meaning = over.meaning;
     tables = over.tables;
@@ -160,8 +160,8 @@ module _ {E C FP K F : Type 0} {order : CmpGhosts (InternalKeyCmp C)} {env : Env
   }
 
   -- a world is kept by no move, and by two moves
-  pub reading_kept : (world : E × ReadTables E C FP K F order)
-      → KeepsReading env cmp filters codings world world
+  pub reading_kept : (world : E × ReadTables E C FP K F)
+      → KeepsReading order env cmp filters codings world world
   reading_kept world = record {
     cmp_stays = refl;
     policy_stays = refl;
@@ -178,14 +178,14 @@ module _ {E C FP K F : Type 0} {order : CmpGhosts (InternalKeyCmp C)} {env : Env
     given = λ given. given;
   }
 
-  pub reading_kept_on : (first second third : E × ReadTables E C FP K F order)
-      → KeepsReading env cmp filters codings first second
-      → KeepsReading env cmp filters codings second third
-      → KeepsReading env cmp filters codings first third
+  pub reading_kept_on : (first second third : E × ReadTables E C FP K F)
+      → KeepsReading order env cmp filters codings first second
+      → KeepsReading order env cmp filters codings second third
+      → KeepsReading order env cmp filters codings first third
   reading_kept_on first second third one other =
       let a = one.tables in
-      let b = subst (λ (by : TableOptions C FP). KeepsTables env by second.0 second.1.cache.now
-      third.0 third.1.cache.now) (reading_stays first second one) other.tables in
+      let b = subst (λ (by : TableOptions C FP). KeepsTables order env by second.0
+      second.1.cache.now third.0 third.1.cache.now) (reading_stays first second one) other.tables in
       let counted = a.later in let later = b.later in
       record {
         cmp_stays = other.cmp_stays ∙ one.cmp_stays;
@@ -204,9 +204,10 @@ module _ {E C FP K F : Type 0} {order : CmpGhosts (InternalKeyCmp C)} {env : Env
       }
 
   -- a walk over tables is a walk
-  pub version_laws : WalkLaws (IsOverTables {order = order} env cmp filters codings)
-      (IsAtInTables env cmp filters codings) version_here (FailsInTables env cmp filters codings)
-      (KeepsReading env cmp filters codings)
+  pub version_laws : WalkLaws (IsOverTables order env cmp filters codings)
+      (IsAtInTables order env cmp filters codings) version_here
+      (FailsInTables order env cmp filters codings)
+      (KeepsReading order env cmp filters codings)
   unfolding over_stays
   version_laws = record {
     sorted = λ world it keys pairs over. over.sorted;
@@ -216,7 +217,7 @@ module _ {E C FP K F : Type 0} {order : CmpGhosts (InternalKeyCmp C)} {env : Env
         (in_range_of (table_parts over.tables) (Some it.at)
         (table_pairs (table_in over.tables it.at)) at.inner position at.at));
     at_position = λ world it keys pairs position at. (let over = at.over in
-        here_in_table keys.cmp (table_in over.tables it.at).parts it.core at.inner at.in_table
+        here_in_table order keys.cmp (table_in over.tables it.at).parts it.core at.inner at.in_table
         ∙ current_at (table_parts over.tables) (Some it.at)
         (table_pairs (table_in over.tables it.at)) at.inner position at.at
         ∙ ap (λ ps. pair_at ps position) (sym over.pairs_are));

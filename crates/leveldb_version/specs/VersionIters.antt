@@ -47,24 +47,24 @@ levels_of_walks files =
 abbrev pub files_of_walks : List (ℕ × FileMetaData) → List (List (ℕ × FileMetaData))
 files_of_walks files = each_alone (at_level 0 files) ++ levels_of_walks files
 
-module _ {C : Type 0} {order : CmpGhosts (InternalKeyCmp C)} where
+module _ {C : Type 0} where
   -- the files that each walk goes over
-  abbrev pub files_of_iters : List (VersionIter C order) → List (List (ℕ × FileMetaData))
-  files_of_iters iters = map (λ (it : VersionIter C order). it.files.now) iters
+  abbrev pub files_of_iters : List (VersionIter C) → List (List (ℕ × FileMetaData))
+  files_of_iters iters = map (λ (it : VersionIter C). it.files.now) iters
 
   -- none of the walks has begun
-  abbrev pub HaveNotBegun : List (VersionIter C order) → Type 0
-  HaveNotBegun iters = All (λ (it : VersionIter C order). it.core ≡ None) iters
+  abbrev pub HaveNotBegun : List (VersionIter C) → Type 0
+  HaveNotBegun iters = All (λ (it : VersionIter C). it.core ≡ None) iters
 
   -- walks over these files, which have not begun, come after those that were there
-  abbrev pub AreWalksOf : List (VersionIter C order) → List (List (ℕ × FileMetaData))
-      → List (VersionIter C order) → Type 0
-  AreWalksOf old files new = (more : List (VersionIter C order)) × (new ≡ old ++ more)
+  abbrev pub AreWalksOf : List (VersionIter C) → List (List (ℕ × FileMetaData))
+      → List (VersionIter C) → Type 0
+  AreWalksOf old files new = (more : List (VersionIter C)) × (new ≡ old ++ more)
       × (files_of_iters more ≡ files) × HaveNotBegun more
 
 -- walks over a version's tables, which have not begun
-pub record AreVersionIters {C : Type 0} {order : CmpGhosts (InternalKeyCmp C)}
-    (version : VersionValue C) (iters : List (VersionIter C order)) : Type 0 where
+pub record AreVersionIters {C : Type 0} (version : VersionValue C) (iters : List (VersionIter C))
+    : Type 0 where
   -- which files each walk goes over
   pub files : files_of_iters iters ≡ files_of_walks version.files
   -- none is at a table yet
@@ -81,14 +81,14 @@ pub record OrdersInternalKeys {C : Type 0} (order : CmpGhosts (InternalKeyCmp C)
   pub accepts : (key : List ℕ) → internal_accepts any_user_key key ≡ true
       → order.accepts (record { 0 = c }) key ≡ true
 
-module _ {E C FP K F : Type 0} {order : CmpGhosts (InternalKeyCmp C)} (env : EnvGhosts E F)
+module _ {E C FP K F : Type 0} (order : CmpGhosts (InternalKeyCmp C)) (env : EnvGhosts E F)
     (cmp : CmpGhosts C) (filters : FilterGhosts FP) (codings : K → Codings) where
   -- The tables of a version are there, by what names and ids mean, in a world whose open tables match
   -- the files.
   pub record AreTablesToWalk (version : VersionValue C) (meaning : Meaning)
-      (world : E × ReadTables E C FP K F order) (tables : List LiveTable) : Type 0 where
+      (world : E × ReadTables E C FP K F) (tables : List LiveTable) : Type 0 where
     -- the open tables match the files
-    pub matched : AreTablesMatched env (reading env cmp filters codings world.1) world.0
+    pub matched : AreTablesMatched order env (reading env cmp filters codings world.1) world.0
         world.1.cache.now
     -- the tables are read by what names and ids mean
     pub agrees : Agrees (reading env cmp filters codings world.1).format meaning
@@ -111,15 +111,15 @@ module _ {E C FP K F : Type 0} {order : CmpGhosts (InternalKeyCmp C)} (env : Env
 
   -- Walks are over lists whose entries are layers, the newer first, and together exactly the entries
   -- of tables.
-  pub record AreOverLayers (world : E × ReadTables E C FP K F order)
-      (iters : List (VersionIter C order)) (tables : List LiveTable) : Type 0 where
+  pub record AreOverLayers (world : E × ReadTables E C FP K F)
+      (iters : List (VersionIter C)) (tables : List LiveTable) : Type 0 where
     pub lists : List (List Pair)
     -- one list for each walk
     pub counted : length lists ≡ length iters
     -- which the walk is over
-    pub over : (k : ℕ) (it : VersionIter C order) (pairs : List Pair)
+    pub over : (k : ℕ) (it : VersionIter C) (pairs : List Pair)
         → slice_get iters k ≡ Some it → slice_get lists k ≡ Some pairs
-        → IsOverTables env cmp filters codings world it
+        → IsOverTables order env cmp filters codings world it
         (key_order order (record { 0 = world.1.cmp })) pairs
     -- the newer entries of a key first
     pub layered : AreLayered (map entries_of_pairs lists)
@@ -131,10 +131,10 @@ module _ {E C FP K F : Type 0} {order : CmpGhosts (InternalKeyCmp C)} (env : Env
 abbrev pub VersionItersAreLayers : {E C FP K F : Type 0} → CmpGhosts (InternalKeyCmp C)
     → EnvGhosts E F → CmpGhosts C → FilterGhosts FP → (K → Codings) → Type 0
 VersionItersAreLayers {E} {C} {FP} {K} {F} order env cmp filters codings =
-    (version : VersionValue C) (iters : List (VersionIter C order))
-    → AreVersionIters version iters → (world : E × ReadTables E C FP K F order)
+    (version : VersionValue C) (iters : List (VersionIter C))
+    → AreVersionIters version iters → (world : E × ReadTables E C FP K F)
     → IsExactOrder (cmp.cmp world.1.cmp)
     → OrdersInternalKeys order (cmp.cmp world.1.cmp) world.1.cmp
     → (meaning : Meaning) (tables : List LiveTable)
-    → AreTablesToWalk env cmp filters codings version meaning world tables
-    → AreOverLayers env cmp filters codings world iters tables
+    → AreTablesToWalk order env cmp filters codings version meaning world tables
+    → AreOverLayers order env cmp filters codings world iters tables

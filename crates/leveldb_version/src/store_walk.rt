@@ -36,15 +36,19 @@ impl<
     ghost use Rattle.leveldb_version.specs.StoreWalkLaws.{store_laws};
     ghost use Rattle.leveldb_version.specs.VersionIter.{KeepsReading};
 
-    ghost over = { IsStoreOver E.Env C.Cmp FP.FilterPolicy K.codings M.LdbIterator };
+    ghost over = { IsStoreOver ⟦<InternalKeyCmp<C> as Cmp>⟧ E.Env C.Cmp FP.FilterPolicy K.codings
+        M.LdbIterator };
 
-    ghost is_at = { IsStoreAt E.Env C.Cmp FP.FilterPolicy K.codings M.LdbIterator };
+    ghost is_at = { IsStoreAt ⟦<InternalKeyCmp<C> as Cmp>⟧ E.Env C.Cmp FP.FilterPolicy K.codings
+        M.LdbIterator };
 
     ghost here = { store_here M.LdbIterator };
 
-    ghost fails = { FailsInStore E.Env C.Cmp FP.FilterPolicy K.codings M.LdbIterator };
+    ghost fails = { FailsInStore ⟦<InternalKeyCmp<C> as Cmp>⟧ E.Env C.Cmp FP.FilterPolicy K.codings
+        M.LdbIterator };
 
-    ghost keeps = { KeepsReading E.Env C.Cmp FP.FilterPolicy K.codings };
+    ghost keeps = { KeepsReading ⟦<InternalKeyCmp<C> as Cmp>⟧ E.Env C.Cmp FP.FilterPolicy
+        K.codings };
 
     fn advance(&mut self, env: &mut E, tables: &mut ReadTables<'b, E, C, FP, K>) -> Result<bool> {
         match self {

@@ -72,7 +72,7 @@ impl<E: Env, C: UserCmp + Copy + Drop, FP: FilterPolicy + Copy + Drop> TableCach
     pub fn new(alloc: Global, store: &str, options: &Options<C, FP>) -> Result<TableCache<E, C, FP>>
         ensures ok { IfOk result (IsNewTableCache store.now options.now) }
         ensures matches { IfOk result (λ cache. (by : TableOptions C FP) (files : Files)
-            → MatchesFiles E.Env by files cache) }
+            → MatchesFiles ⟦<InternalKeyCmp<C> as Cmp>⟧ E.Env by files cache) }
         ensures memory { IfErr result IsOutOfMemory }
     {
         let blocks = options
@@ -107,9 +107,11 @@ impl<E: Env, C: UserCmp + Copy + Drop, FP: FilterPolicy + Copy + Drop> TableCach
             result env.new self.new }
         ensures gets { let by = table_options (format_of C.Cmp FP.FilterPolicy
             ⟦<CompressorList as Compressors>⟧.codings options.now) options.now in
-            IsTrue E.models_disk → MatchesFiles E.Env by (files_at E.Env env.old) self.old
-            → GetsPair E.Env by number key.now env.old self.old result env.new self.new }
-        ensures in_open { LooksUpInOpen E.Env
+            IsTrue E.models_disk
+            → MatchesFiles ⟦<InternalKeyCmp<C> as Cmp>⟧ E.Env by (files_at E.Env env.old) self.old
+            → GetsPair ⟦<InternalKeyCmp<C> as Cmp>⟧ E.Env by number key.now env.old self.old
+            result env.new self.new }
+        ensures in_open { LooksUpInOpen ⟦<InternalKeyCmp<C> as Cmp>⟧ E.Env
             (⟦<CompressorList as Compressors>⟧.codings options.now.compressor_list)
             ⟦<InternalFilterPolicy<FP> as FilterPolicy>⟧.matches number key.now env.old self.old
             result env.new self.new }
@@ -137,10 +139,11 @@ impl<E: Env, C: UserCmp + Copy + Drop, FP: FilterPolicy + Copy + Drop> TableCach
             (found_with (found_key self.new) result) env.new self.new }
         ensures gets { let by = table_options (format_of C.Cmp FP.FilterPolicy
             ⟦<CompressorList as Compressors>⟧.codings options.now) options.now in
-            IsTrue E.models_disk → MatchesFiles E.Env by (files_at E.Env env.old) self.old
-            → GetsPair E.Env by number key.now env.old self.old
+            IsTrue E.models_disk
+            → MatchesFiles ⟦<InternalKeyCmp<C> as Cmp>⟧ E.Env by (files_at E.Env env.old) self.old
+            → GetsPair ⟦<InternalKeyCmp<C> as Cmp>⟧ E.Env by number key.now env.old self.old
             (found_with (found_key self.new) result) env.new self.new }
-        ensures in_open { LooksUpInOpen E.Env
+        ensures in_open { LooksUpInOpen ⟦<InternalKeyCmp<C> as Cmp>⟧ E.Env
             (⟦<CompressorList as Compressors>⟧.codings options.now.compressor_list)
             ⟦<InternalFilterPolicy<FP> as FilterPolicy>⟧.matches number key.now env.old self.old
             (found_with (found_key self.new) result) env.new self.new }
@@ -200,7 +203,8 @@ impl<E: Env, C: UserCmp + Copy + Drop, FP: FilterPolicy + Copy + Drop> TableCach
     ) -> Result<()>
         ensures { let by = table_options (format_of C.Cmp FP.FilterPolicy
             ⟦<CompressorList as Compressors>⟧.codings options.now) options.now in
-            OpensTableAt E.Env by number env.old self.old result env.new self.new }
+            OpensTableAt ⟦<InternalKeyCmp<C> as Cmp>⟧ E.Env by number env.old self.old
+            result env.new self.new }
     {
         let compressors = &options.compressor_list;
         self.open_table_by(env, options.cmp, options.filter_policy, compressors, number)
@@ -217,7 +221,8 @@ impl<E: Env, C: UserCmp + Copy + Drop, FP: FilterPolicy + Copy + Drop> TableCach
     ) -> Result<()>
         ensures { let by = options_by C.Cmp FP.FilterPolicy
             (⟦<CompressorList as Compressors>⟧.codings compressors.now) cmp policy in
-            OpensTableAt E.Env by number env.old self.old result env.new self.new }
+            OpensTableAt ⟦<InternalKeyCmp<C> as Cmp>⟧ E.Env by number env.old self.old
+            result env.new self.new }
     {
         let name = table_key(number);
         if self.tables.get(&name).is_some() {

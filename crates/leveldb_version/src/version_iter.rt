@@ -97,8 +97,8 @@ impl<'a, C: UserCmp + Copy + Drop> VersionIter<'a, C> {
         tables: &mut ReadTables<'b, E, C, FP, K>,
         to: TableStep,
     ) -> Result<bool>
-        ensures { StepsInFile E.Env C.Cmp FP.FilterPolicy K.codings to.entry (env.old, tables.old)
-            self.old result (env.new, tables.new) self.new }
+        ensures { StepsInFile ⟦<InternalKeyCmp<C> as Cmp>⟧ E.Env C.Cmp FP.FilterPolicy K.codings
+            to.entry (env.old, tables.old) self.old result (env.new, tables.new) self.new }
     {
         let at = self.at;
         if at >= self.files.len() {
@@ -135,8 +135,8 @@ impl<'a, C: UserCmp + Copy + Drop> VersionIter<'a, C> {
         to: TableStep,
     ) -> Result<bool>
         requires { IsToEnd to }
-        ensures { MovesToFile E.Env C.Cmp FP.FilterPolicy K.codings at to.entry
-            (env.old, tables.old) self.old result (env.new, tables.new) self.new }
+        ensures { MovesToFile ⟦<InternalKeyCmp<C> as Cmp>⟧ E.Env C.Cmp FP.FilterPolicy K.codings at
+            to.entry (env.old, tables.old) self.old result (env.new, tables.new) self.new }
     {
         if at >= self.files.len() {
             self.leave();
@@ -211,15 +211,19 @@ impl<
     ghost use Rattle.leveldb_version.specs.VersionIter.{IsOverTables, IsAtInTables, FailsInTables, KeepsReading, version_here};
     ghost use Rattle.leveldb_version.specs.VersionIterLaws.{version_laws};
 
-    ghost over = { IsOverTables E.Env C.Cmp FP.FilterPolicy K.codings };
+    ghost over = { IsOverTables ⟦<InternalKeyCmp<C> as Cmp>⟧ E.Env C.Cmp FP.FilterPolicy
+        K.codings };
 
-    ghost is_at = { IsAtInTables E.Env C.Cmp FP.FilterPolicy K.codings };
+    ghost is_at = { IsAtInTables ⟦<InternalKeyCmp<C> as Cmp>⟧ E.Env C.Cmp FP.FilterPolicy
+        K.codings };
 
     ghost here = { version_here };
 
-    ghost fails = { FailsInTables E.Env C.Cmp FP.FilterPolicy K.codings };
+    ghost fails = { FailsInTables ⟦<InternalKeyCmp<C> as Cmp>⟧ E.Env C.Cmp FP.FilterPolicy
+        K.codings };
 
-    ghost keeps = { KeepsReading E.Env C.Cmp FP.FilterPolicy K.codings };
+    ghost keeps = { KeepsReading ⟦<InternalKeyCmp<C> as Cmp>⟧ E.Env C.Cmp FP.FilterPolicy
+        K.codings };
 
     fn advance(&mut self, env: &mut E, tables: &mut ReadTables<'b, E, C, FP, K>) -> Result<bool> {
         if !is_at_pair(&self.core) {

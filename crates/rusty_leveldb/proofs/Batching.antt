@@ -48,9 +48,9 @@ abbrev pub IsUnmade : List Item → Status → Type 0
 IsUnmade items status = IsOutOfMemory status ⊎ ((status.code ≡ InvalidArgument) × IsLongBatch items)
 
 module _ {E C FP F : Type 0} {B : Boxed} {keys : InternalOrder C} (env : Ghosts E F)
-    (formats : OptionsOf C FP B → Format) (engine : EngineOf E C FP F B keys)
+    (formats : OptionsOf C FP B → Format) (engine : EngineOf E C FP F B)
     (opened : engine.mode ≡ open_mode) (items : List Item) (sync : Bool) (status : Status) (why : IsUnmade items status) where
-  pub not_written : AnswersStill env formats engine (write items sync) (refused (refusal_of status))
+  pub not_written : AnswersStill keys env formats engine (write items sync) (refused (refusal_of status))
   not_written at store meaning tells old represents = record {
     new = old;
     represents = represents;

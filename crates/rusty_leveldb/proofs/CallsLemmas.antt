@@ -91,7 +91,7 @@ module _ (setting : Setting) (old : State) where
 
 module _ {E C FP F P : Type 0} {B : Boxed} {keys : InternalOrder C} {key_filters : FilterGhosts P}
     (env : Ghosts E F) (choices : OptionsOf C FP B → TableChoices keys key_filters)
-    (before : EngineOf E C FP F B keys) where
+    (before : EngineOf E C FP F B) where
   abbrev formats : OptionsOf C FP B → Format
   formats = formats_of choices
 
@@ -100,7 +100,7 @@ module _ {E C FP F P : Type 0} {B : Boxed} {keys : InternalOrder C} {key_filters
   -- the machine refuses it so
   pub halted_still : (request : Request) → Writes request → (status : Status)
       → RefusedByMode before.mode status
-      → AnswersStill env formats before request (refused (refusal_of status))
+      → AnswersStill keys env formats before request (refused (refusal_of status))
   halted_still request writes status why at store meaning modelled old was = record {
     new = old;
     represents = was;
@@ -177,7 +177,7 @@ module _ {E C FP F P : Type 0} {B : Boxed} {keys : InternalOrder C} {key_filters
     sync_tells : (result : Result (Unit {0}) Status) (m : machine.Mode)
         → SyncsLog env before.store from result value mid
         → TellsOnly (options_in before) (options_in {E = E} {C = C} {FP = FP} {F = F} {B = B}
-        {keys = keys} (record before { store = value; mode = m }))
+        (record before { store = value; mode = m }))
     sync_tells result m syncs = record {
       rest = ap (λ (c : C). record before.options { cmp = c }) (sync_cmp result syncs);
       sink = refl;
@@ -334,7 +334,7 @@ module _ {E C FP F P : Type 0} {B : Boxed} {keys : InternalOrder C} {key_filters
     -- a look-up that reads nothing fails for this
     unread_fails : (result : Result (Option (List ℕ)) Status)
         → ((Why : Status → Type 0) → IfErr result (GetExcused before snapshot key Why))
-        → GetFails env formats before from snapshot key result from
+        → GetFails keys env formats before from snapshot key result from
     unread_fails result why = record {
       cause = fails (λ e. IsTableFault (formats (options_in before)) e.code);
       lacks = λ meaning live there. fails (λ e. (e.code ≡ NotSupported)
@@ -382,8 +382,8 @@ module _ {E C FP F P : Type 0} {B : Boxed} {keys : InternalOrder C} {key_filters
 
       pub get_serves : (sequence : ℕ) → ReadsAt before snapshot sequence → (IsLongKey key → ⊥)
           → (to : E) (result : Result (Option (List ℕ)) Status)
-          (value : OpenStoreValue C) (cache : TableCache E C FP F keys)
-          → LooksUpKey env (tables_by formats before) before.store from before.tables sequence key
+          (value : OpenStoreValue C) (cache : TableCache E C FP F)
+          → LooksUpKey keys env (tables_by formats before) before.store from before.tables sequence key
           result value to cache
           → EngineServes env choices found_or before from (get snapshot key) result
           (record before { options = options_in before; store = value; tables = cache }) to
@@ -410,9 +410,9 @@ module _ {E C FP F P : Type 0} {B : Boxed} {keys : InternalOrder C} {key_filters
       pub get_serves_in : (cmp : C) → cmp ≡ before.store.cmp → (sequence : ℕ)
           → ReadsAt before snapshot sequence → (IsLongKey key → ⊥) → (to : E)
           (result : Result (Option (List ℕ)) Status) (value : OpenStoreValue C)
-          (cache : TableCache E C FP F keys)
+          (cache : TableCache E C FP F)
           → (let options : OptionsOf C FP B = record before.options { cmp = cmp } in
-          LooksUpKey env (table_options (formats options) options) before.store from before.tables
+          LooksUpKey keys env (table_options (formats options) options) before.store from before.tables
           sequence key result value to cache)
           → EngineServes env choices found_or before from (get snapshot key) result
           (record before {
@@ -429,5 +429,5 @@ module _ {E C FP F P : Type 0} {B : Boxed} {keys : InternalOrder C} {key_filters
           }) to) (sym same)
           (get_serves sequence reads short to result value cache (subst (λ (c : C).
           let options : OptionsOf C FP B = record before.options { cmp = c } in
-          LooksUpKey env (table_options (formats options) options) before.store from before.tables
+          LooksUpKey keys env (table_options (formats options) options) before.store from before.tables
           sequence key result value to cache) same looks))

@@ -79,7 +79,7 @@ module _ {E C FP F : Type 0} {B : Boxed} {keys : InternalOrder C} (env : Ghosts 
     (formats : OptionsOf C FP B → Format) where
   -- ---- an engine that is open
 
-  module _ (before : EngineOf E C FP F B keys) (from : E)
+  module _ (before : EngineOf E C FP F B) (from : E)
       (opened : before.mode ≡ machine.open_mode) where
     module _ (value : OpenStoreValue C) (mid : E) where
       -- ---- a flush
@@ -87,18 +87,18 @@ module _ {E C FP F : Type 0} {B : Boxed} {keys : InternalOrder C} (env : Ghosts 
       module _ (unbroken : IsUnbroken before.store) (m : machine.Mode)
           (follows : FollowsStore m value) (store : List ℕ) (meaning : Meaning)
           (modelled : IsTrue env.models_disk) (old : State)
-          (was : Represents store meaning (Recalls env formats store meaning)
+          (was : Represents store meaning (Recalls keys env formats store meaning)
           (Some before) (env.observed from).disk old) where
         flushed : (syncs : SyncsLog env before.store from (Ok tt) value mid)
             → SyncsBatches env (formats (options_in before)).order before.store from (Ok tt) value mid
             → IsSoundCall {T = Unit {0}} env (formats (options_in before)).order any_meaning before.store from
             (Ok tt) value mid
-            → Goes store meaning (Recalls env formats store meaning) (scene env (Some before) from)
+            → Goes store meaning (Recalls keys env formats store meaning) (scene env (Some before) from)
             flush
             done (scene env (Some (record before { store = value; mode = m })) mid) old
         flushed syncs batches sound =
             let new : State = record old { durable = length old.history } in
-            let after : EngineOf E C FP F B keys = record before { store = value; mode = m } in
+            let after : EngineOf E C FP F B = record before { store = value; mode = m } in
             goes env formats store meaning before from old was opened after mid new
             (ends_durable env formats store meaning before from old was opened value m mid
             mid new modelled syncs
@@ -128,7 +128,7 @@ module _ {E C FP F : Type 0} {B : Boxed} {keys : InternalOrder C} (env : Ghosts 
 
         -- memory was out before the device was called
         starved : (status : Status) → IsOutOfMemory status
-            → Goes store meaning (Recalls env formats store meaning) (scene env (Some before) from)
+            → Goes store meaning (Recalls keys env formats store meaning) (scene env (Some before) from)
             flush (refused (refusal_of status)) (scene env (Some before) from) old
         starved status memory = record {
           new = old;
@@ -159,21 +159,21 @@ module _ {E C FP F : Type 0} {B : Boxed} {keys : InternalOrder C} (env : Ghosts 
             mid
             → IsSoundCall {T = Unit {0}} env (formats (options_in before)).order any_meaning before.store from
             (Err status) value mid
-            → Goes store meaning (Recalls env formats store meaning) (scene env (Some before) from)
+            → Goes store meaning (Recalls keys env formats store meaning) (scene env (Some before) from)
             flush
             (refused (refusal_of status))
             (scene env (Some (record before { store = value; mode = m })) mid) old
         unflushed status syncs batches sound = ⊎_elim
             (λ (still : IsOutOfMemory status × (value ≡ before.store) × (mid ≡ from)).
-            subst (λ (x : machine.Mode). Goes store meaning (Recalls env formats store meaning)
+            subst (λ (x : machine.Mode). Goes store meaning (Recalls keys env formats store meaning)
             (scene env (Some before) from) flush (refused (refusal_of status))
             (scene env (Some (record before { store = value; mode = x })) mid) old)
             (opened ∙ sym (follows_open m value follows
             (subst (λ (v : OpenStoreValue C). IsUnbroken v) (sym still.1) unbroken)))
-            (subst (λ (v : OpenStoreValue C). Goes store meaning (Recalls env formats store meaning)
+            (subst (λ (v : OpenStoreValue C). Goes store meaning (Recalls keys env formats store meaning)
             (scene env (Some before) from) flush (refused (refusal_of status))
             (scene env (Some (record before { store = v })) mid) old) (sym still.1)
-            (subst (λ (at : E). Goes store meaning (Recalls env formats store meaning)
+            (subst (λ (at : E). Goes store meaning (Recalls keys env formats store meaning)
             (scene env (Some before) from) flush (refused (refusal_of status))
             (scene env (Some before) at) old) (sym still.2) (starved status still.0))))
             (λ (broke : value ≡ with_writer before.store (broken_writer before.store.log.writer)).
@@ -187,7 +187,7 @@ module _ {E C FP F : Type 0} {B : Boxed} {keys : InternalOrder C} (env : Ghosts 
           → (result : Result (Unit {0}) Status) → SyncsLog env before.store from result value mid
           → SyncsBatches env (formats (options_in before)).order before.store from result value mid
           → IsSoundCall {T = Unit {0}} env (formats (options_in before)).order any_meaning before.store from result value mid
-          → Answers env formats (Some before) from flush (done_or result)
+          → Answers keys env formats (Some before) from flush (done_or result)
           (Some (record before { store = value; mode = m })) mid
       flush_goes unbroken m follows (Ok nothing) syncs batches sound store meaning modelled old was =
           flushed unbroken m follows store meaning modelled old was syncs batches sound
@@ -202,7 +202,7 @@ module _ {E C FP F : Type 0} {B : Boxed} {keys : InternalOrder C} (env : Ghosts 
           → SyncsBatches env (formats (options_in before)).order before.store from (Err status) value mid
           → IsSoundCall {T = Unit {0}} env (formats (options_in before)).order any_meaning before.store from
           (Err status) value mid
-          → Answers env formats (Some before) from close (refused (refusal_of status))
+          → Answers keys env formats (Some before) from close (refused (refusal_of status))
           (Some (record before { store = value; mode = machine.broken })) mid
       close_unsynced status syncs batches sound store meaning modelled old was =
           goes_broken env formats store meaning before from old was opened value mid status modelled
@@ -216,7 +216,7 @@ module _ {E C FP F : Type 0} {B : Boxed} {keys : InternalOrder C} (env : Ghosts 
           (Ok tt) value mid)
           (to : E) (lock : List ℕ) (lock_is : lock ≡ before.lock) where
         module _ (store : List ℕ) (meaning : Meaning) (modelled : IsTrue env.models_disk)
-            (old : State) (was : Represents store meaning (Recalls env formats store meaning)
+            (old : State) (was : Represents store meaning (Recalls keys env formats store meaning)
             (Some before) (env.observed from).disk old)
             (still : (env.observed to).disk.files ≡ (env.observed mid).disk.files) where
           all_durable : MakesDurable old.format.order meaning (Stays old) before.store (env.observed from)
@@ -264,7 +264,7 @@ module _ {E C FP F : Type 0} {B : Boxed} {keys : InternalOrder C} (env : Ghosts 
             → ChangesLocks {T = Unit {0}} env.models_disk (lock_set lock false) (env.observed mid)
             (env.observed to) (Err status)
             → HasCause {T = Unit {0}} (λ _. ⊥) (env.failures mid) (env.failures to) (Err status)
-            → Answers env formats (Some before) from close (refused (refusal_of status))
+            → Answers keys env formats (Some before) from close (refused (refusal_of status))
             (Some (record before { store = value; mode = machine.broken })) to
         close_locked status does relocks caused store meaning modelled old was =
             let still = does.now modelled in
@@ -302,7 +302,7 @@ module _ {E C FP F : Type 0} {B : Boxed} {keys : InternalOrder C} (env : Ghosts 
             → ChangesLocks {T = Unit {0}} env.models_disk (lock_set lock false) (env.observed mid)
             (env.observed to) (Ok tt)
             → HasCause {T = Unit {0}} (λ _. ⊥) (env.failures mid) (env.failures to) (Ok tt)
-            → Answers env formats (Some before) from close done
+            → Answers keys env formats (Some before) from close done
             (Some (record before { store = value; mode = machine.closed })) to
         closed_now does relocks caused store meaning modelled old was =
             let still = does.now modelled in
@@ -338,9 +338,9 @@ module _ {E C FP F : Type 0} {B : Boxed} {keys : InternalOrder C} (env : Ghosts 
   -- ---- a store that is abandoned
 
   -- it was closed before
-  pub abandoned_closed : (before : EngineOf E C FP F B keys) (at : E)
+  pub abandoned_closed : (before : EngineOf E C FP F B) (at : E)
       → before.mode ≡ machine.closed
-      → Answers env formats (Some before) at abandon done None at
+      → Answers keys env formats (Some before) at abandon done None at
   abandoned_closed before at is_closed store meaning modelled old was =
       let is : old.mode ≡ machine.closed = sym was.memory_is.mode ∙ is_closed in
       record {
@@ -354,11 +354,11 @@ module _ {E C FP F : Type 0} {B : Boxed} {keys : InternalOrder C} (env : Ghosts 
         bytes = λ never. absurd never;
       }
 
-  module _ (before : EngineOf E C FP F B keys) (at now : E)
+  module _ (before : EngineOf E C FP F B) (at now : E)
       (differs : before.mode ≡ machine.closed → ⊥) (lock : List ℕ)
       (lock_is : lock ≡ before.lock) where
     module _ (store : List ℕ) (meaning : Meaning) (modelled : IsTrue env.models_disk) (old : State)
-        (was : Represents store meaning (Recalls env formats store meaning) (Some before)
+        (was : Represents store meaning (Recalls keys env formats store meaning) (Some before)
         (env.observed at).disk old) (result : Result (Unit {0}) Status)
         (does : ChangesFiles {T = Unit {0}} env.models_disk same FilesUnchanged (env.observed at)
         (env.observed now) result) (later : env.failures at ≤ env.failures now) where
@@ -369,7 +369,7 @@ module _ {E C FP F : Type 0} {B : Boxed} {keys : InternalOrder C} (env : Ghosts 
           → (env.observed now).disk.locked path ≡ (env.observed at).disk.locked path)
           → Responds (setting_between meaning (env.failures at) (env.failures now)) old abandon answer
           (record (closed_state old) { locked = locked })
-          → Goes store meaning (Recalls env formats store meaning) (scene env (Some before) at)
+          → Goes store meaning (Recalls keys env formats store meaning) (scene env (Some before) at)
           abandon answer (scene env None now) old
       let_go locked answer locked_is others responds =
           let new : State = record (closed_state old) { locked = locked } in
@@ -402,7 +402,7 @@ module _ {E C FP F : Type 0} {B : Boxed} {keys : InternalOrder C} (env : Ghosts 
         → ChangesFiles env.models_disk same FilesUnchanged (env.observed at) (env.observed now) result
         → ChangesLocks env.models_disk (lock_set lock false) (env.observed at) (env.observed now) result
         → HasCause (λ _. ⊥) (env.failures at) (env.failures now) result
-        → Answers env formats (Some before) at abandon (done_or result) None now
+        → Answers keys env formats (Some before) at abandon (done_or result) None now
     abandon_answers (Ok nothing) does relocks caused store meaning modelled old was =
         let same_lock : lock ≡ lock_path store = lock_is ∙ was.memory_is.lock in
         let_go store meaning modelled old was (Ok nothing) does caused.later false done

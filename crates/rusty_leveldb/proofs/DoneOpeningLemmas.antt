@@ -78,20 +78,20 @@ removed_bytes set before after removes bytes name file there = ⊎_elim
 -- was open before.
 pub opened_tables : {E C FP F : Type 0} {B : Boxed} {keys : InternalOrder C} (env : Ghosts E F)
     (by : TableOptions C FP) (cmp : List ℕ → List ℕ → Ordering) (value : OpenStoreValue C)
-    (options : OptionsOf C FP B) (none tables : TableCache E C FP F keys) (opened to : E)
+    (options : OptionsOf C FP B) (none tables : TableCache E C FP F) (opened to : E)
     (store : List ℕ) → value.set.store ≡ store → IsNewTableCache store options none
-    → ((by : TableOptions C FP) (files : Files) → MatchesFiles env by files none)
+    → ((by : TableOptions C FP) (files : Files) → MatchesFiles keys env by files none)
     → TidiesUp env cmp value opened to → ClosesObsolete env value.set opened none to tables
     → IsTrue env.models_disk
-    → AreOpenTablesOf env by value.set (env.observed to).disk.files tables
-opened_tables {E} {C} {FP} {F} {keys = keys} env by cmp value options none tables opened to store
+    → AreOpenTablesOf keys env by value.set (env.observed to).disk.files tables
+opened_tables {E} {C} {FP} {F} env by cmp value options none tables opened to store
     path is_new matches tidies closes modelled =
     open_after_removal env by value.set (env.observed opened).disk.files
     (env.observed to).disk.files (tidies.others modelled) none tables closes.closes (record {
       path = is_new.path ∙ sym path;
       given = λ number fits is_open.
           let never : false ≡ true = subst
-          (λ (tables : Cached (StoreTable E C FP F keys)).
+          (λ (tables : Cached (StoreTable C FP F)).
           IsSome (value_of (table_key number) tables.pairs)) is_new.tables is_open in absurd (cc never);
       matches = matches by (env.observed opened).disk.files;
     })
@@ -99,7 +99,7 @@ opened_tables {E} {C} {FP} {F} {keys = keys} env by cmp value options none table
 module _ {E C FP F P : Type 0} {B : Boxed} {keys : InternalOrder C} {key_filters : FilterGhosts P}
     (env : Ghosts E F) (choices : OptionsOf C FP B → TableChoices keys key_filters)
     (store : List ℕ) (options : OptionsOf C FP B) (asked : Opening) (from taken opened to : E)
-    (engine : EngineOf E C FP F B keys)
+    (engine : EngineOf E C FP F B)
     (took : IsTrue env.models_disk → IsTaken store (env.observed from) (env.observed taken))
     (limit : ℕ)
     (opens : OpensStore env store asked.format asked.create_if_missing asked.error_if_exists taken limit
@@ -115,7 +115,7 @@ module _ {E C FP F P : Type 0} {B : Boxed} {keys : InternalOrder C} {key_filters
     (asked_is : formats_of choices options ≡ asked.format)
     (counted : env.failures taken ≡ env.failures from)
     (tables : IsTrue env.models_disk
-    → HasOwnTables env (formats_of choices) engine (env.observed to).disk.files)
+    → HasOwnTables keys env (formats_of choices) engine (env.observed to).disk.files)
     (well : IsStoreName store × IsTrue asked.fits × IsTrue asked.compresses) where
   abbrev formats : OptionsOf C FP B → Format
   formats = formats_of choices
@@ -159,7 +159,7 @@ module _ {E C FP F P : Type 0} {B : Boxed} {keys : InternalOrder C} {key_filters
   module _ (modelled : IsTrue env.models_disk) (opening : Opening)
       (is : IsOpening store asked opening) (meaning : Meaning)
       (agrees : Agrees opening.format meaning) (old : State)
-      (was : Represents store meaning (Recalls {keys = keys} env formats store meaning) None
+      (was : Represents store meaning (Recalls keys env formats store meaning) None
       (env.observed from).disk old) where
     same_format : opening.format ≡ asked.format
     same_format = ap (λ (o : Opening). o.format) is.same
@@ -195,9 +195,9 @@ module _ {E C FP F P : Type 0} {B : Boxed} {keys : InternalOrder C} {key_filters
         IsForbidden store o.create_if_missing o.error_if_exists here) is.same forbidden))
 
     goes : IsNamed opening.format.order_name old.store
-        → Goes store meaning (Recalls env formats store meaning)
+        → Goes store meaning (Recalls keys env formats store meaning)
         (scene env (no_engine {E = E} {C = C} {FP = FP} {F = F} {B = B}
-        {keys = keys} engine.options) from)
+        engine.options) from)
         (open_store opening) done (scene env (Some engine) to) old
     goes fits =
         let same_but = but env store asked from taken took modelled in
@@ -213,9 +213,9 @@ module _ {E C FP F P : Type 0} {B : Boxed} {keys : InternalOrder C} {key_filters
         (subst IsTrue (sym (ap (λ (o : Opening). o.compresses) is.same)) well.2) later early_run
         bytes_end (lock_held modelled) (spares modelled)
 
-    pub done_goes : Goes store meaning (Recalls env formats store meaning)
+    pub done_goes : Goes store meaning (Recalls keys env formats store meaning)
         (scene env (no_engine {E = E} {C = C} {FP = FP} {F = F} {B = B}
-        {keys = keys} engine.options) from)
+        engine.options) from)
         (open_store opening) done (scene env (Some engine) to) old
     done_goes = ⊎_elim goes
         (λ (differs : (name : List ℕ) × (old.store ≡ made (Some name))

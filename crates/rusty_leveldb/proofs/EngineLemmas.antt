@@ -128,9 +128,9 @@ module _ (store : List ℕ) (meaning : Meaning) (old : State) (agrees : Agrees o
 
 module _ {E C FP F : Type 0} {B : Boxed} {keys : InternalOrder C} (env : Ghosts E F)
     (formats : OptionsOf C FP B → Format)
-    (store : List ℕ) (meaning : Meaning) (before : EngineOf E C FP F B keys) (from : E)
+    (store : List ℕ) (meaning : Meaning) (before : EngineOf E C FP F B) (from : E)
     (old : State)
-    (was : Represents store meaning (Recalls env formats store meaning) (Some before)
+    (was : Represents store meaning (Recalls keys env formats store meaning) (Some before)
     (env.observed from).disk old) (opened : before.mode ≡ machine.open_mode) where
   abbrev pub order : List ℕ → List ℕ → Ordering
   order = old.format.order
@@ -213,7 +213,7 @@ module _ {E C FP F : Type 0} {B : Boxed} {keys : InternalOrder C} (env : Ghosts 
 
   -- What the engine and the environment are in the end, for this state of the machine. It has the
   -- store and the format of the state before, and its snapshots.
-  pub record Ends (after : EngineOf E C FP F B keys) (to : E) (new : State) : Type 0 where
+  pub record Ends (after : EngineOf E C FP F B) (to : E) (new : State) : Type 0 where
     pub lock : after.lock ≡ before.lock
     pub options : formats (options_in after) ≡ formats (options_in before)
     pub path : after.store.set.store ≡ before.store.set.store
@@ -226,7 +226,7 @@ module _ {E C FP F : Type 0} {B : Boxed} {keys : InternalOrder C} (env : Ghosts 
         after.store (env.observed to).disk.files new.history
     pub snapshots : after.snapshots ≡ before.snapshots
     pub same_snapshots : SameSnapshots new
-    pub tables : HasOwnTables env formats after (env.observed to).disk.files
+    pub tables : HasOwnTables keys env formats after (env.observed to).disk.files
     pub writes : new.mode ≡ open_mode
         → IsWritten order meaning after.store (env.observed to).disk.files
     pub holds : HoldsBatches order meaning (Stays old) after.store (env.observed to).disk.files
@@ -234,7 +234,7 @@ module _ {E C FP F : Type 0} {B : Boxed} {keys : InternalOrder C} (env : Ghosts 
     pub bytes : AppendedAreBytes (env.observed to).disk.files
     pub locked : (env.observed to).disk.locked (lock_path store) ≡ new.locked
 
-  module _ (after : EngineOf E C FP F B keys) (to : E) (new : State)
+  module _ (after : EngineOf E C FP F B) (to : E) (new : State)
       (ends : Ends after to new) where
     views_then : (new.mode ≡ machine.closed → ⊥)
         → ShowsViews meaning after.store (env.observed to).disk.files new
@@ -261,7 +261,7 @@ module _ {E C FP F : Type 0} {B : Boxed} {keys : InternalOrder C} (env : Ghosts 
               (subst (λ given. Contains given number) same.1 there);
         }
 
-    recalled : Recalls env formats store meaning after (env.observed to).disk new
+    recalled : Recalls keys env formats store meaning after (env.observed to).disk new
     recalled = record {
       mode = ends.mode;
       lock = ends.lock ∙ was.memory_is.lock;
@@ -298,7 +298,7 @@ module _ {E C FP F : Type 0} {B : Boxed} {keys : InternalOrder C} (env : Ghosts 
         → Spares store (MayTouch store old.mode request) (env.observed from).disk
         (env.observed to).disk
         → (IsSyncing request → SameBytes (env.observed from).disk.files (env.observed to).disk.files)
-        → Goes store meaning (Recalls env formats store meaning) (scene env (Some before) from)
+        → Goes store meaning (Recalls keys env formats store meaning) (scene env (Some before) from)
         request answer (scene env (Some after) to) old
     goes request answer later step moments spares bytes = record {
       new = new;

@@ -33,21 +33,21 @@ use Rattle.rusty_leveldb.specs.State.{Snapshot, State}
 use Rattle.rusty_leveldb.specs.declared.db_iter.StoreIterator.{StoreIterator}
 
 -- what an iterator borrows is the environment that it was given
-pub made_reference : {E C FP F K V : Type 0} {keys : InternalOrder C} (env : Ghosts E F)
+pub made_reference : {E C FP F K V : Type 0} (keys : InternalOrder C) (env : Ghosts E F)
     (cmp : CmpGhosts C) (filters : FilterGhosts FP) (codings : K → Codings)
-    (walk : WalkGhosts V E (ReadTables E C FP K F keys)) (value : OpenStoreValue C) (policy : FP)
-    (compressors : K) (environment : MutBor E) (tables : TableCache E C FP F keys) (sequence : ℕ)
-    (r : Result (StoreIterator E C FP K V F keys) Status)
-    → IfOk r (IsMadeOver env cmp filters codings walk value policy compressors environment tables sequence)
+    (walk : WalkGhosts V E (ReadTables E C FP K F)) (value : OpenStoreValue C) (policy : FP)
+    (compressors : K) (environment : MutBor E) (tables : TableCache E C FP F) (sequence : ℕ)
+    (r : Result (StoreIterator E C FP K V F) Status)
+    → IfOk r (IsMadeOver keys env cmp filters codings walk value policy compressors environment tables sequence)
     → IfOk r (λ it. it.env.ghost_name ≡ environment.ghost_name)
-made_reference env cmp filters codings walk value policy compressors environment tables sequence (Ok it) made =
+made_reference keys env cmp filters codings walk value policy compressors environment tables sequence (Ok it) made =
     made.reference
-made_reference env cmp filters codings walk value policy compressors environment tables sequence (Err e) made = tt
+made_reference keys env cmp filters codings walk value policy compressors environment tables sequence (Err e) made = tt
 
-module _ {E C FP F V : Type 0} {B : Boxed} {keys : InternalOrder C} (env : Ghosts E F) (cmp : CmpGhosts C) (filters : FilterGhosts FP)
+module _ {E C FP F V : Type 0} {B : Boxed} (keys : InternalOrder C) (env : Ghosts E F) (cmp : CmpGhosts C) (filters : FilterGhosts FP)
     (codings : CompressorList B.compressors B.compressor → Codings)
-    (walk : WalkGhosts V E (ReadTables E C FP (CompressorList B.compressors B.compressor) F keys))
-    (before : EngineOf E C FP F B keys) (from : E) (at : Option Snapshot) where
+    (walk : WalkGhosts V E (ReadTables E C FP (CompressorList B.compressors B.compressor) F))
+    (before : EngineOf E C FP F B) (from : E) (at : Option Snapshot) where
   abbrev formats : OptionsOf C FP B → Format
   formats = format_of {B = B} cmp filters codings
 
@@ -55,11 +55,11 @@ module _ {E C FP F V : Type 0} {B : Boxed} {keys : InternalOrder C} (env : Ghost
   format = formats (engine_options before)
 
   abbrev It : Type 0
-  It = StoreIterator E C FP (CompressorList B.compressors B.compressor) V F keys
+  It = StoreIterator E C FP (CompressorList B.compressors B.compressor) V F
 
   -- no iterator is made
   pub unmade : (e : Status) → (IsClosed before.mode ⊎ IsNotHeld (held_in before) at → e.code ≡ InvalidArgument) → WalkExcused before at e
-      → EngineIterates env cmp filters codings walk before from at (Err e)
+      → EngineIterates keys env cmp filters codings walk before from at (Err e)
   unmade e refused cause = record {
     over = tt;
     is = tt;
@@ -89,8 +89,8 @@ module _ {E C FP F V : Type 0} {B : Boxed} {keys : InternalOrder C} (env : Ghost
 
   -- an iterator that is made over the engine's store
   module _ (usable : IsClosed before.mode → ⊥) (sequence : ℕ) (reads_at : ReadsAt before at sequence) (it : It)
-      (environment : MutBor E) (tables : TableCache E C FP F keys) (from_is : environment.now ≡ from) (tables_is : tables ≡ before.tables)
-      (made : IsMadeOver env cmp filters codings walk before.store before.options.filter_policy before.options.compressor_list environment tables sequence it) where
+      (environment : MutBor E) (tables : TableCache E C FP F) (from_is : environment.now ≡ from) (tables_is : tables ≡ before.tables)
+      (made : IsMadeOver keys env cmp filters codings walk before.store before.options.filter_policy before.options.compressor_list environment tables sequence it) where
     abbrev now : it.env.now ≡ from
     now = made.env_is ∙ from_is
 
@@ -103,7 +103,7 @@ module _ {E C FP F V : Type 0} {B : Boxed} {keys : InternalOrder C} (env : Ghost
     format_is : (options_in env cmp filters codings (world_in it)).format ≡ format
     format_is = ap (λ (o : TableOptions C FP). o.format) options
 
-    is_iterator : IsIterator env cmp filters codings walk format it
+    is_iterator : IsIterator keys env cmp filters codings walk format it
     is_iterator = record {
       format_is = format_is;
       fails = λ to status fails. subst (λ (f : Format). FailsBetween env (world_in it) to (λ e. IsTableFault f e.code) status) format_is
@@ -113,7 +113,7 @@ module _ {E C FP F V : Type 0} {B : Boxed} {keys : InternalOrder C} (env : Ghost
     }
 
     module _ (store : List ℕ) (meaning : Meaning) (modelled : IsTrue env.models_disk) (state : State)
-        (was : Represents store meaning (Recalls env formats store meaning) (Some before) (env.observed from).disk state) where
+        (was : Represents store meaning (Recalls keys env formats store meaning) (Some before) (env.observed from).disk state) where
       not_closed : state.mode ≡ machine.closed → ⊥
       not_closed is = usable (was.memory_is.mode ∙ is)
 
@@ -140,16 +140,16 @@ module _ {E C FP F V : Type 0} {B : Boxed} {keys : InternalOrder C} (env : Ghost
             let least = shown.held one held in omega (arith, least, is.1),
           )
 
-      has_open : HasOpenTables env (options_in env cmp filters codings (world_in it)) before.store it.env.now it.tables.cache.now
+      has_open : HasOpenTables keys env (options_in env cmp filters codings (world_in it)) before.store it.env.now it.tables.cache.now
       has_open = rw (options, now, open_tables) (record { modelled = modelled; are = was.memory_is.tables not_closed })
 
-      is_world : IsWorldOf env cmp filters codings before.store (world_in it)
+      is_world : IsWorldOf keys env cmp filters codings before.store (world_in it)
       is_world = record { order_is = ap (λ (c : C). cmp.cmp c) made.reading.order_is; below_is = made.reading.below_is; has_open = has_open }
 
       abbrev shows_now : Shows format.order meaning before.store (files_at env it.env.now) state.history shown.since
       shows_now = subst (λ (e : E). Shows format.order meaning before.store (files_at env e) state.history shown.since) (sym now) shows
 
-      abbrev shows_in : ShowsIn env cmp filters codings before.store meaning state.history shown.since (world_in it)
+      abbrev shows_in : ShowsIn keys env cmp filters codings before.store meaning state.history shown.since (world_in it)
       shows_in = record {
         is_world = is_world;
         agrees = subst (λ (f : Format). Agrees f meaning) (sym (format_is ∙ same_format)) (was.disk_is.agrees not_closed);
@@ -157,7 +157,7 @@ module _ {E C FP F V : Type 0} {B : Boxed} {keys : InternalOrder C} (env : Ghost
       }
 
       view : (pairs : List Pair) × IsView format.order (entries_of state.history) sequence pairs
-          × IteratesAt env cmp filters codings walk (shown_store before.store format meaning) pairs None it
+          × IteratesAt keys env cmp filters codings walk (shown_store before.store format meaning) pairs None it
       view =
           let over = made.views.over (world_in it) meaning state.history shown.since (reads_in at reads_at).1 shows_in in (
             over.0,
@@ -173,16 +173,16 @@ module _ {E C FP F V : Type 0} {B : Boxed} {keys : InternalOrder C} (env : Ghost
           )
 
       iterates : (sequence : ℕ) × IsSequenceOf state at sequence × (pairs : List Pair) × IsView state.format.order (entries_of state.history) sequence pairs
-          × IteratesAt env cmp filters codings walk (shown_store before.store state.format meaning) pairs None it
+          × IteratesAt keys env cmp filters codings walk (shown_store before.store state.format meaning) pairs None it
       iterates = (
         sequence,
         (reads_in at reads_at).0,
         view.0,
         subst (λ (f : Format). IsView f.order (entries_of state.history) sequence view.0) same_format view.1,
-        subst (λ (f : Format). IteratesAt env cmp filters codings walk (shown_store before.store f meaning) view.0 None it) same_format view.2,
+        subst (λ (f : Format). IteratesAt keys env cmp filters codings walk (shown_store before.store f meaning) view.0 None it) same_format view.2,
       )
 
-    pub made_iterates : EngineIterates env cmp filters codings walk before from at (Ok it)
+    pub made_iterates : EngineIterates keys env cmp filters codings walk before from at (Ok it)
     made_iterates = record {
       over = λ modelled store meaning state was. iterates store meaning modelled state was;
       is = is_iterator;
@@ -195,9 +195,9 @@ module _ {E C FP F V : Type 0} {B : Boxed} {keys : InternalOrder C} (env : Ghost
 
   -- one that is made, or no memory for it
   pub iterates_by : (IsClosed before.mode → ⊥) → (sequence : ℕ) → ReadsAt before at sequence
-      → (environment : MutBor E) (tables : TableCache E C FP F keys) → environment.now ≡ from → tables ≡ before.tables → (r : Result It Status)
-      → IfOk r (IsMadeOver env cmp filters codings walk before.store before.options.filter_policy before.options.compressor_list environment tables sequence)
-      → IfErr r IsOutOfMemory → EngineIterates env cmp filters codings walk before from at r
+      → (environment : MutBor E) (tables : TableCache E C FP F) → environment.now ≡ from → tables ≡ before.tables → (r : Result It Status)
+      → IfOk r (IsMadeOver keys env cmp filters codings walk before.store before.options.filter_policy before.options.compressor_list environment tables sequence)
+      → IfErr r IsOutOfMemory → EngineIterates keys env cmp filters codings walk before from at r
   iterates_by usable sequence reads_at environment tables from_is tables_is (Ok it) made memory =
       made_iterates usable sequence reads_at it environment tables from_is tables_is made
   iterates_by usable sequence reads_at environment tables from_is tables_is (Err e) made memory =

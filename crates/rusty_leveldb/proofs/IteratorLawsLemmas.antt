@@ -13,10 +13,10 @@ use Rattle.rusty_leveldb.specs.IteratorLaws.{PrevUndoesNext}
 use Rattle.rusty_leveldb.proofs.WalkLawsLemmas.{stepped_back}
 
 module _ {E F C FP K V : Type 0} {keys : InternalOrder C} (env : Ghosts E F) (cmp : CmpGhosts C) (filters : FilterGhosts FP) (codings : K → Codings)
-    (walk : WalkGhosts V E (ReadTables E C FP K F keys)) where
-  pub prev_undoes_next : PrevUndoesNext env cmp filters codings walk
+    (walk : WalkGhosts V E (ReadTables E C FP K F)) where
+  pub prev_undoes_next : PrevUndoesNext keys env cmp filters codings walk
   prev_undoes_next shown pairs position there it next back is_back at first here second =
       let at_next = first.moves shown pairs position at in
       let at_back = second.moves shown pairs (next_position pairs position) at_next in
       let same = stepped_back pairs position there (sym at_next.pair_is ∙ here) in
-      subst (λ p. IteratesAt env cmp filters codings walk shown pairs p back) same at_back
+      subst (λ p. IteratesAt keys env cmp filters codings walk shown pairs p back) same at_back

@@ -29,27 +29,27 @@ full_stays from to later fits full = ⊎_elim
     (λ (most : from ≡ 2 ^ 64 - 1). omega (arith, most, later, fits))
     full
 
-module _ {E F C FP K V : Type 0} {keys : InternalOrder C} (env : Ghosts E F) (fits : (e : E) → env.failures e < 2 ^ 64)
+module _ {E F C FP K V : Type 0} (keys : InternalOrder C) (env : Ghosts E F) (fits : (e : E) → env.failures e < 2 ^ 64)
     (cmp : CmpGhosts C) (filters : FilterGhosts FP) (codings : K → Codings)
-    (walk : WalkGhosts V E (ReadTables E C FP K F keys)) where
+    (walk : WalkGhosts V E (ReadTables E C FP K F)) where
   -- what becomes of an iterator, wherever it is led
-  pub record LeavesIterator (old new : StoreIterator E C FP K V F keys) : Type 0 where
+  pub record LeavesIterator (old new : StoreIterator E C FP K V F) : Type 0 where
     pub keeps : WalkLaws walk.over walk.is_at walk.here walk.fails walk.keeps → walk.keeps (world_in old) (world_in new)
-    pub excuses : (later : E × ReadTables E C FP K F keys) (status : Status) → walk.fails (world_in new) new.view later status
+    pub excuses : (later : E × ReadTables E C FP K F) (status : Status) → walk.fails (world_in new) new.view later status
         → walk.fails (world_in old) old.view later status
     pub reference : new.env.ghost_name ≡ old.env.ghost_name
 
-  module _ (old new : StoreIterator E C FP K V F keys) (leaves : LeavesIterator old new) where
+  module _ (old new : StoreIterator E C FP K V F) (leaves : LeavesIterator old new) where
     -- the causes of its errors stay
-    causes_stay : ReadsAlone env cmp filters codings walk → WalkLaws walk.over walk.is_at walk.here walk.fails walk.keeps → (Why : Status → Type 0)
-        → ((to : E × ReadTables E C FP K F keys) (status : Status) → walk.fails (world_in old) old.view to status → FailsBetween env (world_in old) to Why status)
-        → (to : E × ReadTables E C FP K F keys) (status : Status) → walk.fails (world_in new) new.view to status → FailsBetween env (world_in new) to Why status
+    causes_stay : ReadsAlone keys env cmp filters codings walk → WalkLaws walk.over walk.is_at walk.here walk.fails walk.keeps → (Why : Status → Type 0)
+        → ((to : E × ReadTables E C FP K F) (status : Status) → walk.fails (world_in old) old.view to status → FailsBetween env (world_in old) to Why status)
+        → (to : E × ReadTables E C FP K F) (status : Status) → walk.fails (world_in new) new.view to status → FailsBetween env (world_in new) to Why status
     causes_stay reads laws Why why to status fails =
         let rises = (reads.leaves (world_in old) (world_in new) (leaves.keeps laws)).tables.later in ⊎_elim
         (λ (out : IsOutOfMemory status). inl out)
         (⊎_elim
         (λ (failed : HasFailed (env.failures new.env.now) (env.failures to.0)). inr (inl failed))
-        (λ (ever : (other : E × ReadTables E C FP K F keys) → walk.fails (world_in new) new.view other status). ⊎_elim
+        (λ (ever : (other : E × ReadTables E C FP K F) → walk.fails (world_in new) new.view other status). ⊎_elim
         (λ (out : IsOutOfMemory status). inl out)
         (⊎_elim
         (λ (full : HasFailed (env.failures old.env.now) (env.failures old.env.now)).
@@ -59,11 +59,11 @@ module _ {E F C FP K V : Type 0} {keys : InternalOrder C} (env : Ghosts E F) (fi
         (reads.counts (world_in new) to new.view status fails)
 
     -- what tables are opened with stays
-    options_stay : KeepsReading env cmp filters codings (world_in old) (world_in new)
+    options_stay : KeepsReading keys env cmp filters codings (world_in old) (world_in new)
         → options_in env cmp filters codings (world_in new) ≡ options_in env cmp filters codings (world_in old)
     options_stay kept = rw (kept.cmp_stays, kept.policy_stays, kept.compressors_stay) refl
 
-    stays_iterator : (format : Format) → IsIterator env cmp filters codings walk format old → IsIterator env cmp filters codings walk format new
+    stays_iterator : (format : Format) → IsIterator keys env cmp filters codings walk format old → IsIterator keys env cmp filters codings walk format new
     stays_iterator format is = record {
       format_is = ap (λ (o : TableOptions C FP). o.format) (options_stay (is.reads.leaves (world_in old) (world_in new) (leaves.keeps is.laws))) ∙ is.format_is;
       fails = causes_stay is.reads is.laws (λ e. IsTableFault format e.code) is.fails;
@@ -72,9 +72,9 @@ module _ {E F C FP K V : Type 0} {keys : InternalOrder C} (env : Ghosts E F) (fi
     }
 
     module _ (shown : ShownStore C) (pairs : List Pair) (position next : Option ℕ) where
-      stays_at : IteratesAt env cmp filters codings walk shown pairs position old
+      stays_at : IteratesAt keys env cmp filters codings walk shown pairs position old
           → walk.is_at (world_in new) new.view (any_in_order shown.format.order) pairs next
-          → IteratesAt env cmp filters codings walk shown pairs next new
+          → IteratesAt keys env cmp filters codings walk shown pairs next new
       stays_at at is_at = record {
         is_iterator = stays_iterator shown.format at.is_iterator;
         is_at = is_at;
@@ -84,11 +84,11 @@ module _ {E F C FP K V : Type 0} {keys : InternalOrder C} (env : Ghosts E F) (fi
       }
 
   -- an error of the walk below, out of memory, or for a cause of its own
-  abbrev pub FailsOwn : (Status → Type 0) → StoreIterator E C FP K V F keys → StoreIterator E C FP K V F keys → Status → Type 0
+  abbrev pub FailsOwn : (Status → Type 0) → StoreIterator E C FP K V F → StoreIterator E C FP K V F → Status → Type 0
   FailsOwn Own old new status = walk.fails (world_in old) old.view (world_in new) status ⊎ IsOutOfMemory status ⊎ Own status
 
-  module _ (Own Why : Status → Type 0) (old new : StoreIterator E C FP K V F keys)
-      (why : (to : E × ReadTables E C FP K F keys) (status : Status) → walk.fails (world_in old) old.view to status → FailsBetween env (world_in old) to Why status) where
+  module _ (Own Why : Status → Type 0) (old new : StoreIterator E C FP K V F)
+      (why : (to : E × ReadTables E C FP K F) (status : Status) → walk.fails (world_in old) old.view to status → FailsBetween env (world_in old) to Why status) where
     -- its cause
     cause_of : (status : Status) → FailsOwn Own old new status → FailsMove env Own Why old new status
     cause_of status fails = ⊎_elim
@@ -103,7 +103,7 @@ module _ {E F C FP K V : Type 0} {keys : InternalOrder C} (env : Ghosts E F) (fi
 
   -- a move, by where it leads
   module _ {R : Type 0} (Own : Status → Type 0) (way : Leads)
-      (old new : StoreIterator E C FP K V F keys) (leaves : LeavesIterator old new) where
+      (old new : StoreIterator E C FP K V F) (leaves : LeavesIterator old new) where
     abbrev Ok_leads : Result R Status → Type 0
     Ok_leads r = WalkLaws walk.over walk.is_at walk.here walk.fails walk.keeps → (order : List ℕ → List ℕ → Ordering) (pairs : List Pair) (position : Option ℕ)
         → walk.is_at (world_in old) old.view (any_in_order order) pairs position
@@ -116,9 +116,9 @@ module _ {E F C FP K V : Type 0} {keys : InternalOrder C} (env : Ghosts E F) (fi
 
     moves_in : (r : Result R Status) → Ok_leads r → Err_leads r → IfErr r (FailsOwn Own old new)
         → (shown : ShownStore C) (pairs : List Pair) (position : Option ℕ)
-        → IteratesAt env cmp filters codings walk shown pairs position old → MatchResult r
-        (λ _. IteratesAt env cmp filters codings walk shown pairs (way shown.format.order pairs position) new)
-        (λ e. IteratesAt env cmp filters codings walk shown pairs None new
+        → IteratesAt keys env cmp filters codings walk shown pairs position old → MatchResult r
+        (λ _. IteratesAt keys env cmp filters codings walk shown pairs (way shown.format.order pairs position) new)
+        (λ e. IteratesAt keys env cmp filters codings walk shown pairs None new
         × FailsMove env Own (IsUnsupportedIn shown) old new e)
     moves_in (Ok done) ok err cause shown pairs position at =
         stays_at old new leaves shown pairs position (way shown.format.order pairs position) at (ok at.is_iterator.laws shown.format.order pairs position at.is_at)
@@ -127,8 +127,8 @@ module _ {E F C FP K V : Type 0} {keys : InternalOrder C} (env : Ghosts E F) (fi
       cause_of Own (IsUnsupportedIn shown) old new at.fails e cause,
     )
 
-    stays_in : (r : Result R Status) → IfErr r (FailsOwn Own old new) → (format : Format) → IsIterator env cmp filters codings walk format old
-        → IsIterator env cmp filters codings walk format new × IfErr r (FailsMove env Own (λ e. IsTableFault format e.code) old new)
+    stays_in : (r : Result R Status) → IfErr r (FailsOwn Own old new) → (format : Format) → IsIterator keys env cmp filters codings walk format old
+        → IsIterator keys env cmp filters codings walk format new × IfErr r (FailsMove env Own (λ e. IsTableFault format e.code) old new)
     stays_in (Ok done) cause format is = (stays_iterator old new leaves format is, tt)
     stays_in (Err e) cause format is = (
       stays_iterator old new leaves format is,
@@ -136,7 +136,7 @@ module _ {E F C FP K V : Type 0} {keys : InternalOrder C} (env : Ghosts E F) (fi
     )
 
     pub moved_so : (r : Result R Status) → Ok_leads r → Err_leads r → OnErr r (walk.here new.view ≡ None) → IfErr r (FailsOwn Own old new)
-        → MovesIterator env cmp filters codings walk Own way old r new
+        → MovesIterator keys env cmp filters codings walk Own way old r new
     moved_so r ok err none cause = record {
       moves = moves_in r ok err cause;
       stays = stays_in r cause;
@@ -147,8 +147,8 @@ module _ {E F C FP K V : Type 0} {keys : InternalOrder C} (env : Ghosts E F) (fi
 
   -- a move of the view below, from where it leads
   module _ {R : Type 0} (Own : Status → Type 0) (way : Leads)
-      (old new : StoreIterator E C FP K V F keys) (reference : new.env.ghost_name ≡ old.env.ghost_name)
-      (From : E × ReadTables E C FP K F keys → V → KeyOrder → List Pair → Option ℕ → Type 0)
+      (old new : StoreIterator E C FP K V F) (reference : new.env.ghost_name ≡ old.env.ghost_name)
+      (From : E × ReadTables E C FP K F → V → KeyOrder → List Pair → Option ℕ → Type 0)
       (from_position : WalkLaws walk.over walk.is_at walk.here walk.fails walk.keeps → (order : List ℕ → List ℕ → Ordering) (pairs : List Pair) (position : Option ℕ)
       → walk.is_at (world_in old) old.view (any_in_order order) pairs position
       → From (world_in old) old.view (any_in_order order) pairs position) where
@@ -158,16 +158,16 @@ module _ {E F C FP K V : Type 0} {keys : InternalOrder C} (env : Ghosts E F) (fi
 
     pub moved : (r : Result R Status)
         → MovesWalk walk.over walk.is_at walk.here walk.fails walk.keeps From (λ (order : KeyOrder). way order.cmp) (world_in old) old.view r (world_in new) new.view
-        → MovesIterator env cmp filters codings walk Own way old r new
+        → MovesIterator keys env cmp filters codings walk Own way old r new
     moved r moves = moved_so Own way old new (record { keeps = λ laws. moves.kept; excuses = moves.excuses; reference = reference }) r
         (λ laws order pairs position at. moves.ok (any_in_order order) pairs position (from_position laws order pairs position at))
         (λ laws order pairs position at. moves.err (any_in_order order) pairs (laws.over_list (world_in old) old.view (any_in_order order) pairs position at))
         moves.none (below_cause r moves.cause)
 
   -- a move to no position
-  pub moved_off : {R : Type 0} (old : StoreIterator E C FP K V F keys) (view : V)
+  pub moved_off : {R : Type 0} (old : StoreIterator E C FP K V F) (view : V)
       → Resets walk.over walk.is_at walk.here walk.fails walk.keeps old.view view → (r : R)
-      → MovesIterator env cmp filters codings walk no_cause (λ _ _ _. None) old (Ok r) (record old { view = view })
+      → MovesIterator keys env cmp filters codings walk no_cause (λ _ _ _. None) old (Ok r) (record old { view = view })
   moved_off old view resets r = moved_so no_cause (λ _ _ _. None) old (record old { view = view })
       (record { keeps = λ laws. laws.keeps_itself (world_in old); excuses = resets.excuses (world_in old); reference = refl })
       (Ok r)
@@ -176,8 +176,8 @@ module _ {E F C FP K V : Type 0} {keys : InternalOrder C} (env : Ghosts E F) (fi
 
   module _ {Q R : Type 0} (Own : Status → Type 0) (way : Leads) where
     -- a move whose result is another one's
-    pub moves_ok : (old new : StoreIterator E C FP K V F keys) (q : Q) (r : R)
-        → MovesIterator env cmp filters codings walk Own way old (Ok q) new → MovesIterator env cmp filters codings walk Own way old (Ok r) new
+    pub moves_ok : (old new : StoreIterator E C FP K V F) (q : Q) (r : R)
+        → MovesIterator keys env cmp filters codings walk Own way old (Ok q) new → MovesIterator keys env cmp filters codings walk Own way old (Ok r) new
     moves_ok old new q r moves = record {
       moves = moves.moves;
       stays = moves.stays;
@@ -186,8 +186,8 @@ module _ {E F C FP K V : Type 0} {keys : InternalOrder C} (env : Ghosts E F) (fi
       reference = moves.reference;
     }
 
-    pub moves_err : (old new : StoreIterator E C FP K V F keys) (e : Status)
-        → MovesIterator env cmp filters codings walk {R = Q} Own way old (Err e) new → MovesIterator env cmp filters codings walk {R = R} Own way old (Err e) new
+    pub moves_err : (old new : StoreIterator E C FP K V F) (e : Status)
+        → MovesIterator keys env cmp filters codings walk {R = Q} Own way old (Err e) new → MovesIterator keys env cmp filters codings walk {R = R} Own way old (Err e) new
     moves_err old new e moves = record {
       moves = moves.moves;
       stays = moves.stays;
@@ -197,10 +197,10 @@ module _ {E F C FP K V : Type 0} {keys : InternalOrder C} (env : Ghosts E F) (fi
     }
 
     -- a move that fails out of memory, once it is done
-    pub moves_lost : {S : Type 0} (old mid new : StoreIterator E C FP K V F keys) (q : Q) (s : S)
-        → MovesIterator env cmp filters codings walk Own way old (Ok q) mid
-        → MovesIterator env cmp filters codings walk no_cause (λ _ _ _. None) mid (Ok s) new → walk.here new.view ≡ None
-        → (e : Status) → IsOutOfMemory e → MovesIterator env cmp filters codings walk {R = R} Own way old (Err e) new
+    pub moves_lost : {S : Type 0} (old mid new : StoreIterator E C FP K V F) (q : Q) (s : S)
+        → MovesIterator keys env cmp filters codings walk Own way old (Ok q) mid
+        → MovesIterator keys env cmp filters codings walk no_cause (λ _ _ _. None) mid (Ok s) new → walk.here new.view ≡ None
+        → (e : Status) → IsOutOfMemory e → MovesIterator keys env cmp filters codings walk {R = R} Own way old (Err e) new
     moves_lost old mid new q s moves leaves none e out = record {
       moves = λ shown pairs position at.
           (leaves.moves shown pairs (way shown.format.order pairs position) (moves.moves shown pairs position at), inl out);
@@ -211,9 +211,9 @@ module _ {E F C FP K V : Type 0} {keys : InternalOrder C} (env : Ghosts E F) (fi
     }
 
     -- a move that fails for a cause of its own
-    pub moves_refused : (old new : StoreIterator E C FP K V F keys) (q : Q)
-        → MovesIterator env cmp filters codings walk no_cause (λ _ _ _. None) old (Ok q) new → walk.here new.view ≡ None
-        → (e : Status) → Own e → MovesIterator env cmp filters codings walk {R = R} Own way old (Err e) new
+    pub moves_refused : (old new : StoreIterator E C FP K V F) (q : Q)
+        → MovesIterator keys env cmp filters codings walk no_cause (λ _ _ _. None) old (Ok q) new → walk.here new.view ≡ None
+        → (e : Status) → Own e → MovesIterator keys env cmp filters codings walk {R = R} Own way old (Err e) new
     moves_refused old new q leaves none e own = record {
       moves = λ shown pairs position at.
           (leaves.moves shown pairs position at, inr (inr (inl own)));

@@ -181,7 +181,7 @@ module _ {E C FP F P : Type 0} {B : Boxed} {keys : InternalOrder C} {key_filters
 
     module _ (opening : Opening) (is : IsOpening store asked opening) (meaning : Meaning)
         (agrees : Agrees opening.format meaning) (old : State)
-        (was : Represents store meaning (Recalls {keys = keys} env formats store meaning) None
+        (was : Represents store meaning (Recalls keys env formats store meaning) None
         (env.observed from).disk old) where
       same_format : opening.format ≡ asked.format
       same_format = ap (λ (o : Opening). o.format) is.same
@@ -306,7 +306,7 @@ module _ {E C FP F P : Type 0} {B : Boxed} {keys : InternalOrder C} {key_filters
           (device_failed, (tt, inr (sym counted ∙ full.0)), inl (λ never. never))
 
       abbrev Refused : Type 0
-      Refused = Goes store meaning (Recalls {keys = keys} env formats store meaning)
+      Refused = Goes store meaning (Recalls keys env formats store meaning)
           (scene env None from) (open_store opening) (refused (refusal_of e))
           (scene env None to) old
 

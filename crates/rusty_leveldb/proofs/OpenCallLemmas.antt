@@ -105,7 +105,7 @@ module _ {E C FP F P : Type 0} {B : Boxed} {keys : InternalOrder C} {key_filters
   -- a cause, where the device has no part in it or has
   cause_of : (opening : Opening) → IsOpening store asked opening → (meaning : Meaning)
       → Agrees opening.format meaning → IsTrue env.models_disk → (old : State)
-      → Represents store meaning (Recalls {keys = keys} env formats store meaning) None
+      → Represents store meaning (Recalls keys env formats store meaning) None
       (env.observed from).disk old → (mid : ℕ)
       → OpenExcused env store (choices options) asked from e ⊎ HasFailed (env.failures from) mid
       → (cause : Cause) × Comes (setting_between meaning (env.failures from) mid) old

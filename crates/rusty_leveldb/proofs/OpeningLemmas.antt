@@ -421,11 +421,11 @@ module _ {E C FP F : Type 0} {B : Boxed} {keys : InternalOrder C} (env : Ghosts 
     (formats : OptionsOf C FP B → Format)
     (store : List ℕ) (meaning : Meaning) (opening : Opening) (agrees : Agrees opening.format meaning)
     (from : E) (old : State)
-    (was : Represents store meaning (Recalls {keys = keys} env formats store meaning) None
+    (was : Represents store meaning (Recalls keys env formats store meaning) None
     (env.observed from).disk old)
     (fits : IsNamed opening.format.order_name old.store) (taken : Observed)
     (but : SameBut (lock_path store) (env.observed from).disk.files taken.disk.files)
-    (bytes : AppendedAreBytes taken.disk.files) (engine : EngineOf E C FP F B keys)
+    (bytes : AppendedAreBytes taken.disk.files) (engine : EngineOf E C FP F B)
     (opened : Observed)
     (to : E) (path : engine.store.set.store ≡ store) (unbroken : IsUnbroken engine.store)
     (keeps : KeepsFound opening.format.order meaning store opening.format.order_name
@@ -446,8 +446,8 @@ module _ {E C FP F : Type 0} {B : Boxed} {keys : InternalOrder C} (env : Ghosts 
   recalled : engine.mode ≡ open_mode → engine.snapshots ≡ record { held = []; given = 0 }
       → engine.lock ≡ lock_path store
       → formats (options_in engine) ≡ opening.format
-      → HasOwnTables env formats engine (env.observed to).disk.files
-      → Recalls env formats store meaning engine (env.observed to).disk new
+      → HasOwnTables keys env formats engine (env.observed to).disk.files
+      → Recalls keys env formats store meaning engine (env.observed to).disk new
   recalled mode unheld lock same tables = record {
     mode = mode;
     lock = lock;
@@ -475,16 +475,16 @@ module _ {E C FP F : Type 0} {B : Boxed} {keys : InternalOrder C} (env : Ghosts 
   pub opened_goes : engine.mode ≡ open_mode → engine.snapshots ≡ record { held = []; given = 0 }
       → engine.lock ≡ lock_path store
       → formats (options_in engine) ≡ opening.format
-      → HasOwnTables env formats engine (env.observed to).disk.files
+      → HasOwnTables keys env formats engine (env.observed to).disk.files
       → IsTrue opening.fits → IsTrue opening.compresses
       → env.failures from ≤ env.failures to
       → Run (IsSpared store meaning old (risk_opening opening old)) (env.observed from) taken
       → AppendedAreBytes (env.observed to).disk.files
       → (env.observed to).disk.locked (lock_path store) ≡ true
       → Spares store (IsOwn store) (env.observed from).disk (env.observed to).disk
-      → Goes store meaning (Recalls env formats store meaning)
+      → Goes store meaning (Recalls keys env formats store meaning)
       (scene env (no_engine {E = E} {C = C} {FP = FP} {F = F} {B = B}
-      {keys = keys} engine.options) from)
+      engine.options) from)
       (open_store opening) done (scene env (Some engine) to) old
   opened_goes mode unheld lock same tables well set later early bytes_now locked spares =
       let setting = setting_between meaning (env.failures from) (env.failures to) in

@@ -41,15 +41,15 @@ event_of moment request answer failures =
 
 -- ---- words for runs
 
-module _ {E F : Type 0} (C FP : Type 0) {B : Boxed} {keys : InternalOrder C} (env : Ghosts E F) (formats : OptionsOf C FP B → Format) (store : List ℕ) (meaning : Meaning) where
+module _ {E F : Type 0} (C FP : Type 0) {B : Boxed} (keys : InternalOrder C) (env : Ghosts E F) (formats : OptionsOf C FP B → Format) (store : List ℕ) (meaning : Meaning) where
   -- these requests had these answers, each at its moment, from what the disk has on, and what engine and
   -- disk represent then
-  abbrev pub LeadsAt : E → List Request → List Answer → List ℕ → Option (EngineOf E C FP F B keys) → E → State → Type 0
-  LeadsAt from requests answers moments engine to old = Runs store meaning (Recalls env formats store meaning) env.models_moments
+  abbrev pub LeadsAt : E → List Request → List Answer → List ℕ → Option (EngineOf E C FP F B) → E → State → Type 0
+  LeadsAt from requests answers moments engine to old = Runs store meaning (Recalls keys env formats store meaning) env.models_moments
       (scene env None from) requests answers moments (scene env engine to) old
 
   -- the same, at some moments
-  abbrev pub Leads : E → List Request → List Answer → Option (EngineOf E C FP F B keys) → E → State → Type 0
+  abbrev pub Leads : E → List Request → List Answer → Option (EngineOf E C FP F B) → E → State → Type 0
   Leads from requests answers engine to old = (moments : List ℕ) × LeadsAt from requests answers moments engine to old
 
 -- the same where no engine is left
@@ -181,10 +181,10 @@ by_inside : {P : Type 0} (inside : Bool) → (inside ≡ true → P) → (inside
 by_inside true inner outer = inner refl
 by_inside false inner outer = outer refl
 
-module _ {E F C FP : Type 0} {B : Boxed} {keys : InternalOrder C} (env : Ghosts E F) (formats : OptionsOf C FP B → Format) (only_now : OnlyNow env) (store : List ℕ) (meaning : Meaning) (modelled : IsTrue env.models_disk) where
+module _ {E F C FP : Type 0} {B : Boxed} (keys : InternalOrder C) (env : Ghosts E F) (formats : OptionsOf C FP B → Format) (only_now : OnlyNow env) (store : List ℕ) (meaning : Meaning) (modelled : IsTrue env.models_disk) where
   -- nothing was asked yet
-  no_requests : (from : E) (engine : Option (EngineOf E C FP F B keys)) (old : State) → Represents store meaning (Recalls {keys = keys} env formats store meaning) engine (env.observed from).disk old
-      → Runs store meaning (Recalls env formats store meaning) env.models_moments (scene env engine from) [] [] [] (scene env engine from) old
+  no_requests : (from : E) (engine : Option (EngineOf E C FP F B)) (old : State) → Represents store meaning (Recalls keys env formats store meaning) engine (env.observed from).disk old
+      → Runs store meaning (Recalls keys env formats store meaning) env.models_moments (scene env engine from) [] [] [] (scene env engine from) old
   no_requests from engine old is = record {
     events = [];
     asked = record { requests_are = refl; answers_are = refl; moments_are = refl };
@@ -214,9 +214,9 @@ module _ {E F C FP : Type 0} {B : Boxed} {keys : InternalOrder C} (env : Ghosts 
   }
 
   -- one request more
-  module _ (before : Option (EngineOf E C FP F B keys)) (from mid to : E) (requests : List Request) (answers : List Answer) (moments : List ℕ) (engine after : Option (EngineOf E C FP F B keys)) (request : Request) (answer : Answer) (old : State)
-      (led : Runs store meaning (Recalls env formats store meaning) env.models_moments (scene env before from) requests answers moments (scene env engine mid) old) (answers_so : AnswersAs env formats store meaning engine mid request answer after to) where
-    goes : Goes store meaning (Recalls env formats store meaning) (scene env engine mid) request answer (scene env after to) led.new
+  module _ (before : Option (EngineOf E C FP F B)) (from mid to : E) (requests : List Request) (answers : List Answer) (moments : List ℕ) (engine after : Option (EngineOf E C FP F B)) (request : Request) (answer : Answer) (old : State)
+      (led : Runs store meaning (Recalls keys env formats store meaning) env.models_moments (scene env before from) requests answers moments (scene env engine mid) old) (answers_so : AnswersAs keys env formats store meaning engine mid request answer after to) where
+    goes : Goes store meaning (Recalls keys env formats store meaning) (scene env engine mid) request answer (scene env after to) led.new
     goes = answers_so modelled led.new led.represents
 
     abbrev now : Event
@@ -329,7 +329,7 @@ module _ {E F C FP : Type 0} {B : Boxed} {keys : InternalOrder C} (env : Ghosts 
     from_first : (env.observed from).moment ≤ (env.observed to).moment
     from_first = let low = last_low (env.observed from).moment (env.observed from).moment led.events (omega arith) led.since in omega (arith, low, last_is, time)
 
-    pub next_one : Runs store meaning (Recalls env formats store meaning) env.models_moments (scene env before from) (requests ++ request ∷ []) (answers ++ answer ∷ []) (moments ++ (env.observed to).moment ∷ []) (scene env after to) old
+    pub next_one : Runs store meaning (Recalls keys env formats store meaning) env.models_moments (scene env before from) (requests ++ request ∷ []) (answers ++ answer ∷ []) (moments ++ (env.observed to).moment ∷ []) (scene env after to) old
     next_one = record {
       events = led.events ++ now ∷ [];
       asked = conversation_more requests answers moments led.events request answer (env.failures to) (env.observed to).moment led.asked;
@@ -347,19 +347,19 @@ module _ {E F C FP : Type 0} {B : Boxed} {keys : InternalOrder C} (env : Ghosts 
       stops = stops_now;
     }
 
-  pub one_more : (from mid to : E) (requests : List Request) (answers : List Answer) (engine after : Option (EngineOf E C FP F B keys)) (request : Request) (answer : Answer) (old : State)
-      → Leads C FP env formats store meaning from requests answers engine mid old → Answers env formats engine mid request answer after to
-      → Leads C FP env formats store meaning from (requests ++ request ∷ []) (answers ++ answer ∷ []) after to old
+  pub one_more : (from mid to : E) (requests : List Request) (answers : List Answer) (engine after : Option (EngineOf E C FP F B)) (request : Request) (answer : Answer) (old : State)
+      → Leads C FP keys env formats store meaning from requests answers engine mid old → Answers keys env formats engine mid request answer after to
+      → Leads C FP keys env formats store meaning from (requests ++ request ∷ []) (answers ++ answer ∷ []) after to old
   one_more from mid to requests answers engine after request answer old led answers_so = (led.0 ++ (env.observed to).moment ∷ [], next_one None from mid to requests answers led.0 engine after request answer old led.1 (answers_so store meaning))
 
-  pub first_at : (from to : E) (after : Option (EngineOf E C FP F B keys)) (request : Request) (answer : Answer) (old : State)
-      → Represents store meaning (Recalls {keys = keys} env formats store meaning) None (env.observed from).disk old → AnswersAs env formats store meaning None from request answer after to
-      → LeadsAt C FP env formats store meaning from (request ∷ []) (answer ∷ []) ((env.observed to).moment ∷ []) after to old
+  pub first_at : (from to : E) (after : Option (EngineOf E C FP F B)) (request : Request) (answer : Answer) (old : State)
+      → Represents store meaning (Recalls keys env formats store meaning) None (env.observed from).disk old → AnswersAs keys env formats store meaning None from request answer after to
+      → LeadsAt C FP keys env formats store meaning from (request ∷ []) (answer ∷ []) ((env.observed to).moment ∷ []) after to old
   first_at from to after request answer old is answers_so = next_one None from from to [] [] [] None after request answer old (no_requests from None old is) answers_so
 
-  pub first_one : (from to : E) (after : Option (EngineOf E C FP F B keys)) (request : Request) (answer : Answer) (old : State)
-      → Represents store meaning (Recalls {keys = keys} env formats store meaning) None (env.observed from).disk old → AnswersAs env formats store meaning None from request answer after to
-      → Leads C FP env formats store meaning from (request ∷ []) (answer ∷ []) after to old
+  pub first_one : (from to : E) (after : Option (EngineOf E C FP F B)) (request : Request) (answer : Answer) (old : State)
+      → Represents store meaning (Recalls keys env formats store meaning) None (env.observed from).disk old → AnswersAs keys env formats store meaning None from request answer after to
+      → Leads C FP keys env formats store meaning from (request ∷ []) (answer ∷ []) after to old
   first_one from to after request answer old is answers_so = ((env.observed to).moment ∷ [], first_at from to after request answer old is answers_so)
 
 -- ---- commands
@@ -369,22 +369,22 @@ pub no_other : {M N : Type 0} {store : List ℕ} {meaning : Meaning} {this : M �
     → Represents store meaning this None disk state → Represents store meaning that None disk state
 no_other disk state represents = record { disk_is = represents.disk_is; memory_is = represents.memory_is }
 
-module _ {E F : Type 0} {B : Boxed} (C FP : Type 0) {keys : InternalOrder C} (env : Ghosts E F) (formats : OptionsOf C FP B → Format) (store : List ℕ) where
+module _ {E F : Type 0} {B : Boxed} (C FP : Type 0) (keys : InternalOrder C) (env : Ghosts E F) (formats : OptionsOf C FP B → Format) (store : List ℕ) where
   -- so far the store was opened and these commands were given these replies and snapshots, from every state that the disk stood for
-  abbrev pub PlaysSoFar : E → Opening → List Command → List Reply → List Snapshot → EngineOf E C FP F B keys → E → Type 0
+  abbrev pub PlaysSoFar : E → Opening → List Command → List Reply → List Snapshot → EngineOf E C FP F B → E → Type 0
   PlaysSoFar from wanted commands given taken engine to = IsTrue env.models_disk → (opening : Opening) → IsOpening store wanted opening
-      → (meaning : Meaning) → Agrees opening.format meaning → (old : State) → Represents store meaning (Recalls {keys = keys} env formats store meaning) None (env.observed from).disk old
+      → (meaning : Meaning) → Agrees opening.format meaning → (old : State) → Represents store meaning (Recalls keys env formats store meaning) None (env.observed from).disk old
       → (turns : List Turn) × AreTurnsOf turns commands given taken
-      × Leads C FP env formats store meaning from (open_store opening ∷ requests_in turns) (done ∷ answers_in turns) (Some engine) to old
+      × Leads C FP keys env formats store meaning from (open_store opening ∷ requests_in turns) (done ∷ answers_in turns) (Some engine) to old
 
   -- what an opening of the store answers
-  abbrev pub OpensAs : E → Opening → Answer → Option (EngineOf E C FP F B keys) → E → Type 0
-  OpensAs from wanted answer engine to = (opening : Opening) → IsOpening store wanted opening → (meaning : Meaning) → Agrees opening.format meaning → AnswersAs env formats store meaning None from (open_store opening) answer engine to
+  abbrev pub OpensAs : E → Opening → Answer → Option (EngineOf E C FP F B) → E → Type 0
+  OpensAs from wanted answer engine to = (opening : Opening) → IsOpening store wanted opening → (meaning : Meaning) → Agrees opening.format meaning → AnswersAs keys env formats store meaning None from (open_store opening) answer engine to
 
-module _ {E F : Type 0} {B : Boxed} (C FP : Type 0) {keys : InternalOrder C} (env : Ghosts E F) (formats : OptionsOf C FP B → Format) (only_now : OnlyNow env) (store : List ℕ) where
+module _ {E F : Type 0} {B : Boxed} (C FP : Type 0) (keys : InternalOrder C) (env : Ghosts E F) (formats : OptionsOf C FP B → Format) (only_now : OnlyNow env) (store : List ℕ) where
   -- the same of a run at whose end no engine stands
   pub at_none : (meaning : Meaning) (from : E) (requests : List Request) (answers : List Answer) (moments : List ℕ) (to : E) (old : State)
-      → LeadsAt C FP {B = B} {keys = keys} env formats store meaning from requests answers moments None to old → LeadsToNone env store meaning from requests answers moments to old
+      → LeadsAt C FP {B = B} keys env formats store meaning from requests answers moments None to old → LeadsToNone env store meaning from requests answers moments to old
   at_none meaning from requests answers moments to old led = record {
     events = led.events;
     asked = led.asked;
@@ -399,29 +399,29 @@ module _ {E F : Type 0} {B : Boxed} (C FP : Type 0) {keys : InternalOrder C} (en
   }
 
   leads_to_none : (meaning : Meaning) (from : E) (requests : List Request) (answers : List Answer) (to : E) (old : State)
-      → Leads C FP {B = B} {keys = keys} env formats store meaning from requests answers None to old → (moments : List ℕ) × LeadsToNone env store meaning from requests answers moments to old
+      → Leads C FP {B = B} keys env formats store meaning from requests answers None to old → (moments : List ℕ) × LeadsToNone env store meaning from requests answers moments to old
   leads_to_none meaning from requests answers to old led = (led.0, at_none meaning from requests answers led.0 to old led.1)
 
-  pub play_first : (from to : E) (wanted : Opening) (engine : EngineOf E C FP F B keys) → OpensAs C FP env formats store from wanted done (Some engine) to → PlaysSoFar C FP env formats store from wanted [] [] [] engine to
+  pub play_first : (from to : E) (wanted : Opening) (engine : EngineOf E C FP F B) → OpensAs C FP keys env formats store from wanted done (Some engine) to → PlaysSoFar C FP keys env formats store from wanted [] [] [] engine to
   play_first from to wanted engine opens modelled opening is meaning agrees old represents =
-      ([], turns_of_none, first_one env formats only_now store meaning modelled from to (Some engine) (open_store opening) done old represents (opens opening is meaning agrees))
+      ([], turns_of_none, first_one keys env formats only_now store meaning modelled from to (Some engine) (open_store opening) done old represents (opens opening is meaning agrees))
 
-  pub play_more : (from mid to : E) (wanted : Opening) (commands : List Command) (given : List Reply) (taken left : List Snapshot) (engine after : EngineOf E C FP F B keys) (command : Command) (reply : Reply)
-      → PlaysSoFar C FP env formats store from wanted commands given taken engine mid → AnswersCommand env formats engine mid taken command reply after to left
-      → PlaysSoFar C FP env formats store from wanted (commands ++ command ∷ []) (given ++ reply ∷ []) left after to
+  pub play_more : (from mid to : E) (wanted : Opening) (commands : List Command) (given : List Reply) (taken left : List Snapshot) (engine after : EngineOf E C FP F B) (command : Command) (reply : Reply)
+      → PlaysSoFar C FP keys env formats store from wanted commands given taken engine mid → AnswersCommand keys env formats engine mid taken command reply after to left
+      → PlaysSoFar C FP keys env formats store from wanted (commands ++ command ∷ []) (given ++ reply ∷ []) left after to
   play_more from mid to wanted commands given taken left engine after command reply plays answered modelled opening is meaning agrees old represents =
       let so_far = plays modelled opening is meaning agrees old represents in
       let turns = so_far.0 in
       let turn : Turn = turn_of taken command answered.answer reply in
-      let led = one_more env formats only_now store meaning modelled from mid to (open_store opening ∷ requests_in turns) (done ∷ answers_in turns) (Some engine) (Some after) turn.request turn.answer old so_far.2 answered.step in (
+      let led = one_more keys env formats only_now store meaning modelled from mid to (open_store opening ∷ requests_in turns) (done ∷ answers_in turns) (Some engine) (Some after) turn.request turn.answer old so_far.2 answered.step in (
         turns ++ turn ∷ [],
         turns_of_more turns commands given taken left command answered.answer reply so_far.1 answered.tells answered.left_is,
-        subst (λ as'. Leads C FP env formats store meaning from (open_store opening ∷ requests_in (turns ++ turn ∷ [])) (done ∷ as') (Some after) to old) (answers_more turns turn)
-            (subst (λ rs. Leads C FP env formats store meaning from (open_store opening ∷ rs) (done ∷ (answers_in turns ++ turn.answer ∷ [])) (Some after) to old) (requests_more turns turn) led),
+        subst (λ as'. Leads C FP keys env formats store meaning from (open_store opening ∷ requests_in (turns ++ turn ∷ [])) (done ∷ as') (Some after) to old) (answers_more turns turn)
+            (subst (λ rs. Leads C FP keys env formats store meaning from (open_store opening ∷ rs) (done ∷ (answers_in turns ++ turn.answer ∷ [])) (Some after) to old) (requests_more turns turn) led),
       )
 
-  pub play_end : (from mid to : E) (wanted : Opening) (commands : List Command) (given : List Reply) (taken : List Snapshot) (engine : EngineOf E C FP F B keys) (result : Result (Unit {0}) Status)
-      → PlaysSoFar C FP env formats store from wanted commands given taken engine mid → Answers env formats (Some engine) mid abandon (done_or result) None to
+  pub play_end : (from mid to : E) (wanted : Opening) (commands : List Command) (given : List Reply) (taken : List Snapshot) (engine : EngineOf E C FP F B) (result : Result (Unit {0}) Status)
+      → PlaysSoFar C FP keys env formats store from wanted commands given taken engine mid → Answers keys env formats (Some engine) mid abandon (done_or result) None to
       → PlaysAlways env store from wanted commands given result to
   play_end from mid to wanted commands given taken engine result plays answers_so modelled opening is meaning agrees old represents =
       let so_far = plays modelled opening is meaning agrees old (no_other (env.observed from).disk old represents) in
@@ -432,16 +432,16 @@ module _ {E F : Type 0} {B : Boxed} (C FP : Type 0) {keys : InternalOrder C} (en
         answers,
         turns_asked so_far.0 commands given taken so_far.1,
         leads_to_none meaning from (open_store opening ∷ (requests ++ abandon ∷ [])) (done ∷ (answers ++ done_or result ∷ [])) to old
-            (one_more env formats only_now store meaning modelled from mid to (open_store opening ∷ requests) (done ∷ answers) (Some engine) None abandon (done_or result) old so_far.2 answers_so),
+            (one_more keys env formats only_now store meaning modelled from mid to (open_store opening ∷ requests) (done ∷ answers) (Some engine) None abandon (done_or result) old so_far.2 answers_so),
       )
 
   pub not_opened : (options : OptionsOf C FP B) (from to : E) (wanted : Opening) (commands : List Command) (given : List Reply) (status : Status) → given ≡ []
-      → OpensAs C FP {keys = keys} env formats store from wanted (refused (refusal_of status)) (no_engine options) to → PlaysAlways env store from wanted commands given (Err status) to
+      → OpensAs C FP keys env formats store from wanted (refused (refusal_of status)) (no_engine options) to → PlaysAlways env store from wanted commands given (Err status) to
   not_opened options from to wanted commands given status none opens modelled opening is meaning agrees old represents =
       inr (
         none,
         inl (leads_to_none meaning from (open_store opening ∷ []) (refused (refusal_of status) ∷ []) to old
-            (first_one env formats only_now store meaning modelled from to (no_engine options) (open_store opening) (refused (refusal_of status)) old (no_other (env.observed from).disk old represents) (opens opening is meaning agrees))),
+            (first_one keys env formats only_now store meaning modelled from to (no_engine options) (open_store opening) (refused (refusal_of status)) old (no_other (env.observed from).disk old represents) (opens opening is meaning agrees))),
       )
 
 -- a run whose store is abandoned at last fails for the same reason

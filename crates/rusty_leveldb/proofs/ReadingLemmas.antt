@@ -61,15 +61,15 @@ module _ {C : Type 0} (cmp : List ℕ → List ℕ → Ordering) (meaning : Mean
 
 -- a look-up changes nothing of a store but the seeks of its files
 module _ {E C FP F : Type 0} {keys : InternalOrder C} (env : Ghosts E F) (by : TableOptions C FP)
-    (old : OpenStoreValue C) (from : E) (tables : TableCache E C FP F keys) (sequence : ℕ)
+    (old : OpenStoreValue C) (from : E) (tables : TableCache E C FP F) (sequence : ℕ)
     (key : List ℕ) (result : Result (Option (List ℕ)) Status) (new : OpenStoreValue C) (to : E)
-    (now : TableCache E C FP F keys)
-    (looks : LooksUpKey env by old from tables sequence key result new to now) where
+    (now : TableCache E C FP F)
+    (looks : LooksUpKey keys env by old from tables sequence key result new to now) where
   pub only_seeks : new ≡ record old { current = new.current }
   only_seeks = ⊎_elim
-      (λ (memory : GetsFromMemory env by old from tables sequence key result new to now).
+      (λ (memory : GetsFromMemory keys env by old from tables sequence key result new to now).
       seeks_only old.current memory.nothing_changes.0)
-      (λ (found : GetsFromTables env by old from tables sequence key result new to now).
+      (λ (found : GetsFromTables keys env by old from tables sequence key result new to now).
       seeks_only (charged old.current (charge_of found.searched)).0 found.charges) looks.way
     where
       seeks_only : (current : VersionValue C) → new ≡ record old { current = current }
@@ -83,15 +83,15 @@ module _ {E C FP F : Type 0} {keys : InternalOrder C} (env : Ghosts E F) (by : T
       (record { manifest = unbroken.manifest; log = unbroken.log })
 
 module _ {E C FP F : Type 0} {B : Boxed} {keys : InternalOrder C} (env : Ghosts E F)
-    (formats : OptionsOf C FP B → Format) (before : EngineOf E C FP F B keys)
+    (formats : OptionsOf C FP B → Format) (before : EngineOf E C FP F B)
     (snapshot : Option Snapshot) (key : List ℕ) where
   -- ---- where nothing is read
 
   -- nothing has changed, and the machine responds so
   still : (answer : Answer) → ((store : List ℕ) (meaning : Meaning) (disk : Disk) (old : State)
-      → Recalls env formats store meaning before disk old → (setting : Setting)
+      → Recalls keys env formats store meaning before disk old → (setting : Setting)
       → Step old.mode setting old (get snapshot key) answer old)
-      → AnswersStill env formats before (get snapshot key) answer
+      → AnswersStill keys env formats before (get snapshot key) answer
   still answer steps at store meaning modelled old was = record {
     new = old;
     represents = was;
@@ -105,7 +105,7 @@ module _ {E C FP F : Type 0} {B : Boxed} {keys : InternalOrder C} (env : Ghosts 
 
   -- a closed store
   pub get_closed : (status : Status) → RefusedAsClosed before.mode status
-      → AnswersStill env formats before (get snapshot key) (refused (refusal_of status))
+      → AnswersStill keys env formats before (get snapshot key) (refused (refusal_of status))
   get_closed status out = still (refused (refusal_of status))
       (λ store meaning disk old recalls setting.
       subst (λ m. Step m setting old (get snapshot key) (refused (refusal_of status)) old)
@@ -115,7 +115,7 @@ module _ {E C FP F : Type 0} {B : Boxed} {keys : InternalOrder C} (env : Ghosts 
     -- a snapshot that isn't held, or a key that is too long
     pub get_misfit : (status : Status) → status.code ≡ InvalidArgument
         → IsNotHeld (held_in before) snapshot ⊎ IsLongKey key
-        → AnswersStill env formats before (get snapshot key) (refused (refusal_of status))
+        → AnswersStill keys env formats before (get snapshot key) (refused (refusal_of status))
     get_misfit status code misfits = still (refused (refusal_of status))
         (λ store meaning disk old recalls setting.
         let in_use : old.mode ≡ machine.closed → ⊥ = λ is. usable (recalls.mode ∙ is) in
@@ -135,11 +135,11 @@ module _ {E C FP F : Type 0} {B : Boxed} {keys : InternalOrder C} (env : Ghosts 
 
     module _ (sequence : ℕ) (reads : ReadsAt before snapshot sequence) (short : IsLongKey key → ⊥)
         (from to : E) (result : Result (Option (List ℕ)) Status)
-        (value : OpenStoreValue C) (cache : TableCache E C FP F keys)
-        (looks : LooksUpKey env (tables_by formats before) before.store from before.tables sequence
+        (value : OpenStoreValue C) (cache : TableCache E C FP F)
+        (looks : LooksUpKey keys env (tables_by formats before) before.store from before.tables sequence
         key result value to cache) where
       -- the engine in the end
-      abbrev after : EngineOf E C FP F B keys
+      abbrev after : EngineOf E C FP F B
       after = record before { options = options_in before; store = value; tables = cache }
 
       -- of the store nothing changes but the seeks of its files
@@ -154,7 +154,7 @@ module _ {E C FP F : Type 0} {B : Boxed} {keys : InternalOrder C} (env : Ghosts 
 
       module _ (store : List ℕ) (meaning : Meaning) (modelled : IsTrue env.models_disk)
           (old : State)
-          (was : Represents store meaning (Recalls env formats store meaning) (Some before)
+          (was : Represents store meaning (Recalls keys env formats store meaning) (Some before)
           (env.observed from).disk old) where
         not_closed : old.mode ≡ machine.closed → ⊥
         not_closed is = usable (was.memory_is.mode ∙ is)
@@ -174,7 +174,7 @@ module _ {E C FP F : Type 0} {B : Boxed} {keys : InternalOrder C} (env : Ghosts 
         shows = subst (λ (f : Format). Shows f.order meaning before.store
             (env.observed from).disk.files old.history views.since) (sym same_format) views.shows
 
-        has_open : HasOpenTables env (tables_by formats before) before.store from before.tables
+        has_open : HasOpenTables keys env (tables_by formats before) before.store from before.tables
         has_open = record { modelled = modelled; are = was.memory_is.tables not_closed }
 
         same_files : (env.observed to).disk.files ≡ (env.observed from).disk.files
@@ -259,7 +259,7 @@ module _ {E C FP F : Type 0} {B : Boxed} {keys : InternalOrder C} (env : Ghosts 
 
         -- the machine stays in its state
         went : (answer : Answer) → Responds setting old (get snapshot key) answer old
-            → Goes store meaning (Recalls env formats store meaning) (scene env (Some before) from)
+            → Goes store meaning (Recalls keys env formats store meaning) (scene env (Some before) from)
             (get snapshot key) answer (scene env (Some after) to) old
         went answer responds = record {
           new = old;
@@ -297,7 +297,7 @@ module _ {E C FP F : Type 0} {B : Boxed} {keys : InternalOrder C} (env : Ghosts 
               };
               snapshots = was.memory_is.snapshots;
               tables = λ in_use. subst (λ (by : TableOptions C FP).
-                  AreOpenTablesOf env by value.set (env.observed to).disk.files cache)
+                  AreOpenTablesOf keys env by value.set (env.observed to).disk.files cache)
                   (sym same_by) (looks.still_open has_open);
               writes = λ is. subst (λ (v : OpenStoreValue C).
                   IsWritten old.format.order meaning v (env.observed to).disk.files)
@@ -317,12 +317,12 @@ module _ {E C FP F : Type 0} {B : Boxed} {keys : InternalOrder C} (env : Ghosts 
           bytes = λ never. absurd never;
         }
 
-      pub get_goes : Answers env formats (Some before) from (get snapshot key) (found_or result)
+      pub get_goes : Answers keys env formats (Some before) from (get snapshot key) (found_or result)
           (Some after) to
       get_goes store meaning modelled old was = by result refl
         where
           by : (r : Result (Option (List ℕ)) Status) → result ≡ r
-              → Goes store meaning (Recalls env formats store meaning)
+              → Goes store meaning (Recalls keys env formats store meaning)
               (scene env (Some before) from) (get snapshot key) (found_or r)
               (scene env (Some after) to) old
           by (Ok value) e = went store meaning modelled old was (machine.found value)
@@ -361,7 +361,7 @@ module _ {E C FP F : Type 0} {B : Boxed} {keys : InternalOrder C} (env : Ghosts 
           by (Err status) (inr (inl more)) = inr (inl (omega (arith, more)))
           by (Err status) (inr (inr full)) = inr (inr full.0)
 
-      pub get_cause : GetFails env formats before from snapshot key result to
+      pub get_cause : GetFails keys env formats before from snapshot key result to
       get_cause = record {
         cause = fails_by (λ e. IsTableFault (formats (options_in before)) e.code) looks.reads.cause;
         lacks = λ meaning live there. fails_by (λ e. (e.code ≡ NotSupported)

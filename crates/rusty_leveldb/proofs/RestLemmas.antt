@@ -74,8 +74,8 @@ others_given (Ok nothing) name was mid now same set path differs =
 others_given (Err status) name was mid now same set path differs =
     ap (λ (l : List ℕ → Bool). l path) set ∙ same path
 
-module _ {E C FP F : Type 0} {B : Boxed} {keys : InternalOrder C} (env : Ghosts E F)
-    (before : EngineOf E C FP F B keys) (from : E) where
+module _ {E C FP F : Type 0} {B : Boxed} (env : Ghosts E F)
+    (before : EngineOf E C FP F B) (from : E) where
   abbrev store : List ℕ
   store = before.store.set.store
 
@@ -100,7 +100,7 @@ module _ {E C FP F : Type 0} {B : Boxed} {keys : InternalOrder C} (env : Ghosts 
   -- the disk has stayed, and the engine's options may have changed
   pub rest_read : {T : Type 0} (snapshot : Option Snapshot) (key : List ℕ) (result : Result T Status)
       (to : E)
-      (options : OptionsOf C FP B) (value : OpenStoreValue C) (cache : TableCache E C FP F keys)
+      (options : OptionsOf C FP B) (value : OpenStoreValue C) (cache : TableCache E C FP F)
       → value ≡ record before.store { current = value.current } → KeepsDisk env from to
       → LeavesRest env before from (get snapshot key) result
       (record before { options = options; store = value; tables = cache }) to
@@ -256,16 +256,16 @@ module _ {E C FP F : Type 0} {B : Boxed} {keys : InternalOrder C} (env : Ghosts 
 
     -- ---- writes
 
-    module _ {P : Type 0} {key_filters : FilterGhosts P}
+    module _ {P : Type 0} {keys : InternalOrder C} {key_filters : FilterGhosts P}
         (choices : OptionsOf C FP B → TableChoices keys key_filters) (items : List Item)
         (sync : Bool) where
       -- no room was made
-      pub rest_roomless : (after : EngineOf E C FP F B keys) (to : E) (status : Status)
+      pub rest_roomless : (after : EngineOf E C FP F B) (to : E) (status : Status)
           → EngineMakesRoom env choices before from (Err status) after to
           → LeavesRest env {T = Unit {0}} before from (write items sync) (Err status) after to
       rest_roomless after to status made = record {
         place = (
-          ap (λ (e : EngineOf E C FP F B keys). e.lock) made.rest,
+          ap (λ (e : EngineOf E C FP F B). e.lock) made.rest,
           made.makes.rest.store,
         );
         others = λ modelled own. open_spares (write items sync) (open_log_path after.store)
@@ -280,7 +280,7 @@ module _ {E C FP F : Type 0} {B : Boxed} {keys : InternalOrder C} (env : Ghosts 
       }
 
       -- it was, and then the batch was written or not
-      module _ (roomy : EngineOf E C FP F B keys) (mid : E)
+      module _ (roomy : EngineOf E C FP F B) (mid : E)
           (made : EngineMakesRoom env choices before from (Ok tt) roomy mid)
           (value : OpenStoreValue C) (mode : machine.Mode) (to : E)
           (result : Result (Unit {0}) Status) (writes : WritesBatch env (choices (options_in roomy)).format.order roomy.store mid items sync
@@ -297,7 +297,7 @@ module _ {E C FP F : Type 0} {B : Boxed} {keys : InternalOrder C} (env : Ghosts 
             (record roomy { store = value; mode = mode }) to
         rest_written = record {
           place = (
-            ap (λ (e : EngineOf E C FP F B keys). e.lock) made.rest,
+            ap (λ (e : EngineOf E C FP F B). e.lock) made.rest,
             ap (λ (v : OpenStoreValue C). v.set.store) writes.rest ∙ made.makes.rest.store,
           );
           others = λ modelled own. open_spares (write items sync) (open_log_path value)

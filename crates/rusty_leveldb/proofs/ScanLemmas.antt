@@ -14,15 +14,15 @@ use Rattle.rusty_leveldb.specs.Iterator.{IteratesAt, ScanGivesPairs, Scans, Show
 use Rattle.rusty_leveldb.specs.declared.db_iter.StoreIterator.{StoreIterator}
 use Rattle.rusty_leveldb.proofs.WalkLawsLemmas.{after_pairs, length_seam, next_after, one_some, some_is_not_none, within_in, within_past}
 
-module _ {E F C FP K V : Type 0} {keys : InternalOrder C} (env : Ghosts E F) (cmp : CmpGhosts C) (filters : FilterGhosts FP) (codings : K → Codings)
-    (walk : WalkGhosts V E (ReadTables E C FP K F keys)) where
+module _ {E F C FP K V : Type 0} (keys : InternalOrder C) (env : Ghosts E F) (cmp : CmpGhosts C) (filters : FilterGhosts FP) (codings : K → Codings)
+    (walk : WalkGhosts V E (ReadTables E C FP K F)) where
   module _ (shown : ShownStore C) (pairs : List Pair) where
-    abbrev At : Option ℕ → StoreIterator E C FP K V F keys → Type 0
-    At = IteratesAt env cmp filters codings walk shown pairs
+    abbrev At : Option ℕ → StoreIterator E C FP K V F → Type 0
+    At = IteratesAt keys env cmp filters codings walk shown pairs
 
     -- after the pairs that are gone, the scan is at those that are left
-    scan : (gone left found : List Pair) (it end : StoreIterator E C FP K V F keys) → pairs ≡ gone ++ left
-        → At (after_pairs (length gone)) it → Scans env cmp filters codings walk it found end → found ≡ left
+    scan : (gone left found : List Pair) (it end : StoreIterator E C FP K V F) → pairs ≡ gone ++ left
+        → At (after_pairs (length gone)) it → Scans keys env cmp filters codings walk it found end → found ≡ left
     unfolding after_pairs
     scan gone [] [] it end parted at scans = refl
     scan gone [] (pair ∷ found) it end parted at scans =
@@ -47,6 +47,6 @@ module _ {E F C FP K V : Type 0} {keys : InternalOrder C} (env : Ghosts E F) (cm
         let rest = scan (gone ++ x ∷ []) left found scans.0 end (parted ∙ sym (append_assoc gone (x ∷ []) left)) on scans.3 in
         ap (λ (p : Pair). p ∷ found) same ∙ ap (λ l. x ∷ l) rest
 
-  pub scan_gives_pairs : ScanGivesPairs env cmp filters codings walk
+  pub scan_gives_pairs : ScanGivesPairs keys env cmp filters codings walk
   unfolding after_pairs
   scan_gives_pairs shown pairs found it end at scans = scan shown pairs [] pairs found it end refl at scans

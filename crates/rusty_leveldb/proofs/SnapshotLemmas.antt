@@ -98,7 +98,7 @@ same_risk request is old new = absurd is
 
 module _ {E C FP F P : Type 0} {B : Boxed} {keys : InternalOrder C} {key_filters : FilterGhosts P}
     (env : Ghosts E F) (choices : OptionsOf C FP B → TableChoices keys key_filters)
-    (before : EngineOf E C FP F B keys) where
+    (before : EngineOf E C FP F B) where
   abbrev formats : OptionsOf C FP B → Format
   formats = formats_of choices
 
@@ -107,9 +107,9 @@ module _ {E C FP F P : Type 0} {B : Boxed} {keys : InternalOrder C} {key_filters
   -- nothing has changed, and the machine responds so
   still : (request : Request) → IsForSnapshots request → (answer : Answer)
       → ((store : List ℕ) (meaning : Meaning) (disk : Disk) (old : State)
-      → Recalls env formats store meaning before disk old → (setting : Setting)
+      → Recalls keys env formats store meaning before disk old → (setting : Setting)
       → Step old.mode setting old request answer old)
-      → AnswersStill env formats before request answer
+      → AnswersStill keys env formats before request answer
   still request is answer steps at store meaning modelled old was = record {
     new = old;
     represents = was;
@@ -123,7 +123,7 @@ module _ {E C FP F P : Type 0} {B : Boxed} {keys : InternalOrder C} {key_filters
 
   closed_still : (request : Request) → IsForSnapshots request → (status : Status)
       → RefusedAsClosed before.mode status
-      → AnswersStill env formats before request (refused (refusal_of status))
+      → AnswersStill keys env formats before request (refused (refusal_of status))
   closed_still request is status out = still request is (refused (refusal_of status))
       (λ store meaning disk old recalls setting.
       subst (λ m. Step m setting old request (refused (refusal_of status)) old)
@@ -134,7 +134,7 @@ module _ {E C FP F P : Type 0} {B : Boxed} {keys : InternalOrder C} {key_filters
       → (before.mode ≡ machine.closed → ⊥)
       → ((old : State) → HasSnapshots before.snapshots old → (setting : Setting)
       → Responds setting old request (refused (refusal_of status)) old)
-      → AnswersStill env formats before request (refused (refusal_of status))
+      → AnswersStill keys env formats before request (refused (refusal_of status))
   caused_still request is status usable responds = still request is (refused (refusal_of status))
       (λ store meaning disk old recalls setting.
       let in_use : old.mode ≡ machine.closed → ⊥ = λ closed. usable (recalls.mode ∙ closed) in
@@ -146,7 +146,7 @@ module _ {E C FP F P : Type 0} {B : Boxed} {keys : InternalOrder C} {key_filters
   module _ (request : Request) (is : IsForSnapshots request) (answer : Answer)
       (snapshots : HeldSnapshots) (usable : before.mode ≡ machine.closed → ⊥) (at : E)
       (store : List ℕ) (meaning : Meaning) (old : State)
-      (was : Represents store meaning (Recalls env formats store meaning) (Some before)
+      (was : Represents store meaning (Recalls keys env formats store meaning) (Some before)
       (env.observed at).disk old) where
     in_use : old.mode ≡ machine.closed → ⊥
     in_use closed = usable (was.memory_is.mode ∙ closed)
@@ -159,7 +159,7 @@ module _ {E C FP F P : Type 0} {B : Boxed} {keys : InternalOrder C} {key_filters
         → ((one : Snapshot) → Contains held one
         → (was.memory_is.shows in_use).since ≤ one.sequence)
         → Responds setting old request answer (record old { held = held; given = given })
-        → Goes store meaning (Recalls env formats store meaning) (scene env (Some before) at)
+        → Goes store meaning (Recalls keys env formats store meaning) (scene env (Some before) at)
         request answer (scene env (Some (record before { snapshots = snapshots })) at) old
     goes_with held given has within responds =
         let new : State = record old { held = held; given = given } in

@@ -96,9 +96,9 @@ log_is_data kind t = absurd t
 
 module _ {E C FP F : Type 0} {B : Boxed} {keys : InternalOrder C} (env : Ghosts E F)
     (formats : OptionsOf C FP B → Format)
-    (store : List ℕ) (meaning : Meaning) (before : EngineOf E C FP F B keys) (from : E)
+    (store : List ℕ) (meaning : Meaning) (before : EngineOf E C FP F B) (from : E)
     (old : State)
-    (was : Represents store meaning (Recalls env formats store meaning) (Some before)
+    (was : Represents store meaning (Recalls keys env formats store meaning) (Some before)
     (env.observed from).disk old) (opened : before.mode ≡ machine.open_mode) where
   -- what is at risk where no batch is
   abbrev pub risk_now : Risk
@@ -161,7 +161,7 @@ module _ {E C FP F : Type 0} {B : Boxed} {keys : InternalOrder C} (env : Ghosts 
   pub tables_logged : (value : OpenStoreValue C) (m : machine.Mode) (to : Files)
       → value.set ≡ before.store.set → value.cmp ≡ before.store.cmp
       → SameBut (open_log_path before.store) (env.observed from).disk.files to
-      → HasOwnTables env formats (record before { store = value; mode = m }) to
+      → HasOwnTables keys env formats (record before { store = value; mode = m }) to
   tables_logged value m to set cmp but =
       let here = (env.observed from).disk.files in
       let held = was.memory_is.tables
@@ -170,10 +170,10 @@ module _ {E C FP F : Type 0} {B : Boxed} {keys : InternalOrder C} (env : Ghosts 
       (was.memory_is.writes (state_open env formats store meaning before from old was opened)) in
       let keeps = given_same before.store.set here to (same_beside before.store.set
       (open_log_path before.store) Log is_log log_is_no_table here to but) in
-      subst (λ (s : VersionSetValue). AreOpenTablesOf env
+      subst (λ (s : VersionSetValue). AreOpenTablesOf keys env
       (tables_by formats (record before { store = value; mode = m })) s to before.tables) (sym set)
       (subst (λ (c : C). let options : OptionsOf C FP B = record before.options { cmp = c } in
-      AreOpenTablesOf env (table_options (formats options) options) before.store.set to
+      AreOpenTablesOf keys env (table_options (formats options) options) before.store.set to
       before.tables) (sym cmp) (stay_open env (tables_by formats before) before.store.set
       before.store.set refl (omega arith) here to keeps before.tables before.tables
       (ClosesTables-refl before.tables) held))
@@ -391,7 +391,7 @@ module _ {E C FP F : Type 0} {B : Boxed} {keys : InternalOrder C} (env : Ghosts 
         → Step open_mode (setting_between meaning (env.failures from) (env.failures mid)) old request
         answer broke_now)
         → risk_of request old broke_now ≡ risk_now
-        → Goes store meaning (Recalls env formats store meaning) (scene env (Some before) from)
+        → Goes store meaning (Recalls keys env formats store meaning) (scene env (Some before) from)
         request
         (refused (refusal_of status)) (scene env (Some (record before { store = value; mode = m })) mid)
         old

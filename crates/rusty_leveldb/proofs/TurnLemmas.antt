@@ -44,31 +44,31 @@ found_gives_none (Ok value) = refl
 found_gives_none (Err status) = refl
 
 module _ {E F C FP : Type 0} {B : Boxed} {keys : InternalOrder C} (env : Ghosts E F)
-    {formats : OptionsOf C FP B → Format} {before after : EngineOf E C FP F B keys} (from to : E)
+    {formats : OptionsOf C FP B → Format} {before after : EngineOf E C FP F B} (from to : E)
     (held left : List HeldSnapshot) where
   -- a command that takes no snapshot
   pub answered : (one : Command) (request : Request) (answer : Answer) (told : Reply)
       → left ≡ held → given_by answer ≡ [] → request_of (map snapshot_of held) one ≡ request
-      → IsReplyOf (map snapshot_of held) told answer → Answers env formats (Some before) from request answer (Some after) to
-      → AnswersCommand env formats before from (map snapshot_of held) one told after to (map snapshot_of left)
+      → IsReplyOf (map snapshot_of held) told answer → Answers keys env formats (Some before) from request answer (Some after) to
+      → AnswersCommand keys env formats before from (map snapshot_of held) one told after to (map snapshot_of left)
   answered one request answer told same none asks tells step = record {
     answer = answer;
     tells = tells;
     left_is = ap (map snapshot_of) same ∙ sym (append-nil (map snapshot_of held))
         ∙ ap (λ (l : List Snapshot). map snapshot_of held ++ l) (sym none);
-    step = subst (λ r. Answers env formats (Some before) from r answer (Some after) to) (sym asks) step;
+    step = subst (λ r. Answers keys env formats (Some before) from r answer (Some after) to) (sym asks) step;
   }
 
   -- one that takes a snapshot
   pub answered_snap : (one : Command) (number : ℕ) (given : Snapshot) → one ≡ command.Snap
       → number ≡ length held → map snapshot_of left ≡ map snapshot_of held ++ given ∷ []
-      → Answers env formats (Some before) from get_snapshot (snapshot given) (Some after) to
-      → AnswersCommand env formats before from (map snapshot_of held) one (reply.Snapshot number) after to
+      → Answers keys env formats (Some before) from get_snapshot (snapshot given) (Some after) to
+      → AnswersCommand keys env formats before from (map snapshot_of held) one (reply.Snapshot number) after to
       (map snapshot_of left)
   answered_snap one number given is count more step = record {
     answer = snapshot given;
     tells = (count ∙ sym (length-map held snapshot_of), given, refl);
     left_is = more;
-    step = subst (λ c. Answers env formats (Some before) from (request_of (map snapshot_of held) c) (snapshot given)
+    step = subst (λ c. Answers keys env formats (Some before) from (request_of (map snapshot_of held) c) (snapshot given)
         (Some after) to) (sym is) step;
   }

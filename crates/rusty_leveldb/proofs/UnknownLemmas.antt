@@ -31,14 +31,14 @@ unknown_unheld held newest is fits there =
 
 module _ {E C FP F P : Type 0} {B : Boxed} {keys : InternalOrder C} {key_filters : FilterGhosts P}
     (env : Ghosts E F) (choices : OptionsOf C FP B → TableChoices keys key_filters)
-    (engine : EngineOf E C FP F B keys) (status : Status) where
+    (engine : EngineOf E C FP F B) (status : Status) where
   -- a closed store
   pub unknown_closed : RefusedAsClosed engine.mode status
       → RefusesUnknown env choices engine status
   unknown_closed out = record {
     get_at = λ key. get_closed env (formats_of choices) engine (Some no_snapshot) key status out;
     release = λ at. (closed_releases env choices engine no_snapshot status at out).step;
-    walk = λ moves. walk_closed env (formats_of choices) engine (Some no_snapshot) moves status out;
+    walk = λ moves. walk_closed keys env (formats_of choices) engine (Some no_snapshot) moves status out;
   }
 
   -- one that isn't
@@ -49,6 +49,6 @@ module _ {E C FP F P : Type 0} {B : Boxed} {keys : InternalOrder C} {key_filters
         code (inl unheld);
     release = λ at. (releases_none env choices engine usable no_snapshot status at
         (code, unheld)).step;
-    walk = λ moves. walk_unheld env (formats_of choices) engine (Some no_snapshot) moves usable
+    walk = λ moves. walk_unheld keys env (formats_of choices) engine (Some no_snapshot) moves usable
         status code unheld;
   }

@@ -170,7 +170,7 @@ comes_later meaning before mid after old request refusal cause more comes = come
 module _ {E C FP F : Type 0} {B : Boxed} {keys : InternalOrder C} (env : Ghosts E F)
     (formats : OptionsOf C FP B → Format)
     (store : List ℕ) (meaning : Meaning) (opening : Opening) (from : E) (old : State)
-    (was : Represents store meaning (Recalls {keys = keys} env formats store meaning) None
+    (was : Represents store meaning (Recalls keys env formats store meaning) None
     (env.observed from).disk old) (to : E) (e : Status) where
   -- the store is closed, and this one is there
   abbrev left : Store → State
@@ -194,7 +194,7 @@ module _ {E C FP F : Type 0} {B : Boxed} {keys : InternalOrder C} (env : Ghosts 
       → Comes (setting_between meaning (env.failures from) mid) old (open_store opening)
       (refusal_of e) cause
       → (IsEarly cause → there ≡ old.store)
-      → Goes store meaning (Recalls {keys = keys} env formats store meaning)
+      → Goes store meaning (Recalls keys env formats store meaning)
       (scene env None from) (open_store opening) (refused (refusal_of e)) (scene env None to) old
   unopened_goes there stays holds bytes run spares mid later ends lock cause comes early =
       let setting = setting_between meaning (env.failures from) (env.failures to) in

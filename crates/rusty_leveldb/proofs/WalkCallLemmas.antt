@@ -26,7 +26,7 @@ use Rattle.rusty_leveldb.proofs.WalkingLemmas.{walk_closed, walk_goes, walk_star
 
 module _ {E C FP F P : Type 0} {B : Boxed} {keys : InternalOrder C} {key_filters : FilterGhosts P}
     (env : Ghosts E F) (choices : OptionsOf C FP B → TableChoices keys key_filters)
-    (before : EngineOf E C FP F B keys) (at : Option Snapshot) (moves : List Move) (from : E) where
+    (before : EngineOf E C FP F B) (at : Option Snapshot) (moves : List Move) (from : E) where
   -- a call that makes no walk fails for this
   unmade : (status : Status) → WalkExcused before at status
       → (env.failures from ≤ env.failures from) × WalkExcused before at status
@@ -39,7 +39,7 @@ module _ {E C FP F P : Type 0} {B : Boxed} {keys : InternalOrder C} {key_filters
       options = record { rest = refl; sink = refl };
       halted = λ halted. (refl, refl, inl why);
       becomes = (refl, refl);
-      step = walk_closed env (formats_of choices) before at moves status why from;
+      step = walk_closed keys env (formats_of choices) before at moves status why from;
       rest = rest_still env before from (walk_of at moves) (Err status) (inr (status, refl));
       time = λ modelled. omega arith;
       cause = unmade status (inl why);
@@ -56,7 +56,7 @@ module _ {E C FP F P : Type 0} {B : Boxed} {keys : InternalOrder C} {key_filters
         options = record { rest = refl; sink = refl };
         halted = λ halted. absurd (usable halted);
         becomes = (refl, refl);
-        step = walk_unheld env (formats_of choices) before at moves usable status code unheld from;
+        step = walk_unheld keys env (formats_of choices) before at moves usable status code unheld from;
         rest = rest_still env before from (walk_of at moves) (Err status) (inr (status, refl));
         time = λ modelled. omega arith;
         cause = unmade status (inr (inl (code, unheld)));
@@ -72,7 +72,7 @@ module _ {E C FP F P : Type 0} {B : Boxed} {keys : InternalOrder C} {key_filters
         options = record { rest = refl; sink = refl };
         halted = λ halted. absurd (usable halted);
         becomes = (refl, refl);
-        step = walk_starved env (formats_of choices) before at moves usable status out from;
+        step = walk_starved keys env (formats_of choices) before at moves usable status out from;
         rest = rest_still env before from (walk_of at moves) (Err status) (inr (status, refl));
         time = λ modelled. omega arith;
         cause = unmade status (inr (inr out));
@@ -81,11 +81,11 @@ module _ {E C FP F P : Type 0} {B : Boxed} {keys : InternalOrder C} {key_filters
       none = refl;
     }
 
-    module _ (sequence : ℕ) (reads_at : ReadsAt before at sequence) (to : E) (left : TableCache E C FP F keys) (given : List Step)
+    module _ (sequence : ℕ) (reads_at : ReadsAt before at sequence) (to : E) (left : TableCache E C FP F) (given : List Step)
         (result : Result (Unit {0}) Status)
-        (walks : WalksStore env (tables_by (formats_of choices) before) before.store from before.tables sequence moves given result to left) where
+        (walks : WalksStore keys env (tables_by (formats_of choices) before) before.store from before.tables sequence moves given result to left) where
       -- the engine in the end
-      abbrev walked_engine : EngineOf E C FP F B keys
+      abbrev walked_engine : EngineOf E C FP F B
       walked_engine = record before { options = options_in before; tables = left }
 
       locks_stay : (r : Result (Unit {0}) Status) (now was : Bool) → now ≡ was → IsLockLeft (walk_of at moves) r was now
@@ -108,7 +108,7 @@ module _ {E C FP F P : Type 0} {B : Boxed} {keys : InternalOrder C} {key_filters
           options = record { rest = refl; sink = refl };
           halted = λ halted. absurd (usable halted);
           becomes = (refl, refl);
-          step = walk_goes env (formats_of choices) before at moves usable sequence reads_at from to left given result walks;
+          step = walk_goes keys env (formats_of choices) before at moves usable sequence reads_at from to left given result walks;
           rest = record {
             place = (refl, refl);
             others = λ modelled own. spares_same before.store.set.store (env.observed from).disk (env.observed to).disk _ (walks.kept.disk modelled).has
@@ -124,13 +124,13 @@ module _ {E C FP F P : Type 0} {B : Boxed} {keys : InternalOrder C} {key_filters
       }
 
     -- the same where the options were given the store's order before the walk
-    pub walk_serves_in : (cmp : C) → cmp ≡ before.store.cmp → (sequence : ℕ) → ReadsAt before at sequence → (to : E) (left : TableCache E C FP F keys) (given : List Step)
+    pub walk_serves_in : (cmp : C) → cmp ≡ before.store.cmp → (sequence : ℕ) → ReadsAt before at sequence → (to : E) (left : TableCache E C FP F) (given : List Step)
         (result : Result (Unit {0}) Status)
         → (let options : OptionsOf C FP B = record before.options { cmp = cmp } in
-        WalksStore env (table_options (formats_of choices options) options) before.store from before.tables sequence moves given result to left)
+        WalksStore keys env (table_options (formats_of choices options) options) before.store from before.tables sequence moves given result to left)
         → EngineWalks env choices before from at moves given result (record before { options = record before.options { cmp = cmp }; tables = left }) to
     walk_serves_in cmp same sequence reads_at to left given result walks =
         subst (λ (c : C). EngineWalks env choices before from at moves given result (record before { options = record before.options { cmp = c }; tables = left }) to) (sym same)
         (walk_serves sequence reads_at to left given result (subst (λ (c : C).
         let options : OptionsOf C FP B = record before.options { cmp = c } in
-        WalksStore env (table_options (formats_of choices options) options) before.store from before.tables sequence moves given result to left) same walks))
+        WalksStore keys env (table_options (formats_of choices options) options) before.store from before.tables sequence moves given result to left) same walks))

@@ -40,8 +40,8 @@ walk_responds machine.open_mode setting old at asked answer usable responds = re
 walk_responds machine.broken setting old at asked answer usable responds = responds
 walk_responds machine.closed setting old at asked answer usable responds = absurd (usable refl)
 
-module _ {E C FP F : Type 0} {B : Boxed} {keys : InternalOrder C} (env : Ghosts E F)
-    (formats : OptionsOf C FP B → Format) (before : EngineOf E C FP F B keys)
+module _ {E C FP F : Type 0} {B : Boxed} (keys : InternalOrder C) (env : Ghosts E F)
+    (formats : OptionsOf C FP B → Format) (before : EngineOf E C FP F B)
     (at : Option Snapshot) (moves : List Move) where
   abbrev request : Request
   request = walk_of at moves
@@ -50,9 +50,9 @@ module _ {E C FP F : Type 0} {B : Boxed} {keys : InternalOrder C} (env : Ghosts 
 
   -- nothing has changed, and the machine responds so
   walk_still : (answer : Answer) → ((store : List ℕ) (meaning : Meaning) (disk : Disk) (old : State)
-      → Recalls env formats store meaning before disk old → (setting : Setting)
+      → Recalls keys env formats store meaning before disk old → (setting : Setting)
       → Step old.mode setting old request answer old)
-      → AnswersStill env formats before request answer
+      → AnswersStill keys env formats before request answer
   walk_still answer steps from store meaning modelled old was = record {
     new = old;
     represents = was;
@@ -64,7 +64,7 @@ module _ {E C FP F : Type 0} {B : Boxed} {keys : InternalOrder C} (env : Ghosts 
   }
 
   -- a closed store
-  pub walk_closed : (status : Status) → RefusedAsClosed before.mode status → AnswersStill env formats before request (refused (refusal_of status))
+  pub walk_closed : (status : Status) → RefusedAsClosed before.mode status → AnswersStill keys env formats before request (refused (refusal_of status))
   walk_closed status out = walk_still (refused (refusal_of status))
       (λ store meaning disk old recalls setting.
       subst (λ m. Step m setting old request (refused (refusal_of status)) old) (sym out.0 ∙ recalls.mode) (out.1, refl))
@@ -72,7 +72,7 @@ module _ {E C FP F : Type 0} {B : Boxed} {keys : InternalOrder C} (env : Ghosts 
   module _ (usable : before.mode ≡ machine.closed → ⊥) where
     -- a snapshot that isn't held
     pub walk_unheld : (status : Status) → status.code ≡ InvalidArgument → IsNotHeld (held_in before) at
-        → AnswersStill env formats before request (refused (refusal_of status))
+        → AnswersStill keys env formats before request (refused (refusal_of status))
     walk_unheld status code unheld = walk_still (refused (refusal_of status))
         (λ store meaning disk old recalls setting.
         let in_use : old.mode ≡ machine.closed → ⊥ = λ is. usable (recalls.mode ∙ is) in
@@ -84,7 +84,7 @@ module _ {E C FP F : Type 0} {B : Boxed} {keys : InternalOrder C} (env : Ghosts 
         }))
 
     -- no memory
-    pub walk_starved : (status : Status) → IsOutOfMemory status → AnswersStill env formats before request (refused (refusal_of status))
+    pub walk_starved : (status : Status) → IsOutOfMemory status → AnswersStill keys env formats before request (refused (refusal_of status))
     walk_starved status out = walk_still (refused (refusal_of status))
         (λ store meaning disk old recalls setting.
         let in_use : old.mode ≡ machine.closed → ⊥ = λ is. usable (recalls.mode ∙ is) in
@@ -93,14 +93,14 @@ module _ {E C FP F : Type 0} {B : Boxed} {keys : InternalOrder C} (env : Ghosts 
 
     -- ---- moves of a walk
 
-    module _ (sequence : ℕ) (reads_at : ReadsAt before at sequence) (from to : E) (left : TableCache E C FP F keys) (given : List Landed) (result : Result (Unit {0}) Status)
-        (walks : WalksStore env (tables_by formats before) before.store from before.tables sequence moves given result to left) where
+    module _ (sequence : ℕ) (reads_at : ReadsAt before at sequence) (from to : E) (left : TableCache E C FP F) (given : List Landed) (result : Result (Unit {0}) Status)
+        (walks : WalksStore keys env (tables_by formats before) before.store from before.tables sequence moves given result to left) where
       -- the engine in the end
-      abbrev after : EngineOf E C FP F B keys
+      abbrev after : EngineOf E C FP F B
       after = record before { options = options_in before; tables = left }
 
       module _ (store : List ℕ) (meaning : Meaning) (modelled : IsTrue env.models_disk) (old : State)
-          (was : Represents store meaning (Recalls env formats store meaning) (Some before) (env.observed from).disk old) where
+          (was : Represents store meaning (Recalls keys env formats store meaning) (Some before) (env.observed from).disk old) where
         not_closed : old.mode ≡ machine.closed → ⊥
         not_closed is = usable (was.memory_is.mode ∙ is)
 
@@ -116,7 +116,7 @@ module _ {E C FP F : Type 0} {B : Boxed} {keys : InternalOrder C} (env : Ghosts 
         shows : Shows (formats (options_in before)).order meaning before.store (env.observed from).disk.files old.history shown.since
         shows = subst (λ (f : Format). Shows f.order meaning before.store (env.observed from).disk.files old.history shown.since) (sym same_format) shown.shows
 
-        has_open : HasOpenTables env (tables_by formats before) before.store from before.tables
+        has_open : HasOpenTables keys env (tables_by formats before) before.store from before.tables
         has_open = record { modelled = modelled; are = was.memory_is.tables not_closed }
 
         same_files : (env.observed to).disk.files ≡ (env.observed from).disk.files
@@ -184,7 +184,7 @@ module _ {E C FP F : Type 0} {B : Boxed} {keys : InternalOrder C} (env : Ghosts 
         responds : Responds setting old request (walked_or given result) old
         responds = responds_with result (walks.walks has_open meaning agrees old.history shown.since (reads_in at reads_at).2 shows) (memory_only result walks.none)
 
-        walk_went : Goes store meaning (Recalls env formats store meaning) (scene env (Some before) from) request (walked_or given result)
+        walk_went : Goes store meaning (Recalls keys env formats store meaning) (scene env (Some before) from) request (walked_or given result)
             (scene env (Some after) to) old
         walk_went = record {
           new = old;
@@ -223,5 +223,5 @@ module _ {E C FP F : Type 0} {B : Boxed} {keys : InternalOrder C} (env : Ghosts 
           bytes = λ never. absurd never;
         }
 
-      pub walk_goes : Answers env formats (Some before) from request (walked_or given result) (Some after) to
+      pub walk_goes : Answers keys env formats (Some before) from request (walked_or given result) (Some after) to
       walk_goes = walk_went

@@ -79,7 +79,7 @@ unmade empty item status is why long = ⊎_elim
 
 module _ {E C FP F P : Type 0} {B : Boxed} {keys : InternalOrder C} {key_filters : FilterGhosts P}
     (env : Ghosts E F) (choices : OptionsOf C FP B → TableChoices keys key_filters)
-    (before : EngineOf E C FP F B keys) (from : E) (opened : before.mode ≡ machine.open_mode)
+    (before : EngineOf E C FP F B) (from : E) (opened : before.mode ≡ machine.open_mode)
     (items : List Item) (sync : Bool) where
   abbrev formats : OptionsOf C FP B → Format
   formats = formats_of choices
@@ -103,7 +103,7 @@ module _ {E C FP F P : Type 0} {B : Boxed} {keys : InternalOrder C} {key_filters
   }
 
   -- the mode in the end
-  becomes : (after : EngineOf E C FP F B keys) → FollowsStore after.mode after.store
+  becomes : (after : EngineOf E C FP F B) → FollowsStore after.mode after.store
       → KeepsModeOrBreaks before after
   becomes after follows = ⊎_elim
       (λ (opens : (after.mode ≡ machine.open_mode) × IsUnbroken after.store).
@@ -113,7 +113,7 @@ module _ {E C FP F P : Type 0} {B : Boxed} {keys : InternalOrder C} {key_filters
 
   module _ (ignores : (a b : OptionsOf C FP B) → TellsOnly a b → formats b ≡ formats a) where
     -- no room is made
-    pub room_fails_serves : (after : EngineOf E C FP F B keys) (to : E) (status : Status)
+    pub room_fails_serves : (after : EngineOf E C FP F B) (to : E) (status : Status)
         → EngineMakesRoom env choices before from (Err status) after to
         → EngineServes env choices {T = Unit {0}} done_or before from (write items sync) (Err status)
         after to
@@ -148,7 +148,7 @@ module _ {E C FP F P : Type 0} {B : Boxed} {keys : InternalOrder C} {key_filters
         excused (inl (inr (inr (inr (inr lost))))) = inl (inr (inr (inr (inr (inr (inr lost))))))
         excused (inr failed) = inr failed
 
-    module _ (roomy : EngineOf E C FP F B keys) (mid : E)
+    module _ (roomy : EngineOf E C FP F B) (mid : E)
         (made : EngineMakesRoom env choices before from (Ok tt) roomy mid)
         (value : OpenStoreValue C) (mode : machine.Mode) (follows : FollowsStore mode value)
         (to : E) where
@@ -235,7 +235,7 @@ module _ {E C FP F P : Type 0} {B : Boxed} {keys : InternalOrder C} {key_filters
           → WritesBatch env (formats (options_in before)).order roomy.store mid items sync result value
           to → IsSoundCall {T = Unit {0}} env (formats (options_in before)).order any_meaning
           roomy.store mid result value to
-          → Answers env formats (Some before) from (write items sync) (done_or result)
+          → Answers keys env formats (Some before) from (write items sync) (done_or result)
           (Some (record roomy { store = value; mode = mode })) to
       step (Ok nothing) short writes sound store meaning modelled old was =
           write_done env choices store meaning before from old was opened modelled ignores roomy mid

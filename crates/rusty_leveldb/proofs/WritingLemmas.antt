@@ -68,8 +68,8 @@ failed_later from mid to first second (inr full) = ⊎_elim
 module _ {E C FP F P : Type 0} {B : Boxed} {keys : InternalOrder C} {key_filters : FilterGhosts P}
     (env : Ghosts E F) (choices : OptionsOf C FP B → TableChoices keys key_filters) where
   -- an engine makes room in its memtable, by its options
-  pub record EngineMakesRoom (before : EngineOf E C FP F B keys) (from : E)
-      (result : Result (Unit {0}) Status) (after : EngineOf E C FP F B keys) (to : E) : Type 0 where
+  pub record EngineMakesRoom (before : EngineOf E C FP F B) (from : E)
+      (result : Result (Unit {0}) Status) (after : EngineOf E C FP F B) (to : E) : Type 0 where
     pub makes : MakesRoom env (choices (options_in before)).format.order before.store from
         (choices (options_in before)) before.options.write_buffer_size result after.store to
     pub sound : IsSoundCall env (choices (options_in before)).format.order
@@ -89,13 +89,13 @@ module _ {E C FP F P : Type 0} {B : Boxed} {keys : InternalOrder C} {key_filters
 -- what making room leaves of the options
 pub room_tells : {E C FP F P : Type 0} {B : Boxed} {keys : InternalOrder C}
     {key_filters : FilterGhosts P} (env : Ghosts E F)
-    (choices : OptionsOf C FP B → TableChoices keys key_filters) (before : EngineOf E C FP F B keys)
-    (from : E) (result : Result (Unit {0}) Status) (after : EngineOf E C FP F B keys) (to : E)
+    (choices : OptionsOf C FP B → TableChoices keys key_filters) (before : EngineOf E C FP F B)
+    (from : E) (result : Result (Unit {0}) Status) (after : EngineOf E C FP F B) (to : E)
     → EngineMakesRoom env choices before from result after to
     → TellsOnly (options_in before) (options_in after)
-room_tells {E} {C} {FP} {F} {B = B} {keys = keys} env choices before from result after to
+room_tells {E} {C} {FP} {F} {B = B} env choices before from result after to
     made = record {
-      rest = ap (λ (e : EngineOf E C FP F B keys). options_in e) made.rest
+      rest = ap (λ (e : EngineOf E C FP F B). options_in e) made.rest
           ∙ ap (λ (c : C). record (options_in before) { cmp = c; log = after.options.log })
           made.makes.rest.cmp;
       sink = made.sink;
@@ -104,8 +104,8 @@ room_tells {E} {C} {FP} {F} {B = B} {keys = keys} env choices before from result
 -- what tables are opened with stays
 pub room_by : {E C FP F P : Type 0} {B : Boxed} {keys : InternalOrder C}
     {key_filters : FilterGhosts P} (env : Ghosts E F)
-    (choices : OptionsOf C FP B → TableChoices keys key_filters) (before : EngineOf E C FP F B keys)
-    (from : E) (result : Result (Unit {0}) Status) (after : EngineOf E C FP F B keys) (to : E)
+    (choices : OptionsOf C FP B → TableChoices keys key_filters) (before : EngineOf E C FP F B)
+    (from : E) (result : Result (Unit {0}) Status) (after : EngineOf E C FP F B) (to : E)
     → ((a b : OptionsOf C FP B) → TellsOnly a b → formats_of choices b ≡ formats_of choices a)
     → EngineMakesRoom env choices before from result after to
     → tables_by (formats_of choices) after ≡ tables_by (formats_of choices) before
@@ -120,14 +120,14 @@ room_by env choices before from result after to ignores made =
 -- and so the open tables are those of the store, some of which may be closed
 pub room_tables : {E C FP F P : Type 0} {B : Boxed} {keys : InternalOrder C}
     {key_filters : FilterGhosts P} (env : Ghosts E F)
-    (choices : OptionsOf C FP B → TableChoices keys key_filters) (before : EngineOf E C FP F B keys)
-    (from : E) (result : Result (Unit {0}) Status) (after : EngineOf E C FP F B keys) (to : E)
+    (choices : OptionsOf C FP B → TableChoices keys key_filters) (before : EngineOf E C FP F B)
+    (from : E) (result : Result (Unit {0}) Status) (after : EngineOf E C FP F B) (to : E)
     → ((a b : OptionsOf C FP B) → TellsOnly a b → formats_of choices b ≡ formats_of choices a)
     → EngineMakesRoom env choices before from result after to → IsTrue env.models_disk
-    → HasOwnTables env (formats_of choices) before (env.observed from).disk.files
-    → HasOwnTables env (formats_of choices) after (env.observed to).disk.files
-room_tables {E} {C} {FP} {F} {B = B} env choices before from result after to ignores made modelled
-    own = subst (λ (by : TableOptions C FP). AreOpenTablesOf env by after.store.set
+    → HasOwnTables keys env (formats_of choices) before (env.observed from).disk.files
+    → HasOwnTables keys env (formats_of choices) after (env.observed to).disk.files
+room_tables {E} {C} {FP} {F} {B = B} {keys = keys} env choices before from result after to ignores made modelled
+    own = subst (λ (by : TableOptions C FP). AreOpenTablesOf keys env by after.store.set
     (env.observed to).disk.files after.tables)
     (sym (room_by env choices before from result after to ignores made))
     (open_after_call env (tables_by (formats_of choices) before) before.store after.store from to
@@ -136,12 +136,12 @@ room_tables {E} {C} {FP} {F} {B = B} env choices before from result after to ign
 -- and the batch that is written then
 pub batch_tells : {E C FP F P : Type 0} {B : Boxed} {keys : InternalOrder C}
     {key_filters : FilterGhosts P} (env : Ghosts E F)
-    (choices : OptionsOf C FP B → TableChoices keys key_filters) (before : EngineOf E C FP F B keys)
-    (from : E) (roomy : EngineOf E C FP F B keys)
+    (choices : OptionsOf C FP B → TableChoices keys key_filters) (before : EngineOf E C FP F B)
+    (from : E) (roomy : EngineOf E C FP F B)
     (mid : E) → EngineMakesRoom env choices before from (Ok tt) roomy mid
     → (value : OpenStoreValue C) → value.cmp ≡ roomy.store.cmp
     → TellsOnly (options_in before) (options_in {E = E} {C = C} {FP = FP} {F = F} {B = B}
-    {keys = keys} (record roomy { store = value }))
+    (record roomy { store = value }))
 batch_tells {C = C} env choices before from roomy mid made value same =
     let tells = room_tells env choices before from (Ok tt) roomy mid made in
     record {
@@ -151,9 +151,9 @@ batch_tells {C = C} env choices before from roomy mid made value same =
 
 module _ {E C FP F P : Type 0} {B : Boxed} {keys : InternalOrder C} {key_filters : FilterGhosts P}
     (env : Ghosts E F) (choices : OptionsOf C FP B → TableChoices keys key_filters)
-    (store : List ℕ) (meaning : Meaning) (before : EngineOf E C FP F B keys) (from : E)
+    (store : List ℕ) (meaning : Meaning) (before : EngineOf E C FP F B) (from : E)
     (old : State)
-    (was : Represents store meaning (Recalls env (formats_of choices) store meaning) (Some before)
+    (was : Represents store meaning (Recalls keys env (formats_of choices) store meaning) (Some before)
     (env.observed from).disk old) (opened : before.mode ≡ machine.open_mode)
     (modelled : IsTrue env.models_disk) where
   abbrev formats : OptionsOf C FP B → Format
@@ -168,7 +168,7 @@ module _ {E C FP F P : Type 0} {B : Boxed} {keys : InternalOrder C} {key_filters
   held : IsOf order meaning (Stays old) before.store files old.history old.durable
   held = is_of env formats store meaning before from old was opened
 
-  held_tables : HasOwnTables env formats before files
+  held_tables : HasOwnTables keys env formats before files
   held_tables = was.memory_is.tables (not_closed env formats store meaning before from old was opened)
 
   last_is : before.store.set.last_sequence ≡ old.last
@@ -345,7 +345,7 @@ module _ {E C FP F P : Type 0} {B : Boxed} {keys : InternalOrder C} {key_filters
   -- ---- room in the memtable
 
   module _ (ignores : (a b : OptionsOf C FP B) → TellsOnly a b → formats b ≡ formats a)
-      (roomy : EngineOf E C FP F B keys) (mid : E) (result : Result (Unit {0}) Status)
+      (roomy : EngineOf E C FP F B) (mid : E) (result : Result (Unit {0}) Status)
       (made : EngineMakesRoom env choices before from result roomy mid) where
     room_keeps : KeepsStore order meaning (Stays old) before.store (env.observed from) roomy.store
         (env.observed mid)
@@ -373,11 +373,11 @@ module _ {E C FP F P : Type 0} {B : Boxed} {keys : InternalOrder C} {key_filters
     room_shows = room_keeps.shows old.history
 
     room_snapshots : roomy.snapshots ≡ before.snapshots
-    room_snapshots = ap (λ (e : EngineOf E C FP F B keys). e.snapshots) made.rest
+    room_snapshots = ap (λ (e : EngineOf E C FP F B). e.snapshots) made.rest
 
   -- no room was made
   module _ (ignores : (a b : OptionsOf C FP B) → TellsOnly a b → formats b ≡ formats a)
-      (after : EngineOf E C FP F B keys) (to : E) (items : List Item) (sync : Bool)
+      (after : EngineOf E C FP F B) (to : E) (items : List Item) (sync : Bool)
       (status : Status)
       (made : EngineMakesRoom env choices before from (Err status) after to) where
     keeps : KeepsStore order meaning (Stays old) before.store (env.observed from) after.store
@@ -398,12 +398,12 @@ module _ {E C FP F P : Type 0} {B : Boxed} {keys : InternalOrder C} {key_filters
         → new.durable ≡ old.durable → new.pending ≡ None → new.locked ≡ old.locked
         → (new.mode ≡ open_mode → IsUnbroken after.store)
         → Refuses (setting items sync status to) old (write items sync) (refusal_of status) new
-        → Goes store meaning (Recalls env formats store meaning) (scene env (Some before) from)
+        → Goes store meaning (Recalls keys env formats store meaning) (scene env (Some before) from)
         (write items sync) (refused (refusal_of status)) (scene env (Some after) to) old
     went new snapshots mode_is store_is format_is history_is last_is durable_is pending_is locked_is
         unbroken refuses =
         goes env formats store meaning before from old was opened after to new (record {
-          lock = ap (λ (e : EngineOf E C FP F B keys). e.lock) made.rest;
+          lock = ap (λ (e : EngineOf E C FP F B). e.lock) made.rest;
           options = room_options ignores after to (Err status) made;
           path = made.makes.rest.store;
           store_is = store_is;
@@ -446,7 +446,7 @@ module _ {E C FP F P : Type 0} {B : Boxed} {keys : InternalOrder C} {key_filters
           opening = None;
         })
 
-    pub room_fails : Goes store meaning (Recalls env formats store meaning)
+    pub room_fails : Goes store meaning (Recalls keys env formats store meaning)
         (scene env (Some before) from)
         (write items sync) (refused (refusal_of status)) (scene env (Some after) to) old
     room_fails = ⊎_elim
@@ -464,7 +464,7 @@ module _ {E C FP F P : Type 0} {B : Boxed} {keys : InternalOrder C} {key_filters
   -- ---- the batch, where there is room
 
   module _ (ignores : (a b : OptionsOf C FP B) → TellsOnly a b → formats b ≡ formats a)
-      (roomy : EngineOf E C FP F B keys) (mid : E)
+      (roomy : EngineOf E C FP F B) (mid : E)
       (made : EngineMakesRoom env choices before from (Ok tt) roomy mid)
       (items : List Item) (sync : Bool) (value : OpenStoreValue C) (end_mode : machine.Mode)
       (follows : FollowsStore end_mode value) (to : E) where
@@ -473,7 +473,7 @@ module _ {E C FP F P : Type 0} {B : Boxed} {keys : InternalOrder C} {key_filters
     here = (env.observed mid).disk.files
 
     -- the engine in the end
-    abbrev after : EngineOf E C FP F B keys
+    abbrev after : EngineOf E C FP F B
     after = record roomy { store = value; mode = end_mode }
 
     -- the batch as the store has it
@@ -518,12 +518,12 @@ module _ {E C FP F P : Type 0} {B : Boxed} {keys : InternalOrder C} {key_filters
           (batch_tells env choices before from roomy mid made value
           (ap (λ (v : OpenStoreValue C). v.cmp) writes.rest))
 
-      end_tables : HasOwnTables env formats after (env.observed to).disk.files
+      end_tables : HasOwnTables keys env formats after (env.observed to).disk.files
       end_tables =
           let by : C → TableOptions C FP = λ c.
           let options = record roomy.options { cmp = c } in table_options (formats options) options
           in
-          subst (λ (c : C). AreOpenTablesOf env (by c) value.set (env.observed to).disk.files
+          subst (λ (c : C). AreOpenTablesOf keys env (by c) value.set (env.observed to).disk.files
           roomy.tables) (sym (ap (λ (v : OpenStoreValue C). v.cmp) writes.rest))
           (open_after_batch env (by roomy.store.cmp) (formats (options_in before)).order roomy.store
           value mid to items sync result writes modelled roomy.tables
@@ -631,12 +631,12 @@ module _ {E C FP F P : Type 0} {B : Boxed} {keys : InternalOrder C} {key_filters
           (end_path (Ok tt) writes sound) (old.history ++ its_batch ∷ []) (old.last + length items) None
           (env.observed mid) (env.observed to) end_last adds.moments)
 
-      pub write_done : Goes store meaning (Recalls env formats store meaning)
+      pub write_done : Goes store meaning (Recalls keys env formats store meaning)
           (scene env (Some before) from) (write items sync) done (scene env (Some after) to) old
       write_done =
           let nothing = none env formats store meaning before from old was opened in
           goes env formats store meaning before from old was opened after to new (record {
-            lock = ap (λ (e : EngineOf E C FP F B keys). e.lock) made.rest;
+            lock = ap (λ (e : EngineOf E C FP F B). e.lock) made.rest;
             options = end_options (Ok tt) writes sound;
             path = end_path (Ok tt) writes sound;
             store_is = refl;
@@ -740,12 +740,12 @@ module _ {E C FP F P : Type 0} {B : Boxed} {keys : InternalOrder C} {key_filters
           → new.locked ≡ old.locked
           → (new.mode ≡ open_mode → IsUnbroken value)
           → Refuses (setting items sync status to) old (write items sync) (refusal_of status) new
-          → Goes store meaning (Recalls env formats store meaning) (scene env (Some before) from)
+          → Goes store meaning (Recalls keys env formats store meaning) (scene env (Some before) from)
           (write items sync) (refused (refusal_of status)) (scene env (Some after) to) old
       unwritten new snapshots mode_is store_is format_is history_is last_is durable_is pending_is
           locked_is unbroken refuses =
           goes env formats store meaning before from old was opened after to new (record {
-            lock = ap (λ (e : EngineOf E C FP F B keys). e.lock) made.rest;
+            lock = ap (λ (e : EngineOf E C FP F B). e.lock) made.rest;
             options = end_options (Err status) writes sound;
             path = end_path (Err status) writes sound;
             store_is = store_is;
@@ -807,7 +807,7 @@ module _ {E C FP F P : Type 0} {B : Boxed} {keys : InternalOrder C} {key_filters
           }) files) (sym is) (spared_longer (added_batch old items)
               (old.last + count_of (Some (added_batch old items))) (omega arith))
 
-      pub write_fails : Goes store meaning (Recalls env formats store meaning)
+      pub write_fails : Goes store meaning (Recalls keys env formats store meaning)
           (scene env (Some before) from) (write items sync) (refused (refusal_of status))
           (scene env (Some after) to) old
       write_fails = ⊎_elim

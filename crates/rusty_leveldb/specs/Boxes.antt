@@ -10,9 +10,9 @@ use Rattle.rusty_leveldb.specs.declared.shell.crash_runs.Life.{Life}
 abbrev pub InternalOrder : Type 0 → Type 1
 InternalOrder C = CmpGhosts (InternalKeyCmp C)
 
--- an engine whose options own boxes of these types, and whose tables are in this order
-abbrev pub EngineOf : (E C FP F : Type 0) → Boxed → InternalOrder C → Type 0
-EngineOf E C FP F B keys = EngineValue C (OptionsOf C FP B) (TableCache E C FP F keys)
+-- an engine whose options own boxes of these types
+abbrev pub EngineOf : (E C FP F : Type 0) → Boxed → Type 0
+EngineOf E C FP F B = EngineValue C (OptionsOf C FP B) (TableCache E C FP F)
 
 -- a life whose options do
 abbrev pub LifeOf : Type 0 → Type 0 → Boxed → Type 0

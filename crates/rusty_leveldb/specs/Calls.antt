@@ -27,10 +27,10 @@ module _ {E C FP F P : Type 0} {B : Boxed} {keys : InternalOrder C} {key_filters
   -- Why a call fails, by its request; each failed call of the device is the reason for which a
   -- flush or a close fails. The calls for snapshots make none, and a walk fails as a whole for none:
   -- its moves do.
-  abbrev pub HasReason : {T : Type 0} → EngineOf E C FP F B keys → E → Request → Result T Status → E
+  abbrev pub HasReason : {T : Type 0} → EngineOf E C FP F B → E → Request → Result T Status → E
       → Type 0
   HasReason before from (get at key) result to =
-      GetFails env (formats_of choices) before from at key result to
+      GetFails keys env (formats_of choices) before from at key result to
   HasReason before from (walk at moves) result to = (env.failures from ≤ env.failures to)
       × IfErr result (WalkExcused before at)
   HasReason before from get_snapshot result to = IfErr result (SnapshotExcused before)
@@ -60,15 +60,15 @@ abbrev pub IsLockLeft : {T : Type 0} → Request → Result T Status → Bool �
 IsLockLeft request result before after =
     OnOk result (after ≡ held_after request before) × OnErr result (after ≡ before)
 
-module _ {E C FP F : Type 0} {B : Boxed} {keys : InternalOrder C} (env : Ghosts E F) where
+module _ {E C FP F : Type 0} {B : Boxed} (env : Ghosts E F) where
   -- where the disk is modelled, no file changes but these, and no lock but the engine's
-  abbrev pub SparesBut : EngineOf E C FP F B keys → (List ℕ → Type 0) → E → E → Type 0
+  abbrev pub SparesBut : EngineOf E C FP F B → (List ℕ → Type 0) → E → E → Type 0
   SparesBut engine May from to = IsTrue env.models_disk → HasOwnLock engine
       → Spares engine.store.set.store May (env.observed from).disk (env.observed to).disk
 
   -- What a call leaves alone, also of files that are damaged.
-  pub record LeavesRest {T : Type 0} (before : EngineOf E C FP F B keys) (from : E)
-      (request : Request) (result : Result T Status) (after : EngineOf E C FP F B keys) (to : E)
+  pub record LeavesRest {T : Type 0} (before : EngineOf E C FP F B) (from : E)
+      (request : Request) (result : Result T Status) (after : EngineOf E C FP F B) (to : E)
       : Type 0 where
     -- the lock's name and the store's path
     pub place : (after.lock ≡ before.lock)
@@ -82,9 +82,9 @@ module _ {E C FP F : Type 0} {B : Boxed} {keys : InternalOrder C} (env : Ghosts 
 
 -- ---- calls on an engine
 
-module _ {E C FP F : Type 0} {B : Boxed} {keys : InternalOrder C} where
+module _ {E C FP F : Type 0} {B : Boxed} where
   -- the mode refuses the request: of a closed store any, of a broken one those that write
-  abbrev pub IsHalted : EngineOf E C FP F B keys → Request → Type 0
+  abbrev pub IsHalted : EngineOf E C FP F B → Request → Type 0
   IsHalted engine (get at key) = IsClosed engine.mode
   IsHalted engine (walk at moves) = IsClosed engine.mode
   IsHalted engine get_snapshot = IsClosed engine.mode
@@ -93,19 +93,19 @@ module _ {E C FP F : Type 0} {B : Boxed} {keys : InternalOrder C} where
 
   -- what a read leaves of an engine: its mode and its store, but for the seeks that its live files
   -- may take, and which of them was chosen since it has none left
-  abbrev pub IsReadOnly : EngineOf E C FP F B keys → EngineOf E C FP F B keys → Type 0
+  abbrev pub IsReadOnly : EngineOf E C FP F B → EngineOf E C FP F B → Type 0
   IsReadOnly before after = (after.mode ≡ before.mode)
       × (after.store ≡ record before.store { current = after.store.current })
 
   -- its mode is as before, or the call broke it
-  abbrev pub KeepsModeOrBreaks : EngineOf E C FP F B keys → EngineOf E C FP F B keys → Type 0
+  abbrev pub KeepsModeOrBreaks : EngineOf E C FP F B → EngineOf E C FP F B → Type 0
   KeepsModeOrBreaks before after = IsBroken after.mode ⊎ (after.mode ≡ before.mode)
 
   -- What becomes of an engine. A read leaves its mode and its store. A write or a flush that is Ok
   -- leaves its mode; a write that fails may break it, and a flush that fails does, but out of
   -- memory. `close` closes it, or leaves it broken, or closed if it was.
-  abbrev pub BecomesOf : {T : Type 0} → EngineOf E C FP F B keys → Request → Result T Status
-      → EngineOf E C FP F B keys → Type 0
+  abbrev pub BecomesOf : {T : Type 0} → EngineOf E C FP F B → Request → Result T Status
+      → EngineOf E C FP F B → Type 0
   BecomesOf before (get at key) result after = IsReadOnly before after
   BecomesOf before (walk at moves) result after = IsReadOnly before after
   BecomesOf before get_snapshot result after = IsReadOnly before after
@@ -125,8 +125,8 @@ module _ {E C FP F P : Type 0} {B : Boxed} {keys : InternalOrder C} {key_filters
     (env : Ghosts E F) (choices : OptionsOf C FP B → TableChoices keys key_filters) where
   -- a call on an engine, with its answer
   pub record EngineServes {T : Type 0} (answer_of : Result T Status → Answer)
-      (before : EngineOf E C FP F B keys) (from : E) (request : Request) (result : Result T Status)
-      (after : EngineOf E C FP F B keys) (to : E) : Type 0 where
+      (before : EngineOf E C FP F B) (from : E) (request : Request) (result : Result T Status)
+      (after : EngineOf E C FP F B) (to : E) : Type 0 where
     -- the options stay, but for the sink of their log
     pub options : TellsOnly (options_in before) (options_in after)
     -- where the mode refuses the request, nothing changes
@@ -135,7 +135,7 @@ module _ {E C FP F P : Type 0} {B : Boxed} {keys : InternalOrder C} {key_filters
     -- what becomes of the engine, over any environment
     pub becomes : BecomesOf before request result after
     -- where the disk is observed, the call is a step of the machine
-    pub step : Answers env (formats_of choices) (Some before) from request (answer_of result)
+    pub step : Answers keys env (formats_of choices) (Some before) from request (answer_of result)
         (Some after) to
     -- and in any state of the disk it leaves this alone
     pub rest : LeavesRest env before from request result after to
@@ -144,16 +144,16 @@ module _ {E C FP F P : Type 0} {B : Boxed} {keys : InternalOrder C} {key_filters
     -- why it fails
     pub cause : HasReason env choices before from request result to
 
-module _ {E C FP F : Type 0} {B : Boxed} {keys : InternalOrder C} (env : Ghosts E F)
+module _ {E C FP F : Type 0} {B : Boxed} (keys : InternalOrder C) (env : Ghosts E F)
     (formats : OptionsOf C FP B → Format) where
   -- a call that gives an engine up
-  pub record EngineAbandons (engine : EngineOf E C FP F B keys) (from : E)
+  pub record EngineAbandons (engine : EngineOf E C FP F B) (from : E)
       (result : Result (Unit {0}) Status)
       (to : E) : Type 0 where
     -- one that is closed has given back its lock
     pub halted : IsClosed engine.mode → (to ≡ from) × OnErr result ⊥
     -- where the disk is observed, the call is a step of the machine
-    pub step : Answers env formats (Some engine) from abandon (done_or result) None to
+    pub step : Answers keys env formats (Some engine) from abandon (done_or result) None to
     -- no file changes, and no lock but the engine's
     pub others : SparesBut env engine (λ path. ⊥) from to
     -- one that isn't closed gives back its lock
@@ -164,8 +164,10 @@ module _ {E C FP F : Type 0} {B : Boxed} {keys : InternalOrder C} (env : Ghosts 
     -- it fails only where the device did
     pub cause : HasCause (λ _. ⊥) (env.failures from) (env.failures to) result
 
+module _ {E C FP F : Type 0} {B : Boxed} (env : Ghosts E F)
+    (formats : OptionsOf C FP B → Format) where
   -- an engine that an opening with these options gave
-  pub record IsOpened (name : List ℕ) (given : OptionsOf C FP B) (engine : EngineOf E C FP F B keys)
+  pub record IsOpened (name : List ℕ) (given : OptionsOf C FP B) (engine : EngineOf E C FP F B)
       : Type 0 where
     pub mode : engine.mode ≡ open_mode
     -- it has the options, but for the sink of their log
@@ -178,7 +180,7 @@ module _ {E C FP F P : Type 0} {B : Boxed} {keys : InternalOrder C} {key_filters
     (env : Ghosts E F) (choices : OptionsOf C FP B → TableChoices keys key_filters) where
   -- a call that opens the store under a name, as it is asked to by these options
   pub record EngineOpens (name : List ℕ) (options : OptionsOf C FP B) (asked : Opening) (from : E)
-      (result : Result (EngineOf E C FP F B keys) Status) (to : E) : Type 0 where
+      (result : Result (EngineOf E C FP F B) Status) (to : E) : Type 0 where
     pub opened : IfOk result (IsOpened env (formats_of choices) name options)
     -- the lock was free, and is held
     pub held : OnOk result (IsTrue env.models_disk
@@ -191,7 +193,7 @@ module _ {E C FP F P : Type 0} {B : Boxed} {keys : InternalOrder C} {key_filters
     -- and ids what they mean
     pub step : (opening : Opening) → IsOpening name asked opening
         → (meaning : Meaning) → Agrees opening.format meaning
-        → AnswersAs env (formats_of choices) name meaning None from (open_store opening)
+        → AnswersAs keys env (formats_of choices) name meaning None from (open_store opening)
         (done_or result) (given_engine result) to
     -- no moment of the disk is taken back
     pub time : TimeGoesOn env from to

@@ -51,37 +51,37 @@ IsClosedOrBroken mode = IsClosed mode ⊎ IsBroken mode
 -- ---- the options
 
 -- the options of an engine: those of its last opening, in the order of its store
-abbrev pub options_in : {E C FP F : Type 0} {B : Boxed} {keys : InternalOrder C}
-    → EngineOf E C FP F B keys → OptionsOf C FP B
+abbrev pub options_in : {E C FP F : Type 0} {B : Boxed}
+    → EngineOf E C FP F B → OptionsOf C FP B
 options_in engine = record engine.options { cmp = engine.store.cmp }
 
 -- what its tables are opened with, where `formats` says of options which format they have
-abbrev pub tables_by : {E C FP F : Type 0} {B : Boxed} {keys : InternalOrder C}
-    → (OptionsOf C FP B → Format) → EngineOf E C FP F B keys → TableOptions C FP
+abbrev pub tables_by : {E C FP F : Type 0} {B : Boxed}
+    → (OptionsOf C FP B → Format) → EngineOf E C FP F B → TableOptions C FP
 tables_by formats engine = table_options (formats (options_in engine)) (options_in engine)
 
 -- ---- the lock
 
 -- the lock of an engine is that of its store
-abbrev pub HasOwnLock : {E C FP F : Type 0} {B : Boxed} {keys : InternalOrder C}
-    → EngineOf E C FP F B keys → Type 0
+abbrev pub HasOwnLock : {E C FP F : Type 0} {B : Boxed}
+    → EngineOf E C FP F B → Type 0
 HasOwnLock engine = engine.lock ≡ lock_path engine.store.set.store
 
 -- whether an engine's lock is held
-abbrev pub holds_lock : {E C FP F : Type 0} {B : Boxed} {keys : InternalOrder C} → Ghosts E F
-    → EngineOf E C FP F B keys → E → Bool
+abbrev pub holds_lock : {E C FP F : Type 0} {B : Boxed} → Ghosts E F
+    → EngineOf E C FP F B → E → Bool
 holds_lock env engine at = (env.observed at).disk.locked engine.lock
 
 -- ---- snapshots
 
 -- the snapshots that an engine holds
-abbrev pub held_in : {E C FP F : Type 0} {B : Boxed} {keys : InternalOrder C}
-    → EngineOf E C FP F B keys → List Snapshot
+abbrev pub held_in : {E C FP F : Type 0} {B : Boxed}
+    → EngineOf E C FP F B → List Snapshot
 held_in engine = map snapshot_of engine.snapshots.held
 
 -- the number at which an engine reads: its last one, or that of a snapshot that it holds
-abbrev pub ReadsAt : {E C FP F : Type 0} {B : Boxed} {keys : InternalOrder C}
-    → EngineOf E C FP F B keys → Option Snapshot → ℕ → Type 0
+abbrev pub ReadsAt : {E C FP F : Type 0} {B : Boxed}
+    → EngineOf E C FP F B → Option Snapshot → ℕ → Type 0
 ReadsAt engine None n = n ≡ engine.store.set.last_sequence
 ReadsAt engine (Some one) n = Contains (held_in engine) one × (n ≡ one.sequence)
 
@@ -104,18 +104,18 @@ pub record ShowsViews {C : Type 0} (meaning : Meaning) (value : OpenStoreValue C
 -- ---- memory and disk
 
 -- the open tables of an engine are those of its store in these files
-abbrev pub HasOwnTables : {E C FP F : Type 0} {B : Boxed} {keys : InternalOrder C} → Ghosts E F
-    → (OptionsOf C FP B → Format) → EngineOf E C FP F B keys → Files → Type 0
-HasOwnTables env formats engine files =
-    AreOpenTablesOf env (tables_by formats engine) engine.store.set files engine.tables
+abbrev pub HasOwnTables : {E C FP F : Type 0} {B : Boxed} → InternalOrder C → Ghosts E F
+    → (OptionsOf C FP B → Format) → EngineOf E C FP F B → Files → Type 0
+HasOwnTables keys env formats engine files =
+    AreOpenTablesOf keys env (tables_by formats engine) engine.store.set files engine.tables
 
-module _ {E C FP F : Type 0} {B : Boxed} {keys : InternalOrder C} (env : Ghosts E F)
+module _ {E C FP F : Type 0} {B : Boxed} (keys : InternalOrder C) (env : Ghosts E F)
     (formats : OptionsOf C FP B → Format) (store : List ℕ) (meaning : Meaning) where
   -- What the engine's memory has to do with the disk and the state, where names and ids in the
   -- files have this meaning. Where it isn't closed, its options are those of the last opening, it
   -- holds the state's snapshots, memory and tables show the history at each of them, and the open
   -- tables are those of the files; where it is open, the files are written with what is in memory.
-  pub record Recalls (engine : EngineOf E C FP F B keys) (disk : Disk) (state : State)
+  pub record Recalls (engine : EngineOf E C FP F B) (disk : Disk) (state : State)
       : Type 0 where
     pub mode : engine.mode ≡ state.mode
     pub lock : engine.lock ≡ lock_path store
@@ -127,7 +127,8 @@ module _ {E C FP F : Type 0} {B : Boxed} {keys : InternalOrder C} (env : Ghosts 
     pub shows : (state.mode ≡ machine.closed → ⊥)
         → ShowsViews meaning engine.store disk.files state
     pub snapshots : (state.mode ≡ machine.closed → ⊥) → HasSnapshots engine.snapshots state
-    pub tables : (state.mode ≡ machine.closed → ⊥) → HasOwnTables env formats engine disk.files
+    pub tables : (state.mode ≡ machine.closed → ⊥)
+        → HasOwnTables keys env formats engine disk.files
     pub writes : state.mode ≡ machine.open_mode
         → IsWritten state.format.order meaning engine.store disk.files
 
@@ -140,8 +141,8 @@ abbrev pub formats_of : {C FP D P : Type 0} {B : Boxed} {keys : CmpGhosts D}
 formats_of choices options = (choices options).format
 
 -- no engine of these options
-abbrev pub no_engine : {E C FP F : Type 0} {B : Boxed} {keys : InternalOrder C} → OptionsOf C FP B
-    → Option (EngineOf E C FP F B keys)
+abbrev pub no_engine : {E C FP F : Type 0} {B : Boxed} → OptionsOf C FP B
+    → Option (EngineOf E C FP F B)
 no_engine options = None
 
 -- before or after a call
@@ -153,24 +154,24 @@ scene env memory at = record {
 }
 
 -- `formats` says of options which format they have
-module _ {E C FP F : Type 0} {B : Boxed} {keys : InternalOrder C} (env : Ghosts E F)
+module _ {E C FP F : Type 0} {B : Boxed} (keys : InternalOrder C) (env : Ghosts E F)
     (formats : OptionsOf C FP B → Format) where
   -- where the disk is observed, the call is a step of the machine, for the store under this name
   -- with names and ids of this meaning
-  abbrev pub AnswersAs : List ℕ → Meaning → Option (EngineOf E C FP F B keys) → E → Request → Answer
-      → Option (EngineOf E C FP F B keys) → E → Type 0
+  abbrev pub AnswersAs : List ℕ → Meaning → Option (EngineOf E C FP F B) → E → Request → Answer
+      → Option (EngineOf E C FP F B) → E → Type 0
   AnswersAs store meaning before from request answer after to = IsTrue env.models_disk
-      → Serves store meaning (Recalls env formats store meaning) (scene env before from) request
-      answer (scene env after to)
+      → Serves store meaning (Recalls keys env formats store meaning) (scene env before from)
+      request answer (scene env after to)
 
   -- the same, whatever store engine and disk represent
-  abbrev pub Answers : Option (EngineOf E C FP F B keys) → E → Request → Answer
-      → Option (EngineOf E C FP F B keys) → E → Type 0
+  abbrev pub Answers : Option (EngineOf E C FP F B) → E → Request → Answer
+      → Option (EngineOf E C FP F B) → E → Type 0
   Answers before from request answer after to = (store : List ℕ) (meaning : Meaning)
       → AnswersAs store meaning before from request answer after to
 
   -- the same of a call that leaves engine and environment as they are
-  abbrev pub AnswersStill : EngineOf E C FP F B keys → Request → Answer → Type 0
+  abbrev pub AnswersStill : EngineOf E C FP F B → Request → Answer → Type 0
   AnswersStill engine request answer =
       (at : E) → Answers (Some engine) at request answer (Some engine) at
 
@@ -190,27 +191,27 @@ RefusedByMode mode e = RefusedAsClosed mode e ⊎ RefusedAsBroken mode e
 
 -- Why a look-up may fail: the store is closed, the snapshot isn't held, the key is too long, memory
 -- ran out, or a table can't be read, for this cause.
-abbrev pub GetExcused : {E C FP F : Type 0} {B : Boxed} {keys : InternalOrder C}
-    → EngineOf E C FP F B keys → Option Snapshot → List ℕ → (Status → Type 0) → Status → Type 0
+abbrev pub GetExcused : {E C FP F : Type 0} {B : Boxed}
+    → EngineOf E C FP F B → Option Snapshot → List ℕ → (Status → Type 0) → Status → Type 0
 GetExcused engine at key Unreadable e = RefusedAsClosed engine.mode e
     ⊎ ((e.code ≡ InvalidArgument) × (IsNotHeld (held_in engine) at ⊎ IsLongKey key))
     ⊎ IsOutOfMemory e ⊎ Unreadable e
 
 -- why no walk may be made: the store is closed, the snapshot isn't held, or memory ran out
-abbrev pub WalkExcused : {E C FP F : Type 0} {B : Boxed} {keys : InternalOrder C}
-    → EngineOf E C FP F B keys → Option Snapshot → Status → Type 0
+abbrev pub WalkExcused : {E C FP F : Type 0} {B : Boxed}
+    → EngineOf E C FP F B → Option Snapshot → Status → Type 0
 WalkExcused engine at e = RefusedAsClosed engine.mode e
     ⊎ ((e.code ≡ InvalidArgument) × IsNotHeld (held_in engine) at) ⊎ IsOutOfMemory e
 
 -- why no snapshot may be given out: the store is closed, memory ran out, or the numbers are used up
-abbrev pub SnapshotExcused : {E C FP F : Type 0} {B : Boxed} {keys : InternalOrder C}
-    → EngineOf E C FP F B keys → Status → Type 0
+abbrev pub SnapshotExcused : {E C FP F : Type 0} {B : Boxed}
+    → EngineOf E C FP F B → Status → Type 0
 SnapshotExcused engine e = RefusedAsClosed engine.mode e ⊎ IsOutOfMemory e
     ⊎ ((e.code ≡ NotSupported) × AreSnapshotsUsedUp engine.snapshots.given)
 
 -- why a snapshot may not be released: the store is closed, or the snapshot isn't held
-abbrev pub ReleaseExcused : {E C FP F : Type 0} {B : Boxed} {keys : InternalOrder C}
-    → EngineOf E C FP F B keys → Snapshot → Status → Type 0
+abbrev pub ReleaseExcused : {E C FP F : Type 0} {B : Boxed}
+    → EngineOf E C FP F B → Snapshot → Status → Type 0
 ReleaseExcused engine one e = RefusedAsClosed engine.mode e
     ⊎ ((e.code ≡ InvalidArgument) × IsNotHeld (held_in engine) (Some one))
 
@@ -221,7 +222,7 @@ empty_memtable = record { entries = []; places = 0; bytes = 0 }
 -- `choices` says of options with which choices a table is built
 module _ {E C FP F P : Type 0} {B : Boxed} {keys : InternalOrder C} {key_filters : FilterGhosts P}
     (env : Ghosts E F) (choices : OptionsOf C FP B → TableChoices keys key_filters)
-    (engine : EngineOf E C FP F B keys) (at : E) where
+    (engine : EngineOf E C FP F B) (at : E) where
   -- the choices of its options
   abbrev choices_in : TableChoices keys key_filters
   choices_in = choices (options_in engine)
@@ -244,8 +245,8 @@ module _ {E C FP F P : Type 0} {B : Boxed} {keys : InternalOrder C} {key_filters
       ⊎ FailsToPrepare empty_memtable (length items) (bytes_in items) e))
       ⊎ IsFileLost env choices_in.format.order engine.store at choices_in.format e
 
-module _ {E C FP F : Type 0} {B : Boxed} {keys : InternalOrder C} (env : Ghosts E F)
-    (formats : OptionsOf C FP B → Format) (engine : EngineOf E C FP F B keys) (at : E) where
+module _ {E C FP F : Type 0} {B : Boxed} (env : Ghosts E F) (formats : OptionsOf C FP B → Format)
+    (engine : EngineOf E C FP F B) (at : E) where
   -- the format of its options
   abbrev format_in : Format
   format_in = formats (options_in engine)
@@ -260,25 +261,28 @@ module _ {E C FP F : Type 0} {B : Boxed} {keys : InternalOrder C} (env : Ghosts 
   abbrev pub CloseExcused : E → Status → Type 0
   CloseExcused now e = SyncExcused now e × (env.failures now ≡ env.failures at)
 
+module _ {E C FP F : Type 0} {B : Boxed} (keys : InternalOrder C) (env : Ghosts E F)
+    (formats : OptionsOf C FP B → Format) (engine : EngineOf E C FP F B) (at : E) where
   -- why a look-up fails, now or at a snapshot
   pub record GetFails {T : Type 0} (snapshot : Option Snapshot) (key : List ℕ)
       (result : Result T Status) (to : E) : Type 0 where
     -- a table that can't be read is damaged or missing, or lacks its compressor, or that fails
-    pub cause : FailsFor (GetExcused engine snapshot key (λ e. IsTableFault format_in e.code))
-        (env.failures at) (env.failures to) result
+    pub cause : FailsFor (GetExcused engine snapshot key (λ e. IsTableFault
+        (format_in env formats engine at) e.code)) (env.failures at) (env.failures to) result
     -- where the live tables are there, and the open ones are the store's, only since the format
     -- lacks a compressor
     pub lacks : (meaning : Meaning) (live : List LiveTable)
-        → HasTablesToRead env (tables_by formats engine) engine.store at engine.tables meaning live
-        → FailsFor (GetExcused engine snapshot key (λ e. (e.code ≡ NotSupported)
-        × LacksCompressor format_in meaning)) (env.failures at) (env.failures to) result
+        → HasTablesToRead keys env (tables_by formats engine) engine.store at engine.tables meaning
+        live → FailsFor (GetExcused engine snapshot key (λ e. (e.code ≡ NotSupported)
+        × LacksCompressor (format_in env formats engine at) meaning)) (env.failures at)
+        (env.failures to) result
 
 -- ---- room in memory
 
 -- The batch of these items was written into a memtable that had room: before it the memtable was
 -- empty, or took less memory than the options say.
-abbrev pub WritesIntoRoom : {E C FP F : Type 0} {B : Boxed} {keys : InternalOrder C}
-    → EngineOf E C FP F B keys → List Item → EngineOf E C FP F B keys → Type 0
+abbrev pub WritesIntoRoom : {E C FP F : Type 0} {B : Boxed}
+    → EngineOf E C FP F B → List Item → EngineOf E C FP F B → Type 0
 WritesIntoRoom before items after =
     (kept : Kept) × (IsFull before.options.write_buffer_size kept → ⊥)
     × IsUnion kept.entries (next_batch before.store items) after.store.recent.entries

@@ -11,17 +11,18 @@ use Rattle.rusty_leveldb.specs.Boxes.{InternalOrder}
 use Rattle.rusty_leveldb.specs.Iterator.{IteratesAt, MovesIterator, ShownStore, no_cause, pair_in}
 use Rattle.rusty_leveldb.specs.declared.db_iter.StoreIterator.{StoreIterator}
 
-module _ {E F C FP K V : Type 0} {keys : InternalOrder C} (env : Ghosts E F) (cmp : CmpGhosts C)
+module _ {E F C FP K V : Type 0} (keys : InternalOrder C) (env : Ghosts E F) (cmp : CmpGhosts C)
     (filters : FilterGhosts FP) (codings : K → Codings)
-    (walk : WalkGhosts V E (ReadTables E C FP K F keys)) where
+    (walk : WalkGhosts V E (ReadTables E C FP K F)) where
   -- a move forward that leads to a pair, and then one back, lead to where the iterator was, be it at
   -- a pair or at none
   abbrev pub PrevUndoesNext : Type 0
   PrevUndoesNext = (shown : ShownStore C) (pairs : List Pair) (position : Option ℕ) (there : Pair)
-      (it next back : StoreIterator E C FP K V F keys) (is_back : Bool)
-      → IteratesAt env cmp filters codings walk shown pairs position it
-      → MovesIterator env cmp filters codings walk no_cause (λ _. next_position) it (Ok true) next
+      (it next back : StoreIterator E C FP K V F) (is_back : Bool)
+      → IteratesAt keys env cmp filters codings walk shown pairs position it
+      → MovesIterator keys env cmp filters codings walk no_cause (λ _. next_position) it (Ok true)
+      next
       → pair_in walk next ≡ Some there
-      → MovesIterator env cmp filters codings walk no_cause (λ _ _. previous_position) next
+      → MovesIterator keys env cmp filters codings walk no_cause (λ _ _. previous_position) next
       (Ok is_back) back
-      → IteratesAt env cmp filters codings walk shown pairs position back
+      → IteratesAt keys env cmp filters codings walk shown pairs position back

@@ -91,16 +91,16 @@ pub record AreAsked (commands : List Command) (replies : List Reply) (requests :
 
 -- One command over an engine, after these snapshots were given out: it becomes a request, whose
 -- answer the reply tells; and those that were given out then.
-pub record AnswersCommand {E C FP F : Type 0} {B : Boxed} {keys : InternalOrder C}
-    (env : Ghosts E F) (formats : OptionsOf C FP B → Format) (before : EngineOf E C FP F B keys)
+pub record AnswersCommand {E C FP F : Type 0} {B : Boxed} (keys : InternalOrder C)
+    (env : Ghosts E F) (formats : OptionsOf C FP B → Format) (before : EngineOf E C FP F B)
     (from : E)
-    (taken : List Snapshot) (command : Command) (reply : Reply) (after : EngineOf E C FP F B keys)
+    (taken : List Snapshot) (command : Command) (reply : Reply) (after : EngineOf E C FP F B)
     (to : E) (left : List Snapshot) : Type 0 where
   pub answer : Answer
   pub tells : IsReplyOf taken reply answer
   pub left_is : left ≡ taken ++ given_by answer
-  pub step : Answers env formats (Some before) from (request_of taken command) answer (Some after)
-      to
+  pub step : Answers keys env formats (Some before) from (request_of taken command) answer
+      (Some after) to
 
 -- ---- runs
 

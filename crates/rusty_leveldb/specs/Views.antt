@@ -22,12 +22,12 @@ no_snapshot = record { number = 0; sequence = 2 ^ 64 }
 pub record RefusesUnknown {E C FP F P : Type 0} {B : Boxed} {keys : InternalOrder C}
     {key_filters : FilterGhosts P} (env : Ghosts E F)
     (choices : OptionsOf C FP B → TableChoices keys key_filters)
-    (engine : EngineOf E C FP F B keys) (status : Status) : Type 0 where
-  pub get_at : (key : List ℕ) → AnswersStill env (formats_of choices) engine
+    (engine : EngineOf E C FP F B) (status : Status) : Type 0 where
+  pub get_at : (key : List ℕ) → AnswersStill keys env (formats_of choices) engine
       (get (Some no_snapshot) key) (refused (refusal_of status))
-  pub release : AnswersStill env (formats_of choices) engine
+  pub release : AnswersStill keys env (formats_of choices) engine
       (release_snapshot no_snapshot) (refused (refusal_of status))
-  pub walk : (moves : List Move) → AnswersStill env (formats_of choices) engine
+  pub walk : (moves : List Move) → AnswersStill keys env (formats_of choices) engine
       (walk_of (Some no_snapshot) moves) (refused (refusal_of status))
 
 -- where the moves of a walk led, or refused

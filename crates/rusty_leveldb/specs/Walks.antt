@@ -47,8 +47,8 @@ walked_or steps (Err status) = refused (refusal_of status)
 pub record EngineWalks {E C FP F P : Type 0} {B : Boxed} {keys : InternalOrder C}
     {key_filters : FilterGhosts P} (env : Ghosts E F)
     (choices : OptionsOf C FP B → TableChoices keys key_filters)
-    (before : EngineOf E C FP F B keys) (from : E) (at : Option Snapshot) (moves : List Move)
-    (given : List Step) (result : Result (Unit {0}) Status) (after : EngineOf E C FP F B keys)
+    (before : EngineOf E C FP F B) (from : E) (at : Option Snapshot) (moves : List Move)
+    (given : List Step) (result : Result (Unit {0}) Status) (after : EngineOf E C FP F B)
     (to : E) : Type 0 where
   -- it is served, as each call
   pub serves : EngineServes env choices (walked_or given) before from (walk_of at moves) result

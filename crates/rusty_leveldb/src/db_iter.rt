@@ -54,8 +54,8 @@ impl<
     /// Moves to the next pair, from no position to the first, and from the last to no position.
     /// Returns whether it is at a pair.
     pub fn advance(&mut self) -> Result<bool>
-        ensures moves { MovesIterator E.Env C.Cmp FP.FilterPolicy K.codings V.Walk no_cause
-            (λ _. next_position) self.old result self.new }
+        ensures moves { MovesIterator ⟦<InternalKeyCmp<C> as Cmp>⟧ E.Env C.Cmp FP.FilterPolicy
+            K.codings V.Walk no_cause (λ _. next_position) self.old result self.new }
         ensures valid { IfOk result (λ is_valid. is_valid ≡ is_some
             (pair_in V.Walk self.new)) }
     {
@@ -65,8 +65,8 @@ impl<
     /// Moves to the pair before, and from the first or from no position to no position.
     /// Returns whether it is at a pair.
     pub fn prev(&mut self) -> Result<bool>
-        ensures moves { MovesIterator E.Env C.Cmp FP.FilterPolicy K.codings V.Walk no_cause
-            (λ _ _. previous_position) self.old result self.new }
+        ensures moves { MovesIterator ⟦<InternalKeyCmp<C> as Cmp>⟧ E.Env C.Cmp FP.FilterPolicy
+            K.codings V.Walk no_cause (λ _ _. previous_position) self.old result self.new }
         ensures valid { IfOk result (λ is_valid. is_valid ≡ is_some
             (pair_in V.Walk self.new)) }
     {
@@ -76,8 +76,8 @@ impl<
     /// Moves to the first pair whose key is at or after `key`, or to no position where all are
     /// before it. A key of more than 2^30 bytes is `InvalidArgument`.
     pub fn seek(&mut self, key: &[u8]) -> Result<()>
-        ensures moves { MovesIterator E.Env C.Cmp FP.FilterPolicy K.codings V.Walk
-            (λ e. (e.code ≡ InvalidArgument) × IsLongKey key.now)
+        ensures moves { MovesIterator ⟦<InternalKeyCmp<C> as Cmp>⟧ E.Env C.Cmp FP.FilterPolicy
+            K.codings V.Walk (λ e. (e.code ≡ InvalidArgument) × IsLongKey key.now)
             (λ order pairs _. seek_position order pairs key.now) self.old result self.new }
         ensures long { IsLongKey key.now → IsErrAnd result (λ e. e.code ≡ InvalidArgument) }
     {
@@ -94,16 +94,16 @@ impl<
 
     /// Moves to the first pair, or to no position in an empty store.
     pub fn seek_to_first(&mut self) -> Result<()>
-        ensures { MovesIterator E.Env C.Cmp FP.FilterPolicy K.codings V.Walk no_cause
-            (λ _ pairs _. position_within pairs 0) self.old result self.new }
+        ensures { MovesIterator ⟦<InternalKeyCmp<C> as Cmp>⟧ E.Env C.Cmp FP.FilterPolicy
+            K.codings V.Walk no_cause (λ _ pairs _. position_within pairs 0) self.old result self.new }
     {
         self.view.seek_to_first(self.env, &mut self.tables)
     }
 
     /// Moves to the last pair, or to no position in an empty store.
     pub fn seek_to_last(&mut self) -> Result<()>
-        ensures { MovesIterator E.Env C.Cmp FP.FilterPolicy K.codings V.Walk no_cause
-            (λ _ pairs _. last_position pairs) self.old result self.new }
+        ensures { MovesIterator ⟦<InternalKeyCmp<C> as Cmp>⟧ E.Env C.Cmp FP.FilterPolicy
+            K.codings V.Walk no_cause (λ _ pairs _. last_position pairs) self.old result self.new }
     {
         self.view.seek_to_last(self.env, &mut self.tables)
     }
@@ -111,8 +111,8 @@ impl<
     /// Moves as `advance` does, and returns a copy of the pair that it is then at. Where there is
     /// no memory for the copy, it is at no position.
     pub fn next(&mut self) -> Result<Option<(Vec<u8>, Vec<u8>)>>
-        ensures moves { MovesIterator E.Env C.Cmp FP.FilterPolicy K.codings V.Walk no_cause
-            (λ _. next_position) self.old result self.new }
+        ensures moves { MovesIterator ⟦<InternalKeyCmp<C> as Cmp>⟧ E.Env C.Cmp FP.FilterPolicy
+            K.codings V.Walk no_cause (λ _. next_position) self.old result self.new }
         ensures pair { IfOk result (λ copied. copied_pair copied
             ≡ pair_in V.Walk self.new) }
     {
@@ -130,8 +130,8 @@ impl<
 
     /// Moves to no position.
     pub fn reset(&mut self)
-        ensures moves { MovesIterator E.Env C.Cmp FP.FilterPolicy K.codings V.Walk no_cause
-            (λ _ _ _. None) self.old moved self.new }
+        ensures moves { MovesIterator ⟦<InternalKeyCmp<C> as Cmp>⟧ E.Env C.Cmp FP.FilterPolicy
+            K.codings V.Walk no_cause (λ _ _ _. None) self.old moved self.new }
         ensures none { pair_in V.Walk self.new ≡ None }
     {
         self.view.reset();

@@ -4,7 +4,7 @@ ghost use Rattle.rusty_leveldb.specs.Iterator.{ScanGivesPairs};
 ghost use Rattle.rusty_leveldb.specs.IteratorLaws.{PrevUndoesNext};
 ghost use Rattle.rusty_leveldb.specs.Laws.{OneReading, NothingStands, CrashBetween, CrashInside, CrashSince, RefusalHasCause, StepFits, CrashFits, CrashInsideFits, LivesFit, DurableStays, SyncedStays, EachAnswerParts, HistoryIsAsked, MoreIsAsked, SyncedIsRead, ViewsStay, HeldStays, SnapshotIsRead, ForwardWalkGivesView, PrevUndoesAdvance, SyncedCanBeFound};
 
-use leveldb_base::cmp::{Cmp, UserCmp};
+use leveldb_base::cmp::{Cmp, InternalKeyCmp, UserCmp};
 use leveldb_env::compressor::Compressors;
 use leveldb_env::env::Env;
 use leveldb_env::filter::FilterPolicy;
@@ -97,7 +97,8 @@ pub fn scans_give_the_pairs<
     K: ReadsTables<E, C, FP> + 'a,
     V: Walk<E, ReadTables<'a, E, C, FP, K>>,
 >()
-    ensures { ScanGivesPairs E.Env C.Cmp FP.FilterPolicy K.codings V.Walk }
+    ensures { ScanGivesPairs ⟦<InternalKeyCmp<C> as Cmp>⟧ E.Env C.Cmp FP.FilterPolicy K.codings
+        V.Walk }
 {}
 
 /// A move of an iterator forward and then one back lead to where it was.
@@ -109,7 +110,8 @@ pub fn moves_back_undo_moves_forward<
     K: ReadsTables<E, C, FP> + 'a,
     V: Walk<E, ReadTables<'a, E, C, FP, K>>,
 >()
-    ensures { PrevUndoesNext E.Env C.Cmp FP.FilterPolicy K.codings V.Walk }
+    ensures { PrevUndoesNext ⟦<InternalKeyCmp<C> as Cmp>⟧ E.Env C.Cmp FP.FilterPolicy K.codings
+        V.Walk }
 {}
 
 /// The machine's rows can be met: there are lives in which a value that was written with a sync

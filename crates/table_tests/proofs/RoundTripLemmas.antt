@@ -40,13 +40,11 @@ use Rattle.leveldb_table.specs.Cache.{Cached}
 use Rattle.leveldb_table.specs.Table.{Part, index_pair, named_part, first_from, IsTable, AllPass, filter_key}
 use Rattle.leveldb_table.specs.TableBlock.{FileHas, ForBytesOf, KeepsDisk}
 use Rattle.leveldb_table.specs.TableBuilder.{MatchesByUser, AddsPair, IsBuiltTable}
-use Rattle.leveldb_table.specs.TableReader.{HasParts, KeepsUsersTogether, HasNoneFrom, pairs_in, found_in, lines_of, filters_in, lets, OpensTable, IsOpenedAs, AreOfPolicy, GainsBlocksOf}
+use Rattle.leveldb_table.specs.TableReader.{OpenTable, HasParts, KeepsUsersTogether, HasNoneFrom, pairs_in, found_in, lines_of, filters_in, lets, OpensTable, IsOpenedAs, AreOfPolicy, GainsBlocksOf}
 use Rattle.leveldb_table.specs.TableReaderBlocks.{StartsOver}
 use Rattle.leveldb_table.specs.TableReaderMoves.{MovesOver}
-use Rattle.leveldb_table.specs.TableReaderWalk.{MovesInTable, Outcome, inner_position}
+use Rattle.leveldb_table.specs.TableReaderWalk.{TablePlace, MovesInTable, Outcome, inner_position}
 use Rattle.leveldb_table.specs.declared.block_cache.CachedBlock.{CachedBlock}
-use Rattle.leveldb_table.specs.declared.table_reader.Table.{Table}
-use Rattle.leveldb_table.specs.declared.table_reader.walk.TableCore.{TableCore}
 use Rattle.table_tests.specs.RoundTrip.{given, AddsAll, IsTableOf, PutsTable, AppendsSynced, GoesByUser, IsOpen, FindsFirst, IsWalkingAt}
 
 -- ---- into a sink
@@ -118,26 +116,26 @@ module _ {E F : Type 0} (env : EnvGhosts E F) where
       record { modelled = modelled; there = subst (λ z. IsSomeAnd z (λ f. bytes_of f ≡ bytes)) (sym found) (append-nil bytes); fits = fits }
 
   -- so the table is open that it is
-  pub opens_so : {T C FP : Type 0} {order : CmpGhosts C} (codings : Codings) (c : C) (policy : FP) (key name : List ℕ) (size : ℕ) {old mid new : E} {file : F} {answer : T} (cache new_cache : Cached (CachedBlock C order))
-      (result : Result (Table E C FP F order) Status)
+  pub opens_so : {T C FP : Type 0} (order : CmpGhosts C) (codings : Codings) (c : C) (policy : FP) (key name : List ℕ) (size : ℕ) {old mid new : E} {file : F} {answer : T} (cache new_cache : Cached (CachedBlock C))
+      (result : Result (OpenTable C FP F) Status)
       → ChangesFiles env.models_disk same FilesUnchanged (env.observed old) (env.observed mid) (Ok answer) → (IsTrue env.models_disk → env.name_of file ≡ name)
       → {Lacks : List ℕ → Status → Type 0} → OpensTable env codings (IsOpenedAs codings (order.cmp c) (filter_key key) size) (AreOfPolicy policy) Lacks c file mid cache result new new_cache
       → IfOk result (λ table. (bytes : List ℕ) → IsTrue env.models_disk → (env.observed old).disk.files name ≡ Some (kept_file bytes) → length bytes < 2 ^ 64 → IsNumbered cache
-      → cache.given + 1 < 2 ^ 64 → IsOpen env codings c policy key bytes size new new_cache table)
-  opens_so {order = order} codings c policy key name size {new = new} cache new_cache (Ok table) does named opens = λ bytes modelled there long numbered fits.
+      → cache.given + 1 < 2 ^ 64 → IsOpen env order codings c policy key bytes size new new_cache table)
+  opens_so order codings c policy key name size {new = new} cache new_cache (Ok table) does named opens = λ bytes modelled there long numbered fits.
       let has = has_file does named bytes modelled there long in
       let given_is = opens.id.0 in
-      let new_id : HoldsOnlyOf codings (order.cmp c) (cache.given + 1) bytes cache =
+      let new_id : HoldsOnlyOf order codings (order.cmp c) (cache.given + 1) bytes cache =
       HoldsOnlyOf-new {codings = codings} {cmp = order.cmp c} {id = cache.given + 1} {bytes = bytes} cache fits (omega arith) numbered in
-      let holds : HoldsOnlyOf codings (order.cmp c) table.id bytes cache = subst (λ z. HoldsOnlyOf codings (order.cmp c) z bytes cache) (sym given_is) new_id in
+      let holds : HoldsOnlyOf order codings (order.cmp c) table.id bytes cache = subst (λ z. HoldsOnlyOf order codings (order.cmp c) z bytes cache) (sym given_is) new_id in
       record {
         file = subst (λ f. FileHas env new f bytes) (sym opens.file) (FileHas-after env opens.reads.kept_disk has);
         opens = opens.ok bytes has;
         ordered = opens.order;
         policy_is = opens.policy;
-        holds = subst (HoldsOnlyOf codings (order.cmp c) table.id bytes) (sym opens.id.1) holds;
+        holds = subst (HoldsOnlyOf order codings (order.cmp c) table.id bytes) (sym opens.id.1) holds;
       }
-  opens_so codings c policy key name size cache new_cache (Err status) does named opens = tt
+  opens_so order codings c policy key name size cache new_cache (Err status) does named opens = tt
 
 -- ---- look-ups
 
@@ -179,17 +177,17 @@ module _ {accepts : List ℕ → Bool} {cmp : List ℕ → List ℕ → Ordering
   ruled_out user matches policy (Some reader) together matched same pass part named stopped =
       refused_there order user (matches policy) reader.filters together matched key fit parts part has pass named (subst (λ p. passes (matches p) reader.filters part.handle.offset key ≡ false) same stopped)
 
-module _ {E F C FP : Type 0} (env : EnvGhosts E F) {order : CmpGhosts C} (accepts : C → List ℕ → Bool) (matches : FP → List ℕ → List ℕ → Bool) (codings : Codings) (state : E) (cache : Cached (CachedBlock C order))
-    (table : Table E C FP F order) (key : List ℕ) where
+module _ {E F C FP : Type 0} (env : EnvGhosts E F) (order : CmpGhosts C) (accepts : C → List ℕ → Bool) (matches : FP → List ℕ → List ℕ → Bool) (codings : Codings) (state : E) (cache : Cached (CachedBlock C))
+    (table : OpenTable C FP F) (key : List ℕ) where
   -- what a look-up promises of what it found
   abbrev pub SaysFound : C → Option Pair → Type 0
   SaysFound c found =
       ForBytesOf env state table.file (λ bytes. (parts : List Part) → lines_of table ≡ map index_pair parts → order.cmp table.index.cmp ≡ order.cmp c → HasParts codings (accepts c) (order.cmp c) bytes parts
-      → accepts c key ≡ true → HoldsOnlyOf codings (order.cmp c) table.id bytes cache → found ≡ found_in (order.cmp c) (lets matches table) key parts)
+      → accepts c key ≡ true → HoldsOnlyOf order codings (order.cmp c) table.id bytes cache → found ≡ found_in (order.cmp c) (lets matches table) key parts)
 
   finds : (c : C) → IsPreorderOn (accepts c) (order.cmp c) → (sep : List ℕ → List ℕ → List ℕ) (policy : FP) (name : List ℕ) (found : Option Pair) → SaysFound table.cmp found
       → (user : List ℕ → List ℕ) (pairs : List Pair) (bytes : List ℕ) → GoesByUser (accepts c) (order.cmp c) sep (matches policy) user
-      → IsTableOf codings (accepts c) (order.cmp c) sep (matches policy) name pairs bytes → IsOpen env codings c policy name bytes (length bytes) state cache table
+      → IsTableOf codings (accepts c) (order.cmp c) sep (matches policy) name pairs bytes → IsOpen env order codings c policy name bytes (length bytes) state cache table
       → accepts c key ≡ true → FindsFirst (order.cmp c) user key pairs found
   finds c preorder sep policy name found says user pairs bytes by is ready fit =
       let built = is (λ _. Some (matches policy)) user by.separated by.matched refl in
@@ -203,9 +201,9 @@ module _ {E F C FP : Type 0} (env : EnvGhosts E F) {order : CmpGhosts C} (accept
   -- the same of a call, which may fail
   pub look_up_finds : (c : C) → IsPreorderOn (accepts c) (order.cmp c) → (sep : List ℕ → List ℕ → List ℕ) (policy : FP) (name : List ℕ) (result : Result (Option Pair) Status)
       → ForBytesOf env state table.file (λ bytes. (parts : List Part) → lines_of table ≡ map index_pair parts → order.cmp table.index.cmp ≡ order.cmp table.cmp → HasParts codings (accepts table.cmp) (order.cmp table.cmp) bytes parts
-      → accepts table.cmp key ≡ true → HoldsOnlyOf codings (order.cmp table.cmp) table.id bytes cache → IfOk result (λ found. found ≡ found_in (order.cmp table.cmp) (lets matches table) key parts))
+      → accepts table.cmp key ≡ true → HoldsOnlyOf order codings (order.cmp table.cmp) table.id bytes cache → IfOk result (λ found. found ≡ found_in (order.cmp table.cmp) (lets matches table) key parts))
       → IfOk result (λ found. (user : List ℕ → List ℕ) (pairs : List Pair) (bytes : List ℕ) → GoesByUser (accepts c) (order.cmp c) sep (matches policy) user
-      → IsTableOf codings (accepts c) (order.cmp c) sep (matches policy) name pairs bytes → IsOpen env codings c policy name bytes (length bytes) state cache table
+      → IsTableOf codings (accepts c) (order.cmp c) sep (matches policy) name pairs bytes → IsOpen env order codings c policy name bytes (length bytes) state cache table
       → accepts c key ≡ true → FindsFirst (order.cmp c) user key pairs found)
   look_up_finds c preorder sep policy name (Ok found) says = finds c preorder sep policy name found says
   look_up_finds c preorder sep policy name (Err status) says = tt
@@ -261,26 +259,26 @@ finds_newest cmp exact key pairs found rise finds =
     says same newest = subst (FindsNewest (entries_of_pairs pairs) (sequence_part key) (user_part key)) (sym same) newest
 
 -- a table stays open after a look-up
-pub still_open : {E F C FP : Type 0} (env : EnvGhosts E F) {order : CmpGhosts C} {codings : Codings} {c : C} {policy : FP} {name bytes : List ℕ} {size : ℕ} {state new : E} {cache new_cache : Cached (CachedBlock C order)} (table : Table E C FP F order)
-    → KeepsDisk env state new → GainsBlocksOf env codings table state cache new_cache
-    → IsOpen env codings c policy name bytes size state cache table → IsOpen env codings c policy name bytes size new new_cache table
+pub still_open : {E F C FP : Type 0} (env : EnvGhosts E F) {order : CmpGhosts C} {codings : Codings} {c : C} {policy : FP} {name bytes : List ℕ} {size : ℕ} {state new : E} {cache new_cache : Cached (CachedBlock C)} (table : OpenTable C FP F)
+    → KeepsDisk env state new → GainsBlocksOf order env codings table state cache new_cache
+    → IsOpen env order codings c policy name bytes size state cache table → IsOpen env order codings c policy name bytes size new new_cache table
 still_open env {order} {codings} {bytes = bytes} table disk gains ready = record {
   file = FileHas-after env disk ready.file;
   opens = ready.opens;
   ordered = ready.ordered;
   policy_is = ready.policy_is;
-  holds = HoldsOnlyOf-after (λ offset held right. subst (λ z. IsBlockOfFile codings (order.cmp z) bytes offset held) ready.ordered.0 (right bytes ready.file)) gains ready.holds;
+  holds = HoldsOnlyOf-after (λ offset held right. subst (λ z. IsBlockOfFile order codings (order.cmp z) bytes offset held) ready.ordered.0 (right bytes ready.file)) gains ready.holds;
 }
 
 -- ---- walks
 
 module _ {E F C FP : Type 0} (env : EnvGhosts E F) {order : CmpGhosts C} (accepts : C → List ℕ → Bool) (codings : Codings) where
   -- a walk over an open table begins at no position
-  pub begins_walk : {c : C} {policy : FP} {name bytes : List ℕ} {state : E} {cache : Cached (CachedBlock C order)} {meaning : List ℕ → Option (List ℕ → List ℕ → Bool)} {user : List ℕ → List ℕ} {pairs : List Pair}
-      (table : Table E C FP F order) (core : TableCore C order) → IsOpen env codings c policy name bytes (length bytes) state cache table → (built : IsTable (Decodes codings) (accepts c) (order.cmp c) meaning user bytes pairs)
-      → StartsOver table core → IsWalkingAt env codings (accepts table.cmp) (order.cmp table.cmp) table.id table.file bytes built.parts state cache core None
+  pub begins_walk : {c : C} {policy : FP} {name bytes : List ℕ} {state : E} {cache : Cached (CachedBlock C)} {meaning : List ℕ → Option (List ℕ → List ℕ → Bool)} {user : List ℕ → List ℕ} {pairs : List Pair}
+      (table : OpenTable C FP F) (core : TablePlace C) → IsOpen env order codings c policy name bytes (length bytes) state cache table → (built : IsTable (Decodes codings) (accepts c) (order.cmp c) meaning user bytes pairs)
+      → StartsOver table core → IsWalkingAt env order codings (accepts table.cmp) (order.cmp table.cmp) table.id table.file bytes built.parts state cache core None
   begins_walk {bytes = bytes} {state = state} {cache = cache} table core ready built starts =
-      subst (λ z. IsWalkingAt env codings (accepts z) (order.cmp z) table.id table.file bytes built.parts state cache core None) (sym ready.ordered.0) (record {
+      subst (λ z. IsWalkingAt env order codings (accepts z) (order.cmp z) table.id table.file bytes built.parts state cache core None) (sym ready.ordered.0) (record {
         has = ready.file;
         parted = parts_there built;
         holds = ready.holds;
@@ -289,11 +287,11 @@ module _ {E F C FP : Type 0} (env : EnvGhosts E F) {order : CmpGhosts C} (accept
 
 module _ {E F C : Type 0} (env : EnvGhosts E F) {order : CmpGhosts C} {codings : Codings} {accepts : List ℕ → Bool} {cmp : List ℕ → List ℕ → Ordering} {id : ℕ} {file : F} where
   -- a move goes from one position to the next
-  pub moves_on : {T : Type 0} {to : List Pair → Option ℕ → Option ℕ} {Step : Codings → (List ℕ → List ℕ → Ordering) → List ℕ → TableCore C order → Outcome → Type 0} {old_env new_env : E}
-      {old_cache new_cache : Cached (CachedBlock C order)} {old new : TableCore C order} {bytes : List ℕ} {parts : List Part} {position : Option ℕ} (result : Result T Status)
-      → MovesInTable env codings accepts cmp id file (λ _. Unit {0}) to Step old_env old_cache old result new_env new_cache new
-      → IsWalkingAt env codings accepts cmp id file bytes parts old_env old_cache old position
-      → OnOk result (IsWalkingAt env codings accepts cmp id file bytes parts new_env new_cache new (to (pairs_in parts) position))
+  pub moves_on : {T : Type 0} {to : List Pair → Option ℕ → Option ℕ} {Step : Codings → (List ℕ → List ℕ → Ordering) → List ℕ → TablePlace C → Outcome → Type 0} {old_env new_env : E}
+      {old_cache new_cache : Cached (CachedBlock C)} {old new : TablePlace C} {bytes : List ℕ} {parts : List Part} {position : Option ℕ} (result : Result T Status)
+      → MovesInTable order env codings accepts cmp id file (λ _. Unit {0}) to Step old_env old_cache old result new_env new_cache new
+      → IsWalkingAt env order codings accepts cmp id file bytes parts old_env old_cache old position
+      → OnOk result (IsWalkingAt env order codings accepts cmp id file bytes parts new_env new_cache new (to (pairs_in parts) position))
   moves_on {bytes = bytes} {parts = parts} {position = position} (Ok answer) moves at = record {
     has = FileHas-after env moves.reads.kept_disk at.has;
     parted = at.parted;
@@ -388,15 +386,15 @@ back_moves pairs n within = ap previous_position (back_is pairs n within) ∙ ap
 
 module _ {E F C : Type 0} (env : EnvGhosts E F) {order : CmpGhosts C} {codings : Codings} where
   -- a walk is at a position however that is written
-  pub walks_at : {accepts : List ℕ → Bool} {cmp : List ℕ → List ℕ → Ordering} {id : ℕ} {file : F} {bytes : List ℕ} {parts : List Part} {state : E} {cache : Cached (CachedBlock C order)} {core : TableCore C order} {position other : Option ℕ} → position ≡ other
-      → IsWalkingAt env codings accepts cmp id file bytes parts state cache core position → IsWalkingAt env codings accepts cmp id file bytes parts state cache core other
-  walks_at {accepts} {cmp} {id} {file} {bytes} {parts} {state} {cache} {core} same walk = subst (IsWalkingAt env codings accepts cmp id file bytes parts state cache core) same walk
+  pub walks_at : {accepts : List ℕ → Bool} {cmp : List ℕ → List ℕ → Ordering} {id : ℕ} {file : F} {bytes : List ℕ} {parts : List Part} {state : E} {cache : Cached (CachedBlock C)} {core : TablePlace C} {position other : Option ℕ} → position ≡ other
+      → IsWalkingAt env order codings accepts cmp id file bytes parts state cache core position → IsWalkingAt env order codings accepts cmp id file bytes parts state cache core other
+  walks_at {accepts} {cmp} {id} {file} {bytes} {parts} {state} {cache} {core} same walk = subst (IsWalkingAt env order codings accepts cmp id file bytes parts state cache core) same walk
 
   -- a move of a walk over a table that is this one
-  pub walks_on : {FP T : Type 0} {to : List Pair → Option ℕ → Option ℕ} {Step : Codings → (List ℕ → List ℕ → Ordering) → List ℕ → TableCore C order → Outcome → Type 0}
-      (table other : Table E C FP F order) → other ≡ table → {old_env new_env : E} {old_cache new_cache : Cached (CachedBlock C order)} {old new : TableCore C order} {answer : T} {bytes : List ℕ} {parts : List Part} {position : Option ℕ}
-      → MovesOver env codings other (λ _. Unit {0}) to Step old_env old_cache old (Ok answer) new_env new_cache new
-      → IsWalkingAt env codings (order.accepts table.cmp) (order.cmp table.cmp) table.id table.file bytes parts old_env old_cache old position
-      → IsWalkingAt env codings (order.accepts table.cmp) (order.cmp table.cmp) table.id table.file bytes parts new_env new_cache new (to (pairs_in parts) position)
+  pub walks_on : {FP T : Type 0} {to : List Pair → Option ℕ → Option ℕ} {Step : Codings → (List ℕ → List ℕ → Ordering) → List ℕ → TablePlace C → Outcome → Type 0}
+      (table other : OpenTable C FP F) → other ≡ table → {old_env new_env : E} {old_cache new_cache : Cached (CachedBlock C)} {old new : TablePlace C} {answer : T} {bytes : List ℕ} {parts : List Part} {position : Option ℕ}
+      → MovesOver order env codings other (λ _. Unit {0}) to Step old_env old_cache old (Ok answer) new_env new_cache new
+      → IsWalkingAt env order codings (order.accepts table.cmp) (order.cmp table.cmp) table.id table.file bytes parts old_env old_cache old position
+      → IsWalkingAt env order codings (order.accepts table.cmp) (order.cmp table.cmp) table.id table.file bytes parts new_env new_cache new (to (pairs_in parts) position)
   walks_on {FP = FP} {to = to} {Step = Step} table other is {old_env} {new_env} {old_cache} {new_cache} {old} {new} {answer} moves walk =
-      moves_on env (Ok answer) (subst (λ (z : Table E C FP F order). MovesOver env codings z (λ _. Unit {0}) to Step old_env old_cache old (Ok answer) new_env new_cache new) is moves) walk
+      moves_on env (Ok answer) (subst (λ (z : OpenTable C FP F). MovesOver order env codings z (λ _. Unit {0}) to Step old_env old_cache old (Ok answer) new_env new_cache new) is moves) walk

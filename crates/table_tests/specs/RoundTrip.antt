@@ -16,11 +16,9 @@ use Rattle.leveldb_table.specs.Cache.{Cached}
 use Rattle.leveldb_table.specs.Table.{Part, IsTable, filter_key, first_from}
 use Rattle.leveldb_table.specs.TableBlock.{FileHas}
 use Rattle.leveldb_table.specs.TableBuilder.{SeparatesUsers, MatchesByUser, IsMeaningOf}
-use Rattle.leveldb_table.specs.TableReader.{OpensAs, HasParts, KeepsUsersTogether, HasNoneFrom, lines_of, filters_of}
-use Rattle.leveldb_table.specs.TableReaderWalk.{IsAtPosition}
+use Rattle.leveldb_table.specs.TableReader.{OpenTable, OpensAs, HasParts, KeepsUsersTogether, HasNoneFrom, lines_of, filters_of}
+use Rattle.leveldb_table.specs.TableReaderWalk.{TablePlace, IsAtPosition}
 use Rattle.leveldb_table.specs.declared.block_cache.CachedBlock.{CachedBlock}
-use Rattle.leveldb_table.specs.declared.table_reader.Table.{Table}
-use Rattle.leveldb_table.specs.declared.table_reader.walk.TableCore.{TableCore}
 use Rattle.table_tests.specs.declared.passed.BothWays.{BothWays}
 
 -- ---- pairs, and what is built of them
@@ -77,16 +75,16 @@ pub record GoesByUser (accepts : List ℕ → Bool) (cmp : List ℕ → List ℕ
 
 -- The table is open under this order and this policy, its file has these bytes, and a cache has
 -- only blocks of it under its number.
-pub record IsOpen {E F C FP : Type 0} (env : EnvGhosts E F) {order : CmpGhosts C}
+pub record IsOpen {E F C FP : Type 0} (env : EnvGhosts E F) (order : CmpGhosts C)
     (codings : Codings) (cmp : C) (policy : FP) (name : List ℕ) (bytes : List ℕ) (size : ℕ)
-    (state : E) (cache : Cached (CachedBlock C order)) (table : Table E C FP F order)
+    (state : E) (cache : Cached (CachedBlock C)) (table : OpenTable C FP F)
     : Type 0 where
   pub file : FileHas env state table.file bytes
   pub opens : OpensAs codings (order.cmp cmp) (filter_key name) bytes size (lines_of table)
       table.footer.meta_index table.footer.index (filters_of table)
   pub ordered : (table.cmp ≡ cmp) × (table.index.cmp ≡ cmp)
   pub policy_is : IfSome table.filters (λ reader. reader.policy ≡ policy)
-  pub holds : HoldsOnlyOf codings (order.cmp cmp) table.id bytes cache
+  pub holds : HoldsOnlyOf order codings (order.cmp cmp) table.id bytes cache
 
 -- it is the first pair at or after the key; or none, and no pair there has the key's user's key
 abbrev pub FindsFirst : (List ℕ → List ℕ → Ordering) → (List ℕ → List ℕ) → List ℕ → List Pair
@@ -111,12 +109,12 @@ pub record ReadsBack (cmp : List ℕ → List ℕ → Ordering) (user : List ℕ
 
 -- A walk is at this position of the data blocks that its table's file has, and the cache has only
 -- blocks of it.
-pub record IsWalkingAt {E F C : Type 0} (env : EnvGhosts E F) {order : CmpGhosts C}
+pub record IsWalkingAt {E F C : Type 0} (env : EnvGhosts E F) (order : CmpGhosts C)
     (codings : Codings) (accepts : List ℕ → Bool) (cmp : List ℕ → List ℕ → Ordering) (id : ℕ)
     (file : F) (bytes : List ℕ) (parts : List Part) (state : E)
-    (cache : Cached (CachedBlock C order)) (core : TableCore C order) (position : Option ℕ)
+    (cache : Cached (CachedBlock C)) (core : TablePlace C) (position : Option ℕ)
     : Type 0 where
   pub has : FileHas env state file bytes
   pub parted : HasParts codings accepts cmp bytes parts
-  pub holds : HoldsOnlyOf codings cmp id bytes cache
-  pub at : IsAtPosition cmp parts core position
+  pub holds : HoldsOnlyOf order codings cmp id bytes cache
+  pub at : IsAtPosition order cmp parts core position

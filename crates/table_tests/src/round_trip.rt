@@ -131,7 +131,7 @@ fn open_file<E: Env, C: Cmp + Copy + Drop, FP: FilterPolicy + Copy + Drop>(
     ensures open { IfOk result (λ table. (bytes : List ℕ) → IsTrue E.models_disk
         → (E.observed env.old).disk.files name.now ≡ Some (kept_file bytes)
         → length bytes < 2 ^ 64 → IsNumbered cache.old → cache.old.given + 1 < 2 ^ 64
-        → IsOpen E.Env (⟦<CompressorList as Compressors>⟧.codings options.now.compressor_list)
+        → IsOpen E.Env C.Cmp (⟦<CompressorList as Compressors>⟧.codings options.now.compressor_list)
         options.now.cmp options.now.filter_policy (FP.name options.now.filter_policy) bytes size
         env.new cache.new table) }
 {
@@ -164,14 +164,14 @@ fn look_up<E: Env, C: Cmp + Copy + Drop, FP: FilterPolicy + Copy + Drop>(
         → GoesByUser (C.accepts cmp) (C.cmp cmp) (C.shortest_sep cmp) (FP.matches policy) user
         → IsTableOf codings (C.accepts cmp) (C.cmp cmp) (C.shortest_sep cmp) (FP.matches policy)
         (FP.name policy) pairs bytes
-        → IsOpen E.Env codings cmp policy (FP.name policy) bytes (length bytes) env.old cache.old
+        → IsOpen E.Env C.Cmp codings cmp policy (FP.name policy) bytes (length bytes) env.old cache.old
         table.now → C.accepts cmp key.now ≡ true
         → FindsFirst (C.cmp cmp) user key.now pairs found) }
     ensures still { let codings = ⟦<CompressorList as Compressors>⟧.codings
         options.now.compressor_list in let cmp = options.now.cmp in
         let policy = options.now.filter_policy in (bytes : List ℕ)
-        → IsOpen E.Env codings cmp policy (FP.name policy) bytes (length bytes) env.old cache.old
-        table.now → IsOpen E.Env codings cmp policy (FP.name policy) bytes (length bytes) env.new
+        → IsOpen E.Env C.Cmp codings cmp policy (FP.name policy) bytes (length bytes) env.old cache.old
+        table.now → IsOpen E.Env C.Cmp codings cmp policy (FP.name policy) bytes (length bytes) env.new
         cache.new table.now }
 {
     table.get(alloc, env, cache, &options.compressor_list, key)
@@ -187,9 +187,9 @@ fn pairs_forward<E: Env, C: Cmp + Copy + Drop, FP: FilterPolicy>(
     ensures walks { let codings = ⟦<CompressorList as Compressors>⟧.codings compressors.now in
         let table = it.old.table.now in
         IfOk result (λ passed. (bytes : List ℕ) (parts : List Part)
-        → IsWalkingAt E.Env codings (C.accepts table.cmp) (C.cmp table.cmp) table.id table.file
+        → IsWalkingAt E.Env C.Cmp codings (C.accepts table.cmp) (C.cmp table.cmp) table.id table.file
         bytes parts it.old.env.now it.old.cache.now it.old.core None
-        → (passed.items ≡ pairs_in parts) × IsWalkingAt E.Env codings (C.accepts table.cmp)
+        → (passed.items ≡ pairs_in parts) × IsWalkingAt E.Env C.Cmp codings (C.accepts table.cmp)
         (C.cmp table.cmp) table.id table.file bytes parts it.new.env.now it.new.cache.now
         it.new.core None) }
 {
@@ -216,7 +216,7 @@ fn pairs_back<E: Env, C: Cmp + Copy + Drop, FP: FilterPolicy>(
     ensures { let codings = ⟦<CompressorList as Compressors>⟧.codings compressors.now in
         let table = it.old.table.now in
         IfOk result (λ passed. (bytes : List ℕ) (parts : List Part)
-        → IsWalkingAt E.Env codings (C.accepts table.cmp) (C.cmp table.cmp) table.id table.file
+        → IsWalkingAt E.Env C.Cmp codings (C.accepts table.cmp) (C.cmp table.cmp) table.id table.file
         bytes parts it.old.env.now it.old.cache.now it.old.core None
         → passed.items ≡ reverse (pairs_in parts)) }
 {
@@ -248,7 +248,7 @@ fn pairs_both_ways<E: Env, C: Cmp + Copy + Drop, FP: FilterPolicy + Copy + Drop>
         → GoesByUser (C.accepts cmp) (C.cmp cmp) (C.shortest_sep cmp) (FP.matches policy) user
         → IsTableOf codings (C.accepts cmp) (C.cmp cmp) (C.shortest_sep cmp) (FP.matches policy)
         (FP.name policy) pairs bytes
-        → IsOpen E.Env codings cmp policy (FP.name policy) bytes (length bytes) env.old cache.old
+        → IsOpen E.Env C.Cmp codings cmp policy (FP.name policy) bytes (length bytes) env.old cache.old
         table.now → ArePassed pairs passed) }
 {
     let compressors = &options.compressor_list;

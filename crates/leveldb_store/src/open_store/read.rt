@@ -10,7 +10,7 @@ ghost use Rattle.leveldb_store.specs.Read.{FindsInMemory, LooksUpKey, sought_key
 
 use super::OpenStore;
 use bytes::Bytes;
-use leveldb_base::cmp::UserCmp;
+use leveldb_base::cmp::{Cmp, InternalKeyCmp, UserCmp};
 use leveldb_base::error::Result;
 use leveldb_base::key_types::LookupKey;
 use leveldb_base::types::{MAX_SEQUENCE_NUMBER, SequenceNumber};
@@ -38,8 +38,8 @@ impl<E: Env, C: UserCmp + Copy + Drop> OpenStore<E, C> {
         requires { C.cmp options.now.cmp ≡ C.cmp self.old.cmp }
         ensures { let by = table_options (format_of C.Cmp FP.FilterPolicy
             ⟦<CompressorList as Compressors>⟧.codings options.now) options.now in
-            LooksUpKey E.Env by self.old env.old tables.old sequence key.now result self.new
-            env.new tables.new }
+            LooksUpKey ⟦<InternalKeyCmp<C> as Cmp>⟧ E.Env by self.old env.old tables.old sequence
+            key.now result self.new env.new tables.new }
     {
         if let Some(value) = self.newest_in_memory(sequence, key) {
             return copied(self.alloc, value);
@@ -76,8 +76,8 @@ impl<E: Env, C: UserCmp + Copy + Drop> OpenStore<E, C> {
         requires { C.cmp options.now.cmp ≡ C.cmp self.now.cmp }
         ensures searches { let by = table_options (format_of C.Cmp FP.FilterPolicy
             ⟦<CompressorList as Compressors>⟧.codings options.now) options.now in
-            LooksUpNewest E.Env by (sought_key sequence key.now) env.old tables.old self.now.current
-            result env.new tables.new }
+            LooksUpNewest ⟦<InternalKeyCmp<C> as Cmp>⟧ E.Env by (sought_key sequence key.now)
+            env.old tables.old self.now.current result env.new tables.new }
         ensures current { IsCurrent (C.cmp self.now.cmp) self.now.cmp self.now.set
             self.now.current }
         ensures given { AreNumbersGiven self.now.set self.now.set.full.added }

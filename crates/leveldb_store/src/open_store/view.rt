@@ -50,10 +50,10 @@ impl<E: Env, C: UserCmp + Copy + Drop> OpenStore<E, C> {
         FP: 'b,
         K: 'b,
         ensures views { let walk = ⟦<StoreView<'s, C> as Walk<E, ReadTables<'b, E, C, FP, K>>>⟧ in
-            IfOk result
-            (ViewsStore E.Env C.Cmp FP.FilterPolicy K.codings walk self.now sequence) }
-        ensures reads { ReadsAlone E.Env C.Cmp FP.FilterPolicy K.codings
-            ⟦<StoreView<'s, C> as Walk<E, ReadTables<'b, E, C, FP, K>>>⟧ }
+            IfOk result (ViewsStore ⟦<InternalKeyCmp<C> as Cmp>⟧ E.Env C.Cmp FP.FilterPolicy
+            K.codings walk self.now sequence) }
+        ensures reads { ReadsAlone ⟦<InternalKeyCmp<C> as Cmp>⟧ E.Env C.Cmp FP.FilterPolicy
+            K.codings ⟦<StoreView<'s, C> as Walk<E, ReadTables<'b, E, C, FP, K>>>⟧ }
         ensures memory { IfErr result IsOutOfMemory }
     {
         let children = self.children()?;
@@ -99,8 +99,8 @@ impl<E: Env, C: UserCmp + Copy + Drop> OpenStore<E, C> {
         ensures { let by = table_options (format_of C.Cmp FP.FilterPolicy
             ⟦<CompressorList as Compressors>⟧.codings options.now) options.now in
             (given : List Step) × (steps.new.items ≡ steps.old.items ++ given)
-            × WalksStore E.Env by self.now env.old tables.old sequence moves.now given result
-            env.new tables.new }
+            × WalksStore ⟦<InternalKeyCmp<C> as Cmp>⟧ E.Env by self.now env.old tables.old sequence
+            moves.now given result env.new tables.new }
     {
         let compressors = &options.compressor_list;
         let policy = options.filter_policy;
@@ -132,8 +132,8 @@ impl<E: Env, C: UserCmp + Copy + Drop> OpenStore<E, C> {
         requires room { vec_len steps.old + length moves.now ≤ vec_capacity steps.old }
         ensures { let by = options_by C.Cmp FP.FilterPolicy (K.codings compressors.now) cmp policy in
             (given : List Step) × (steps.new.items ≡ steps.old.items ++ given)
-            × WalksStore E.Env by self.now env.old tables.old sequence moves.now given result
-            env.new tables.new }
+            × WalksStore ⟦<InternalKeyCmp<C> as Cmp>⟧ E.Env by self.now env.old tables.old sequence
+            moves.now given result env.new tables.new }
     {
         let mut reading = self.reading(cmp, policy, compressors, tables);
         let walked = self.walk_in(env, &mut reading, sequence, moves, steps);
@@ -156,8 +156,8 @@ impl<E: Env, C: UserCmp + Copy + Drop> OpenStore<E, C> {
         requires room { vec_len steps.old + length moves.now ≤ vec_capacity steps.old }
         ensures walks { let by = reading_by E.Env C.Cmp FP.FilterPolicy K.codings reading.old in
             (given : List Step) × (steps.new.items ≡ steps.old.items ++ given)
-            × WalksStore E.Env by self.now env.old reading.old.cache.now sequence moves.now given
-            result env.new reading.new.cache.now }
+            × WalksStore ⟦<InternalKeyCmp<C> as Cmp>⟧ E.Env by self.now env.old
+            reading.old.cache.now sequence moves.now given result env.new reading.new.cache.now }
         ensures reference { reading.new.cache.ghost_name ≡ reading.old.cache.ghost_name }
     {
         let view = self.view::<FP, K>(sequence)?;

@@ -1,31 +1,43 @@
 //! A walk over a block, beside a borrow of it.
 ghost use Rattle.std.specs.Prelude.{◌≡◌, None};
 ghost use Rattle.leveldb_base.specs.Error.{IsOutOfMemory};
-ghost use Rattle.leveldb_table.specs.Block.{pairs_of};
-ghost use Rattle.leveldb_table.specs.BlockWalk.{IsWithin, position_of};
-ghost use Rattle.leveldb_table.specs.BlockLaws.{IsWithin-prop, IsWithin-position};
+ghost use Rattle.leveldb_table.specs.BlockWalk.{IsWithin, pairs_over, position_over};
+ghost use Rattle.leveldb_table.specs.BlockLaws.{IsWithin-prop, position_within-is};
 
 use crate::block::{Block, BlockCore};
 use leveldb_base::cmp::Cmp;
 use leveldb_base::error::Result;
 use leveldb_base::types::LdbIterator;
 use std::alloc::Global;
+use std::marker::Model;
 
 /// A walk over a block's pairs, borrowed from it.
 #[derive(Drop)]
 pub struct BlockIter<'a, C: Cmp> {
     block: &'a Block<C>,
     core: BlockCore,
-    pub ghost within: { IsWithin block.now.contents block.now.entries.0 core.key.items
-        core.spot } by { IsWithin-prop block.now.contents block.now.entries.0 core.key.items
+    ghost within: { IsWithin block.now.contents block.now.entries core.key
+        core.spot } by { IsWithin-prop block.now.contents block.now.entries core.key
             core.spot },
+}
+
+impl<'a, C: Cmp> Model for BlockIter<'a, C> {
+    ghost use Rattle.leveldb_table.specs.BlockWalk.{BlockPosition, number_of};
+
+    ghost Value = { BlockPosition C };
+
+    ghost view = { λ it. record {
+      block = it.block.now;
+      key = it.core.key;
+      at = number_of it.block.now.entries it.core.spot;
+    } };
 }
 
 impl<'a, C: Cmp> BlockIter<'a, C> {
     /// A walk over the block's pairs, at no position.
     pub fn new(alloc: Global, block: &'a Block<C>) -> BlockIter<'a, C>
-        ensures block { result.block.now ≡ block.entry.now }
-        ensures position { result.core.spot ≡ None }
+        ensures block { result.block ≡ block.entry.now }
+        ensures position { position_over result ≡ None }
     {
         BlockIter {
             block,
@@ -35,11 +47,11 @@ impl<'a, C: Cmp> BlockIter<'a, C> {
 }
 
 impl<'a, C: Cmp> LdbIterator for BlockIter<'a, C> {
-    ghost pairs = { λ it. pairs_of None it.block.now.entries.0 };
+    ghost pairs = { pairs_over };
 
-    ghost position = { λ it. position_of it.block.now.entries.0 it.core.spot };
+    ghost position = { position_over };
 
-    ghost order = { λ it. C.cmp it.block.now.cmp };
+    ghost order = { λ it. C.cmp it.block.cmp };
 
     ghost fails = { λ _ _. IsOutOfMemory };
 
@@ -71,6 +83,5 @@ impl<'a, C: Cmp> LdbIterator for BlockIter<'a, C> {
         self.core.valid()
     }
 
-    ghost in_range = { λ it. IsWithin-position it.block.now.contents it.block.now.entries.0
-        it.core.key.items it.core.spot it.within };
+    ghost in_range = { λ it. position_within-is (pairs_over it) it.at };
 }

@@ -1,10 +1,9 @@
 //! A walk over a block that it holds.
-ghost use Rattle.std.specs.Prelude.{◌≡◌, None, Some, IfOk, IfErr, OnOk, OnErr, is_some, option_map};
+ghost use Rattle.std.specs.Prelude.{◌≡◌, None, IfOk, IfErr, OnOk, OnErr, is_some};
 ghost use Rattle.leveldb_base.specs.Types.{next_position, previous_position, seek_position, pair_at, last_position};
 ghost use Rattle.leveldb_base.specs.Error.{IsOutOfMemory};
-ghost use Rattle.leveldb_table.specs.Block.{pairs_of};
-ghost use Rattle.leveldb_table.specs.BlockWalk.{IsWithin, position_of, pair_with};
-ghost use Rattle.leveldb_table.specs.BlockLaws.{IsWithin-prop, IsWithin-position};
+ghost use Rattle.leveldb_table.specs.BlockWalk.{IsWithin, pair_with, pairs_over, position_over};
+ghost use Rattle.leveldb_table.specs.BlockLaws.{IsWithin-prop, position_within-is};
 
 use crate::block::{Block, BlockCore};
 use bytes::Bytes;
@@ -12,22 +11,35 @@ use leveldb_base::cmp::Cmp;
 use leveldb_base::error::Result;
 use leveldb_base::types::LdbIterator;
 use std::alloc::Global;
+use std::marker::Model;
 
 /// A walk over a block's pairs that holds the block, whose bytes it may share with others.
 #[derive(Drop)]
 pub struct BlockWalk<C: Cmp> {
     block: Block<C>,
     core: BlockCore,
-    pub ghost within: { IsWithin block.contents block.entries.0 core.key.items
-        core.spot } by { IsWithin-prop block.contents block.entries.0 core.key.items
+    ghost within: { IsWithin block.contents block.entries core.key
+        core.spot } by { IsWithin-prop block.contents block.entries core.key
             core.spot },
+}
+
+impl<C: Cmp> Model for BlockWalk<C> {
+    ghost use Rattle.leveldb_table.specs.BlockWalk.{BlockPosition, number_of};
+
+    ghost Value = { BlockPosition C };
+
+    ghost view = { λ it. record {
+      block = it.block;
+      key = it.core.key;
+      at = number_of it.block.entries it.core.spot;
+    } };
 }
 
 impl<C: Cmp> BlockWalk<C> {
     /// A walk over the block's pairs, at no position.
     pub fn new(alloc: Global, block: Block<C>) -> BlockWalk<C>
         ensures block { result.block ≡ block }
-        ensures position { result.core.spot ≡ None }
+        ensures position { position_over result ≡ None }
     {
         BlockWalk::with_room(block, Vec::new(alloc))
     }
@@ -35,7 +47,7 @@ impl<C: Cmp> BlockWalk<C> {
     /// A walk over the block's pairs, at no position, with this room for a key.
     pub(crate) fn with_room(block: Block<C>, room: Vec<u8>) -> BlockWalk<C>
         ensures block { result.block ≡ block }
-        ensures position { result.core.spot ≡ None }
+        ensures position { position_over result ≡ None }
     {
         BlockWalk {
             block,
@@ -52,9 +64,8 @@ impl<C: Cmp> BlockWalk<C> {
 
     /// The value of the pair at which it is, whose bytes are shared with the block.
     pub(crate) fn shared_value(&self) -> Result<Option<Bytes>>
-        ensures ok { IfOk result (λ value. pair_with self.now.core.key.items value
-            ≡ pair_at (pairs_of None self.now.block.entries.0)
-            (position_of self.now.block.entries.0 self.now.core.spot)) }
+        ensures ok { IfOk result (λ value. pair_with self.now.key value
+            ≡ pair_at (pairs_over self.now) (position_over self.now)) }
         ensures cause { IfErr result IsOutOfMemory }
     {
         self.core.shared_value(&self.block)
@@ -64,7 +75,7 @@ impl<C: Cmp> BlockWalk<C> {
     pub(crate) fn into_key(self) -> Vec<u8>
     where
         C: Drop,
-        ensures { result ≡ self.core.key }
+        ensures { result.items ≡ self.key }
     {
         self.core.into_key()
     }
@@ -74,8 +85,7 @@ impl<C: Cmp> BlockWalk<C> {
     pub fn into_pair(self) -> Result<Option<(Bytes, Bytes)>>
     where
         C: Drop,
-        ensures ok { IfOk result (λ pair. pair ≡ pair_at (pairs_of None self.block.entries.0)
-            (position_of self.block.entries.0 self.core.spot)) }
+        ensures ok { IfOk result (λ pair. pair ≡ pair_at (pairs_over self) (position_over self)) }
         ensures cause { IfErr result IsOutOfMemory }
     {
         self.core.into_pair(&self.block)
@@ -83,9 +93,9 @@ impl<C: Cmp> BlockWalk<C> {
 }
 
 impl<C: Cmp> LdbIterator for BlockWalk<C> {
-    ghost pairs = { λ it. pairs_of None it.block.entries.0 };
+    ghost pairs = { pairs_over };
 
-    ghost position = { λ it. position_of it.block.entries.0 it.core.spot };
+    ghost position = { position_over };
 
     ghost order = { λ it. C.cmp it.block.cmp };
 
@@ -93,13 +103,10 @@ impl<C: Cmp> LdbIterator for BlockWalk<C> {
 
     fn advance(&mut self) -> Result<bool>
         ensures block { self.new.block ≡ self.old.block }
-        ensures ok { OnOk result (position_of self.new.block.entries.0 self.new.core.spot
-            ≡ next_position (pairs_of None self.old.block.entries.0)
-            (position_of self.old.block.entries.0 self.old.core.spot)) }
-        ensures there { IfOk result
-            (λ there. there ≡ is_some (position_of self.new.block.entries.0 self.new.core.spot)) }
-        ensures err { OnErr result
-            (position_of self.new.block.entries.0 self.new.core.spot ≡ None) }
+        ensures ok { OnOk result (position_over self.new
+            ≡ next_position (pairs_over self.old) (position_over self.old)) }
+        ensures there { IfOk result (λ there. there ≡ is_some (position_over self.new)) }
+        ensures err { OnErr result (position_over self.new ≡ None) }
         ensures cause { IfErr result IsOutOfMemory }
     {
         self.core.advance(&self.block)
@@ -107,12 +114,10 @@ impl<C: Cmp> LdbIterator for BlockWalk<C> {
 
     fn prev(&mut self) -> Result<bool>
         ensures block { self.new.block ≡ self.old.block }
-        ensures ok { OnOk result (position_of self.new.block.entries.0 self.new.core.spot
-            ≡ previous_position (position_of self.old.block.entries.0 self.old.core.spot)) }
-        ensures there { IfOk result
-            (λ there. there ≡ is_some (position_of self.new.block.entries.0 self.new.core.spot)) }
-        ensures err { OnErr result
-            (position_of self.new.block.entries.0 self.new.core.spot ≡ None) }
+        ensures ok { OnOk result (position_over self.new
+            ≡ previous_position (position_over self.old)) }
+        ensures there { IfOk result (λ there. there ≡ is_some (position_over self.new)) }
+        ensures err { OnErr result (position_over self.new ≡ None) }
         ensures cause { IfErr result IsOutOfMemory }
     {
         self.core.prev(&self.block)
@@ -120,11 +125,9 @@ impl<C: Cmp> LdbIterator for BlockWalk<C> {
 
     fn seek(&mut self, key: &[u8]) -> Result<()>
         ensures block { self.new.block ≡ self.old.block }
-        ensures ok { OnOk result (position_of self.new.block.entries.0 self.new.core.spot
-            ≡ seek_position (C.cmp self.old.block.cmp)
-            (pairs_of None self.old.block.entries.0) key.now) }
-        ensures err { OnErr result
-            (position_of self.new.block.entries.0 self.new.core.spot ≡ None) }
+        ensures ok { OnOk result (position_over self.new
+            ≡ seek_position (C.cmp self.old.block.cmp) (pairs_over self.old) key.now) }
+        ensures err { OnErr result (position_over self.new ≡ None) }
         ensures cause { IfErr result IsOutOfMemory }
     {
         self.core.seek(&self.block, key)
@@ -132,10 +135,9 @@ impl<C: Cmp> LdbIterator for BlockWalk<C> {
 
     fn seek_to_last(&mut self) -> Result<()>
         ensures block { self.new.block ≡ self.old.block }
-        ensures ok { OnOk result (position_of self.new.block.entries.0 self.new.core.spot
-            ≡ last_position (pairs_of None self.old.block.entries.0)) }
-        ensures err { OnErr result
-            (position_of self.new.block.entries.0 self.new.core.spot ≡ None) }
+        ensures ok { OnOk result (position_over self.new
+            ≡ last_position (pairs_over self.old)) }
+        ensures err { OnErr result (position_over self.new ≡ None) }
         ensures cause { IfErr result IsOutOfMemory }
     {
         self.core.seek_to_last(&self.block)
@@ -147,7 +149,7 @@ impl<C: Cmp> LdbIterator for BlockWalk<C> {
 
     fn reset(&mut self)
         ensures block { self.new.block ≡ self.old.block }
-        ensures no_position { position_of self.new.block.entries.0 self.new.core.spot ≡ None }
+        ensures no_position { position_over self.new ≡ None }
     {
         self.core.reset();
     }
@@ -156,6 +158,5 @@ impl<C: Cmp> LdbIterator for BlockWalk<C> {
         self.core.valid()
     }
 
-    ghost in_range = { λ it. IsWithin-position it.block.contents it.block.entries.0
-        it.core.key.items it.core.spot it.within };
+    ghost in_range = { λ it. position_within-is (pairs_over it) it.at };
 }

@@ -12,7 +12,9 @@ impl<C: Cmp> Block<C> {
     // How many restart points there are.
     #[inline]
     fn point_count(&self) -> usize
-        ensures { result ≡ length (restart_points self.now.entries.0) }
+        ensures count { result ≡ length (restart_points self.now.entries) }
+        ensures some { 0 < result }
+        ensures first { slice_index (restart_points self.now.entries) 0 ≡ 0 }
     {
         (self.contents.len() - 4 - self.limit) / 4
     }
@@ -20,8 +22,8 @@ impl<C: Cmp> Block<C> {
     // The offset of a restart point.
     #[inline]
     fn point(&self, index: usize) -> usize
-        requires { index < length (restart_points self.now.entries.0) }
-        ensures { result ≡ slice_index (restart_points self.now.entries.0) index }
+        requires { index < length (restart_points self.now.entries) }
+        ensures { result ≡ slice_index (restart_points self.now.entries) index }
     {
         LittleEndian::read_u32(&self.contents.as_slice()[self.limit + 4 * index..]) as usize
     }
@@ -29,10 +31,10 @@ impl<C: Cmp> Block<C> {
     // The key at a restart point.
     #[inline]
     fn point_key(&self, index: usize) -> &[u8]
-        requires some { 0 < length self.now.entries.0 }
-        requires index { index < length (restart_points self.now.entries.0) }
-        ensures { HasKeyAt self.now.entries.0
-            (slice_index (restart_points self.now.entries.0) index) result.now }
+        requires some { 0 < length self.now.entries }
+        requires index { index < length (restart_points self.now.entries) }
+        ensures { HasKeyAt self.now.entries
+            (slice_index (restart_points self.now.entries) index) result.now }
     {
         let start = self.point(index);
         let (entry, _) = take_entry(&self.contents.as_slice()[start..self.limit]).unwrap();
@@ -41,7 +43,7 @@ impl<C: Cmp> Block<C> {
 
     /// The last restart point.
     pub(crate) fn last_point(&self) -> usize
-        ensures { IsRestartPoint self.now.entries.0 result }
+        ensures { IsRestartPoint self.now.entries result }
     {
         self.point(self.point_count() - 1)
     }
@@ -49,7 +51,7 @@ impl<C: Cmp> Block<C> {
     /// The last restart point before `offset`.
     pub(crate) fn point_before(&self, offset: usize) -> usize
         requires { 0 < offset }
-        ensures point { IsRestartPoint self.now.entries.0 result }
+        ensures point { IsRestartPoint self.now.entries result }
         ensures before { result < offset }
     {
         let mut left = 0;
@@ -67,8 +69,8 @@ impl<C: Cmp> Block<C> {
 
     /// The last restart point whose key is before `key`, or the first.
     pub(crate) fn point_before_key(&self, key: &[u8]) -> usize
-        ensures point { IsRestartPoint self.now.entries.0 result }
-        ensures before { CanSeekFrom (C.cmp self.now.cmp) self.now.entries.0 key.now result }
+        ensures point { IsRestartPoint self.now.entries result }
+        ensures before { CanSeekFrom (C.cmp self.now.cmp) self.now.entries key.now result }
     {
         if !self.accepted || !self.cmp.accepts(key) {
             return 0;

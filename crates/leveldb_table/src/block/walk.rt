@@ -11,6 +11,7 @@ use bytes::Bytes;
 use leveldb_base::cmp::Cmp;
 use leveldb_base::error::Result;
 use std::alloc::Global;
+use std::marker::Model;
 
 /// Where an entry lies among a block's bytes: its first, the first of its value, and the first
 /// after it.
@@ -52,6 +53,14 @@ pub struct BlockCore {
     spot: Option<Spot>,
 }
 
+impl Model for BlockCore {
+    ghost use Rattle.leveldb_table.specs.BlockWalk.{BlockPlace};
+
+    ghost Value = { BlockPlace };
+
+    ghost view = { λ it. record { key = it.key.items; spot = it.spot } };
+}
+
 impl BlockCore {
     /// At no position.
     pub fn new(alloc: Global) -> BlockCore
@@ -72,7 +81,7 @@ impl BlockCore {
 
     /// The room for a key. Where it is at a pair, that pair's key is there.
     pub(crate) fn into_key(self) -> Vec<u8>
-        ensures { result ≡ self.key }
+        ensures { result.items ≡ self.key }
     {
         self.key
     }
@@ -80,9 +89,9 @@ impl BlockCore {
     // Moves to the entry that begins at `start`, and returns where it ends.
     #[inline]
     fn load<C: Cmp>(&mut self, block: &Block<C>, start: usize) -> Result<usize>
-        requires { CanLoad block.now.entries.0 self.old.key.items start }
-        ensures ok { IfOk result (λ next. IsEntryBetween block.now.contents block.now.entries.0
-            self.new.key.items self.new.spot start next) }
+        requires { CanLoad block.now.entries self.old.key start }
+        ensures ok { IfOk result (λ next. IsEntryBetween block.now.contents block.now.entries
+            self.new.key self.new.spot start next) }
         ensures err { OnErr result (self.new.spot ≡ None) }
         ensures cause { IfErr result IsOutOfMemory }
     {
@@ -101,15 +110,17 @@ impl BlockCore {
 
     // Goes from the entry at a restart point to the one that ends at `stop`.
     fn walk<C: Cmp>(&mut self, block: &Block<C>, point: usize, stop: usize) -> Result<()>
-        requires point { IsRestartPoint block.now.entries.0 point }
+        requires point { IsRestartPoint block.now.entries point }
         requires before { point < stop }
-        requires stop { (i : ℕ) × (i ≤ length block.now.entries.0)
-            × (stop ≡ start_of block.now.entries.0 i) }
-        ensures ok { OnOk result (IsEntryEndingAt block.now.contents block.now.entries.0
-            self.new.key.items self.new.spot stop) }
+        requires stop { (i : ℕ) × (i ≤ length block.now.entries)
+            × (stop ≡ start_of block.now.entries i) }
+        ensures ok { OnOk result (IsEntryEndingAt block.now.contents block.now.entries
+            self.new.key self.new.spot stop) }
         ensures err { OnErr result (self.new.spot ≡ None) }
         ensures cause { IfErr result IsOutOfMemory }
     {
+        // what holds of every block is known where one of its fields is used
+        let _ = &block.limit;
         let mut next = self.load(block, point)?;
         while next < stop {
             next = self.load(block, next)?;
@@ -120,16 +131,16 @@ impl BlockCore {
     /// Moves to the next pair, from no position to the first, and from the last to no position.
     /// Returns whether it is at a pair.
     pub fn advance<C: Cmp>(&mut self, block: &Block<C>) -> Result<bool>
-        requires { IsWithin block.now.contents block.now.entries.0 self.old.key.items
+        requires { IsWithin block.now.contents block.now.entries self.old.key
             self.old.spot }
-        ensures within { IsWithin block.now.contents block.now.entries.0 self.new.key.items
+        ensures within { IsWithin block.now.contents block.now.entries self.new.key
             self.new.spot }
-        ensures ok { OnOk result (position_of block.now.entries.0 self.new.spot
-            ≡ next_position (pairs_of None block.now.entries.0)
-            (position_of block.now.entries.0 self.old.spot)) }
+        ensures ok { OnOk result (position_of block.now.entries self.new.spot
+            ≡ next_position (pairs_of None block.now.entries)
+            (position_of block.now.entries self.old.spot)) }
         ensures there { IfOk result
-            (λ there. there ≡ is_some (position_of block.now.entries.0 self.new.spot)) }
-        ensures err { OnErr result (position_of block.now.entries.0 self.new.spot ≡ None) }
+            (λ there. there ≡ is_some (position_of block.now.entries self.new.spot)) }
+        ensures err { OnErr result (position_of block.now.entries self.new.spot ≡ None) }
         ensures cause { IfErr result IsOutOfMemory }
     {
         let next = next_start(self.spot);
@@ -144,17 +155,19 @@ impl BlockCore {
     /// Moves to the pair before, and from the first or from no position to no position.
     /// Returns whether it is at a pair.
     pub fn prev<C: Cmp>(&mut self, block: &Block<C>) -> Result<bool>
-        requires { IsWithin block.now.contents block.now.entries.0 self.old.key.items
+        requires { IsWithin block.now.contents block.now.entries self.old.key
             self.old.spot }
-        ensures within { IsWithin block.now.contents block.now.entries.0 self.new.key.items
+        ensures within { IsWithin block.now.contents block.now.entries self.new.key
             self.new.spot }
-        ensures ok { OnOk result (position_of block.now.entries.0 self.new.spot
-            ≡ previous_position (position_of block.now.entries.0 self.old.spot)) }
+        ensures ok { OnOk result (position_of block.now.entries self.new.spot
+            ≡ previous_position (position_of block.now.entries self.old.spot)) }
         ensures there { IfOk result
-            (λ there. there ≡ is_some (position_of block.now.entries.0 self.new.spot)) }
-        ensures err { OnErr result (position_of block.now.entries.0 self.new.spot ≡ None) }
+            (λ there. there ≡ is_some (position_of block.now.entries self.new.spot)) }
+        ensures err { OnErr result (position_of block.now.entries self.new.spot ≡ None) }
         ensures cause { IfErr result IsOutOfMemory }
     {
+        // what holds of every block is known where one of its fields is used
+        let _ = &block.limit;
         let start = here_start(self.spot);
         if start == 0 {
             self.spot = None;
@@ -167,13 +180,13 @@ impl BlockCore {
     /// Moves to the first pair whose key is at or after `key`, or to no position where all keys
     /// are before it.
     pub fn seek<C: Cmp>(&mut self, block: &Block<C>, key: &[u8]) -> Result<()>
-        requires { IsWithin block.now.contents block.now.entries.0 self.old.key.items
+        requires { IsWithin block.now.contents block.now.entries self.old.key
             self.old.spot }
-        ensures within { IsWithin block.now.contents block.now.entries.0 self.new.key.items
+        ensures within { IsWithin block.now.contents block.now.entries self.new.key
             self.new.spot }
-        ensures ok { OnOk result (position_of block.now.entries.0 self.new.spot
-            ≡ seek_position (C.cmp block.now.cmp) (pairs_of None block.now.entries.0) key.now) }
-        ensures err { OnErr result (position_of block.now.entries.0 self.new.spot ≡ None) }
+        ensures ok { OnOk result (position_of block.now.entries self.new.spot
+            ≡ seek_position (C.cmp block.now.cmp) (pairs_of None block.now.entries) key.now) }
+        ensures err { OnErr result (position_of block.now.entries self.new.spot ≡ None) }
         ensures cause { IfErr result IsOutOfMemory }
     {
         let mut next = block.point_before_key(key);
@@ -189,13 +202,13 @@ impl BlockCore {
 
     /// Moves to the last pair, or to no position in an empty block.
     pub fn seek_to_last<C: Cmp>(&mut self, block: &Block<C>) -> Result<()>
-        requires { IsWithin block.now.contents block.now.entries.0 self.old.key.items
+        requires { IsWithin block.now.contents block.now.entries self.old.key
             self.old.spot }
-        ensures within { IsWithin block.now.contents block.now.entries.0 self.new.key.items
+        ensures within { IsWithin block.now.contents block.now.entries self.new.key
             self.new.spot }
-        ensures ok { OnOk result (position_of block.now.entries.0 self.new.spot
-            ≡ last_position (pairs_of None block.now.entries.0)) }
-        ensures err { OnErr result (position_of block.now.entries.0 self.new.spot ≡ None) }
+        ensures ok { OnOk result (position_of block.now.entries self.new.spot
+            ≡ last_position (pairs_of None block.now.entries)) }
+        ensures err { OnErr result (position_of block.now.entries self.new.spot ≡ None) }
         ensures cause { IfErr result IsOutOfMemory }
     {
         if block.limit == 0 {
@@ -221,10 +234,10 @@ impl BlockCore {
 
     /// The key and the value of the pair at which it is.
     pub fn current<'a, C: Cmp>(&'a self, block: &'a Block<C>) -> Option<(&'a [u8], &'a [u8])>
-        requires { IsWithin block.now.contents block.now.entries.0 self.now.key.items
+        requires { IsWithin block.now.contents block.now.entries self.now.key
             self.now.spot }
-        ensures { pair_of result ≡ pair_at (pairs_of None block.entry.now.entries.0)
-            (position_of block.entry.now.entries.0 self.entry.now.spot) }
+        ensures { pair_of result ≡ pair_at (pairs_of None block.entry.now.entries)
+            (position_of block.entry.now.entries self.entry.now.spot) }
     {
         let spot = self.spot?;
         Some((
@@ -235,11 +248,11 @@ impl BlockCore {
 
     /// The value of the pair at which it is, whose bytes are shared with the block.
     pub(crate) fn shared_value<C: Cmp>(&self, block: &Block<C>) -> Result<Option<Bytes>>
-        requires { IsWithin block.now.contents block.now.entries.0 self.now.key.items
+        requires { IsWithin block.now.contents block.now.entries self.now.key
             self.now.spot }
-        ensures ok { IfOk result (λ value. pair_with self.now.key.items value
-            ≡ pair_at (pairs_of None block.now.entries.0)
-            (position_of block.now.entries.0 self.now.spot)) }
+        ensures ok { IfOk result (λ value. pair_with self.now.key value
+            ≡ pair_at (pairs_of None block.now.entries)
+            (position_of block.now.entries self.now.spot)) }
         ensures cause { IfErr result IsOutOfMemory }
     {
         let Some(spot) = self.spot else {
@@ -251,9 +264,9 @@ impl BlockCore {
     /// The pair at which it is: the key's bytes become the result's, and the value's are shared
     /// with the block.
     pub fn into_pair<C: Cmp>(self, block: &Block<C>) -> Result<Option<(Bytes, Bytes)>>
-        requires { IsWithin block.now.contents block.now.entries.0 self.key.items self.spot }
-        ensures ok { IfOk result (λ pair. pair ≡ pair_at (pairs_of None block.now.entries.0)
-            (position_of block.now.entries.0 self.spot)) }
+        requires { IsWithin block.now.contents block.now.entries self.key self.spot }
+        ensures ok { IfOk result (λ pair. pair ≡ pair_at (pairs_of None block.now.entries)
+            (position_of block.now.entries self.spot)) }
         ensures cause { IfErr result IsOutOfMemory }
     {
         let Some(value) = self.shared_value(block)? else {

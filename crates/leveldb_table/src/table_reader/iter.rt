@@ -60,7 +60,7 @@ impl<'a, E: Env, C: Cmp + Copy + Drop, FP: FilterPolicy> TableIterator<'a, E, C,
     /// Returns whether it is at a pair.
     pub fn advance(&mut self, compressors: &CompressorList) -> Result<bool>
         ensures moves { let codings = ⟦<CompressorList as Compressors>⟧.codings compressors.now in
-            Advances E.Env codings self.old.table.now self.old.env.now self.old.cache.now
+            Advances C.Cmp E.Env codings self.old.table.now self.old.env.now self.old.cache.now
             self.old.core result self.new.env.now self.new.cache.now self.new.core }
         ensures env_reference { self.new.env.ghost_name ≡ self.old.env.ghost_name }
         ensures cache_reference { self.new.cache.ghost_name ≡ self.old.cache.ghost_name }
@@ -76,7 +76,7 @@ impl<'a, E: Env, C: Cmp + Copy + Drop, FP: FilterPolicy> TableIterator<'a, E, C,
     /// Returns whether it is at a pair.
     pub fn prev(&mut self, compressors: &CompressorList) -> Result<bool>
         ensures moves { let codings = ⟦<CompressorList as Compressors>⟧.codings compressors.now in
-            StepsBack E.Env codings self.old.table.now self.old.env.now self.old.cache.now
+            StepsBack C.Cmp E.Env codings self.old.table.now self.old.env.now self.old.cache.now
             self.old.core result self.new.env.now self.new.cache.now self.new.core }
         ensures env_reference { self.new.env.ghost_name ≡ self.old.env.ghost_name }
         ensures cache_reference { self.new.cache.ghost_name ≡ self.old.cache.ghost_name }
@@ -92,8 +92,9 @@ impl<'a, E: Env, C: Cmp + Copy + Drop, FP: FilterPolicy> TableIterator<'a, E, C,
     /// are before it.
     pub fn seek(&mut self, compressors: &CompressorList, key: &[u8]) -> Result<()>
         ensures moves { let codings = ⟦<CompressorList as Compressors>⟧.codings compressors.now in
-            SeeksKey E.Env codings self.old.table.now key.now self.old.env.now self.old.cache.now
-            self.old.core result self.new.env.now self.new.cache.now self.new.core }
+            SeeksKey C.Cmp E.Env codings self.old.table.now key.now self.old.env.now
+            self.old.cache.now self.old.core result self.new.env.now self.new.cache.now
+            self.new.core }
         ensures env_reference { self.new.env.ghost_name ≡ self.old.env.ghost_name }
         ensures cache_reference { self.new.cache.ghost_name ≡ self.old.cache.ghost_name }
         ensures table { self.new.table.now ≡ self.old.table.now }
@@ -105,7 +106,7 @@ impl<'a, E: Env, C: Cmp + Copy + Drop, FP: FilterPolicy> TableIterator<'a, E, C,
     /// Moves to the first pair, or to no position in an empty table.
     pub fn seek_to_first(&mut self, compressors: &CompressorList) -> Result<()>
         ensures moves { let codings = ⟦<CompressorList as Compressors>⟧.codings compressors.now in
-            SeeksFirst E.Env codings self.old.table.now self.old.env.now self.old.cache.now
+            SeeksFirst C.Cmp E.Env codings self.old.table.now self.old.env.now self.old.cache.now
             self.old.core result self.new.env.now self.new.cache.now self.new.core }
         ensures env_reference { self.new.env.ghost_name ≡ self.old.env.ghost_name }
         ensures cache_reference { self.new.cache.ghost_name ≡ self.old.cache.ghost_name }
@@ -118,7 +119,7 @@ impl<'a, E: Env, C: Cmp + Copy + Drop, FP: FilterPolicy> TableIterator<'a, E, C,
     /// Moves to the last pair, or to no position in an empty table.
     pub fn seek_to_last(&mut self, compressors: &CompressorList) -> Result<()>
         ensures moves { let codings = ⟦<CompressorList as Compressors>⟧.codings compressors.now in
-            SeeksLast E.Env codings self.old.table.now self.old.env.now self.old.cache.now
+            SeeksLast C.Cmp E.Env codings self.old.table.now self.old.env.now self.old.cache.now
             self.old.core result self.new.env.now self.new.cache.now self.new.core }
         ensures env_reference { self.new.env.ghost_name ≡ self.old.env.ghost_name }
         ensures cache_reference { self.new.cache.ghost_name ≡ self.old.cache.ghost_name }
@@ -132,7 +133,7 @@ impl<'a, E: Env, C: Cmp + Copy + Drop, FP: FilterPolicy> TableIterator<'a, E, C,
     pub fn current(&self) -> Option<(&[u8], &[u8])>
         ensures pair { pair_of result ≡ current_of self.now.core }
         ensures position { (cmp : List ℕ → List ℕ → Ordering) (parts : List Part)
-            (position : Option ℕ) → IsAtPosition cmp parts self.now.core position
+            (position : Option ℕ) → IsAtPosition C.Cmp cmp parts self.now.core position
             → pair_of result ≡ pair_at (pairs_in parts) position }
     {
         self.core.current()

@@ -37,7 +37,7 @@ pub fn read_index<E: Env, C: Cmp + Drop>(
         file.now) env.old env.new result }
     ensures ok { let codings = ⟦<CompressorList as Compressors>⟧.codings compressors.now in
         IfOk result (λ found. ForBytesOf E.Env env.old file.now (λ bytes. HasIndex codings
-        (C.cmp cmp) bytes size (pairs_of None found.1.entries.0) found.0.meta_index
+        (C.cmp cmp) bytes size (pairs_of None found.1.entries) found.0.meta_index
         found.0.index)) }
     ensures order { IfOk result (λ found. found.1.cmp ≡ cmp) }
 {

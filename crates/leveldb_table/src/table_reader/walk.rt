@@ -7,7 +7,7 @@ ghost use Rattle.leveldb_base.specs.Types.{next_position, previous_position, see
 ghost use Rattle.leveldb_base.specs.Error.{IsOutOfMemory};
 ghost use Rattle.leveldb_base.specs.declared.error.StatusCode.TheVariants.{Corruption};
 ghost use Rattle.leveldb_table.specs.Table.{Part, HasBlockAt};
-ghost use Rattle.leveldb_table.specs.BlockWalk.{pair_with};
+ghost use Rattle.leveldb_table.specs.BlockWalk.{pair_with, pairs_over, position_over};
 ghost use Rattle.leveldb_table.specs.BlockCache.{HoldsOnlyOf, IsBlockOfFile, GainsBlocks};
 ghost use Rattle.leveldb_table.specs.TableReaderBlocks.{IsAfterLine, IsBeforeBlock, IsKeyPosition, IsLetPosition};
 ghost use Rattle.leveldb_table.specs.TableBlock.{LacksBlock, LacksLine, ReadsFile, ForBytesOf, IsLackError, IsNamedBy};
@@ -25,10 +25,12 @@ use leveldb_env::compressor::{CompressorList, Compressors};
 use leveldb_env::env::Env;
 use leveldb_env::filter::FilterPolicy;
 use std::alloc::Global;
+use std::marker::Model;
 use std::mem;
 
 /// A position in a table, or none. Each move is given the table, always the same one, the `Env`
 /// that has its file, the cache of blocks and the compressors.
+#[derive(Drop)]
 pub struct TableCore<C: Cmp> {
     alloc: Global,
 
@@ -40,19 +42,12 @@ pub struct TableCore<C: Cmp> {
     room: Vec<u8>,
 }
 
-impl<C: Cmp + Drop> Drop for TableCore<C> {
-    // One call for whoever drops one, in place of one for each part of it.
-    fn drop(self) {
-        let TableCore {
-            alloc: _,
-            index,
-            inner,
-            room,
-        } = self;
-        drop(index);
-        drop(inner);
-        drop(room);
-    }
+impl<C: Cmp> Model for TableCore<C> {
+    ghost use Rattle.leveldb_table.specs.TableReaderWalk.{TablePlace};
+
+    ghost Value = { TablePlace C };
+
+    ghost view = { λ it. record { index = it.index; inner = it.inner } };
 }
 
 /// A move that may leave the block where a walk over a table is.
@@ -84,7 +79,7 @@ impl<C: Cmp + Copy + Drop> TableCore<C> {
     ghost use Rattle.leveldb_table.specs.TableReaderMoves.{Advances, StepsBack, SeeksKey, SeeksFirst, SeeksLast, ToLast, ToNextBlock, ToPreviousBlock, ToKey, ToKeyIfLet};
     ghost use Rattle.leveldb_table.specs.TableReader.{pairs_in, lines_of, lets, GainsBlocksOf};
     ghost use Rattle.leveldb_table.specs.TableReaderSteps.{StepsInTable, step_to};
-    ghost use Rattle.leveldb_table.specs.TableReaderWalk.{IsAtPosition, StepsInside, inner_block, inner_position, inner_pairs, current_of, pairs_over, position_over};
+    ghost use Rattle.leveldb_table.specs.TableReaderWalk.{IsAtPosition, StepsInside, inner_block, inner_position, inner_pairs, current_of};
 
     /// At no position.
     pub fn new<E: Env, FP: FilterPolicy>(
@@ -126,8 +121,8 @@ impl<C: Cmp + Copy + Drop> TableCore<C> {
         compressors: &CompressorList,
     ) -> Result<bool>
         ensures moves { let codings = ⟦<CompressorList as Compressors>⟧.codings compressors.now in
-            Advances E.Env codings table.now env.old cache.old self.old result env.new cache.new
-            self.new }
+            Advances C.Cmp E.Env codings table.now env.old cache.old self.old result env.new
+            cache.new self.new }
         ensures there { IfOk result (λ there. there ≡ is_some (inner_position self.new.inner)) }
     {
         if !self.valid() {
@@ -148,8 +143,8 @@ impl<C: Cmp + Copy + Drop> TableCore<C> {
         compressors: &CompressorList,
     ) -> Result<bool>
         ensures moves { let codings = ⟦<CompressorList as Compressors>⟧.codings compressors.now in
-            StepsBack E.Env codings table.now env.old cache.old self.old result env.new cache.new
-            self.new }
+            StepsBack C.Cmp E.Env codings table.now env.old cache.old self.old result env.new
+            cache.new self.new }
         ensures there { IfOk result (λ there. there ≡ is_some (inner_position self.new.inner)) }
     {
         if !self.valid() {
@@ -172,7 +167,7 @@ impl<C: Cmp + Copy + Drop> TableCore<C> {
         key: &[u8],
     ) -> Result<()>
         ensures moves { let codings = ⟦<CompressorList as Compressors>⟧.codings compressors.now in
-            SeeksKey E.Env codings table.now key.now env.old cache.old self.old result env.new
+            SeeksKey C.Cmp E.Env codings table.now key.now env.old cache.old self.old result env.new
             cache.new self.new }
     {
         leave(&mut self.inner, &mut self.room);
@@ -193,8 +188,8 @@ impl<C: Cmp + Copy + Drop> TableCore<C> {
         compressors: &CompressorList,
     ) -> Result<()>
         ensures moves { let codings = ⟦<CompressorList as Compressors>⟧.codings compressors.now in
-            SeeksFirst E.Env codings table.now env.old cache.old self.old result env.new cache.new
-            self.new }
+            SeeksFirst C.Cmp E.Env codings table.now env.old cache.old self.old result env.new
+            cache.new self.new }
     {
         self.reset();
         self.advance(table, env, cache, compressors)?;
@@ -210,8 +205,8 @@ impl<C: Cmp + Copy + Drop> TableCore<C> {
         compressors: &CompressorList,
     ) -> Result<()>
         ensures moves { let codings = ⟦<CompressorList as Compressors>⟧.codings compressors.now in
-            SeeksLast E.Env codings table.now env.old cache.old self.old result env.new cache.new
-            self.new }
+            SeeksLast C.Cmp E.Env codings table.now env.old cache.old self.old result env.new
+            cache.new self.new }
     {
         self.to_last_block(table, env, cache, compressors)?;
         Ok(())
@@ -221,7 +216,7 @@ impl<C: Cmp + Copy + Drop> TableCore<C> {
     pub fn current(&self) -> Option<(&[u8], &[u8])>
         ensures pair { pair_of result ≡ current_of self.now }
         ensures position { (cmp : List ℕ → List ℕ → Ordering) (parts : List Part)
-            (position : Option ℕ) → IsAtPosition cmp parts self.now position
+            (position : Option ℕ) → IsAtPosition C.Cmp cmp parts self.now position
             → pair_of result ≡ pair_at (pairs_in parts) position }
     {
         self.inner.as_ref()?.current()
@@ -255,8 +250,8 @@ impl<C: Cmp + Copy + Drop> TableCore<C> {
         to: TableStep,
     ) -> Result<bool>
         ensures { let codings = ⟦<CompressorList as Compressors>⟧.codings compressors.now in
-            StepsInTable E.Env codings (C.cmp table.now.cmp) table.now.id table.now.file
-            (step_to to.entry) env.old cache.old self.old result env.new cache.new self.new }
+            StepsInTable C.Cmp E.Env codings (C.cmp table.now.cmp) table.now.id table.now.file
+            (step_to C.Cmp to.entry) env.old cache.old self.old result env.new cache.new self.new }
     {
         match to {
             TableStep::First => {
@@ -287,10 +282,10 @@ impl<C: Cmp + Copy + Drop> TableCore<C> {
         key: &[u8],
     ) -> Result<bool>
         ensures enters { let codings = ⟦<CompressorList as Compressors>⟧.codings compressors.now
-            in MovesOverFromLine E.Env codings table.now (IsLetPosition (C.accepts table.now.cmp)
-            (C.cmp table.now.cmp) (lets FP.matches table.now) key.now) (ToKeyIfLet (lets
-            FP.matches table.now) key.now) env.old cache.old self.old result env.new cache.new
-            self.new }
+            in MovesOverFromLine C.Cmp E.Env codings table.now (IsLetPosition
+            (C.accepts table.now.cmp) (C.cmp table.now.cmp) (lets FP.matches table.now) key.now)
+            (ToKeyIfLet C.Cmp (lets FP.matches table.now) key.now) env.old cache.old self.old result
+            env.new cache.new self.new }
         ensures there { IfOk result (λ there. there ≡ is_some (inner_position self.new.inner)) }
     {
         leave(&mut self.inner, &mut self.room);
@@ -344,9 +339,9 @@ impl<C: Cmp + Copy + Drop> TableCore<C> {
         requires names { IsNamedBy (line_of self.old) handle }
         requires fits { HandleFits handle }
         ensures enters { let codings = ⟦<CompressorList as Compressors>⟧.codings compressors.now
-            in MovesOverFromLine E.Env codings table.now (IsKeyPosition (C.accepts table.now.cmp)
-            (C.cmp table.now.cmp) key.now) (ToKey key.now) env.old cache.old self.old result
-            env.new cache.new self.new }
+            in MovesOverFromLine C.Cmp E.Env codings table.now (IsKeyPosition
+            (C.accepts table.now.cmp) (C.cmp table.now.cmp) key.now) (ToKey C.Cmp key.now) env.old
+            cache.old self.old result env.new cache.new self.new }
     {
         self.load(table, env, cache, compressors, handle)?;
         if self.seek_inside(key)? {
@@ -365,7 +360,7 @@ impl<C: Cmp + Copy + Drop> TableCore<C> {
         compressors: &CompressorList,
     ) -> Result<bool>
         ensures enters { let codings = ⟦<CompressorList as Compressors>⟧.codings compressors.now
-            in MovesOverFromLine E.Env codings table.now (λ parts position. IsAfterLine parts
+            in MovesOverFromLine C.Cmp E.Env codings table.now (λ parts position. IsAfterLine parts
             (position_over self.old.index) position) ToNextBlock env.old cache.old self.old result
             env.new cache.new self.new }
         ensures there { IfOk result (λ there. there ≡ is_some (inner_position self.new.inner)) }
@@ -390,9 +385,9 @@ impl<C: Cmp + Copy + Drop> TableCore<C> {
         compressors: &CompressorList,
     ) -> Result<bool>
         ensures enters { let codings = ⟦<CompressorList as Compressors>⟧.codings compressors.now
-            in MovesOverFromLine E.Env codings table.now (λ parts position. IsBeforeBlock parts
-            (position_over self.old.index) position) ToPreviousBlock env.old cache.old self.old
-            result env.new cache.new self.new }
+            in MovesOverFromLine C.Cmp E.Env codings table.now (λ parts position. IsBeforeBlock
+            parts (position_over self.old.index) position) ToPreviousBlock env.old cache.old
+            self.old result env.new cache.new self.new }
         ensures there { IfOk result (λ there. there ≡ is_some (inner_position self.new.inner)) }
     {
         leave(&mut self.inner, &mut self.room);
@@ -415,7 +410,7 @@ impl<C: Cmp + Copy + Drop> TableCore<C> {
         compressors: &CompressorList,
     ) -> Result<bool>
         ensures enters { let codings = ⟦<CompressorList as Compressors>⟧.codings compressors.now
-            in MovesOverFromLine E.Env codings table.now (λ parts position. position ≡
+            in MovesOverFromLine C.Cmp E.Env codings table.now (λ parts position. position ≡
             last_position (pairs_in parts)) ToLast env.old cache.old self.old result env.new
             cache.new self.new }
     {
@@ -446,13 +441,13 @@ impl<C: Cmp + Copy + Drop> TableCore<C> {
             table.now.file) env.old env.new result }
         ensures block { let codings = ⟦<CompressorList as Compressors>⟧.codings compressors.now in
             OnOk result (ForBytesOf E.Env env.old table.now.file
-            (λ bytes. HoldsOnlyOf codings (C.cmp table.now.cmp) table.now.id bytes cache.old
-            → IsBlockOf codings (C.cmp table.now.cmp) bytes (line_of self.old)
+            (λ bytes. HoldsOnlyOf C.Cmp codings (C.cmp table.now.cmp) table.now.id bytes cache.old
+            → IsBlockOf C.Cmp codings (C.cmp table.now.cmp) bytes (line_of self.old)
             (inner_block self.new.inner))) }
         ensures position { OnOk result (inner_position self.new.inner ≡ None) }
         ensures err { OnErr result (self.new.inner ≡ self.old.inner) }
         ensures index { self.new.index ≡ self.old.index }
-        ensures gathers { GainsBlocksOf E.Env (⟦<CompressorList as Compressors>⟧.codings
+        ensures gathers { GainsBlocksOf C.Cmp E.Env (⟦<CompressorList as Compressors>⟧.codings
             compressors.now) table.now env.old cache.old cache.new }
     {
         let Some((_, value)) = self.index.current() else {
@@ -477,12 +472,13 @@ impl<C: Cmp + Copy + Drop> TableCore<C> {
             env.old env.new result }
         ensures block { let codings = ⟦<CompressorList as Compressors>⟧.codings compressors.now in
             OnOk result (ForBytesOf E.Env env.old table.now.file
-            (λ bytes. HoldsOnlyOf codings (C.cmp table.now.cmp) table.now.id bytes cache.old
-            → IsBlockAt codings (C.cmp table.now.cmp) bytes handle (inner_block self.new.inner))) }
+            (λ bytes. HoldsOnlyOf C.Cmp codings (C.cmp table.now.cmp) table.now.id bytes cache.old
+            → IsBlockAt C.Cmp codings (C.cmp table.now.cmp) bytes handle
+            (inner_block self.new.inner))) }
         ensures position { OnOk result (inner_position self.new.inner ≡ None) }
         ensures err { OnErr result (self.new.inner ≡ self.old.inner) }
         ensures index { self.new.index ≡ self.old.index }
-        ensures gathers { GainsBlocksOf E.Env (⟦<CompressorList as Compressors>⟧.codings
+        ensures gathers { GainsBlocksOf C.Cmp E.Env (⟦<CompressorList as Compressors>⟧.codings
             compressors.now) table.now env.old cache.old cache.new }
     {
         let block = table.read_block(self.alloc, env, cache, compressors, handle)?;

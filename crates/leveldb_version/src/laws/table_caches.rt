@@ -13,5 +13,5 @@ pub fn open_tables_stay_matched<E: Env, C: UserCmp, FP>()
 
 /// Files that stay or are deleted, and calls that only close tables, may come one after another.
 pub fn tables_close_in_turn<E: Env, C: UserCmp, FP>()
-    ensures { TablesCloseInTurn E E.File FP ⟦<InternalKeyCmp<C> as Cmp>⟧ }
+    ensures { TablesCloseInTurn E C FP E.File }
 {}

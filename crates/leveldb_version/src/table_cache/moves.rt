@@ -33,8 +33,8 @@ where
         to: TableStep,
     ) -> Result<bool>
         ensures { let by = options_by C.Cmp FP.FilterPolicy (Self.codings self.now) cmp policy in
-            MovesInNumbered E.Env by number to.entry env.old tables.old core.old result env.new
-            tables.new core.new };
+            MovesInNumbered ⟦<InternalKeyCmp<C> as Cmp>⟧ E.Env by number to.entry env.old tables.old
+            core.old result env.new tables.new core.new };
 }
 
 /// A store's open tables, and what they are opened and read with.
@@ -85,8 +85,8 @@ impl<E: Env, C: UserCmp + Copy + Drop, FP: FilterPolicy + Copy + Drop> TableCach
     ) -> Result<bool>
         ensures { let by = options_by C.Cmp FP.FilterPolicy
             (⟦<CompressorList as Compressors>⟧.codings compressors.now) cmp policy in
-            MovesInNumbered E.Env by number to.entry env.old self.old core.old result env.new
-            self.new core.new }
+            MovesInNumbered ⟦<InternalKeyCmp<C> as Cmp>⟧ E.Env by number to.entry env.old self.old
+            core.old result env.new self.new core.new }
     {
         if let Err(status) = self.open_table_by(env, cmp, policy, compressors, number) {
             reset(core);
@@ -141,8 +141,8 @@ fn step_in<E: Env, C: Cmp + Copy + Drop, FP: FilterPolicy>(
     to: TableStep,
 ) -> Result<bool>
     ensures { let codings = ⟦<CompressorList as Compressors>⟧.codings compressors.now in
-        StepsInOpen E.Env codings table.now to.entry env.old blocks.old core.old result env.new
-        blocks.new core.new }
+        StepsInOpen C.Cmp E.Env codings table.now to.entry env.old blocks.old core.old result
+        env.new blocks.new core.new }
 {
     if let Some(core) = core {
         return core.step(table, env, blocks, compressors, to);

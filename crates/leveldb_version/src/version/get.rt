@@ -10,7 +10,7 @@ use super::search::FilesLeft;
 use super::{GetStats, Version};
 use crate::table_cache::TableCache;
 use bytes::Bytes;
-use leveldb_base::cmp::UserCmp;
+use leveldb_base::cmp::{Cmp, InternalKeyCmp, UserCmp};
 use leveldb_base::error::{Result, StatusCode, err};
 use leveldb_base::key_types::{LookupKey, TAG_LEN, ValueType, parse_internal_key};
 use leveldb_base::types::FileNum;
@@ -39,7 +39,8 @@ impl<C: UserCmp + Copy + Drop> Version<C> {
         requires tagged { 8 ≤ length key.now }
         ensures { let by = table_options (format_of C.Cmp FP.FilterPolicy
             ⟦<CompressorList as Compressors>⟧.codings options.now) options.now in
-            LooksUpNewest E.Env by key.now env.old tables.old self.now result env.new tables.new }
+            LooksUpNewest ⟦<InternalKeyCmp<C> as Cmp>⟧ E.Env by key.now env.old tables.old self.now
+            result env.new tables.new }
     {
         let mut files = FilesLeft::new(self.files.as_slice());
         let mut first = None;
@@ -67,7 +68,8 @@ fn newest_in_table<E: Env, C: UserCmp + Copy + Drop, FP: FilterPolicy + Copy + D
 ) -> Result<Option<Option<Bytes>>>
     ensures { let by = table_options (format_of C.Cmp FP.FilterPolicy
         ⟦<CompressorList as Compressors>⟧.codings options.now) options.now in
-        SearchesTable E.Env by key.now env.old tables.old number result env.new tables.new }
+        SearchesTable ⟦<InternalKeyCmp<C> as Cmp>⟧ E.Env by key.now env.old tables.old number result
+        env.new tables.new }
 {
     let value = tables.find(env, options, number, key.internal_key())?;
     value_at(alloc, tables.found_key(), value, key.user_key())

@@ -40,7 +40,7 @@ impl<E: Env, C: UserCmp + Copy, FP: FilterPolicy + Copy> Engine<E, C, FP> {
     pub fn abandon(self, env: &mut E) -> Result<()>
         ensures { let formats = format_of C.Cmp FP.FilterPolicy
             ⟦<CompressorList as Compressors>⟧.codings in
-            EngineAbandons E.Env formats self env.old result env.new }
+            EngineAbandons ⟦<InternalKeyCmp<C> as Cmp>⟧ E.Env formats self env.old result env.new }
     {
         if self.mode == Mode::Closed {
             return Ok(());

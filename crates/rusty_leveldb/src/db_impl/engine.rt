@@ -8,7 +8,7 @@ ghost use Rattle.rusty_leveldb.specs.EngineValue.{FollowsStore, mode_of};
 ghost use Rattle.leveldb_store.specs.OpenStore.{IsUnbroken};
 ghost use Rattle.leveldb_version.specs.Format.{format_of};
 
-use leveldb_base::cmp::{Cmp, UserCmp};
+use leveldb_base::cmp::{Cmp, InternalKeyCmp, UserCmp};
 use leveldb_base::error::{Result, StatusCode, err};
 use leveldb_env::compressor::{CompressorList, Compressors};
 use leveldb_env::env::Env;
@@ -109,7 +109,7 @@ impl<E: Env, C: UserCmp + Copy, FP: FilterPolicy + Copy> Engine<E, C, FP> {
         ensures step { let formats = format_of C.Cmp FP.FilterPolicy
             ⟦<CompressorList as Compressors>⟧.codings in
             IfErr result (λ status. (items : List Item) (sync : Bool)
-            → AnswersStill E.Env formats self.now (write items sync)
+            → AnswersStill ⟦<InternalKeyCmp<C> as Cmp>⟧ E.Env formats self.now (write items sync)
             (refused (refusal_of status))) }
         ensures cause { IfErr result (RefusedByMode self.now.mode) }
     {

@@ -25,7 +25,8 @@ impl<E: Env, C: UserCmp + Copy, FP: FilterPolicy + Copy> Engine<E, C, FP> {
         ensures reference { IfOk result (λ it. it.env.ghost_name ≡ env.entry.ghost_name) }
         ensures iterates { let codings = ⟦<CompressorList as Compressors>⟧.codings in
             let walk = ⟦<StoreView<'a, C> as Walk<E, StoreTables<'a, E, C, FP>>>⟧ in
-            EngineIterates E.Env C.Cmp FP.FilterPolicy codings walk self.old env.old None result }
+            EngineIterates ⟦<InternalKeyCmp<C> as Cmp>⟧ E.Env C.Cmp FP.FilterPolicy codings walk
+            self.old env.old None result }
     {
         self.iter_at(env, None)
     }
@@ -40,8 +41,8 @@ impl<E: Env, C: UserCmp + Copy, FP: FilterPolicy + Copy> Engine<E, C, FP> {
         ensures reference { IfOk result (λ it. it.env.ghost_name ≡ env.entry.ghost_name) }
         ensures iterates { let codings = ⟦<CompressorList as Compressors>⟧.codings in
             let walk = ⟦<StoreView<'a, C> as Walk<E, StoreTables<'a, E, C, FP>>>⟧ in
-            EngineIterates E.Env C.Cmp FP.FilterPolicy codings walk self.old env.old
-            (Some (snapshot_of snapshot)) result }
+            EngineIterates ⟦<InternalKeyCmp<C> as Cmp>⟧ E.Env C.Cmp FP.FilterPolicy codings walk
+            self.old env.old (Some (snapshot_of snapshot)) result }
     {
         self.iter_at(env, Some(snapshot))
     }
@@ -55,8 +56,8 @@ impl<E: Env, C: UserCmp + Copy, FP: FilterPolicy + Copy> Engine<E, C, FP> {
         ensures reference { IfOk result (λ it. it.env.ghost_name ≡ env.entry.ghost_name) }
         ensures iterates { let codings = ⟦<CompressorList as Compressors>⟧.codings in
             let walk = ⟦<StoreView<'a, C> as Walk<E, StoreTables<'a, E, C, FP>>>⟧ in
-            EngineIterates E.Env C.Cmp FP.FilterPolicy codings walk self.old env.old
-            (option_map snapshot_of at) result }
+            EngineIterates ⟦<InternalKeyCmp<C> as Cmp>⟧ E.Env C.Cmp FP.FilterPolicy codings walk
+            self.old env.old (option_map snapshot_of at) result }
     {
         self.check_not_closed()?;
         let sequence = self.sequence_at(at)?;
@@ -87,8 +88,8 @@ fn iter_over<
     sequence: SequenceNumber,
 ) -> Result<StoreIterator<'a, E, C, FP, K, StoreView<'a, C>>>
     ensures made { let walk = ⟦<StoreView<'a, C> as Walk<E, ReadTables<'a, E, C, FP, K>>>⟧ in
-        IfOk result (IsMadeOver E.Env C.Cmp FP.FilterPolicy K.codings walk store.now policy
-        compressors.now env.entry tables.old sequence) }
+        IfOk result (IsMadeOver ⟦<InternalKeyCmp<C> as Cmp>⟧ E.Env C.Cmp FP.FilterPolicy K.codings
+        walk store.now policy compressors.now env.entry tables.old sequence) }
     ensures cause { IfErr result IsOutOfMemory }
 {
     let view = store.view::<FP, K>(sequence)?;

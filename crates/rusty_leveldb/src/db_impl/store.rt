@@ -217,8 +217,8 @@ impl<'e, E: Env, C: UserCmp + Copy, FP: FilterPolicy + Copy> Store<'e, E, Engine
     pub fn new_iter<'a>(&'a mut self) -> Result<DBIterator<'a, E, C, FP>>
         ensures { let codings = ⟦<CompressorList as Compressors>⟧.codings in
             let walk = ⟦<StoreView<'a, C> as Walk<E, StoreTables<'a, E, C, FP>>>⟧ in
-            EngineIterates E.Env C.Cmp FP.FilterPolicy codings walk self.old.state
-            self.old.env.now None result }
+            EngineIterates ⟦<InternalKeyCmp<C> as Cmp>⟧ E.Env C.Cmp FP.FilterPolicy codings walk
+            self.old.state self.old.env.now None result }
     {
         let Store { env, state } = self;
         state.new_iter(&mut **env)
@@ -229,8 +229,8 @@ impl<'e, E: Env, C: UserCmp + Copy, FP: FilterPolicy + Copy> Store<'e, E, Engine
     pub fn new_iter_at<'a>(&'a mut self, snapshot: &Snapshot) -> Result<DBIterator<'a, E, C, FP>>
         ensures { let codings = ⟦<CompressorList as Compressors>⟧.codings in
             let walk = ⟦<StoreView<'a, C> as Walk<E, StoreTables<'a, E, C, FP>>>⟧ in
-            EngineIterates E.Env C.Cmp FP.FilterPolicy codings walk self.old.state
-            self.old.env.now (Some (snapshot_of snapshot.now)) result }
+            EngineIterates ⟦<InternalKeyCmp<C> as Cmp>⟧ E.Env C.Cmp FP.FilterPolicy codings walk
+            self.old.state self.old.env.now (Some (snapshot_of snapshot.now)) result }
     {
         let snapshot = *snapshot;
         let Store { env, state } = self;
@@ -254,8 +254,8 @@ impl<'e, E: Env, C: UserCmp + Copy, FP: FilterPolicy + Copy> Store<'e, E, Engine
     pub fn abandon(self) -> Result<()>
         ensures { let formats = format_of C.Cmp FP.FilterPolicy
             ⟦<CompressorList as Compressors>⟧.codings in
-            EngineAbandons E.Env formats self.entry.state self.entry.env.now result
-            self.exit.0.now }
+            EngineAbandons ⟦<InternalKeyCmp<C> as Cmp>⟧ E.Env formats self.entry.state
+            self.entry.env.now result self.exit.0.now }
     {
         let Store { env, state } = self;
         state.abandon(env)

@@ -74,8 +74,9 @@ pub(super) fn answer<E: Env, C: UserCmp + Copy, FP: FilterPolicy + Copy>(
 ) -> Reply
     ensures step { let formats = format_of C.Cmp FP.FilterPolicy
         ⟦<CompressorList as Compressors>⟧.codings in
-        AnswersCommand E.Env formats engine.old env.old (map snapshot_of taken.old.items)
-        command.now result engine.new env.new (map snapshot_of taken.new.items) }
+        AnswersCommand ⟦<InternalKeyCmp<C> as Cmp>⟧ E.Env formats engine.old env.old
+        (map snapshot_of taken.old.items) command.now result engine.new env.new
+        (map snapshot_of taken.new.items) }
     ensures later { E.failures env.old ≤ E.failures env.new }
     ensures time { TimeGoesOn E.Env env.old env.new }
 {
@@ -130,7 +131,7 @@ fn write<E: Env, C: UserCmp + Copy, FP: FilterPolicy + Copy>(
 ) -> Result<()>
     ensures step { let formats = format_of C.Cmp FP.FilterPolicy
         ⟦<CompressorList as Compressors>⟧.codings in
-        Answers E.Env formats (Some engine.old) env.old
+        Answers ⟦<InternalKeyCmp<C> as Cmp>⟧ E.Env formats (Some engine.old) env.old
         (machine.write (map change_of items.now) sync) (done_or result) (Some engine.new) env.new }
     ensures later { E.failures env.old ≤ E.failures env.new }
     ensures time { TimeGoesOn E.Env env.old env.new }

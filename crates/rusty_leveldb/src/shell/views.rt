@@ -12,7 +12,7 @@ ghost use Rattle.rusty_leveldb.specs.Walks.{walk_of};
 
 use crate::db_impl::Engine;
 use bytes::Bytes;
-use leveldb_base::cmp::UserCmp;
+use leveldb_base::cmp::{Cmp, InternalKeyCmp, UserCmp};
 use leveldb_base::error::Result;
 use leveldb_env::compressor::{CompressorList, Compressors};
 use leveldb_env::env::Env;
@@ -30,12 +30,14 @@ pub(super) fn take<E: Env, C: UserCmp + Copy, FP: FilterPolicy + Copy>(
         ⟦<CompressorList as Compressors>⟧.codings in
         IfOk result (λ number. (number ≡ length taken.old.items) × (one : machine.Snapshot)
         × (map snapshot_of taken.new.items ≡ map snapshot_of taken.old.items ++ one ∷ [])
-        × ((at : E) → Answers E.Env formats (Some engine.old) at machine.get_snapshot
+        × ((at : E) → Answers ⟦<InternalKeyCmp<C> as Cmp>⟧ E.Env formats (Some engine.old) at
+        machine.get_snapshot
         (machine.snapshot one) (Some engine.new) at)) }
     ensures err { let formats = format_of C.Cmp FP.FilterPolicy
         ⟦<CompressorList as Compressors>⟧.codings in
         IfErr result (λ status. (taken.new.items ≡ taken.old.items)
-        × ((at : E) → Answers E.Env formats (Some engine.old) at machine.get_snapshot
+        × ((at : E) → Answers ⟦<InternalKeyCmp<C> as Cmp>⟧ E.Env formats (Some engine.old) at
+        machine.get_snapshot
         (machine.refused (refusal_of status)) (Some engine.new) at)) }
 {
     engine.check_not_closed()?;
@@ -63,7 +65,7 @@ pub(super) fn get_at<E: Env, C: UserCmp + Copy, FP: FilterPolicy + Copy>(
 ) -> Result<Option<Bytes>>
     ensures step { let formats = format_of C.Cmp FP.FilterPolicy
         ⟦<CompressorList as Compressors>⟧.codings in
-        Answers E.Env formats (Some engine.old) env.old
+        Answers ⟦<InternalKeyCmp<C> as Cmp>⟧ E.Env formats (Some engine.old) env.old
         (machine.get (Some (snapshot_named (map snapshot_of taken.now) number)) key.now)
         (found_or result) (Some engine.new) env.new }
     ensures later { E.failures env.old ≤ E.failures env.new }
@@ -83,7 +85,7 @@ pub(super) fn release<E: Env, C: UserCmp + Copy, FP: FilterPolicy + Copy>(
 ) -> Result<()>
     ensures { let formats = format_of C.Cmp FP.FilterPolicy
         ⟦<CompressorList as Compressors>⟧.codings in
-        (at : E) → Answers E.Env formats (Some engine.old) at
+        (at : E) → Answers ⟦<InternalKeyCmp<C> as Cmp>⟧ E.Env formats (Some engine.old) at
         (machine.release_snapshot (snapshot_named (map snapshot_of taken.now) number))
         (done_or result) (Some engine.new) at }
 {
@@ -104,7 +106,7 @@ pub(super) fn walk<E: Env, C: UserCmp + Copy, FP: FilterPolicy + Copy>(
 ) -> Result<Vec<Step>>
     ensures step { let formats = format_of C.Cmp FP.FilterPolicy
         ⟦<CompressorList as Compressors>⟧.codings in
-        Answers E.Env formats (Some engine.old) env.old
+        Answers ⟦<InternalKeyCmp<C> as Cmp>⟧ E.Env formats (Some engine.old) env.old
         (walk_of (option_map (snapshot_named (map snapshot_of taken.now)) at) moves.now)
         (steps_or result) (Some engine.new) env.new }
     ensures later { E.failures env.old ≤ E.failures env.new }
@@ -129,7 +131,7 @@ fn walk_over<E: Env, C: UserCmp + Copy, FP: FilterPolicy + Copy>(
 ) -> Result<Vec<Step>>
     ensures step { let formats = format_of C.Cmp FP.FilterPolicy
         ⟦<CompressorList as Compressors>⟧.codings in
-        Answers E.Env formats (Some engine.old) env.old
+        Answers ⟦<InternalKeyCmp<C> as Cmp>⟧ E.Env formats (Some engine.old) env.old
         (walk_of (option_map snapshot_of at) moves.now) (steps_or result) (Some engine.new)
         env.new }
     ensures later { E.failures env.old ≤ E.failures env.new }

@@ -12,5 +12,5 @@ returns-clause-disk g c = KeepsDisk-trans g.E.Env (KeepsDisk-call g.E.Env c.open
 pub returns-clause-open : goal.returns-clause-open
 returns-clause-open g c =
     let options = c.args.options.now in
-    opens_so g.E.Env ((compressors g.dyn-2).codings options.compressor_list) options.cmp options.filter_policy (g.FP.FilterPolicy.name options.filter_policy) c.args.name.now c.args.size c.args.cache.now c.open.new.cache c.open.result
+    opens_so g.E.Env g.C.Cmp ((compressors g.dyn-2).codings options.compressor_list) options.cmp options.filter_policy (g.FP.FilterPolicy.name options.filter_policy) c.args.name.now c.args.size c.args.cache.now c.open.new.cache c.open.result
     c.in_ok-file.ensures.does c.in_ok-file.ensures.file c.open.ensures

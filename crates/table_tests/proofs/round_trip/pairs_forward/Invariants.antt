@@ -10,9 +10,9 @@ abbrev pub invariant-loop-step : goal.invariant-loop-step
 invariant-loop-step g l = record {
   table : l.it.table.now ≡ l.initial.it.table.now;
   passed : (bytes : List ℕ) (parts : List Part)
-      → IsWalkingAt g.E.Env ((compressors g.dyn-1).codings l.compressors) (g.C.Cmp.accepts l.initial.it.table.now.cmp) (g.C.Cmp.cmp l.initial.it.table.now.cmp) l.initial.it.table.now.id l.initial.it.table.now.file bytes parts
+      → IsWalkingAt g.E.Env g.C.Cmp ((compressors g.dyn-1).codings l.compressors) (g.C.Cmp.accepts l.initial.it.table.now.cmp) (g.C.Cmp.cmp l.initial.it.table.now.cmp) l.initial.it.table.now.id l.initial.it.table.now.file bytes parts
       l.initial.it.env.now l.initial.it.cache.now l.initial.it.core (position_within (pairs_in parts) 0)
       → (l.passed.items ≡ take (length l.passed.items) (pairs_in parts))
-      × IsWalkingAt g.E.Env ((compressors g.dyn-1).codings l.compressors) (g.C.Cmp.accepts l.initial.it.table.now.cmp) (g.C.Cmp.cmp l.initial.it.table.now.cmp) l.initial.it.table.now.id l.initial.it.table.now.file bytes parts
+      × IsWalkingAt g.E.Env g.C.Cmp ((compressors g.dyn-1).codings l.compressors) (g.C.Cmp.accepts l.initial.it.table.now.cmp) (g.C.Cmp.cmp l.initial.it.table.now.cmp) l.initial.it.table.now.id l.initial.it.table.now.file bytes parts
       l.it.env.now l.it.cache.now l.it.core (position_within (pairs_in parts) (length l.passed.items));
 }

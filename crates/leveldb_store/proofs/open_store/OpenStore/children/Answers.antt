@@ -5,7 +5,6 @@ use Rattle.leveldb_base.specs.Entries.{internal_pair}
 use Rattle.leveldb_base.specs.History.{AreRising, AreUpTo, Entry}
 use Rattle.leveldb_base.specs.KeyTypes.{greatest_sequence, internal_cmp}
 use Rattle.leveldb_base.specs.declared.cmp.Cmp.{Ghosts as CmpGhosts}
-use Rattle.leveldb_base.specs.declared.cmp.internal.InternalKeyCmp.{InternalKeyCmp}
 use Rattle.leveldb_base.specs.declared.types.LdbIterator.{Ghosts as IteratorGhosts}
 use Rattle.leveldb_iter.specs.declared.unlent.Unlent.{Unlent}
 use Rattle.leveldb_mem.specs.MemTable.{Kept, MemTableState}
@@ -31,8 +30,8 @@ over_memtable iterator cmp it own order entries same pairs order_is sorted numbe
 })
 
 -- the walks over what is in memory and those over tables
-children_are : {C M : Type 0} {keys : CmpGhosts (InternalKeyCmp C)} (iterator : IteratorGhosts M) (cmp : List ℕ → List ℕ → Ordering) (value : OpenStoreValue C)
-    (recent : Unlent M) (waits : List (Unlent M)) (iters : List (VersionIter C keys)) (before children : List (StoreWalk C M keys))
+children_are : {C M : Type 0} (iterator : IteratorGhosts M) (cmp : List ℕ → List ℕ → Ordering) (value : OpenStoreValue C)
+    (recent : Unlent M) (waits : List (Unlent M)) (iters : List (VersionIter C)) (before children : List (StoreWalk C M))
     → IsOverMemory iterator cmp recent value.recent.entries → Each (IsOverMemory iterator cmp) waits (waiting_layers value.waiting) → AreVersionIters value.current iters
     → before ≡ Memory recent ∷ map Memory waits → children ≡ before ++ map Tables iters → AreChildrenOf iterator cmp value children
 children_are iterator cmp value recent waits iters before children over_recent over_waits over_tables begin is = record {
@@ -47,8 +46,8 @@ waits_none : {M : Type 0} (iterator : IteratorGhosts M) (cmp : List ℕ → List
 waits_none iterator cmp None is = tt
 waits_none iterator cmp (Some kept) is = absurd cc
 
-children_alone : {C M : Type 0} {keys : CmpGhosts (InternalKeyCmp C)} (iterator : IteratorGhosts M) (cmp : List ℕ → List ℕ → Ordering) (value : OpenStoreValue C)
-    (recent : Unlent M) (iters : List (VersionIter C keys)) (before children : List (StoreWalk C M keys))
+children_alone : {C M : Type 0} (iterator : IteratorGhosts M) (cmp : List ℕ → List ℕ → Ordering) (value : OpenStoreValue C)
+    (recent : Unlent M) (iters : List (VersionIter C)) (before children : List (StoreWalk C M))
     → IsOverMemory iterator cmp recent value.recent.entries → value.waiting ≡ None → AreVersionIters value.current iters
     → before ≡ Memory recent ∷ [] → children ≡ before ++ map Tables iters → AreChildrenOf iterator cmp value children
 children_alone iterator cmp value recent iters before children over_recent none =

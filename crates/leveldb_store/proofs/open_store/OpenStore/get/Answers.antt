@@ -8,14 +8,14 @@ use Rattle.leveldb_store.proofs.open_store.OpenStore.get.Goals as goal
 
 pub returns-in-Some : goal.returns-in-Some
 returns-in-Some g c =
-    got_in_memory g.E.Env _ c.args.self.now c.args.env.now c.args.tables.now c.args.sequence c.args.key.now (option_copied c.in-Some.value) (λ older. c.in-Some.ensures older) c.copied.result c.copied.ensures.ok c.copied.ensures.memory
+    got_in_memory _ g.E.Env _ c.args.self.now c.args.env.now c.args.tables.now c.args.sequence c.args.key.now (option_copied c.in-Some.value) (λ older. c.in-Some.ensures older) c.copied.result c.copied.ensures.ok c.copied.ensures.memory
 
 pub returns-in_err-found : goal.returns-in_err-found
 returns-in_err-found g c =
     let failed = err_from_is_err_and c.from_residual.result c.from_residual.ensures.1 in
     let search = c.in_err-found.ensures in
     rw (failed.1, failed.2)
-    (got_in_tables g.E.Env _ c.args.self.now c.args.env.now c.args.tables.now c.args.sequence c.args.key.now search.current search.given (rw (← c.requires) at search.levels.apart) (λ older. c.in_default.ensures older) _ search.searches)
+    (got_in_tables _ g.E.Env _ c.args.self.now c.args.env.now c.args.tables.now c.args.sequence c.args.key.now search.current search.given (rw (← c.requires) at search.levels.apart) (λ older. c.in_default.ensures older) _ search.searches)
 
 pub invariant_of-self : goal.invariant_of-self
 invariant_of-self g c =
@@ -32,4 +32,4 @@ returns g c =
     let charged_is = ap (λ p. p.0) c.update_stats.ensures ∙ ap (λ v. (charged v.current file).0) c.self.view_is in
     let new = ap (λ (v : OpenStoreValue g.row.C.Denot). record v { current = c.update_stats.new.self }) c.self.view_is ∙ ap (λ (v : VersionValue g.row.C.Denot). record old { current = v }) charged_is in
     rw (c.unwrap_or.ensures, new)
-    (got_in_tables g.E.Env _ old c.args.env.now c.args.tables.now c.args.sequence c.args.key.now search.current search.given (rw (← c.requires) at search.levels.apart) (λ older. c.in_default.ensures older) _ search.searches)
+    (got_in_tables _ g.E.Env _ old c.args.env.now c.args.tables.now c.args.sequence c.args.key.now search.current search.given (rw (← c.requires) at search.levels.apart) (λ older. c.in_default.ensures older) _ search.searches)

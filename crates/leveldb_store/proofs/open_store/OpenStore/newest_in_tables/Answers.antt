@@ -9,7 +9,7 @@ use Rattle.leveldb_store.proofs.open_store.OpenStore.newest_in_tables.Goals as g
 pub returns-in_err-sought-clause-searches : goal.returns-in_err-sought-clause-searches
 returns-in_err-sought-clause-searches g c =
     let failed = err_from_is_err_and c.from_residual.result c.from_residual.ensures.1 in
-    rw failed.1 (not_searched g.E.Env _ c.args.self.now c.args.env.now c.args.tables.now c.args.sequence c.args.key.now _ (rw failed.2 c.in_err-sought.ensures.cause))
+    rw failed.1 (not_searched _ g.E.Env _ c.args.self.now c.args.env.now c.args.tables.now c.args.sequence c.args.key.now _ (rw failed.2 c.in_err-sought.ensures.cause))
 
 pub returns-clause-searches : goal.returns-clause-searches
 returns-clause-searches g c =

@@ -8,7 +8,8 @@ pub loop-left-preserved-then-is_lt : goal.loop-left-preserved-then-is_lt
 loop-left-preserved-then-is_lt g c = (
   omega arith,
   c.loop-left.invariant.1,
-  starts_by (g.met.C.Cmp.preorder c.args.self.now.cmp) c.if-not-self.false c.args.self.now.entries.1 c.args.key.now (sym c.accepts.ensures ∙ c.if-not-accepts.false)
-      (get_or (restart_points c.args.self.now.entries.0) (c.loop-left.right - (c.loop-left.right - c.loop-left.left) / 2) 0) c.point_key.result.now c.point_key.ensures
-      (sym (c.is_lt.ensures ∙ ap is_lt c.cmp.ensures) ∙ c.if-is_lt.true),
+  rw (← c.self.view_is) (starts_by (g.met.C.Cmp.preorder c.self.inside.cmp) c.if-not-self.false c.self.inside.entries.1 c.args.key.now (sym c.accepts.ensures ∙ c.if-not-accepts.false)
+      (get_or (restart_points c.self.inside.entries.0) (c.loop-left.right - (c.loop-left.right - c.loop-left.left) / 2) 0) c.point_key.result.now
+      (rw (← c.self.view_is) at c.point_key.ensures)
+      (sym (c.is_lt.ensures ∙ ap is_lt c.cmp.ensures) ∙ c.if-is_lt.true)),
 )

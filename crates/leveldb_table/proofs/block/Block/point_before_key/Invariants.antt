@@ -5,8 +5,8 @@ use Rattle.leveldb_table.proofs.block.Block.point_before_key.Given as goal
 
 abbrev pub invariant-loop-left : goal.invariant-loop-left
 invariant-loop-left g l =
-    (l.left ≤ l.right) × (l.right < length (restart_points l.self.entries.0))
-    × CanSeekFrom (g.C.Cmp.cmp l.self.cmp) l.self.entries.0 l.key (get_or (restart_points l.self.entries.0) l.left 0)
+    (l.left ≤ l.right) × (l.right < length (restart_points l.self.entries))
+    × CanSeekFrom (g.C.Cmp.cmp l.self.cmp) l.self.entries l.key (get_or (restart_points l.self.entries) l.left 0)
 
 abbrev pub decreases-loop-left : goal.decreases-loop-left
 decreases-loop-left g l = l.right - l.left

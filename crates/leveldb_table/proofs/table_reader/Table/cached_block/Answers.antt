@@ -7,16 +7,17 @@ use Rattle.leveldb_table.proofs.table_reader.Table.cached_block.Goals as goal
 
 pub returns-clause-cache : goal.returns-clause-cache
 returns-clause-cache g c =
-    c.get.follows.holds-at-none ∙ ap (λ key. after_look_up key c.args.cache.now) (c.cache_key.ensures ∙ ap (cache_key c.args.self.now.id) c.offset.ensures)
+    c.get.follows.holds-at-none ∙ ap (λ key. after_look_up key c.args.cache.now) (c.cache_key.ensures ∙ ap (cache_key c.self.inside.id) c.offset.ensures)
+    ∙ ap (λ table. after_look_up (cache_key table.id c.args.handle.offset) c.args.cache.now) c.self.view_is
 
 pub returns-clause-ok : goal.returns-clause-ok
 returns-clause-ok g c =
-    let key_is = c.cache_key.ensures ∙ ap (cache_key c.args.self.now.id) c.offset.ensures in
-    record {
+    let key_is = c.cache_key.ensures ∙ ap (cache_key c.self.inside.id) c.offset.ensures in
+    rw (← c.self.view_is) (record {
       held = c.in-Some.held.now;
       found = ap (λ key. value_of key c.args.cache.now.pairs) (sym key_is) ∙ sym c.get.ensures.value ∙ ap option_copied c.in-Some.is;
       fits = omega (arith, c.offset.ensures);
       size = sym c.size.ensures ∙ c.if-size.false ∙ c.size-2.ensures;
-      contents = c.in_ok-clone.ensures.cases.0;
-      ordered = c.in_ok-clone.ensures.cases.1;
-    }
+      contents = ap (λ block. block.contents) c.in_ok-clone.ensures.cases.0;
+      ordered = ap (λ block. block.cmp) c.in_ok-clone.ensures.cases.0;
+    })

@@ -32,7 +32,7 @@ returns-in_err-seek_let g c =
       λ bytes has. (
         λ parts lines ordered right fit holds. (lacks.1 bytes has).0 parts (let_position (g.C.Cmp.cmp c.args.self.now.cmp) passes c.args.key.now parts) right (fit, refl) holds
             (record { lines = made.lines ∙ lines; ordered = ap g.C.Cmp.cmp made.ordered ∙ ordered }),
-        λ holds. looked_along ((TheImpl.ghosts g.dyn-1).codings c.args.compressors.now) (g.C.Cmp.cmp c.args.self.now.cmp) bytes passes c.args.key.now c.in_ok-core.core (Err status) made.lines (ap g.C.Cmp.cmp made.ordered) ((lacks.1 bytes has).1 holds),
+        λ holds. looked_along g.C.Cmp ((TheImpl.ghosts g.dyn-1).codings c.args.compressors.now) (g.C.Cmp.cmp c.args.self.now.cmp) bytes passes c.args.key.now c.in_ok-core.core (Err status) made.lines (ap g.C.Cmp.cmp made.ordered) ((lacks.1 bytes has).1 holds),
       ),
     )) c.in_err-seek_let.ensures.enters.reads))
     c.in_err-seek_let.ensures.enters.gathers
@@ -54,7 +54,7 @@ returns g c =
           (record { lines = made.lines ∙ lines; ordered = ap g.C.Cmp.cmp made.ordered ∙ ordered }))) is;
       finds = λ bytes has holds. ok_says found (λ pair same. record {
         position = table_position core;
-        look_up = looked_along ((TheImpl.ghosts g.dyn-1).codings c.args.compressors.now) (g.C.Cmp.cmp c.args.self.now.cmp) bytes passes c.args.key.now c.in_ok-core.core (Ok (table_position core)) made.lines (ap g.C.Cmp.cmp made.ordered) (enters.steps bytes has holds);
+        look_up = looked_along g.C.Cmp ((TheImpl.ghosts g.dyn-1).codings c.args.compressors.now) (g.C.Cmp.cmp c.args.self.now.cmp) bytes passes c.args.key.now c.in_ok-core.core (Ok (table_position core)) made.lines (ap g.C.Cmp.cmp made.ordered) (enters.steps bytes has holds);
         is = same;
       }) is;
       gathers = enters.gathers;

@@ -33,8 +33,8 @@ returns-in_err-filters g c =
     opens_err _ c.from_residual-in_err-filters.result c.from_residual-in_err-filters.ensures.1
     (reads_then g.E.Env c.from_residual-in_err-filters.result kept_disk (metas.reads.cause.ok ∙ read.reads.cause.ok)
     (λ status why. inr (lacks_damaged g.E.Env ((TheImpl.ghosts g.dyn-1).codings c.args.compressors.now) kept_disk _ {Whole = IsNoTable ((TheImpl.ghosts g.dyn-1).codings c.args.compressors.now) (g.C.Cmp.cmp c.args.cmp) (filter_key (g.FP.FilterPolicy.name c.args.policy)) c.args.size} (λ bytes status has none code.
-    let part = no_filters _ _ (read.ok bytes has).footer c.in_ok-metas.metas.contents (pairs_of None block.0) (metas.ok bytes (FileHas-after g.E.Env read.reads.kept_disk has))
-    (record { entries = block.0; encoded = block.1.encoded; pairs_are = refl }) none code in (opens_not part, part)) status why))
+    let part = no_filters _ _ (read.ok bytes has).footer c.in_ok-metas.metas.contents (pairs_of None block) (metas.ok bytes (FileHas-after g.E.Env read.reads.kept_disk has))
+    (record { entries = block; encoded = metas.encoded; pairs_are = refl }) none code in (opens_not part, part)) status why))
     (reads_refused g.E.Env c.from_residual-in_err-filters.result c.from_residual-in_err-filters.ensures.1 c.in_err-filters.ensures.reads)) refl
 
 pub returns-in_err-id : goal.returns-in_err-id
@@ -60,9 +60,9 @@ returns g c =
       ok = λ bytes has. record {
         indexed = read.ok bytes has;
         meta_text = c.in_ok-metas.metas.contents;
-        metas = pairs_of None meta.0;
+        metas = pairs_of None meta;
         meta_is_there = metas.ok bytes (FileHas-after g.E.Env read.reads.kept_disk has);
-        meta_block = record { entries = meta.0; encoded = meta.1.encoded; pairs_are = refl };
+        meta_block = record { entries = meta; encoded = metas.encoded; pairs_are = refl };
         filtered = filters.ok bytes (FileHas-after g.E.Env kept_disk has);
       };
       file = refl;

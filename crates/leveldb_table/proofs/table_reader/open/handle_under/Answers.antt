@@ -23,8 +23,8 @@ pub returns-in_err-whole_handle-in-Some-clause-cause : goal.returns-in_err-whole
 returns-in_err-whole_handle-in-Some-clause-cause c =
     let key = c.args.key.now in
     let name = c.in-Some.name.now in
-    let lent = ap (λ b. pairs_of None b.entries.0) c.iter-lines.ensures.block in
-    let there = value_there_is key c.args.metas.now.entries.1.encoded.sorted c.in_ok-seek.ensures.keeps.same_pairs lent c.in_ok-seek.ensures.ok c.in-Some.ensures in
+    let lent = ap (λ b. pairs_of None b.entries) c.iter-lines.ensures.block in
+    let there = value_there_is key c.iter-lines.ensures.encoded.sorted c.in_ok-seek.ensures.keeps.same_pairs lent c.in_ok-seek.ensures.ok c.in-Some.ensures in
     let same = (bytes_eq-Decides name key).0 (sym c.eq.ensures ∙ c.if-eq.true) in
     let p = err_from_is_err_and c.from_residual-in_err-whole_handle-in-Some.result c.from_residual-in_err-whole_handle-in-Some.ensures.1 in
     let damage = c.in_err-whole_handle-in-Some.ensures.err in
@@ -34,18 +34,18 @@ pub returns-in-Some-clause-ok : goal.returns-in-Some-clause-ok
 returns-in-Some-clause-ok c =
     let key = c.args.key.now in
     let name = c.in-Some.name.now in
-    let lent = ap (λ b. pairs_of None b.entries.0) c.iter-lines.ensures.block in
-    let there = value_there_is key c.args.metas.now.entries.1.encoded.sorted c.in_ok-seek.ensures.keeps.same_pairs lent c.in_ok-seek.ensures.ok c.in-Some.ensures in
+    let lent = ap (λ b. pairs_of None b.entries) c.iter-lines.ensures.block in
+    let there = value_there_is key c.iter-lines.ensures.encoded.sorted c.in_ok-seek.ensures.keeps.same_pairs lent c.in_ok-seek.ensures.ok c.in-Some.ensures in
     let same = (bytes_eq-Decides name key).0 (sym c.eq.ensures ∙ c.if-eq.true) in
     subst (λ value. GivesHandle value (Some c.in_ok-whole_handle-in-Some.field-0)) (sym (there ∙ value_here key (Some (name, c.in-Some.value.now)) name c.in-Some.value.now refl same)) c.in_ok-whole_handle-in-Some.ensures.ok
 
 pub returns-clause-ok : goal.returns-clause-ok
 returns-clause-ok c =
     let key = c.args.key.now in
-    let lent = ap (λ b. pairs_of None b.entries.0) c.iter-lines.ensures.block in
-    let rise = c.args.metas.now.entries.1.encoded.sorted in
+    let lent = ap (λ b. pairs_of None b.entries) c.iter-lines.ensures.block in
+    let rise = c.iter-lines.ensures.encoded.sorted in
     let seek = c.in_ok-seek.ensures in
-    let none : lookup (bytes_eq key) (pairs_of None c.args.metas.now.entries.0) ≡ None = elim c.in_default.branch [
+    let none : lookup (bytes_eq key) (pairs_of None c.args.metas.now.entries) ≡ None = elim c.in_default.branch [
       | in_default-via-in-Some+else-eq w ↦
           let other = λ (same : w.in-Some.name.now ≡ key). true≢false (sym ((bytes_eq-Decides w.in-Some.name.now key).1 same) ∙ sym w.eq.ensures ∙ w.if-eq.false) in
           value_there_is key rise seek.keeps.same_pairs lent seek.ok w.in-Some.ensures ∙ value_other key (Some (w.in-Some.name.now, w.in-Some.value.now)) w.in-Some.name.now w.in-Some.value.now refl other

@@ -1,4 +1,4 @@
-use Rattle.std.proofs.Common.{refl, ◌∙◌, ap}
+use Rattle.std.proofs.Common.{refl, ap}
 use Rattle.leveldb_env.specs.contracts.compressor.CompressorListCompressors.TheImpl
 use Rattle.leveldb_table.specs.TableReader.{no_footer, no_index}
 use Rattle.leveldb_table.proofs.TableBlockLemmas.{KeepsDisk-refl, FileHas-after, reads_then, reads_weaker, reads_refused}
@@ -28,5 +28,5 @@ returns-clause-ok g c = λ bytes has.
       footer = read.ok bytes has;
       index_text = c.in_ok-index.index.contents;
       index_is_there = lines.ok bytes (FileHas-after g.E.Env read.reads.kept_disk has);
-      index_block = record { entries = index.0; encoded = rw (ap g.C.Cmp.cmp lines.order) at index.1.encoded; pairs_are = refl };
+      index_block = record { entries = index; encoded = rw (ap g.C.Cmp.cmp lines.order) at lines.encoded; pairs_are = refl };
     }

@@ -5,5 +5,5 @@ use Rattle.leveldb_version.proofs.store_walk.StoreWalkWalkReadTables.reset.Goals
 
 pub returns-in-Tables : goal.returns-in-Tables
 returns-in-Tables g c =
-    tables_resets g.E.Env g.C.Cmp g.FP.FilterPolicy g.K.Compressors.codings g.M.LdbIterator c.in-Tables.walk c.leave.new.self
-    (walk_resets g.E.Env g.C.Cmp g.FP.FilterPolicy g.K.Compressors.codings c.in-Tables.walk c.leave.new.self c.leave.ensures.core c.leave.ensures.at (ap (λ f. f.now) c.leave.ensures.files)) c.args.self.now c.in-Tables.is
+    tables_resets _ g.E.Env g.C.Cmp g.FP.FilterPolicy g.K.Compressors.codings g.M.LdbIterator c.in-Tables.walk c.leave.new.self
+    (walk_resets _ g.E.Env g.C.Cmp g.FP.FilterPolicy g.K.Compressors.codings c.in-Tables.walk c.leave.new.self c.leave.ensures.core c.leave.ensures.at (ap (λ f. f.now) c.leave.ensures.files)) c.args.self.now c.in-Tables.is

@@ -28,7 +28,7 @@ loop-file-init g c =
     let version = c.args.self.now in
     let all = c.new-files.ensures ∙ ap (map new_file_of) (c.as_slice.ensures.value ∙ ap (λ (v : VersionValue g.row.C.Denot). v.files) c.self.view_is) in
     let sorted = subst (λ (v : VersionValue g.row.C.Denot). AreInVersionOrder (g.C.Cmp.cmp v.cmp) (new_files_of v)) c.self.view_is c.self.invariant.0 in
-    not_begun g.E.Env by c.args.key.now c.args.env.now c.args.tables.now version (files_left c.new-files.result) all
+    not_begun _ g.E.Env by c.args.key.now c.args.env.now c.args.tables.now version (files_left c.new-files.result) all
     (subst (λ (order : List ℕ → List ℕ → Ordering). AreInVersionOrder order (new_files_of version)) (sym c.requires.order) sorted)
 
 pub returns-in_err-found : goal.returns-in_err-found
@@ -46,7 +46,7 @@ returns-in_err-found g c =
     let sizes = subst (λ (v : VersionValue g.row.C.Denot). (one : NewFile) → Contains (new_files_of v) one → one.size < 2 ^ 64) c.self.view_is
     (sizes_are (λ size. size < 2 ^ 64) c.self.inside.files.items c.self.invariant.1) in
     let fits : c.in-Some.file.now.1.num < 2 ^ 64 = omega arith in
-    stops_unread g.E.Env by c.args.key.now c.args.env.now c.args.tables.now c.args.self.now c.loop-file.invariant takes fits exact refl c.requires.tagged sizes
+    stops_unread _ g.E.Env by c.args.key.now c.args.env.now c.args.tables.now c.args.self.now c.loop-file.invariant takes fits exact refl c.requires.tagged sizes
     c.in_err-found.field-0.0 c.from_residual.result c.from_residual.ensures.1 c.in_err-found.ensures
 
 pub returns-then-is_some : goal.returns-then-is_some
@@ -64,7 +64,7 @@ returns-then-is_some g c =
     let sizes = subst (λ (v : VersionValue g.row.C.Denot). (one : NewFile) → Contains (new_files_of v) one → one.size < 2 ^ 64) c.self.view_is
     (sizes_are (λ size. size < 2 ^ 64) c.self.inside.files.items c.self.invariant.1) in
     let fits : c.in-Some.file.now.1.num < 2 ^ 64 = omega arith in
-    stops_with g.E.Env by c.args.key.now c.args.env.now c.args.tables.now c.args.self.now c.loop-file.invariant takes fits exact refl c.requires.tagged sizes
+    stops_with _ g.E.Env by c.args.key.now c.args.env.now c.args.tables.now c.args.self.now c.loop-file.invariant takes fits exact refl c.requires.tagged sizes
     c.in_ok-found.found (sym c.is_some.ensures ∙ c.if-is_some.true) (record { file = c.loop-file.first }) refl c.in_ok-found.ensures
 
 pub loop-file-smaller : goal.loop-file-smaller
@@ -82,7 +82,7 @@ loop-file-preserved g c =
     let takes = subst (λ (key : List ℕ). TakesNextFile (g.C.Cmp.cmp cmp) key left (Some file) after) c.user_key.ensures
     (subst (λ (order : List ℕ → List ℕ → Ordering). TakesNextFile order c.user_key.result.now left (Some file) after) same c.in-Some.ensures) in
     let fits : c.in-Some.file.now.1.num < 2 ^ 64 = omega arith in
-    goes_on_without g.E.Env by c.args.key.now c.args.env.now c.args.tables.now c.args.self.now c.loop-file.invariant takes fits
+    goes_on_without _ g.E.Env by c.args.key.now c.args.env.now c.args.tables.now c.args.self.now c.loop-file.invariant takes fits
     c.in_ok-found.found (sym c.is_some.ensures ∙ c.if-is_some.false) c.or-first.result c.or-first.ensures c.in_ok-found.ensures
 
 pub returns : goal.returns
@@ -98,4 +98,4 @@ returns g c =
     (subst (λ (order : List ℕ → List ℕ → Ordering). TakesNextFile order c.user_key.result.now left None after) same c.in_default.ensures) in
     let sizes = subst (λ (v : VersionValue g.row.C.Denot). (one : NewFile) → Contains (new_files_of v) one → one.size < 2 ^ 64) c.self.view_is
     (sizes_are (λ size. size < 2 ^ 64) c.self.inside.files.items c.self.invariant.1) in
-    ends_there g.E.Env by c.args.key.now c.args.env.now c.args.tables.now c.args.self.now c.loop-file.invariant exact refl c.requires.tagged sizes takes c.loop-file.stats refl
+    ends_there _ g.E.Env by c.args.key.now c.args.env.now c.args.tables.now c.args.self.now c.loop-file.invariant exact refl c.requires.tagged sizes takes c.loop-file.stats refl

@@ -6,29 +6,29 @@ use Rattle.leveldb_version.proofs.version_iter.VersionIterWalkReadTables.advance
 
 pub returns-then-not-is_at_pair-clause-moves : goal.returns-then-not-is_at_pair-clause-moves
 returns-then-not-is_at_pair-clause-moves g c =
-    walk_begins g.E.Env g.C.Cmp g.FP.FilterPolicy g.K.Compressors.codings (c.args.env.now, c.args.tables.now) c.args.self.now c.to_file.result (c.to_file.new.env, c.to_file.new.tables) c.to_file.new.self (no_some _ (sym c.if-not-is_at_pair.true ∙ c.is_at_pair.ensures)) c.to_file.ensures
+    walk_begins _ g.E.Env g.C.Cmp g.FP.FilterPolicy g.K.Compressors.codings (c.args.env.now, c.args.tables.now) c.args.self.now c.to_file.result (c.to_file.new.env, c.to_file.new.tables) c.to_file.new.self (no_some _ (sym c.if-not-is_at_pair.true ∙ c.is_at_pair.ensures)) c.to_file.ensures
 
 pub returns-in_err-next_inside-clause-moves : goal.returns-in_err-next_inside-clause-moves
 returns-in_err-next_inside-clause-moves g c =
-    walk_refused g.E.Env g.C.Cmp g.FP.FilterPolicy g.K.Compressors.codings _ _ (c.args.env.now, c.args.tables.now) c.args.self.now c.from_residual.result (c.args.env.now, c.args.tables.now) (record c.args.self.now { core = c.next_inside.new.core }) c.from_residual.ensures.1
-    (moves_inside g.E.Env g.C.Cmp g.FP.FilterPolicy g.K.Compressors.codings next_position (c.args.env.now, c.args.tables.now) c.args.self.now (Err c.in_err-next_inside.field-0.0) c.next_inside.new.core c.in_err-next_inside.ensures)
+    walk_refused _ g.E.Env g.C.Cmp g.FP.FilterPolicy g.K.Compressors.codings _ _ (c.args.env.now, c.args.tables.now) c.args.self.now c.from_residual.result (c.args.env.now, c.args.tables.now) (record c.args.self.now { core = c.next_inside.new.core }) c.from_residual.ensures.1
+    (moves_inside _ g.E.Env g.C.Cmp g.FP.FilterPolicy g.K.Compressors.codings next_position (c.args.env.now, c.args.tables.now) c.args.self.now (Err c.in_err-next_inside.field-0.0) c.next_inside.new.core c.in_err-next_inside.ensures)
 
 pub returns-then-branch-clause-moves : goal.returns-then-branch-clause-moves
 returns-then-branch-clause-moves g c =
-    walk_inside g.E.Env g.C.Cmp g.FP.FilterPolicy g.K.Compressors.codings (c.args.env.now, c.args.tables.now) c.args.self.now c.next_inside.result c.next_inside.new.core c.next_inside.ensures (c.in_ok-next_inside.was ∙ ap Ok c.if-branch.true) (sym c.is_at_pair.ensures ∙ c.if-not-is_at_pair.false)
+    walk_inside _ g.E.Env g.C.Cmp g.FP.FilterPolicy g.K.Compressors.codings (c.args.env.now, c.args.tables.now) c.args.self.now c.next_inside.result c.next_inside.new.core c.next_inside.ensures (c.in_ok-next_inside.was ∙ ap Ok c.if-branch.true) (sym c.is_at_pair.ensures ∙ c.if-not-is_at_pair.false)
 
 pub returns-in_err-step-clause-moves : goal.returns-in_err-step-clause-moves
 returns-in_err-step-clause-moves g c =
-    walk_refused g.E.Env g.C.Cmp g.FP.FilterPolicy g.K.Compressors.codings _ _ (c.args.env.now, c.args.tables.now) c.args.self.now c.from_residual-in_err-step.result (c.step.new.env, c.step.new.tables) c.step.new.self c.from_residual-in_err-step.ensures.1
-    (moves_then g.E.Env g.C.Cmp g.FP.FilterPolicy g.K.Compressors.codings next_position (c.args.env.now, c.args.tables.now) c.args.self.now c.next_inside.result c.next_inside.new.core c.next_inside.ensures (Err c.in_err-step.field-0.0) (c.step.new.env, c.step.new.tables) c.step.new.self c.in_err-step.ensures.moves)
+    walk_refused _ g.E.Env g.C.Cmp g.FP.FilterPolicy g.K.Compressors.codings _ _ (c.args.env.now, c.args.tables.now) c.args.self.now c.from_residual-in_err-step.result (c.step.new.env, c.step.new.tables) c.step.new.self c.from_residual-in_err-step.ensures.1
+    (moves_then _ g.E.Env g.C.Cmp g.FP.FilterPolicy g.K.Compressors.codings next_position (c.args.env.now, c.args.tables.now) c.args.self.now c.next_inside.result c.next_inside.new.core c.next_inside.ensures (Err c.in_err-step.field-0.0) (c.step.new.env, c.step.new.tables) c.step.new.self c.in_err-step.ensures.moves)
 
 pub returns-then-branch-2-clause-moves : goal.returns-then-branch-2-clause-moves
 returns-then-branch-2-clause-moves g c =
-    walk_next_block g.E.Env g.C.Cmp g.FP.FilterPolicy g.K.Compressors.codings (c.args.env.now, c.args.tables.now) c.args.self.now c.next_inside.result c.next_inside.new.core c.next_inside.ensures (c.in_ok-next_inside.was ∙ ap Ok c.if-branch.false) (sym c.is_at_pair.ensures ∙ c.if-not-is_at_pair.false)
+    walk_next_block _ g.E.Env g.C.Cmp g.FP.FilterPolicy g.K.Compressors.codings (c.args.env.now, c.args.tables.now) c.args.self.now c.next_inside.result c.next_inside.new.core c.next_inside.ensures (c.in_ok-next_inside.was ∙ ap Ok c.if-branch.false) (sym c.is_at_pair.ensures ∙ c.if-not-is_at_pair.false)
     c.step.result (c.step.new.env, c.step.new.tables) c.step.new.self c.step.ensures (c.in_ok-step.was ∙ ap Ok c.if-branch-2.true)
 
 pub returns-clause-moves : goal.returns-clause-moves
 returns-clause-moves g c =
-    walk_next_file g.E.Env g.C.Cmp g.FP.FilterPolicy g.K.Compressors.codings (c.args.env.now, c.args.tables.now) c.args.self.now c.next_inside.result c.next_inside.new.core c.next_inside.ensures (c.in_ok-next_inside.was ∙ ap Ok c.if-branch.false) (sym c.is_at_pair.ensures ∙ c.if-not-is_at_pair.false)
+    walk_next_file _ g.E.Env g.C.Cmp g.FP.FilterPolicy g.K.Compressors.codings (c.args.env.now, c.args.tables.now) c.args.self.now c.next_inside.result c.next_inside.new.core c.next_inside.ensures (c.in_ok-next_inside.was ∙ ap Ok c.if-branch.false) (sym c.is_at_pair.ensures ∙ c.if-not-is_at_pair.false)
     c.step.result (c.step.new.env, c.step.new.tables) c.step.new.self c.step.ensures (c.in_ok-step.was ∙ ap Ok c.if-branch-2.false) _ (λ within. let moves = c.step.ensures.moves in let stays = moves.stays in omega (arith, within, c.step.ensures.at, c.saturating_add-next.ensures, ap length stays.files))
     c.to_file-2.result (c.to_file-2.new.env, c.to_file-2.new.tables) c.to_file-2.new.self c.to_file-2.ensures

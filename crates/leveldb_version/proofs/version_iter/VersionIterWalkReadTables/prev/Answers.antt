@@ -6,30 +6,30 @@ use Rattle.leveldb_version.proofs.version_iter.VersionIterWalkReadTables.prev.Go
 
 pub returns-in_err-back_inside-clause-moves : goal.returns-in_err-back_inside-clause-moves
 returns-in_err-back_inside-clause-moves g c =
-    walk_refused g.E.Env g.C.Cmp g.FP.FilterPolicy g.K.Compressors.codings _ _ (c.args.env.now, c.args.tables.now) c.args.self.now c.from_residual.result (c.args.env.now, c.args.tables.now) (record c.args.self.now { core = c.back_inside.new.core }) c.from_residual.ensures.1
-    (moves_inside g.E.Env g.C.Cmp g.FP.FilterPolicy g.K.Compressors.codings (λ _. previous_position) (c.args.env.now, c.args.tables.now) c.args.self.now (Err c.in_err-back_inside.field-0.0) c.back_inside.new.core c.in_err-back_inside.ensures)
+    walk_refused _ g.E.Env g.C.Cmp g.FP.FilterPolicy g.K.Compressors.codings _ _ (c.args.env.now, c.args.tables.now) c.args.self.now c.from_residual.result (c.args.env.now, c.args.tables.now) (record c.args.self.now { core = c.back_inside.new.core }) c.from_residual.ensures.1
+    (moves_inside _ g.E.Env g.C.Cmp g.FP.FilterPolicy g.K.Compressors.codings (λ _. previous_position) (c.args.env.now, c.args.tables.now) c.args.self.now (Err c.in_err-back_inside.field-0.0) c.back_inside.new.core c.in_err-back_inside.ensures)
 
 pub returns-then-branch-clause-moves : goal.returns-then-branch-clause-moves
 returns-then-branch-clause-moves g c =
-    walk_back_inside g.E.Env g.C.Cmp g.FP.FilterPolicy g.K.Compressors.codings (c.args.env.now, c.args.tables.now) c.args.self.now c.back_inside.result c.back_inside.new.core c.back_inside.ensures (c.in_ok-back_inside.was ∙ ap Ok c.if-branch.true) (sym c.is_at_pair.ensures ∙ c.if-not-is_at_pair.false)
+    walk_back_inside _ g.E.Env g.C.Cmp g.FP.FilterPolicy g.K.Compressors.codings (c.args.env.now, c.args.tables.now) c.args.self.now c.back_inside.result c.back_inside.new.core c.back_inside.ensures (c.in_ok-back_inside.was ∙ ap Ok c.if-branch.true) (sym c.is_at_pair.ensures ∙ c.if-not-is_at_pair.false)
 
 pub returns-in_err-step-clause-moves : goal.returns-in_err-step-clause-moves
 returns-in_err-step-clause-moves g c =
-    walk_refused g.E.Env g.C.Cmp g.FP.FilterPolicy g.K.Compressors.codings _ _ (c.args.env.now, c.args.tables.now) c.args.self.now c.from_residual-in_err-step.result (c.step.new.env, c.step.new.tables) c.step.new.self c.from_residual-in_err-step.ensures.1
-    (moves_then g.E.Env g.C.Cmp g.FP.FilterPolicy g.K.Compressors.codings (λ _. previous_position) (c.args.env.now, c.args.tables.now) c.args.self.now c.back_inside.result c.back_inside.new.core c.back_inside.ensures (Err c.in_err-step.field-0.0) (c.step.new.env, c.step.new.tables) c.step.new.self c.in_err-step.ensures.moves)
+    walk_refused _ g.E.Env g.C.Cmp g.FP.FilterPolicy g.K.Compressors.codings _ _ (c.args.env.now, c.args.tables.now) c.args.self.now c.from_residual-in_err-step.result (c.step.new.env, c.step.new.tables) c.step.new.self c.from_residual-in_err-step.ensures.1
+    (moves_then _ g.E.Env g.C.Cmp g.FP.FilterPolicy g.K.Compressors.codings (λ _. previous_position) (c.args.env.now, c.args.tables.now) c.args.self.now c.back_inside.result c.back_inside.new.core c.back_inside.ensures (Err c.in_err-step.field-0.0) (c.step.new.env, c.step.new.tables) c.step.new.self c.in_err-step.ensures.moves)
 
 pub returns-then-branch-2-clause-moves : goal.returns-then-branch-2-clause-moves
 returns-then-branch-2-clause-moves g c =
-    walk_block_before g.E.Env g.C.Cmp g.FP.FilterPolicy g.K.Compressors.codings (c.args.env.now, c.args.tables.now) c.args.self.now c.back_inside.result c.back_inside.new.core c.back_inside.ensures (c.in_ok-back_inside.was ∙ ap Ok c.if-branch.false) (sym c.is_at_pair.ensures ∙ c.if-not-is_at_pair.false)
+    walk_block_before _ g.E.Env g.C.Cmp g.FP.FilterPolicy g.K.Compressors.codings (c.args.env.now, c.args.tables.now) c.args.self.now c.back_inside.result c.back_inside.new.core c.back_inside.ensures (c.in_ok-back_inside.was ∙ ap Ok c.if-branch.false) (sym c.is_at_pair.ensures ∙ c.if-not-is_at_pair.false)
     c.step.result (c.step.new.env, c.step.new.tables) c.step.new.self c.step.ensures (c.in_ok-step.was ∙ ap Ok c.if-branch-2.true)
 
 pub returns-then-self-eq0-clause-moves : goal.returns-then-self-eq0-clause-moves
 returns-then-self-eq0-clause-moves g c =
-    walk_no_pair g.E.Env g.C.Cmp g.FP.FilterPolicy g.K.Compressors.codings (c.args.env.now, c.args.tables.now) c.args.self.now c.back_inside.result c.back_inside.new.core c.back_inside.ensures (c.in_ok-back_inside.was ∙ ap Ok c.if-branch.false) (sym c.is_at_pair.ensures ∙ c.if-not-is_at_pair.false)
+    walk_no_pair _ g.E.Env g.C.Cmp g.FP.FilterPolicy g.K.Compressors.codings (c.args.env.now, c.args.tables.now) c.args.self.now c.back_inside.result c.back_inside.new.core c.back_inside.ensures (c.in_ok-back_inside.was ∙ ap Ok c.if-branch.false) (sym c.is_at_pair.ensures ∙ c.if-not-is_at_pair.false)
     c.step.result (c.step.new.env, c.step.new.tables) c.step.new.self c.step.ensures (c.in_ok-step.was ∙ ap Ok c.if-branch-2.false) (sym c.step.ensures.at ∙ c.if-self-eq0.true)
 
 pub returns-clause-moves : goal.returns-clause-moves
 returns-clause-moves g c =
-    walk_file_before g.E.Env g.C.Cmp g.FP.FilterPolicy g.K.Compressors.codings (c.args.env.now, c.args.tables.now) c.args.self.now c.back_inside.result c.back_inside.new.core c.back_inside.ensures (c.in_ok-back_inside.was ∙ ap Ok c.if-branch.false) (sym c.is_at_pair.ensures ∙ c.if-not-is_at_pair.false)
+    walk_file_before _ g.E.Env g.C.Cmp g.FP.FilterPolicy g.K.Compressors.codings (c.args.env.now, c.args.tables.now) c.args.self.now c.back_inside.result c.back_inside.new.core c.back_inside.ensures (c.in_ok-back_inside.was ∙ ap Ok c.if-branch.false) (sym c.is_at_pair.ensures ∙ c.if-not-is_at_pair.false)
     c.step.result (c.step.new.env, c.step.new.tables) c.step.new.self c.step.ensures (c.in_ok-step.was ∙ ap Ok c.if-branch-2.false) _ (omega (arith, c.step.ensures.at, c.if-self-eq0.false))
     c.to_file.result (c.to_file.new.env, c.to_file.new.tables) c.to_file.new.self c.to_file.ensures

@@ -1,5 +1,6 @@
 use Rattle.std.proofs.Common.{rules, ◌≡◌, ◌++◌, ◌∷◌, [], ◌-◌, ◌≤◌, arith, map, take, refl, sym, subst, ◌+◌, ◌∙◌}
 use Rattle.std.proofs.lemmas.List.{take_all}
+use Rattle.leveldb_base.specs.contracts.cmp.internal.InternalKeyCmpCmp.TheImpl.{ghosts as key_order}
 use Rattle.leveldb_env.specs.MemEnvLaws.{record_only_now, record_counts_now}
 use Rattle.leveldb_env.specs.contracts.mem_env.record.RecordEnvEnv.TheImpl.{ghosts}
 use Rattle.leveldb_env.specs.Record.{moment_of}
@@ -12,7 +13,7 @@ use Rattle.rusty_leveldb.proofs.Living.{Given, LivesSoFar, given_more, lives_fir
 use Rattle.rusty_leveldb.proofs.shell.crash_runs.live.Goals as goal
 
 pub returns-in-Err-clause-life : goal.returns-in-Err-clause-life
-returns-in-Err-clause-life g c = not_lived g.row.C.Denot g.row.FP.Denot ghosts (format_of g.C.Cmp g.FP.FilterPolicy (compressors g.dyn-2).codings) (record_only_now, record_counts_now) refl c.args.name.now c.args.options c.args.env.now c.open.new.env (opening_of g.C.Cmp g.FP.FilterPolicy (compressors g.dyn-2).codings c.args.options) c.args.commands.now
+returns-in-Err-clause-life g c = not_lived g.row.C.Denot g.row.FP.Denot _ ghosts (format_of g.C.Cmp g.FP.FilterPolicy (compressors g.dyn-2).codings) (record_only_now, record_counts_now) refl c.args.name.now c.args.options c.args.env.now c.open.new.env (opening_of g.C.Cmp g.FP.FilterPolicy (compressors g.dyn-2).codings c.args.options) c.args.commands.now
     _ c.in-Err.status refl (c.reserve.ensures.items ∙ c.new-replies.ensures.items) c.in-Err.ensures.step
 
 pub loop-command-init : goal.loop-command-init
@@ -22,8 +23,8 @@ loop-command-init g c =
       search rules,
       [],
       subst (λ items. Given (moment_of c.args.env.now) items []) (sym none) refl,
-      subst (λ items. LivesSoFar g.row.C.Denot g.row.FP.Denot ghosts (format_of g.C.Cmp g.FP.FilterPolicy (compressors g.dyn-2).codings) c.args.name.now c.args.env.now (opening_of g.C.Cmp g.FP.FilterPolicy (compressors g.dyn-2).codings c.args.options) [] items (map snapshot_of c.new-taken.result.items) [] c.in-Ok.engine c.open.new.env) (sym none)
-          (rw c.new-taken.ensures.items (lives_first g.row.C.Denot g.row.FP.Denot ghosts (format_of g.C.Cmp g.FP.FilterPolicy (compressors g.dyn-2).codings) (record_only_now, record_counts_now) refl c.args.name.now c.args.env.now c.open.new.env (opening_of g.C.Cmp g.FP.FilterPolicy (compressors g.dyn-2).codings c.args.options) c.in-Ok.engine c.in-Ok.ensures.step)),
+      subst (λ items. LivesSoFar g.row.C.Denot g.row.FP.Denot (key_order g.row.C g.C.UserCmp g.C.UserCmp-dict g.C.Cmp g.C.Cmp-dict) ghosts (format_of g.C.Cmp g.FP.FilterPolicy (compressors g.dyn-2).codings) c.args.name.now c.args.env.now (opening_of g.C.Cmp g.FP.FilterPolicy (compressors g.dyn-2).codings c.args.options) [] items (map snapshot_of c.new-taken.result.items) [] c.in-Ok.engine c.open.new.env) (sym none)
+          (rw c.new-taken.ensures.items (lives_first g.row.C.Denot g.row.FP.Denot _ ghosts (format_of g.C.Cmp g.FP.FilterPolicy (compressors g.dyn-2).codings) (record_only_now, record_counts_now) refl c.args.name.now c.args.env.now c.open.new.env (opening_of g.C.Cmp g.FP.FilterPolicy (compressors g.dyn-2).codings c.args.options) c.in-Ok.engine c.in-Ok.ensures.step)),
     )
 
 pub unwrap-requires : goal.unwrap-requires
@@ -37,7 +38,7 @@ loop-command-preserved g c =
     let told = c.moment.result - c.moment-start.result in
     let pushed : c.push.new.self.items ≡ c.loop-command.replies.items ++ (told, reply) ∷ [] = search rules in
     let step = c.answer-reply.ensures.step in
-    let more = lives_more g.row.C.Denot g.row.FP.Denot ghosts (format_of g.C.Cmp g.FP.FilterPolicy (compressors g.dyn-2).codings) (record_only_now, record_counts_now) refl c.args.name.now c.args.env.now c.loop-command.env c.answer-reply.new.env (opening_of g.C.Cmp g.FP.FilterPolicy (compressors g.dyn-2).codings c.args.options)
+    let more = lives_more g.row.C.Denot g.row.FP.Denot _ ghosts (format_of g.C.Cmp g.FP.FilterPolicy (compressors g.dyn-2).codings) (record_only_now, record_counts_now) refl c.args.name.now c.args.env.now c.loop-command.env c.answer-reply.new.env (opening_of g.C.Cmp g.FP.FilterPolicy (compressors g.dyn-2).codings c.args.options)
     (take c.loop-command.command-index c.args.commands.now) c.loop-command.replies.items (map snapshot_of c.loop-command.taken.items) (map snapshot_of c.answer-reply.new.taken.items) so_far.2 c.loop-command.engine c.answer-reply.new.engine command told reply so_far.4 step in
     let behind = commands_up_to c.args.commands.now c.loop-command.command-index command c.loop-command-test.true c.command-item.is in
     let is : told ≡ moment_of c.answer-reply.new.env - moment_of c.args.env.now = search rules in
@@ -47,7 +48,7 @@ loop-command-preserved g c =
       so_far.2 ++ moment_of c.answer-reply.new.env ∷ [],
       subst (λ items. Given (moment_of c.args.env.now) items (so_far.2 ++ moment_of c.answer-reply.new.env ∷ [])) (sym pushed)
           (given_more (moment_of c.args.env.now) c.loop-command.replies.items so_far.2 (moment_of c.answer-reply.new.env) told reply so_far.3 is),
-      subst (λ items. LivesSoFar g.row.C.Denot g.row.FP.Denot ghosts (format_of g.C.Cmp g.FP.FilterPolicy (compressors g.dyn-2).codings) c.args.name.now c.args.env.now (opening_of g.C.Cmp g.FP.FilterPolicy (compressors g.dyn-2).codings c.args.options) (take (c.loop-command.command-index + 1) c.args.commands.now) items (map snapshot_of c.answer-reply.new.taken.items) (so_far.2 ++ moment_of c.answer-reply.new.env ∷ []) c.answer-reply.new.engine c.answer-reply.new.env) (sym pushed)
+      subst (λ items. LivesSoFar g.row.C.Denot g.row.FP.Denot (key_order g.row.C g.C.UserCmp g.C.UserCmp-dict g.C.Cmp g.C.Cmp-dict) ghosts (format_of g.C.Cmp g.FP.FilterPolicy (compressors g.dyn-2).codings) c.args.name.now c.args.env.now (opening_of g.C.Cmp g.FP.FilterPolicy (compressors g.dyn-2).codings c.args.options) (take (c.loop-command.command-index + 1) c.args.commands.now) items (map snapshot_of c.answer-reply.new.taken.items) (so_far.2 ++ moment_of c.answer-reply.new.env ∷ []) c.answer-reply.new.engine c.answer-reply.new.env) (sym pushed)
           (rw behind more),
     )
 
@@ -56,5 +57,5 @@ returns-clause-life g c =
     let so_far = c.loop-command.invariant in
     let all : take c.loop-command.command-index c.args.commands.now ≡ c.args.commands.now = take_all c.loop-command.command-index c.args.commands.now c.loop-command-test.false in
     let step = c.abandon.ensures.step in
-    lives_end g.row.C.Denot g.row.FP.Denot ghosts (format_of g.C.Cmp g.FP.FilterPolicy (compressors g.dyn-2).codings) (record_only_now, record_counts_now) refl c.args.name.now c.args.env.now c.loop-command.env c.abandon.new.env (opening_of g.C.Cmp g.FP.FilterPolicy (compressors g.dyn-2).codings c.args.options)
+    lives_end g.row.C.Denot g.row.FP.Denot _ ghosts (format_of g.C.Cmp g.FP.FilterPolicy (compressors g.dyn-2).codings) (record_only_now, record_counts_now) refl c.args.name.now c.args.env.now c.loop-command.env c.abandon.new.env (opening_of g.C.Cmp g.FP.FilterPolicy (compressors g.dyn-2).codings c.args.options)
     c.args.commands.now (map snapshot_of c.loop-command.taken.items) so_far.2 c.loop-command.engine (done_or c.abandon.result) _ refl so_far.3 (rw all at so_far.4) step

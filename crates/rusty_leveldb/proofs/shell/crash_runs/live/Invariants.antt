@@ -1,4 +1,5 @@
 use Rattle.std.proofs.Common.{◌≤◌, ◌+◌, ◌-◌, ℕ, List, length, map, take, vec_len, vec_capacity}
+use Rattle.leveldb_base.specs.contracts.cmp.internal.InternalKeyCmpCmp.TheImpl.{ghosts as key_order}
 use Rattle.leveldb_env.specs.contracts.mem_env.record.RecordEnvEnv.TheImpl.{ghosts}
 use Rattle.leveldb_env.specs.Record.{moment_of}
 use Rattle.leveldb_env.specs.contracts.compressor.CompressorListCompressors.TheImpl.{ghosts as compressors}
@@ -13,4 +14,4 @@ invariant-loop-command g l =
     (moment_of l.fn.env ≤ moment_of l.env)
     × (vec_len l.replies + (length l.commands - l.command-index) ≤ vec_capacity l.replies)
     × (given : List ℕ) × Given (moment_of l.fn.env) l.replies.items given
-    × LivesSoFar g.row.C.Denot g.row.FP.Denot ghosts (format_of g.C.Cmp g.FP.FilterPolicy (compressors g.dyn-2).codings) l.name l.fn.env (opening_of g.C.Cmp g.FP.FilterPolicy (compressors g.dyn-2).codings l.fn.options) (take l.command-index l.commands) l.replies.items (map snapshot_of l.taken.items) given l.engine l.env
+    × LivesSoFar g.row.C.Denot g.row.FP.Denot (key_order g.row.C g.C.UserCmp g.C.UserCmp-dict g.C.Cmp g.C.Cmp-dict) ghosts (format_of g.C.Cmp g.FP.FilterPolicy (compressors g.dyn-2).codings) l.name l.fn.env (opening_of g.C.Cmp g.FP.FilterPolicy (compressors g.dyn-2).codings l.fn.options) (take l.command-index l.commands) l.replies.items (map snapshot_of l.taken.items) given l.engine l.env

@@ -1,4 +1,5 @@
 use Rattle.std.proofs.Common.{◌≡◌, ◌≤◌, ◌++◌, ◌+◌, ◌-◌, List, length, map, take, vec_len, vec_capacity}
+use Rattle.leveldb_base.specs.contracts.cmp.internal.InternalKeyCmpCmp.TheImpl.{ghosts as key_order}
 use Rattle.leveldb_env.specs.contracts.compressor.CompressorListCompressors.TheImpl.{ghosts as compressors}
 use Rattle.rusty_leveldb.specs.declared.shell.commands.Reply.{Reply}
 use Rattle.rusty_leveldb.specs.Engine.{opening_of}
@@ -13,5 +14,5 @@ invariant-loop-command g l =
     (g.E.Env.failures l.fn.env ≤ g.E.Env.failures l.env)
     × (vec_len l.replies + (length l.commands - l.command-index) ≤ vec_capacity l.replies)
     × (given : List Reply) × (l.replies.items ≡ l.fn.replies.items ++ given) × (length given ≡ l.command-index)
-    × PlaysSoFar g.row.C.Denot g.row.FP.Denot g.E.Env (format_of g.C.Cmp g.FP.FilterPolicy (compressors g.dyn-2).codings) l.name l.fn.env (opening_of g.C.Cmp g.FP.FilterPolicy (compressors g.dyn-2).codings l.fn.opt) (take l.command-index l.commands) given (map snapshot_of l.taken.items) l.engine l.env
+    × PlaysSoFar g.row.C.Denot g.row.FP.Denot (key_order g.row.C g.C.UserCmp g.C.UserCmp-dict g.C.Cmp g.C.Cmp-dict) g.E.Env (format_of g.C.Cmp g.FP.FilterPolicy (compressors g.dyn-2).codings) l.name l.fn.env (opening_of g.C.Cmp g.FP.FilterPolicy (compressors g.dyn-2).codings l.fn.opt) (take l.command-index l.commands) given (map snapshot_of l.taken.items) l.engine l.env
     × TimeGoesOn g.E.Env l.fn.env l.env

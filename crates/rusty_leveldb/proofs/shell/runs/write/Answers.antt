@@ -1,6 +1,7 @@
 use Rattle.std.proofs.Common.{Some, subst}
 use Rattle.std.proofs.lemmas.Result.{err_from_is_err_and}
 use Rattle.std.specs.Prelude.{map}
+use Rattle.leveldb_base.specs.contracts.cmp.internal.InternalKeyCmpCmp.TheImpl.{ghosts as key_order}
 use Rattle.leveldb_env.specs.contracts.compressor.CompressorListCompressors.TheImpl.{ghosts as compressors}
 use Rattle.rusty_leveldb.specs.State as machine
 use Rattle.rusty_leveldb.specs.Serves.{done_or}
@@ -22,5 +23,5 @@ returns-in_err-check_writable-clause-step g c =
 
 pub returns-clause-step : goal.returns-clause-step
 returns-clause-step g c =
-    subst (λ items. Answers g.E.Env (format_of g.C.Cmp g.FP.FilterPolicy (compressors g.dyn-2).codings) (Some c.args.engine.now) c.args.env.now (machine.write items c.args.sync) (done_or c.write.result) (Some c.write.new.self) c.write.new.env)
+    subst (λ items. Answers (key_order g.row.C g.C.UserCmp g.C.UserCmp-dict g.C.Cmp g.C.Cmp-dict) g.E.Env (format_of g.C.Cmp g.FP.FilterPolicy (compressors g.dyn-2).codings) (Some c.args.engine.now) c.args.env.now (machine.write items c.args.sync) (done_or c.write.result) (Some c.write.new.self) c.write.new.env)
     c.in_ok-batch.ensures.ok c.write.ensures.step

@@ -4,5 +4,5 @@ use Rattle.leveldb_table.proofs.block.walk.BlockCore.shared_value.Goals as goal
 
 pub slice-requires-clause-in_bounds : goal.slice-requires-clause-in_bounds
 slice-requires-clause-in_bounds g c =
-    let ends = ends_within (fronts c.args.block.now.entries.1) c.args.self.now.key.items c.args.self.now.spot c.in-Some.spot c.requires c.in-Some.is in
+    let ends = ends_within (fronts c.block.inside.entries.1) c.self.inside.key.items c.self.inside.spot c.in-Some.spot (rw (← c.block.view_is, ← c.self.view_is) at c.requires) c.in-Some.is in
     omega (arith, ends)

@@ -1,6 +1,7 @@
 use Rattle.std.proofs.Common.{rules, ◌≡◌, Some, sym, ap, ◌∙◌}
 use Rattle.leveldb_base.specs.Types.{pair_at}
-use Rattle.leveldb_table.specs.TableReaderWalk.{inner_position, inner_pairs, position_over}
+use Rattle.leveldb_table.specs.BlockWalk.{position_over}
+use Rattle.leveldb_table.specs.TableReaderWalk.{inner_position, inner_pairs}
 use Rattle.leveldb_table.proofs.TableReaderWalkLemmas.{current_at}
 use Rattle.leveldb_table.proofs.table_reader.walk.TableCore.current.Goals as goal
 

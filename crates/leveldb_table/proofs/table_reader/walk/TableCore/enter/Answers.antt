@@ -3,7 +3,8 @@ use Rattle.leveldb_env.specs.contracts.compressor.CompressorListCompressors.TheI
 use Rattle.leveldb_table.specs.BlockCache.{HoldsOnlyOf}
 use Rattle.leveldb_table.specs.TableReaderBlocks.{IsAfterLine}
 use Rattle.leveldb_table.specs.TableBlock.{FileHas, lacking}
-use Rattle.leveldb_table.specs.TableReaderWalk.{IsAtPosition, inner_position, pairs_over, position_over}
+use Rattle.leveldb_table.specs.BlockWalk.{pairs_over, position_over}
+use Rattle.leveldb_table.specs.TableReaderWalk.{IsAtPosition, inner_position}
 use Rattle.leveldb_table.proofs.TableBlockLemmas.{reads_weaker, reads_refused, reads_ok}
 use Rattle.leveldb_table.proofs.TableReaderWalkLemmas.{ok_refused, err_holds, none_there, line_lacks}
 use Rattle.leveldb_table.proofs.TableReaderMovesLemmas.{line_there, IsSought, is_sought, sought_in, sought_after, enters_then, enters_ok, enters_refused, sought_inside, sought_next, sought_lacking}
@@ -23,7 +24,7 @@ returns-in_err-load g c =
               lacks.0,
               λ bytes has. (
                 λ parts position right fit holds indexed. line_lacks old.index right indexed.lines (lacking c.args.handle c.requires.names (lacks.1 bytes has)),
-                λ holds. sought_lacking codings cmp bytes c.args.key.now old c.requires.line (lacking c.args.handle c.requires.names (lacks.1 bytes has)),
+                λ holds. sought_lacking g.C.Cmp codings cmp bytes c.args.key.now old c.requires.line (lacking c.args.handle c.requires.names (lacks.1 bytes has)),
               ),
             )) read.reads);
         ok = λ bytes has parts position right fit holds indexed. ok_refused _ _ c.from_residual.result c.from_residual.ensures.1;
@@ -43,15 +44,15 @@ returns-then-branch g c =
     let new = c.seek_inside.new.self in
     let read = c.in_ok-load.ensures in
     let step = c.in_ok-seek_inside.ensures in
-    let sought : (bytes : List ℕ) → FileHas g.E.Env c.args.env.now c.args.table.now.file bytes → HoldsOnlyOf codings cmp c.args.table.now.id bytes c.args.cache.now → IsSought codings cmp bytes c.args.key.now old new = λ bytes has holds.
-    is_sought codings cmp bytes c.args.key.now old c.load.new.self new c.args.handle c.requires.fits c.requires.names read.index (read.block bytes has holds) step.index step.block step.pairs step.ok in
+    let sought : (bytes : List ℕ) → FileHas g.E.Env c.args.env.now c.args.table.now.file bytes → HoldsOnlyOf g.C.Cmp codings cmp c.args.table.now.id bytes c.args.cache.now → IsSought g.C.Cmp codings cmp bytes c.args.key.now old new = λ bytes has holds.
+    is_sought g.C.Cmp codings cmp bytes c.args.key.now old c.load.new.self new c.args.handle c.requires.fits c.requires.names read.index (read.block bytes has holds) step.index step.block step.pairs step.ok in
     record {
       enters = record {
         reads = reads_ok g.E.Env read.reads.kept_disk read.reads.cause.ok;
-        ok = λ bytes has parts position right fit holds indexed. subst (IsAtPosition cmp parts new) (sym fit.1)
+        ok = λ bytes has parts position right fit holds indexed. subst (IsAtPosition g.C.Cmp cmp parts new) (sym fit.1)
             (sought_in c.args.key.now right indexed c.requires.line (g.met.C.Cmp.preorder c.args.table.now.cmp) fit.0 new (line_there (pairs_over old.index) (position_over old.index) c.args.handle c.requires.names) (sought bytes has holds)
             (sym step.there ∙ c.if-branch.true));
-        steps = λ bytes has holds. sought_inside codings cmp bytes c.args.key.now old new c.requires.line (line_there (pairs_over old.index) (position_over old.index) c.args.handle c.requires.names) (sought bytes has holds) (sym step.there ∙ c.if-branch.true);
+        steps = λ bytes has holds. sought_inside g.C.Cmp codings cmp bytes c.args.key.now old new c.requires.line (line_there (pairs_over old.index) (position_over old.index) c.args.handle c.requires.names) (sought bytes has holds) (sym step.there ∙ c.if-branch.true);
         err = tt;
         gathers = read.gathers;
         same_lines = ap pairs_over (step.index ∙ read.index);
@@ -72,10 +73,10 @@ returns-in_err-to_next_block g c =
           (enters_then old read.reads.kept_disk read.reads.cause.ok read.gathers (ap pairs_over (step.index ∙ read.index)) (ap (λ z. z.block.cmp) (step.index ∙ read.index))
           (λ bytes has parts position right fit holds indexed. subst (IsAfterLine parts (position_over mid.index)) (sym fit.1)
           (sought_after c.args.key.now right indexed c.requires.line (g.met.C.Cmp.preorder c.args.table.now.cmp) fit.0 mid (line_there (pairs_over old.index) (position_over old.index) c.args.handle c.requires.names)
-          (is_sought codings cmp bytes c.args.key.now old c.load.new.self mid c.args.handle c.requires.fits c.requires.names read.index (read.block bytes has holds) step.index step.block step.pairs step.ok)
+          (is_sought g.C.Cmp codings cmp bytes c.args.key.now old c.load.new.self mid c.args.handle c.requires.fits c.requires.names read.index (read.block bytes has holds) step.index step.block step.pairs step.ok)
           (none_there (inner_position mid.inner) (sym step.there ∙ c.if-branch.false))))
-          (λ bytes has holds out. sought_next codings cmp bytes c.args.key.now old mid out c.requires.line (line_there (pairs_over old.index) (position_over old.index) c.args.handle c.requires.names)
-          (is_sought codings cmp bytes c.args.key.now old c.load.new.self mid c.args.handle c.requires.fits c.requires.names read.index (read.block bytes has holds) step.index step.block step.pairs step.ok)
+          (λ bytes has holds out. sought_next g.C.Cmp codings cmp bytes c.args.key.now old mid out c.requires.line (line_there (pairs_over old.index) (position_over old.index) c.args.handle c.requires.names)
+          (is_sought g.C.Cmp codings cmp bytes c.args.key.now old c.load.new.self mid c.args.handle c.requires.fits c.requires.names read.index (read.block bytes has holds) step.index step.block step.pairs step.ok)
           (none_there (inner_position mid.inner) (sym step.there ∙ c.if-branch.false))) c.in_err-to_next_block.ensures.enters);
     }
 
@@ -92,9 +93,9 @@ returns g c =
           (enters_then old read.reads.kept_disk read.reads.cause.ok read.gathers (ap pairs_over (step.index ∙ read.index)) (ap (λ z. z.block.cmp) (step.index ∙ read.index))
           (λ bytes has parts position right fit holds indexed. subst (IsAfterLine parts (position_over mid.index)) (sym fit.1)
           (sought_after c.args.key.now right indexed c.requires.line (g.met.C.Cmp.preorder c.args.table.now.cmp) fit.0 mid (line_there (pairs_over old.index) (position_over old.index) c.args.handle c.requires.names)
-          (is_sought codings cmp bytes c.args.key.now old c.load.new.self mid c.args.handle c.requires.fits c.requires.names read.index (read.block bytes has holds) step.index step.block step.pairs step.ok)
+          (is_sought g.C.Cmp codings cmp bytes c.args.key.now old c.load.new.self mid c.args.handle c.requires.fits c.requires.names read.index (read.block bytes has holds) step.index step.block step.pairs step.ok)
           (none_there (inner_position mid.inner) (sym step.there ∙ c.if-branch.false))))
-          (λ bytes has holds out. sought_next codings cmp bytes c.args.key.now old mid out c.requires.line (line_there (pairs_over old.index) (position_over old.index) c.args.handle c.requires.names)
-          (is_sought codings cmp bytes c.args.key.now old c.load.new.self mid c.args.handle c.requires.fits c.requires.names read.index (read.block bytes has holds) step.index step.block step.pairs step.ok)
+          (λ bytes has holds out. sought_next g.C.Cmp codings cmp bytes c.args.key.now old mid out c.requires.line (line_there (pairs_over old.index) (position_over old.index) c.args.handle c.requires.names)
+          (is_sought g.C.Cmp codings cmp bytes c.args.key.now old c.load.new.self mid c.args.handle c.requires.fits c.requires.names read.index (read.block bytes has holds) step.index step.block step.pairs step.ok)
           (none_there (inner_position mid.inner) (sym step.there ∙ c.if-branch.false))) c.in_ok-to_next_block.ensures.enters);
     }

@@ -9,5 +9,5 @@ use Rattle.leveldb_table.proofs.table_reader.walk.TableCore.load_line.Goals as g
 pub returns-clause-reads : goal.returns-clause-reads
 returns-clause-reads g c =
     let handle = c.in_ok-handle.handle in
-    let line : line_of c.args.self.now ≡ Some (c.in-Some.field-0-0.now, c.in-Some.value.now) = sym c.current.ensures ∙ ap pair_of c.in-Some.is in
+    let line : line_of c.args.self.now ≡ Some (c.in-Some.field-0-0.now, c.in-Some.value.now) = sym (ap line_of c.self.view_is) ∙ sym c.current.ensures ∙ ap pair_of c.in-Some.is in
     reads_weaker g.E.Env c.load.result (λ status lacks. (lacks.0, λ bytes has. lacking handle (names_one handle line c.in_ok-handle.ensures.ok.1) (lacks.1 bytes has))) c.load.ensures.reads

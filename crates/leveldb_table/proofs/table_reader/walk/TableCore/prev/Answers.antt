@@ -1,6 +1,7 @@
 use Rattle.std.proofs.Common.{sym, ◌∙◌, ap, subst}
 use Rattle.leveldb_env.specs.contracts.compressor.CompressorListCompressors.TheImpl
-use Rattle.leveldb_table.specs.TableReaderWalk.{IsAtPairOrNone, inner_position, inner_pairs, pairs_over, position_over}
+use Rattle.leveldb_table.specs.BlockWalk.{pairs_over, position_over}
+use Rattle.leveldb_table.specs.TableReaderWalk.{IsAtPairOrNone, inner_position, inner_pairs}
 use Rattle.leveldb_table.proofs.TableReaderWalkLemmas.{none_there, not_none, moves_enters}
 use Rattle.leveldb_table.proofs.TableReaderMovesLemmas.{before_first, backward_previous}
 use Rattle.leveldb_table.proofs.table_reader.walk.TableCore.prev.Goals as goal
@@ -13,4 +14,4 @@ returns-clause-moves g c =
     moves_enters old (ap pairs_over step.index) (ap (λ z. z.block.cmp) step.index)
     (λ parts position fit is_there. before_first parts (position_over c.step_back.new.self.index) (inner_pairs old.inner) (inner_position old.inner) position (not_none (inner_position old.inner) (sym c.valid.ensures ∙ c.if-not-valid.false))
     (sym step.ok ∙ none) (subst (λ z. IsAtPairOrNone parts z (inner_pairs old.inner) (inner_position old.inner) position) (ap position_over (sym step.index)) is_there.at))
-    (λ bytes out. backward_previous ((TheImpl.ghosts g.dyn-1).codings c.args.compressors.now) (g.C.Cmp.cmp c.args.table.now.cmp) bytes old c.step_back.new.self out step.index (not_none (inner_position old.inner) (sym c.valid.ensures ∙ c.if-not-valid.false)) (sym step.ok ∙ none)) c.to_block_before.ensures.enters
+    (λ bytes out. backward_previous g.C.Cmp ((TheImpl.ghosts g.dyn-1).codings c.args.compressors.now) (g.C.Cmp.cmp c.args.table.now.cmp) bytes old c.step_back.new.self out step.index (not_none (inner_position old.inner) (sym c.valid.ensures ∙ c.if-not-valid.false)) (sym step.ok ∙ none)) c.to_block_before.ensures.enters

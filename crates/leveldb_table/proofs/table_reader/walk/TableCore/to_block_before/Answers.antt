@@ -3,7 +3,8 @@ use Rattle.leveldb_base.specs.Types.{previous_position, last_position}
 use Rattle.leveldb_env.specs.contracts.compressor.CompressorListCompressors.TheImpl
 use Rattle.leveldb_table.specs.BlockCache.{HoldsOnlyOf}
 use Rattle.leveldb_table.specs.TableBlock.{FileHas}
-use Rattle.leveldb_table.specs.TableReaderWalk.{inner_position, inner_pairs, pairs_over, position_over}
+use Rattle.leveldb_table.specs.BlockWalk.{pairs_over, position_over}
+use Rattle.leveldb_table.specs.TableReaderWalk.{inner_position, inner_pairs}
 use Rattle.leveldb_table.proofs.TableBlockLemmas.{reads_weaker, reads_refused, reads_own, reads_ok}
 use Rattle.leveldb_table.proofs.TableReaderWalkLemmas.{ok_refused, err_holds, none_there, block_lines, line_lacks, some_none, IsInto, is_into}
 use Rattle.leveldb_table.proofs.TableReaderMovesLemmas.{last_none, previous_is_there, into_lacking, into_at, into_empty}
@@ -11,11 +12,13 @@ use Rattle.leveldb_table.proofs.table_reader.walk.TableCore.to_block_before.Goal
 
 pub returns-in_err-load_line-clause-enters : goal.returns-in_err-load_line-clause-enters
 returns-in_err-load_line-clause-enters g c =
+    let block = c.in_ok-prev.ensures.block ∙ ap (λ z. z.index.block) c.self.view_is in
+    let ok = c.in_ok-prev.ensures.ok ∙ ap (λ z. previous_position (position_over z.index)) c.self.view_is in
     let codings = (TheImpl.ghosts g.dyn-1).codings c.args.compressors.now in
     let cmp = g.C.Cmp.cmp c.args.table.now.cmp in
     let none : inner_position c.load_line.new.self.inner ≡ None = ap inner_position (c.in_err-load_line.ensures.err ∙ c.leave.ensures) in
     let index = c.prev.new.self in
-    let lines = block_lines index c.args.self.now.index c.in_ok-prev.ensures.block in
+    let lines = block_lines index c.args.self.now.index block in
     let old = c.args.self.now in
     record {
       reads = reads_refused g.E.Env c.from_residual-in_err-load_line.result c.from_residual-in_err-load_line.ensures.1
@@ -23,7 +26,7 @@ returns-in_err-load_line-clause-enters g c =
             lacks.0,
             λ bytes has. (
               λ parts position right fit holds indexed. line_lacks index right (lines ∙ indexed.lines) (lacks.1 bytes has),
-              λ holds. into_lacking codings cmp bytes (pairs_over old.index) last_position lines c.in_ok-prev.ensures.ok (lacks.1 bytes has),
+              λ holds. into_lacking codings cmp bytes (pairs_over old.index) last_position lines ok (lacks.1 bytes has),
             ),
           )) c.in_err-load_line.ensures.reads);
       ok = λ bytes has parts position right fit holds indexed. ok_refused _ _ c.from_residual-in_err-load_line.result c.from_residual-in_err-load_line.ensures.1;
@@ -31,11 +34,13 @@ returns-in_err-load_line-clause-enters g c =
       err = err_holds c.from_residual-in_err-load_line.result none;
       gathers = c.in_err-load_line.ensures.gathers;
       same_lines = ap pairs_over c.in_err-load_line.ensures.index ∙ lines;
-      same_order = ap (λ z. z.block.cmp) c.in_err-load_line.ensures.index ∙ ap (λ z. z.cmp) c.in_ok-prev.ensures.block;
+      same_order = ap (λ z. z.block.cmp) c.in_err-load_line.ensures.index ∙ ap (λ z. z.cmp) block;
     }
 
 pub returns-then-not-branch-2-clause-enters : goal.returns-then-not-branch-2-clause-enters
 returns-then-not-branch-2-clause-enters g c =
+    let block = c.in_ok-prev.ensures.block ∙ ap (λ z. z.index.block) c.self.view_is in
+    let ok = c.in_ok-prev.ensures.ok ∙ ap (λ z. previous_position (position_over z.index)) c.self.view_is in
     let codings = (TheImpl.ghosts g.dyn-1).codings c.args.compressors.now in
     let cmp = g.C.Cmp.cmp c.args.table.now.cmp in
     let old = c.args.self.now in
@@ -45,9 +50,9 @@ returns-then-not-branch-2-clause-enters g c =
     let step = c.in_ok-to_last.ensures in
     let there = sym c.in_ok-prev.ensures.there ∙ c.if-not-branch.false in
     let index : new.index ≡ c.prev.new.self = step.index ∙ read.index in
-    let into : (bytes : List ℕ) → FileHas g.E.Env c.args.env.now c.args.table.now.file bytes → HoldsOnlyOf codings cmp c.args.table.now.id bytes c.args.cache.now
-    → IsInto codings cmp bytes (previous_position (position_over old.index)) last_position old new = λ bytes has holds.
-    is_into codings cmp bytes (previous_position (position_over old.index)) last_position old loaded new c.prev.new.self c.in_ok-prev.ensures.block c.in_ok-prev.ensures.ok there
+    let into : (bytes : List ℕ) → FileHas g.E.Env c.args.env.now c.args.table.now.file bytes → HoldsOnlyOf g.C.Cmp codings cmp c.args.table.now.id bytes c.args.cache.now
+    → IsInto g.C.Cmp codings cmp bytes (previous_position (position_over old.index)) last_position old new = λ bytes has holds.
+    is_into g.C.Cmp codings cmp bytes (previous_position (position_over old.index)) last_position old loaded new c.prev.new.self block ok there
     read.index (read.block bytes has holds) step.index step.block step.pairs step.ok in
     let none : inner_position new.inner ≡ None = none_there (inner_position new.inner) (sym step.there ∙ c.if-not-branch-2.true) in
     record {
@@ -56,19 +61,21 @@ returns-then-not-branch-2-clause-enters g c =
             inl code,
             λ bytes has. (
               λ parts position right fit holds indexed. some_none (sym (previous_is_there right fit indexed new (into bytes has holds)).0.1 ∙ none),
-              λ holds. into_empty codings cmp bytes old new (into bytes has holds) status (last_none (inner_pairs new.inner) (sym (into bytes has holds).position ∙ none)) code,
+              λ holds. into_empty g.C.Cmp codings cmp bytes old new (into bytes has holds) status (last_none (inner_pairs new.inner) (sym (into bytes has holds).position ∙ none)) code,
             ),
           ));
       ok = λ bytes has parts position right fit holds indexed. ok_refused _ _ c.empty_block_error.result c.empty_block_error.ensures;
       steps = λ bytes has holds. ok_refused _ _ c.empty_block_error.result c.empty_block_error.ensures;
       err = err_holds c.empty_block_error.result none;
       gathers = read.gathers;
-      same_lines = ap pairs_over index ∙ block_lines c.prev.new.self c.args.self.now.index c.in_ok-prev.ensures.block;
-      same_order = ap (λ z. z.block.cmp) index ∙ ap (λ z. z.cmp) c.in_ok-prev.ensures.block;
+      same_lines = ap pairs_over index ∙ block_lines c.prev.new.self c.args.self.now.index block;
+      same_order = ap (λ z. z.block.cmp) index ∙ ap (λ z. z.cmp) block;
     }
 
 pub returns-clause-enters : goal.returns-clause-enters
 returns-clause-enters g c =
+    let block = c.in_ok-prev.ensures.block ∙ ap (λ z. z.index.block) c.self.view_is in
+    let ok = c.in_ok-prev.ensures.ok ∙ ap (λ z. previous_position (position_over z.index)) c.self.view_is in
     let codings = (TheImpl.ghosts g.dyn-1).codings c.args.compressors.now in
     let cmp = g.C.Cmp.cmp c.args.table.now.cmp in
     let old = c.args.self.now in
@@ -78,16 +85,16 @@ returns-clause-enters g c =
     let step = c.in_ok-to_last.ensures in
     let there = sym c.in_ok-prev.ensures.there ∙ c.if-not-branch.false in
     let index : new.index ≡ c.prev.new.self = step.index ∙ read.index in
-    let into : (bytes : List ℕ) → FileHas g.E.Env c.args.env.now c.args.table.now.file bytes → HoldsOnlyOf codings cmp c.args.table.now.id bytes c.args.cache.now
-    → IsInto codings cmp bytes (previous_position (position_over old.index)) last_position old new = λ bytes has holds.
-    is_into codings cmp bytes (previous_position (position_over old.index)) last_position old loaded new c.prev.new.self c.in_ok-prev.ensures.block c.in_ok-prev.ensures.ok there
+    let into : (bytes : List ℕ) → FileHas g.E.Env c.args.env.now c.args.table.now.file bytes → HoldsOnlyOf g.C.Cmp codings cmp c.args.table.now.id bytes c.args.cache.now
+    → IsInto g.C.Cmp codings cmp bytes (previous_position (position_over old.index)) last_position old new = λ bytes has holds.
+    is_into g.C.Cmp codings cmp bytes (previous_position (position_over old.index)) last_position old loaded new c.prev.new.self block ok there
     read.index (read.block bytes has holds) step.index step.block step.pairs step.ok in
     record {
       reads = reads_ok g.E.Env read.reads.kept_disk read.reads.cause.ok;
       ok = λ bytes has parts position right fit holds indexed. (previous_is_there right fit indexed new (into bytes has holds)).1;
-      steps = λ bytes has holds. into_at codings cmp bytes old new (into bytes has holds) (sym step.there ∙ c.if-not-branch-2.false);
+      steps = λ bytes has holds. into_at g.C.Cmp codings cmp bytes old new (into bytes has holds) (sym step.there ∙ c.if-not-branch-2.false);
       err = tt;
       gathers = read.gathers;
-      same_lines = ap pairs_over index ∙ block_lines c.prev.new.self c.args.self.now.index c.in_ok-prev.ensures.block;
-      same_order = ap (λ z. z.block.cmp) index ∙ ap (λ z. z.cmp) c.in_ok-prev.ensures.block;
+      same_lines = ap pairs_over index ∙ block_lines c.prev.new.self c.args.self.now.index block;
+      same_order = ap (λ z. z.block.cmp) index ∙ ap (λ z. z.cmp) block;
     }

@@ -4,7 +4,8 @@ use Rattle.leveldb_base.specs.Types.{last_position}
 use Rattle.leveldb_table.specs.BlockCache.{HoldsOnlyOf}
 use Rattle.leveldb_table.specs.TableReader.{pairs_in}
 use Rattle.leveldb_table.specs.TableBlock.{FileHas}
-use Rattle.leveldb_table.specs.TableReaderWalk.{IsAtPosition, inner_position, inner_pairs, pairs_over, position_over}
+use Rattle.leveldb_table.specs.BlockWalk.{pairs_over, position_over}
+use Rattle.leveldb_table.specs.TableReaderWalk.{IsAtPosition, inner_position, inner_pairs}
 use Rattle.leveldb_table.proofs.TableBlockLemmas.{reads_weaker, reads_refused, reads_own, reads_ok}
 use Rattle.leveldb_table.proofs.TableReaderWalkLemmas.{last_of_none, ok_refused, err_holds, none_there, block_lines, line_lacks, some_none, IsInto, is_into}
 use Rattle.leveldb_table.proofs.TableReaderMovesLemmas.{last_none, last_is_there, enters_ends, to_no_block, into_lacking, into_at, into_empty}
@@ -12,11 +13,13 @@ use Rattle.leveldb_table.proofs.table_reader.walk.TableCore.to_last_block.Goals 
 
 pub returns-in_err-load_line : goal.returns-in_err-load_line
 returns-in_err-load_line g c =
+    let block = c.in_ok-seek_to_last.ensures.block ∙ ap (λ z. z.index.block) c.self.view_is in
+    let ok = c.in_ok-seek_to_last.ensures.ok ∙ ap (λ z. last_position (pairs_over z.index)) c.self.view_is in
     let codings = (TheImpl.ghosts g.dyn-1).codings c.args.compressors.now in
     let cmp = g.C.Cmp.cmp c.args.table.now.cmp in
     let none : inner_position c.load_line.new.self.inner ≡ None = ap inner_position (c.in_err-load_line.ensures.err ∙ c.leave.ensures) in
     let index = c.seek_to_last.new.self in
-    let lines = block_lines index c.args.self.now.index c.in_ok-seek_to_last.ensures.block in
+    let lines = block_lines index c.args.self.now.index block in
     let old = c.args.self.now in
     record {
       enters = record {
@@ -25,7 +28,7 @@ returns-in_err-load_line g c =
               lacks.0,
               λ bytes has. (
                 λ parts position right fit holds indexed. line_lacks index right (lines ∙ indexed.lines) (lacks.1 bytes has),
-                λ holds. into_lacking codings cmp bytes (pairs_over old.index) last_position lines c.in_ok-seek_to_last.ensures.ok (lacks.1 bytes has),
+                λ holds. into_lacking codings cmp bytes (pairs_over old.index) last_position lines ok (lacks.1 bytes has),
               ),
             )) c.in_err-load_line.ensures.reads);
         ok = λ bytes has parts position right fit holds indexed. ok_refused _ _ c.from_residual-in_err-load_line.result c.from_residual-in_err-load_line.ensures.1;
@@ -33,12 +36,14 @@ returns-in_err-load_line g c =
         err = err_holds c.from_residual-in_err-load_line.result none;
         gathers = c.in_err-load_line.ensures.gathers;
         same_lines = ap pairs_over c.in_err-load_line.ensures.index ∙ lines;
-        same_order = ap (λ z. z.block.cmp) c.in_err-load_line.ensures.index ∙ ap (λ z. z.cmp) c.in_ok-seek_to_last.ensures.block;
+        same_order = ap (λ z. z.block.cmp) c.in_err-load_line.ensures.index ∙ ap (λ z. z.cmp) block;
       };
     }
 
 pub returns : goal.returns
 returns g c =
+    let block = c.in_ok-seek_to_last.ensures.block ∙ ap (λ z. z.index.block) c.self.view_is in
+    let ok = c.in_ok-seek_to_last.ensures.ok ∙ ap (λ z. last_position (pairs_over z.index)) c.self.view_is in
     let codings = (TheImpl.ghosts g.dyn-1).codings c.args.compressors.now in
     let cmp = g.C.Cmp.cmp c.args.table.now.cmp in
     let old = c.args.self.now in
@@ -48,9 +53,9 @@ returns g c =
     let step = c.in_ok-to_last.ensures in
     let there = sym c.valid.ensures ∙ c.if-not-valid.false in
     let index : new.index ≡ c.seek_to_last.new.self = step.index ∙ read.index in
-    let into : (bytes : List ℕ) → FileHas g.E.Env c.args.env.now c.args.table.now.file bytes → HoldsOnlyOf codings cmp c.args.table.now.id bytes c.args.cache.now
-    → IsInto codings cmp bytes (last_position (pairs_over old.index)) last_position old new = λ bytes has holds.
-    is_into codings cmp bytes (last_position (pairs_over old.index)) last_position old loaded new c.seek_to_last.new.self c.in_ok-seek_to_last.ensures.block c.in_ok-seek_to_last.ensures.ok there
+    let into : (bytes : List ℕ) → FileHas g.E.Env c.args.env.now c.args.table.now.file bytes → HoldsOnlyOf g.C.Cmp codings cmp c.args.table.now.id bytes c.args.cache.now
+    → IsInto g.C.Cmp codings cmp bytes (last_position (pairs_over old.index)) last_position old new = λ bytes has holds.
+    is_into g.C.Cmp codings cmp bytes (last_position (pairs_over old.index)) last_position old loaded new c.seek_to_last.new.self block ok there
     read.index (read.block bytes has holds) step.index step.block step.pairs step.ok in
     let none : inner_position new.inner ≡ None = none_there (inner_position new.inner) (sym step.there ∙ c.if-branch.false) in
     record {
@@ -60,20 +65,22 @@ returns g c =
               inl code,
               λ bytes has. (
                 λ parts position right fit holds indexed. some_none (sym (last_is_there right indexed new (into bytes has holds)).0.1 ∙ none),
-                λ holds. into_empty codings cmp bytes old new (into bytes has holds) status (last_none (inner_pairs new.inner) (sym (into bytes has holds).position ∙ none)) code,
+                λ holds. into_empty g.C.Cmp codings cmp bytes old new (into bytes has holds) status (last_none (inner_pairs new.inner) (sym (into bytes has holds).position ∙ none)) code,
               ),
             ));
         ok = λ bytes has parts position right fit holds indexed. ok_refused _ _ c.empty_block_error.result c.empty_block_error.ensures;
         steps = λ bytes has holds. ok_refused _ _ c.empty_block_error.result c.empty_block_error.ensures;
         err = err_holds c.empty_block_error.result none;
         gathers = read.gathers;
-        same_lines = ap pairs_over index ∙ block_lines c.seek_to_last.new.self c.args.self.now.index c.in_ok-seek_to_last.ensures.block;
-        same_order = ap (λ z. z.block.cmp) index ∙ ap (λ z. z.cmp) c.in_ok-seek_to_last.ensures.block;
+        same_lines = ap pairs_over index ∙ block_lines c.seek_to_last.new.self c.args.self.now.index block;
+        same_order = ap (λ z. z.block.cmp) index ∙ ap (λ z. z.cmp) block;
       };
     }
 
 pub returns-then-branch : goal.returns-then-branch
 returns-then-branch g c =
+    let block = c.in_ok-seek_to_last.ensures.block ∙ ap (λ z. z.index.block) c.self.view_is in
+    let ok = c.in_ok-seek_to_last.ensures.ok ∙ ap (λ z. last_position (pairs_over z.index)) c.self.view_is in
     let codings = (TheImpl.ghosts g.dyn-1).codings c.args.compressors.now in
     let cmp = g.C.Cmp.cmp c.args.table.now.cmp in
     let old = c.args.self.now in
@@ -83,29 +90,30 @@ returns-then-branch g c =
     let step = c.in_ok-to_last.ensures in
     let there = sym c.valid.ensures ∙ c.if-not-valid.false in
     let index : new.index ≡ c.seek_to_last.new.self = step.index ∙ read.index in
-    let into : (bytes : List ℕ) → FileHas g.E.Env c.args.env.now c.args.table.now.file bytes → HoldsOnlyOf codings cmp c.args.table.now.id bytes c.args.cache.now
-    → IsInto codings cmp bytes (last_position (pairs_over old.index)) last_position old new = λ bytes has holds.
-    is_into codings cmp bytes (last_position (pairs_over old.index)) last_position old loaded new c.seek_to_last.new.self c.in_ok-seek_to_last.ensures.block c.in_ok-seek_to_last.ensures.ok there
+    let into : (bytes : List ℕ) → FileHas g.E.Env c.args.env.now c.args.table.now.file bytes → HoldsOnlyOf g.C.Cmp codings cmp c.args.table.now.id bytes c.args.cache.now
+    → IsInto g.C.Cmp codings cmp bytes (last_position (pairs_over old.index)) last_position old new = λ bytes has holds.
+    is_into g.C.Cmp codings cmp bytes (last_position (pairs_over old.index)) last_position old loaded new c.seek_to_last.new.self block ok there
     read.index (read.block bytes has holds) step.index step.block step.pairs step.ok in
     record {
       enters = record {
         reads = reads_ok g.E.Env read.reads.kept_disk read.reads.cause.ok;
-        ok = λ bytes has parts position right fit holds indexed. subst (IsAtPosition cmp parts new) (sym fit) (last_is_there right indexed new (into bytes has holds)).1;
-        steps = λ bytes has holds. into_at codings cmp bytes old new (into bytes has holds) (sym step.there ∙ c.if-branch.true);
+        ok = λ bytes has parts position right fit holds indexed. subst (IsAtPosition g.C.Cmp cmp parts new) (sym fit) (last_is_there right indexed new (into bytes has holds)).1;
+        steps = λ bytes has holds. into_at g.C.Cmp codings cmp bytes old new (into bytes has holds) (sym step.there ∙ c.if-branch.true);
         err = tt;
         gathers = read.gathers;
-        same_lines = ap pairs_over index ∙ block_lines c.seek_to_last.new.self c.args.self.now.index c.in_ok-seek_to_last.ensures.block;
-        same_order = ap (λ z. z.block.cmp) index ∙ ap (λ z. z.cmp) c.in_ok-seek_to_last.ensures.block;
+        same_lines = ap pairs_over index ∙ block_lines c.seek_to_last.new.self c.args.self.now.index block;
+        same_order = ap (λ z. z.block.cmp) index ∙ ap (λ z. z.cmp) block;
       };
     }
 
 pub returns-then-not-valid : goal.returns-then-not-valid
 returns-then-not-valid g c =
+    let block = c.in_ok-seek_to_last.ensures.block ∙ ap (λ z. z.index.block) c.self.view_is in
+    let ok = c.in_ok-seek_to_last.ensures.ok ∙ ap (λ z. last_position (pairs_over z.index)) c.self.view_is in
     let old = c.args.self.now in
-    let found = c.in_ok-seek_to_last.ensures in
     let none : position_over c.seek_to_last.new.self ≡ None = none_there (position_over c.seek_to_last.new.self) (sym c.valid.ensures ∙ c.if-not-valid.true) in
     record {
-      enters = enters_ends {Fit = λ parts position. position ≡ last_position (pairs_in parts)} old _ false (block_lines c.seek_to_last.new.self old.index found.block) (ap (λ z. z.cmp) found.block) (ap inner_position c.leave.ensures)
-          (λ bytes parts position right fit indexed. fit ∙ last_of_none parts (ap last_position (sym indexed.lines) ∙ sym found.ok ∙ none))
-          (λ bytes. to_no_block ((TheImpl.ghosts g.dyn-1).codings c.args.compressors.now) (g.C.Cmp.cmp c.args.table.now.cmp) bytes (pairs_over old.index) last_position (last_position (pairs_over old.index)) _ (sym found.ok ∙ none) none (ap inner_position c.leave.ensures));
+      enters = enters_ends {Fit = λ parts position. position ≡ last_position (pairs_in parts)} old _ false (block_lines c.seek_to_last.new.self old.index block) (ap (λ z. z.cmp) block) (ap inner_position c.leave.ensures)
+          (λ bytes parts position right fit indexed. fit ∙ last_of_none parts (ap last_position (sym indexed.lines) ∙ sym ok ∙ none))
+          (λ bytes. to_no_block ((TheImpl.ghosts g.dyn-1).codings c.args.compressors.now) (g.C.Cmp.cmp c.args.table.now.cmp) bytes (pairs_over old.index) last_position (last_position (pairs_over old.index)) _ (sym ok ∙ none) none (ap inner_position c.leave.ensures));
     }
