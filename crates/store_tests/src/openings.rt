@@ -1,6 +1,5 @@
 //! Which files openings leave, and what they hold.
 use crate::acts::{Act, Setting, play_each};
-use crate::crash_disks::{Side, Tails, crash};
 use crate::stores::{STORE, contents_of, file_bytes, has_files, opened, reopen, reusing, store_of};
 use leveldb_base::error::Result;
 use leveldb_env::mem_env::{Pick, RecordEnv};
@@ -133,8 +132,11 @@ fn append_value(alloc: Global, env: &mut RecordEnv, found: &mut Vec<u8>) -> Resu
 
 /// What `CURRENT` names after a crash without tails at this moment, and then the value of k.
 fn crash_in_opening(alloc: Global, env: &RecordEnv, moment: u64) -> Result<Vec<u8>> {
-    let after = false;
-    let mut left = crash(alloc, env, Side { moment, after }, Tails::Nothing)?;
+    let pick = Pick {
+        tails: Vec::new(alloc),
+        after: false,
+    };
+    let mut left = env.disk_at(alloc, moment, &pick)?;
     let mut found = file_bytes(alloc, &mut left, "CURRENT")?;
     append_value(alloc, &mut left, &mut found)?;
     Ok(found)

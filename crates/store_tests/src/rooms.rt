@@ -1,7 +1,6 @@
 //! A store with a memtable of one byte: each write but the first makes a table of the batch before.
-use crate::steps::Change;
 use crate::stores::{
-    DefaultEngine, DefaultOptions, batch_of, buffered, damage_file, failed_with, has_files,
+    Change, DefaultEngine, DefaultOptions, batch_of, buffered, damage_file, failed_with, has_files,
     has_levels, holds, opened, put_all, reopen,
 };
 use leveldb_base::error::{Result, StatusCode};

@@ -1,5 +1,4 @@
 //! What several tests do with a store's files: their names and sizes, what they hold, and logs and manifests that are made by hand.
-use crate::steps::Change;
 use leveldb_base::cmp::DefaultCmp;
 use leveldb_base::error::{Result, StatusCode};
 use leveldb_base::types::SequenceNumber;
@@ -19,6 +18,9 @@ use std::alloc::Global;
 
 /// The path of the store.
 pub const STORE: &str = "db";
+
+/// A key, and its new value, or none to delete it.
+pub type Change = (&'static str, Option<&'static str>);
 
 pub type DefaultOptions = Options<DefaultCmp, BloomPolicy>;
 

@@ -6,10 +6,10 @@ use crate::crash_disks::{
 };
 use crate::replies::{are_same, is_any_map};
 use crate::steps::{Call, Step};
-use crate::stores::reopen;
 use leveldb_base::cmp::DefaultCmp;
 use leveldb_base::error::{Result, StatusCode};
 use leveldb_env::mem_env::RecordEnv;
+use rusty_leveldb::db_impl::Engine;
 use rusty_leveldb::shell::{Reply, Step as ShellStep};
 use slow_history::BorrowedPair;
 use std::alloc::Global;
@@ -162,7 +162,7 @@ fn reopen_found(
     found: Vec<Reply>,
 ) -> Result<Reopened> {
     let start = env.moment();
-    reopen(alloc, &mut env, options_of(setting))?;
+    Engine::open(alloc, "db", &mut env, options_of(setting))?.abandon(&mut env)?;
     Ok(Reopened {
         setting,
         env,

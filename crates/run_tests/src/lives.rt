@@ -2,7 +2,7 @@
 use crate::crash_disks::{Tally, add_calls, assert_tally, judge_crash};
 use crate::replies::{bytes_of, look_ups};
 use crate::steps::{Call, Step, commands_of};
-use crate::stores::{failed_with, failed_with as has_failed};
+use crate::stores::failed_with;
 use leveldb_base::cmp::DefaultCmp;
 use leveldb_base::error::{Result, StatusCode};
 use leveldb_env::filter::BloomPolicy;

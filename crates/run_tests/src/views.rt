@@ -178,7 +178,7 @@ fn led_to(alloc: Global, calls: &[Call], wanted: &str) -> Result<bool> {
 /// One byte of the table of b is wrong when the store is opened again.
 fn walk_over_damage(rt: &impl Abort, alloc: Global, at: usize) -> Result<()> {
     let mut recorded = record(alloc, TABLES)?;
-    damage_file(alloc, &mut recorded.env, "000007.ldb", at)?;
+    damage_file(alloc, &mut recorded.env, "db/000007.ldb", at)?;
     let walk = [Step::Walk(None, OVER_A_LOST_TABLE)];
     record_life(alloc, &mut recorded, &walk)?;
     assert!(rt; led_to(alloc, &recorded.calls, LEADS)?, "byte {at}");
