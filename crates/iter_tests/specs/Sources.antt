@@ -9,15 +9,15 @@ use Rattle.leveldb_iter.specs.Walk.{KeyOrder, IsSortedIn, WalkLaws}
 use Rattle.iter_tests.specs.declared.children.Source.{Source}
 
 -- it is over its own list, in the order of its comparator
-pub record IsListOf {W C : Type 0} (cmp : CmpGhosts C) (world : W) (it : Source C) (order : KeyOrder)
-    (pairs : List Pair) : Type 0 where
+pub record IsListOf {W C : Type 0} (cmp : CmpGhosts C) (world : W) (it : Source C)
+    (order : KeyOrder) (pairs : List Pair) : Type 0 where
   pub order_is : order.cmp ≡ cmp.cmp it.list.cmp
   pub pairs_are : pairs ≡ it.list.pairs.items
   pub sorted : IsSortedIn order pairs
 
 -- and at its own position
-pub record IsListAt {W C : Type 0} (cmp : CmpGhosts C) (world : W) (it : Source C) (order : KeyOrder)
-    (pairs : List Pair) (position : Option ℕ) : Type 0 where
+pub record IsListAt {W C : Type 0} (cmp : CmpGhosts C) (world : W) (it : Source C)
+    (order : KeyOrder) (pairs : List Pair) (position : Option ℕ) : Type 0 where
   pub over : IsListOf cmp world it order pairs
   pub position_is : position ≡ it.list.at
 
@@ -29,15 +29,17 @@ source_here it = pair_at it.list.pairs.items it.list.at
 abbrev pub FailsAtDevice : {W C : Type 0} → W → Source C → W → Status → Type 0
 FailsAtDevice world it later status = status.code ≡ IOError
 
-stays_listed : {W C : Type 0} {cmp : CmpGhosts C} (first second : W) (it : Source C) (order : KeyOrder)
-    (pairs : List Pair) → IsListOf cmp first it order pairs → IsListOf cmp second it order pairs
+stays_listed : {W C : Type 0} {cmp : CmpGhosts C} (first second : W) (it : Source C)
+    (order : KeyOrder) (pairs : List Pair)
+    → IsListOf cmp first it order pairs → IsListOf cmp second it order pairs
 stays_listed first second it order pairs over =
     record { order_is = over.order_is; pairs_are = over.pairs_are; sorted = over.sorted }
 
 -- it is a walk
 pub source_laws : {W C : Type 0} {cmp : CmpGhosts C}
     → ((it : Source C) → IsPosition it.list.pairs.items it.list.at)
-    → WalkLaws (IsListOf {W = W} cmp) (IsListAt cmp) source_here FailsAtDevice (λ first second. Unit {0})
+    → WalkLaws (IsListOf {W = W} cmp) (IsListAt cmp) source_here FailsAtDevice
+    (λ first second. Unit {0})
 source_laws within = record {
   sorted = λ world it order pairs over. over.sorted;
   over_list = λ world it order pairs position at. at.over;
@@ -53,6 +55,9 @@ source_laws within = record {
   keeps_on = λ first second third one other. tt;
   stays_over = λ first second kept. stays_listed first second;
   stays = λ first second kept it order pairs position at.
-      record { over = stays_listed first second it order pairs at.over; position_is = at.position_is };
+      record {
+        over = stays_listed first second it order pairs at.over;
+        position_is = at.position_is;
+      };
   excuses = λ first second kept it later status fails. fails;
 }

@@ -11,7 +11,7 @@ use Rattle.leveldb_base.proofs.ViewLemmas.{sorted_has_view}
 use Rattle.leveldb_base.proofs.PositionLemmas.{last_before_end}
 use Rattle.leveldb_iter.specs.declared.db_iter.DbIterCore.{DbIterCore}
 use Rattle.leveldb_iter.specs.declared.walk.Walk.{Ghosts as WalkGhosts}
-use Rattle.leveldb_iter.specs.DbIter.{IsViewOf, IsPlaced, IsPlacedAt, IsViewAt, IsViewOver, view_pair, view_here, FailsOver, FailsView}
+use Rattle.leveldb_iter.specs.DbIter.{IsViewOf, IsPlaced, IsAtOrBefore, IsViewAt, IsViewOver, view_pair, view_here, FailsOver, FailsView}
 use Rattle.leveldb_iter.specs.DbIterSteps.{IsOnScan, IsOnScanBack, IsFoundNext, IsFoundPrevious, IsLeft, IsLeftBack, IsSought, IsWhole, KeepsBelow, MovesBelow, number_after}
 use Rattle.leveldb_iter.specs.MergedEntries.{internal_order}
 use Rattle.leveldb_iter.specs.Walk.{KeyOrder, Way, WalkLaws, MovesWalk, Advances, StepsBack, SeeksFirst, Resets}
@@ -143,7 +143,7 @@ module _ {E T M : Type 0} (walk : WalkGhosts M E T) (laws : WalkLaws walk.over w
         → Enters (IsViewAt walk) (λ _ _. previous_position) (IsLeftBack walk old_world old.walk old.sequence direction (saved_of old)) (λ (u : Unit {0}). IsFoundPrevious walk new_world new.walk old.sequence new.at (saved_of new))
         old_world old (tt {0}) new_world new order pairs position
     enters_previous direction is order pairs position at =
-        let placed : (n : ℕ) × (position ≡ Some n) × IsPlacedAt walk old_world old.walk old.sequence order direction (saved_of old) at.below pairs n =
+        let placed : (n : ℕ) × (position ≡ Some n) × IsAtOrBefore walk old_world old.walk old.sequence order direction (saved_of old) at.below pairs n =
         subst (λ d. IsPlaced walk old_world old.walk old.sequence order d (saved_of old) at.below pairs position) is at.placed in
         record {
           below = at.below;

@@ -23,7 +23,7 @@ use Rattle.leveldb_base.proofs.PositionLemmas.{last_before_end}
 use Rattle.leveldb_base.proofs.EntriesLemmas.{entries_append, key_le}
 use Rattle.leveldb_base.proofs.ScanLemmas.{skip_after, shown_append, sorted_front, sorted_back, each_seek_of_pairs}
 use Rattle.leveldb_iter.specs.declared.walk.Walk.{Ghosts as WalkGhosts}
-use Rattle.leveldb_iter.specs.DbIter.{IsAtEntry, IsBeforeEntries, IsPlacedAt, FailsOver, user_pair}
+use Rattle.leveldb_iter.specs.DbIter.{IsAtEntry, IsBeforeEntries, IsAtOrBefore, FailsOver, user_pair}
 use Rattle.leveldb_iter.specs.DbIterSteps.{IsOnScan, IsOnScanBack, IsTurning, IsLeftBack, IsSought, IsWhole, MovesBelow}
 use Rattle.leveldb_iter.specs.MergedEntries.{internal_order}
 use Rattle.leveldb_iter.specs.Walk.{KeyOrder, WalkLaws, StepsBack}
@@ -199,7 +199,7 @@ module _ {E T M : Type 0} (walk : WalkGhosts M E T) (laws : WalkLaws walk.over w
     pub leaves_back_reverse : direction ≡ Reverse → MovesBelow walk (IsLeftBack walk world inner s direction saved) (λ (u : Unit {0}). IsOnScanBack walk world inner s None) world inner (Ok (tt {0})) world inner
     leaves_back_reverse reverse = stayed walk laws (λ u. IsOnScanBack walk world inner s None) world inner (tt {0}) (λ order below pairs n from.
         let view = from.0 in
-        let b : IsBeforeEntries walk world inner s order saved below pairs n = subst (λ d. IsPlacedAt walk world inner s order d saved below pairs n) reverse from.1 in
+        let b : IsBeforeEntries walk world inner s order saved below pairs n = subst (λ d. IsAtOrBefore walk world inner s order d saved below pairs n) reverse from.1 in
         record {
           front = b.front;
           over = [];
@@ -220,7 +220,7 @@ module _ {E T M : Type 0} (walk : WalkGhosts M E T) (laws : WalkLaws walk.over w
         subst (λ it. MovesBelow walk (IsLeftBack walk world inner s direction saved) (λ (u : Unit {0}). IsTurning walk world it s key) world inner (Ok (tt {0})) world it) (sym same)
         (stayed walk laws (λ u. IsTurning walk world inner s key) world inner (tt {0}) (λ order below pairs n from.
         let view = from.0 in
-        let entry : IsAtEntry walk world inner s order below pairs n = subst (λ d. IsPlacedAt walk world inner s order d saved below pairs n) forward from.1 in
+        let entry : IsAtEntry walk world inner s order below pairs n = subst (λ d. IsAtOrBefore walk world inner s order d saved below pairs n) forward from.1 in
         let here : walk.here inner ≡ Some entry.pair = laws.at_position world inner (internal_order order) below (Some (length entry.front)) entry.at
         ∙ ap (λ list. slice_get list (length entry.front)) entry.parted ∙ at_front entry.front (entry.pair ∷ entry.back) in
         let key_is = own entry.pair here in

@@ -84,15 +84,15 @@ module _ {E T M : Type 0} (walk : WalkGhosts M E T) (world : E × T) (inner : M)
         → entry.sequence ≤ sequence → order.cmp entry.key saved.0 ≢ Less
 
   -- it is at the pair at this position, by the direction in which it last went
-  abbrev pub IsPlacedAt : Direction → Pair → List Pair → List Pair → ℕ → Type 0
-  IsPlacedAt Forward saved below pairs position = IsAtEntry below pairs position
-  IsPlacedAt Reverse saved below pairs position = IsBeforeEntries saved below pairs position
+  abbrev pub IsAtOrBefore : Direction → Pair → List Pair → List Pair → ℕ → Type 0
+  IsAtOrBefore Forward saved below pairs position = IsAtEntry below pairs position
+  IsAtOrBefore Reverse saved below pairs position = IsBeforeEntries saved below pairs position
 
   -- and at no position where it has none
   abbrev pub IsPlaced : Option Direction → Pair → List Pair → List Pair → Option ℕ → Type 0
   IsPlaced None saved below pairs position = position ≡ None
   IsPlaced (Some direction) saved below pairs position =
-      (n : ℕ) × (position ≡ Some n) × IsPlacedAt direction saved below pairs n
+      (n : ℕ) × (position ≡ Some n) × IsAtOrBefore direction saved below pairs n
 
 module _ {E T M : Type 0} (walk : WalkGhosts M E T) where
   -- it is at this position of a view

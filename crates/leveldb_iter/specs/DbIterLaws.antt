@@ -17,12 +17,13 @@ use Rattle.leveldb_base.proofs.PositionLemmas.{at_seam}
 use Rattle.leveldb_base.proofs.ViewLemmas.{sorted_has_view}
 use Rattle.leveldb_iter.specs.declared.db_iter.DbIterCore.{DbIterCore}
 use Rattle.leveldb_iter.specs.declared.walk.Walk.{Ghosts as WalkGhosts}
-use Rattle.leveldb_iter.specs.DbIter.{IsViewOf, IsPlacedAt, IsPlaced, IsViewAt, IsViewOver, view_pair, view_here, FailsView, user_pair}
+use Rattle.leveldb_iter.specs.DbIter.{IsViewOf, IsAtOrBefore, IsPlaced, IsViewAt, IsViewOver, view_pair, view_here, FailsView, user_pair}
 use Rattle.leveldb_iter.specs.MergedEntries.{internal_order}
 use Rattle.leveldb_iter.specs.Walk.{KeyOrder, IsSortedIn, WalkLaws}
 
 -- the pair at the front of the latter of two lists
-pub at_front : (front back : List Pair) → slice_get (front ++ back) (length front) ≡ slice_get back 0
+pub at_front : (front back : List Pair)
+    → slice_get (front ++ back) (length front) ≡ slice_get back 0
 at_front [] back = refl
 at_front (pair ∷ front) back = at_front front back
 
@@ -31,7 +32,7 @@ module _ {E T M : Type 0} {walk : WalkGhosts M E T}
   -- the pair at its position is the one that it says
   shown_at : (world : E × T) (inner : M) (s : ℕ) (order : KeyOrder) (direction : Direction)
       (saved : Pair) (below pairs : List Pair) (n : ℕ)
-      → IsPlacedAt walk world inner s order direction saved below pairs n
+      → IsAtOrBefore walk world inner s order direction saved below pairs n
       → (pair : Pair) × (view_pair (Some direction) (walk.here inner) saved ≡ Some pair)
       × (slice_get pairs n ≡ Some pair)
   shown_at world inner s order Forward saved below pairs n entry =
@@ -83,8 +84,8 @@ module _ {E T M : Type 0} {walk : WalkGhosts M E T}
     }
 
     placed_at_stays : (direction : Direction) (saved : Pair) (below pairs : List Pair) (n : ℕ)
-        → IsPlacedAt walk first inner s order direction saved below pairs n
-        → IsPlacedAt walk second inner s order direction saved below pairs n
+        → IsAtOrBefore walk first inner s order direction saved below pairs n
+        → IsAtOrBefore walk second inner s order direction saved below pairs n
     placed_at_stays Forward saved below pairs n entry = record {
       front = entry.front;
       pair = entry.pair;

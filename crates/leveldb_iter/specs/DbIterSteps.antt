@@ -22,7 +22,7 @@ use Rattle.leveldb_base.specs.declared.types.Direction.{Direction}
 use Rattle.leveldb_iter.specs.declared.entry.Seen.{Seen}
 use Rattle.leveldb_iter.specs.declared.entry.Seen.TheVariants.{End, Shown, Passed}
 use Rattle.leveldb_iter.specs.declared.walk.Walk.{Ghosts as WalkGhosts}
-use Rattle.leveldb_iter.specs.DbIter.{IsViewOf, IsPlacedAt, IsPlaced, FailsOver}
+use Rattle.leveldb_iter.specs.DbIter.{IsViewOf, IsAtOrBefore, IsPlaced, FailsOver}
 use Rattle.leveldb_iter.specs.MergedEntries.{internal_order}
 use Rattle.leveldb_iter.specs.Walk.{KeyOrder}
 
@@ -200,7 +200,7 @@ module _ {E T M : Type 0} (walk : WalkGhosts M E T) (world : E × T) (inner : M)
   -- it is at the pair of this number
   abbrev pub IsLeftBack : Direction → Pair → KeyOrder → List Pair → List Pair → ℕ → Type 0
   IsLeftBack direction saved order below pairs n = IsViewOf walk world inner s order below pairs
-      × IsPlacedAt walk world inner s order direction saved below pairs n
+      × IsAtOrBefore walk world inner s order direction saved below pairs n
 
   -- it is over the view, of which so many pairs are before a key
   abbrev pub IsSought : List ℕ → KeyOrder → List Pair → List Pair → ℕ → Type 0

@@ -24,7 +24,7 @@ use Rattle.leveldb_version.specs.Format.{Agrees, IsTableFault, IsTableOf, LacksC
 use Rattle.leveldb_version.specs.Levels.{IsInRange, LiveTable, table_entries}
 use Rattle.leveldb_version.specs.Overlap.{AreDisjointRanges}
 use Rattle.leveldb_version.specs.Paths.{table_path}
-use Rattle.leveldb_version.specs.Search.{AreAllTried, AreDisjointLevels, AreOpenTablesMatched, AreTriedFirst, AreVersionTables, FindsInLast, FindsInNone, FindsInTable, IsTriedBefore, IsUnread, LooksUpNewest, OpensTablesOf, SearchesFiles, SearchesTable, TakesNextFile, file_to_charge, lacks_block, unopened, untagged}
+use Rattle.leveldb_version.specs.Search.{AreAllTried, AreDisjointLevels, AreOpenTablesMatched, AreTriedFirst, AreVersionTables, FindsInLast, FindsInNone, FindsInTable, IsTriedBefore, IsUnreadable, LooksUpNewest, OpensTablesOf, SearchesFiles, SearchesTable, TakesNextFile, file_to_charge, lacks_block, unopened, untagged}
 use Rattle.leveldb_version.specs.Store.{HasTable}
 use Rattle.leveldb_version.specs.Summary.{files_of_level}
 use Rattle.leveldb_version.specs.TableCache.{HasBytesAt, IsOpenOrThere, IsTableUnopened, MatchesFiles, TableOptions, files_at, path_at, store_of, table_at}
@@ -65,7 +65,7 @@ module _ {E C FP F : Type 0} (order : CmpGhosts (InternalKeyCmp C)) (env : EnvGh
   found_before : (number : ℕ) (found : Option (Option (List ℕ))) → FindsInTable order env by key mid cache number found → FindsInTable order env by key from old number found
   found_before number found finds = λ bytes has. finds bytes (bytes_after number has)
 
-  unread_before : (number : ℕ) (status : Status) → IsUnread order env by key mid cache number status → IsUnread order env by key from old number status
+  unread_before : (number : ℕ) (status : Status) → IsUnreadable order env by key mid cache number status → IsUnreadable order env by key from old number status
   unread_before number status (unopened why) = unopened
       (subst (λ store. IsTableUnopened by.format (files_at env from) (table_path store number) status) path
       (subst (λ files. IsTableUnopened by.format files (path_at cache number) status) (same_files env kept modelled) why))
@@ -321,16 +321,16 @@ module _ {E C FP F : Type 0} (order : CmpGhosts (InternalKeyCmp C)) (env : EnvGh
               if_refused P (Ok found) refused = absurd refused
               if_refused P (Err other) refused = tt
 
-              before : AreOpenTablesMatched order env by key from old → (other : Status) → IsUnread order env by key mid cache file.number other → IsUnread order env by key from old file.number other
+              before : AreOpenTablesMatched order env by key from old → (other : Status) → IsUnreadable order env by key mid cache file.number other → IsUnreadable order env by key from old file.number other
               before matched other why = unread_before order env by key from mid old cache so_far.kept so_far.opens.path matched.modelled file.number other why
 
-              wants : AreOpenTablesMatched order env by key from old → {meaning : Meaning} → Agrees by.format meaning → (tables : List LiveTable) → AreVersionTables order env by key from old version meaning tables → (other : Status) → IsUnread order env by key from old file.number other
+              wants : AreOpenTablesMatched order env by key from old → {meaning : Meaning} → Agrees by.format meaning → (tables : List LiveTable) → AreVersionTables order env by key from old version meaning tables → (other : Status) → IsUnreadable order env by key from old file.number other
                   → (other.code ≡ NotSupported) × LacksCompressor by.format meaning
               wants matched {meaning} agrees tables are other why =
                   let table = table_of exact meaning (store_of old) (files_at env from) tables are.each files are.files_are file file_in in
                   let has = there exact meaning (store_of old) (files_at env from) tables are.each table.0 table.1 in
                   let small = sizes file file_in in
-                  unread_wants order env by exact order_is key tagged from old agrees table.0 has (subst (λ (f : NewFile). f.size < 2 ^ 64) (sym table.2) small) other (subst (λ (f : NewFile). IsUnread order env by key from old f.number other) (sym table.2) why)
+                  unread_wants order env by exact order_is key tagged from old agrees table.0 has (subst (λ (f : NewFile). f.size < 2 ^ 64) (sym table.2) small) other (subst (λ (f : NewFile). IsUnreadable order env by key from old f.number other) (sym table.2) why)
 
     -- ---- no file is left
 

@@ -28,7 +28,7 @@ use Rattle.leveldb_table.specs.TableReaderWalk.{Outcome}
 use Rattle.leveldb_version.specs.Format.{Agrees, Format, IsTableFault, IsTableOf, LacksCompressor, Meaning}
 use Rattle.leveldb_version.specs.Levels.{LiveTable}
 use Rattle.leveldb_version.specs.Paths.{table_path}
-use Rattle.leveldb_version.specs.Search.{AreOpenTablesMatched, FindsInTable, ForPairAt, IsUnread, OpensTablesOf, SearchesTable, lacks_block, unopened, untagged}
+use Rattle.leveldb_version.specs.Search.{AreOpenTablesMatched, FindsInTable, ForPairAt, IsUnreadable, OpensTablesOf, SearchesTable, lacks_block, unopened, untagged}
 use Rattle.leveldb_version.specs.Store.{HasTable}
 use Rattle.leveldb_version.specs.TableCache.{ForBytesAt, GainsOwnBlocks, GetsPair, HasBytesAt, IsNoStoreTable, IsNotOpened, IsOpenOrThere, IsOpenedWith, IsTableUnopened, LacksBlockFor, MatchesFiles, MayFail, SomeTable, StoreTable, TableOptions, UsesTable, blocks_of, empty_cache, files_at, key_matches, key_order, missing, no_table, of_none, of_open, of_opened, path_at, renewed, store_of, table_at, tables_of}
 use Rattle.leveldb_version.specs.declared.table_cache.TableCache.{TableCache}
@@ -110,7 +110,7 @@ module _ {E C FP F : Type 0} (env : EnvGhosts E F) (by : TableOptions C FP) (key
   may_fail status (inr (there, lack)) = fault_of env by.format status lack
 
 module _ {E C FP F : Type 0} {order : CmpGhosts (InternalKeyCmp C)} (env : EnvGhosts E F) (by : TableOptions C FP) (key : List ℕ) (from : E) (old : TableCache E C FP F) (number : ℕ) where
-  not_read : AreOpenTablesMatched order env by key from old → (status : Status) → IsNotOpened env by from old number status ⊎ LacksBlockFor order env by key (files_at env from) old number status → IsUnread order env by key from old number status
+  not_read : AreOpenTablesMatched order env by key from old → (status : Status) → IsNotOpened env by from old number status ⊎ LacksBlockFor order env by key (files_at env from) old number status → IsUnreadable order env by key from old number status
   not_read matched status (inl (none, not)) = unopened (not.cause matched.modelled)
   not_read matched status (inr lacks) = lacks_block lacks
 
@@ -187,7 +187,7 @@ module _ {E C FP F : Type 0} (order : CmpGhosts (InternalKeyCmp C)) (env : EnvGh
       (subst (λ (es : List Entry). FindsNewest es (sequence_part key) (user_part key) (found_at (user_part key) it.2.0)) (entries_are has.pairs table.entries has.each) says.newest)
 
   -- it can't be read only where a compressor is wanting
-  pub unread_wants : (status : Status) → IsUnread order env by key from old table.file.number status → Wants agrees status
+  pub unread_wants : (status : Status) → IsUnreadable order env by key from old table.file.number status → Wants agrees status
   unread_wants status (unopened (missing none code)) = absurd (never has.there none)
     where
       never : {o : Option File} {file : File} → o ≡ Some file → o ≡ None → ⊥

@@ -9,7 +9,7 @@ use Rattle.std.proofs.lemmas.Grind.{flat_map-append}
 use Rattle.std.proofs.lemmas.List.{get_or-map, length-map}
 use Rattle.leveldb_base.proofs.HistoryLemmas.{in_none, in_front, in_rest, in_cases}
 use Rattle.leveldb_version.specs.VersionEdit.{LevelFile, Pointer, NewFile, Edit}
-use Rattle.leveldb_version.specs.VersionSet.{FileChange, deleting, adding, file_changes, level_file, is_same_file, left_by, key_for, last_one, live_at, pointer_at, last_set, live_after, Applied, IsLive, ListsFiles, files_left, live_files, pointers_left, IsFullEdit, full_edit, SameFiles, SameNumbers, HasNumbers}
+use Rattle.leveldb_version.specs.VersionSet.{FileChange, deleting, adding, file_changes, level_file, is_same_file, left_by, key_for, last_one, live_at, pointer_at, last_set, live_after, Applied, IsLive, ListsFiles, lasting_files, live_files, pointers_left, IsFullEdit, full_edit, SameFiles, SameNumbers, HasNumbers}
 
 -- ---- edits one after another
 
@@ -221,15 +221,15 @@ left_here x file later e same =
     let P : NewFile → Type 0 = λ z. All (λ change. left_by (level_file z) change ≡ None) later in
     ([], later, ap (λ z. adding z ∷ later) same, subst P same (unchanged_leaves_none (level_file x) later e))
 
-listed_there : (x file : NewFile) (later : List FileChange) (changed : Bool) → is_changed (level_file x) later ≡ changed → (Contains (files_left later) file → IsLeft later file)
-    → Contains (if changed then files_left later else x ∷ files_left later) file → IsLeft (adding x ∷ later) file
+listed_there : (x file : NewFile) (later : List FileChange) (changed : Bool) → is_changed (level_file x) later ≡ changed → (Contains (lasting_files later) file → IsLeft later file)
+    → Contains (if changed then lasting_files later else x ∷ lasting_files later) file → IsLeft (adding x ∷ later) file
 listed_there x file later true e further c = left_after (adding x) later file (further c)
 listed_there x file later false e further c = ⊎_elim
     (λ (same : x ≡ file). left_here x file later e same)
-    (λ (rest : Contains (files_left later) file). left_after (adding x) later file (further rest))
-    (in_cases x file (files_left later) c)
+    (λ (rest : Contains (lasting_files later) file). left_after (adding x) later file (further rest))
+    (in_cases x file (lasting_files later) c)
 
-listed_is_left : (all : List FileChange) (file : NewFile) → Contains (files_left all) file → IsLeft all file
+listed_is_left : (all : List FileChange) (file : NewFile) → Contains (lasting_files all) file → IsLeft all file
 listed_is_left [] file c = absurd (in_none file c)
 listed_is_left (deleting at ∷ later) file c = left_after (deleting at) later file (listed_is_left later file c)
 listed_is_left (adding x ∷ later) file c = listed_there x file later (is_changed (level_file x) later) refl (listed_is_left later file) c
@@ -238,13 +238,13 @@ stays_listed : (x file : NewFile) (files : List NewFile) (changed : Bool) → Co
 stays_listed x file files true c = c
 stays_listed x file files false c = in_rest x file files c
 
-left_is_listed : (before later : List FileChange) (file : NewFile) → All (λ change. left_by (level_file file) change ≡ None) later → Contains (files_left (before ++ adding file ∷ later)) file
+left_is_listed : (before later : List FileChange) (file : NewFile) → All (λ change. left_by (level_file file) change ≡ None) later → Contains (lasting_files (before ++ adding file ∷ later)) file
 left_is_listed [] later file kept =
-    let P : Bool → Type 0 = λ changed. Contains (if changed then files_left later else file ∷ files_left later) file in
-    subst P (sym (none_left_is_unchanged (level_file file) later kept)) (in_front file (files_left later))
+    let P : Bool → Type 0 = λ changed. Contains (if changed then lasting_files later else file ∷ lasting_files later) file in
+    subst P (sym (none_left_is_unchanged (level_file file) later kept)) (in_front file (lasting_files later))
 left_is_listed (deleting at ∷ before) later file kept = left_is_listed before later file kept
 left_is_listed (adding x ∷ before) later file kept =
-    stays_listed x file (files_left (before ++ adding file ∷ later)) (is_changed (level_file x) (before ++ adding file ∷ later)) (left_is_listed before later file kept)
+    stays_listed x file (lasting_files (before ++ adding file ∷ later)) (is_changed (level_file x) (before ++ adding file ∷ later)) (left_is_listed before later file kept)
 
 -- ---- each once
 
@@ -260,12 +260,12 @@ still_apart : (at : LevelFile) (x : NewFile) (files : List NewFile) (changed : B
 still_apart at x files true other apart = apart
 still_apart at x files false other apart = (other, apart)
 
-unchanged_are_apart : (at : LevelFile) (later : List FileChange) → is_changed at later ≡ false → AreApart at (files_left later)
+unchanged_are_apart : (at : LevelFile) (later : List FileChange) → is_changed at later ≡ false → AreApart at (lasting_files later)
 unchanged_are_apart at [] e = tt
 unchanged_are_apart at (deleting file ∷ later) e = unchanged_are_apart at later (or_false (is_some (left_by at (deleting file))) (is_changed at later) e).1
 unchanged_are_apart at (adding x ∷ later) e =
     let both = or_false (is_some (left_by at (adding x))) (is_changed at later) e in
-    still_apart at x (files_left later) (is_changed (level_file x) later) (not_there at x (is_same_file (level_file x) at) refl both.0) (unchanged_are_apart at later both.1)
+    still_apart at x (lasting_files later) (is_changed (level_file x) later) (not_there at x (is_same_file (level_file x) at) refl both.0) (unchanged_are_apart at later both.1)
 
 once_more : (x : NewFile) (files : List NewFile) (changed : Bool) → (changed ≡ false → AreApart (level_file x) files) → IsDistinct is_same_file (map level_file files)
     → IsDistinct is_same_file (map level_file (if changed then files else x ∷ files))
@@ -273,11 +273,11 @@ unfolding IsDistinct
 once_more x files true apart once = once
 once_more x files false apart once = (apart refl, once)
 
-each_once : (all : List FileChange) → IsDistinct is_same_file (map level_file (files_left all))
+each_once : (all : List FileChange) → IsDistinct is_same_file (map level_file (lasting_files all))
 unfolding IsDistinct
 each_once [] = tt
 each_once (deleting file ∷ later) = each_once later
-each_once (adding x ∷ later) = once_more x (files_left later) (is_changed (level_file x) later) (unchanged_are_apart (level_file x) later) (each_once later)
+each_once (adding x ∷ later) = once_more x (lasting_files later) (is_changed (level_file x) later) (unchanged_are_apart (level_file x) later) (each_once later)
 
 -- the list of live files has them all, and each once
 pub lists_live_files : (edits : List Edit) → ListsFiles (live_after edits) (live_files edits)
@@ -285,7 +285,7 @@ lists_live_files edits = record {
   live = λ file. (
     λ c. let it = listed_is_left (flat_map file_changes edits) file c in added_is_live edits file (record { before = it.0; later = it.1; added = it.2; kept = it.3 }),
     λ e. let it = live_was_added edits file e in
-        let P : List FileChange → Type 0 = λ z. Contains (files_left z) file in
+        let P : List FileChange → Type 0 = λ z. Contains (lasting_files z) file in
         subst P (sym it.added) (left_is_listed it.before it.later file it.kept),
   );
   once = each_once (flat_map file_changes edits);
@@ -335,18 +335,18 @@ apart_is_unchanged at (x ∷ files) apart =
     ∙ apart_is_unchanged at files apart.1
 
 -- what adds files, each once, leaves these
-added_once : (files : List NewFile) → IsDistinct is_same_file (map level_file files) → files_left (map adding files) ≡ files
+added_once : (files : List NewFile) → IsDistinct is_same_file (map level_file files) → lasting_files (map adding files) ≡ files
 unfolding IsDistinct
 added_once [] once = refl
 added_once (x ∷ files) once =
-    ap (λ changed. if changed then files_left (map adding files) else x ∷ files_left (map adding files)) (apart_is_unchanged (level_file x) files once.0)
+    ap (λ changed. if changed then lasting_files (map adding files) else x ∷ lasting_files (map adding files)) (apart_is_unchanged (level_file x) files once.0)
     ∙ ap (λ z. x ∷ z) (added_once files once.1)
 
 module _ (edits : List Edit) (edit : Edit) (is : IsFullEdit (live_after edits) edit) where
   leaves_added : live_files (edit ∷ []) ≡ edit.added
   leaves_added =
-      ap files_left (append-nil (file_changes edit))
-      ∙ ap (λ z. files_left (map deleting z ++ map adding edit.added)) is.deleted
+      ap lasting_files (append-nil (file_changes edit))
+      ∙ ap (λ z. lasting_files (map deleting z ++ map adding edit.added)) is.deleted
       ∙ added_once edit.added is.added.once
 
   file_of_one : (at : LevelFile) → live_at (edit ∷ []) at ≡ live_at edits at

@@ -125,14 +125,14 @@ module _ {E C FP F : Type 0} (order : CmpGhosts (InternalKeyCmp C)) (env : EnvGh
 
   -- Why a number's table can't be read for the key: its file is missing or no table, it lacks a block
   -- on the way to the key, or the pair there has a key without a tag.
-  pub data IsUnread (number : ℕ) (status : Status) : Type 0 where
+  pub data IsUnreadable (number : ℕ) (status : Status) : Type 0 where
     unopened : IsTableUnopened by.format (files_at env from) (path_at old number) status
-        → IsUnread number status
+        → IsUnreadable number status
     lacks_block : LacksBlockFor order env by key (files_at env from) old number status
-        → IsUnread number status
+        → IsUnreadable number status
     untagged : status.code ≡ Corruption
         → ForPairAt number (λ pair. IsSomeAnd pair (λ it. length it.0 < 8))
-        → IsUnread number status
+        → IsUnreadable number status
 
   -- Tables of these numbers may be opened, and any closed: the cache goes on to match the files of
   -- the same store, and its room stays.
@@ -151,7 +151,7 @@ module _ {E C FP F : Type 0} (order : CmpGhosts (InternalKeyCmp C)) (env : EnvGh
     pub finds : AreOpenTablesMatched → IfOk result (FindsInTable number)
     pub there : OnOk result (IsOpenOrThere env from old number)
     pub reads : ReadsFile env (λ status. IsTableFault by.format status.code) from to result
-    pub unread : AreOpenTablesMatched → FailsFor env (IsUnread number) from to result
+    pub unread : AreOpenTablesMatched → FailsFor env (IsUnreadable number) from to result
     pub cache : OpensTablesOf (number ∷ []) to new
 
   -- ---- what it finds in a version
@@ -187,9 +187,9 @@ module _ {E C FP F : Type 0} (order : CmpGhosts (InternalKeyCmp C)) (env : EnvGh
       pub charged : charge ≡ file_to_charge looked
 
     -- one of the version's tables can't be read, as a status says
-    abbrev pub IsOneUnread : Status → Type 0
-    IsOneUnread status =
-        (file : NewFile) × Contains (new_files_of version) file × IsUnread file.number status
+    abbrev pub IsOneUnreadable : Status → Type 0
+    IsOneUnreadable status =
+        (file : NewFile) × Contains (new_files_of version) file × IsUnreadable file.number status
 
     -- The look-up stops at a table that can't be read, as a status says, after others in which
     -- nothing is found.
@@ -198,7 +198,7 @@ module _ {E C FP F : Type 0} (order : CmpGhosts (InternalKeyCmp C)) (env : EnvGh
       pub file : NewFile
       pub first : AreSearchedFirst (looked ++ file ∷ [])
       pub nothing : FindsInNone looked
-      pub unread : IsUnread file.number status
+      pub unread : IsUnreadable file.number status
 
     -- what a look-up in the version returns and leaves
     pub record LooksUpNewest (result : Result (Option (Option (List ℕ)) × GetStats) Status)
@@ -214,7 +214,7 @@ module _ {E C FP F : Type 0} (order : CmpGhosts (InternalKeyCmp C)) (env : EnvGh
       -- stays as it is.
       pub reads : ReadsFile env (λ status. IsTableFault by.format status.code) from to result
       -- the table is one of the version's, and the first on the way that can't be read
-      pub unread : AreOpenTablesMatched → FailsFor env IsOneUnread from to result
+      pub unread : AreOpenTablesMatched → FailsFor env IsOneUnreadable from to result
       pub stops : AreDisjointLevels by.format.order (new_files_of version)
           → AreOpenTablesMatched → FailsFor env StopsAtTable from to result
       -- where its files are tables, that is since the format lacks a compressor

@@ -127,9 +127,10 @@ module _ {E C FP K F : Type 0} {order : CmpGhosts (InternalKeyCmp C)} {env : Env
         fault = fails_or_before env cmp filters codings first second keeps.later
             (IsTableFault (reading env cmp filters codings second.1).format status.code)
             (IsTableFault (reading env cmp filters codings first.1).format status.code)
-            (λ fault. subst (λ (by : TableOptions C FP). IsTableFault by.format status.code) e fault)
+            (λ it. subst (λ (by : TableOptions C FP). IsTableFault by.format status.code) e it)
             later status fails.fault;
-        lacks = λ meaning tables was. fails_or_before env cmp filters codings first second keeps.later
+        lacks = λ meaning tables was.
+            fails_or_before env cmp filters codings first second keeps.later
             ((status.code ≡ NotSupported)
             × LacksCompressor (reading env cmp filters codings second.1).format meaning)
             ((status.code ≡ NotSupported)

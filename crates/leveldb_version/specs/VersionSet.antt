@@ -106,17 +106,17 @@ pub record ListsFiles (set : FileSet) (files : List NewFile) : Type 0 where
 
 -- the files that some changes add and no later one deletes or replaces, in the order in which they
 -- are added
-abbrev pub files_left : List FileChange → List NewFile
-files_left [] = []
-files_left (deleting file ∷ later) = files_left later
-files_left (adding file ∷ later) =
+abbrev pub lasting_files : List FileChange → List NewFile
+lasting_files [] = []
+lasting_files (deleting file ∷ later) = lasting_files later
+lasting_files (adding file ∷ later) =
     if list_any (λ change. is_some (left_by (level_file file) change)) later
-    then files_left later
-    else file ∷ files_left later
+    then lasting_files later
+    else file ∷ lasting_files later
 
 -- the files that are live after some edits
 abbrev pub live_files : List Edit → List NewFile
-live_files edits = files_left (flat_map file_changes edits)
+live_files edits = lasting_files (flat_map file_changes edits)
 
 -- the compaction pointers that no later one of their level replaces
 abbrev pub pointers_left : List Pointer → List Pointer
