@@ -14,6 +14,8 @@ mod store_files;
 #[cfg(test)]
 mod store_sweeps;
 #[cfg(test)]
+mod stored;
+#[cfg(test)]
 mod stores;
 #[cfg(test)]
 mod table_caches;

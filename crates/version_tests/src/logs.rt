@@ -1,5 +1,6 @@
 //! New stores, and edits that are logged.
 use crate::checks::failed_with;
+use crate::stored::Stored;
 use bytes::Bytes;
 use leveldb_base::cmp::DefaultCmp;
 use leveldb_base::error::{Result, StatusCode};
@@ -9,7 +10,7 @@ use leveldb_env::env::whole_files::read_file;
 use leveldb_env::mem_env::{MemEnv, RecordEnv};
 use leveldb_env::options::Options;
 use leveldb_version::version_edit::VersionEdit;
-use leveldb_version::version_set::{VersionSet, make_store, read_current_file};
+use leveldb_version::version_set::{make_store, read_current_file};
 use std::alloc::Global;
 use std::process::Abort;
 
@@ -47,9 +48,9 @@ fn failed_calls_make_no_store(rt: HostRuntime) -> Result<()> {
     Ok(())
 }
 
-/// A version set of no files whose manifest isn't made.
-fn new_set(alloc: Global) -> Result<VersionSet<RecordEnv>> {
-    VersionSet::new(alloc, "db", &DefaultCmp)
+/// A version set of no files, whose manifest isn't made.
+fn new_set(alloc: Global) -> Result<Stored<RecordEnv>> {
+    Stored::new(alloc, RecordEnv::new(alloc))
 }
 
 /// An edit that adds the file 5.
@@ -66,51 +67,49 @@ fn file_added(alloc: Global) -> Result<VersionEdit> {
     Ok(edit)
 }
 
+/// An edit that deletes the file 5 of this level.
+fn file_deleted(alloc: Global, level: usize) -> Result<VersionEdit> {
+    let mut edit = VersionEdit::new(alloc);
+    edit.delete_file(level, 5)?;
+    Ok(edit)
+}
+
 /// A record of the comparator's name, 28 bytes, and two of an edit's four numbers, 8 bytes each.
 #[test]
 fn edits_are_appended(rt: HostRuntime) -> Result<()> {
-    let mut env = RecordEnv::new(rt.alloc());
-    let mut set = new_set(rt.alloc())?;
-    set.log_and_apply(&mut env, VersionEdit::new(rt.alloc()))?;
-    assert!(rt; env.size_of("db/MANIFEST-000000")? == 50);
-    assert!(rt; read_current_file(rt.alloc(), &mut env, "db")?.1 == 0);
-    set.log_and_apply(&mut env, VersionEdit::new(rt.alloc()))?;
-    assert!(rt; env.size_of("db/MANIFEST-000000")? == 65);
+    let mut stored = new_set(rt.alloc())?;
+    stored.log_none(rt.alloc())?;
+    assert!(rt; stored.env.size_of("db/MANIFEST-000000")? == 50);
+    assert!(rt; read_current_file(rt.alloc(), &mut stored.env, "db")?.1 == 0);
+    stored.log_none(rt.alloc())?;
+    assert!(rt; stored.env.size_of("db/MANIFEST-000000")? == 65);
     Ok(())
 }
 
 /// The edit's file is live, and the edit's log number is the set's.
 #[test]
 fn edits_are_applied(rt: HostRuntime) -> Result<()> {
-    let mut env = RecordEnv::new(rt.alloc());
-    let mut set = new_set(rt.alloc())?;
+    let mut stored = new_set(rt.alloc())?;
     let mut edit = file_added(rt.alloc())?;
     edit.set_log_num(4);
-    set.log_and_apply(&mut env, edit)?;
-    assert!(rt; set.live_files()?.contains(&5) && set.log_num() == 4);
-    let mut edit = VersionEdit::new(rt.alloc());
-    edit.delete_file(0, 5)?;
-    set.log_and_apply(&mut env, edit)?;
-    assert!(rt; set.live_files()?.is_empty() && set.log_num() == 4);
+    stored.log(edit)?;
+    assert!(rt; stored.set.live_files()?.contains(&5) && stored.set.log_num() == 4);
+    stored.log(file_deleted(rt.alloc(), 0)?)?;
+    assert!(rt; stored.set.live_files()?.is_empty() && stored.set.log_num() == 4);
     Ok(())
 }
 
 /// Whether an edit fails when one call of it does, leaves no file, and leaves a set that takes no
 /// edit any more.
 fn breaks(alloc: Global, first: bool, nth: u64, done: bool) -> Result<bool> {
-    let mut env = RecordEnv::new(alloc);
-    let mut set = new_set(alloc)?;
+    let mut stored = new_set(alloc)?;
     if !first {
-        set.log_and_apply(&mut env, VersionEdit::new(alloc))?;
+        stored.log_none(alloc)?;
     }
-    env.fail(nth, done);
-    let failed = set.log_and_apply(&mut env, file_added(alloc)?);
-    let next = set.log_and_apply(&mut env, VersionEdit::new(alloc));
-    Ok(
-        failed_with(failed, StatusCode::IOError)?
-            && failed_with(next, StatusCode::IOError)?
-            && set.live_files()?.is_empty(),
-    )
+    stored.env.fail(nth, done);
+    let failed = failed_with(stored.log(file_added(alloc)?), StatusCode::IOError)?;
+    let next = failed_with(stored.log_none(alloc), StatusCode::IOError)?;
+    Ok(failed && next && stored.set.live_files()?.is_empty())
 }
 
 /// Seven calls begin a manifest, and two append to it.
@@ -129,33 +128,33 @@ fn failed_calls_break_the_set(rt: HostRuntime) -> Result<()> {
 /// The set goes on after an edit of a level that there isn't.
 #[test]
 fn unknown_levels_are_no_argument(rt: HostRuntime) -> Result<()> {
-    let mut env = RecordEnv::new(rt.alloc());
-    let mut set = new_set(rt.alloc())?;
-    let mut edit = VersionEdit::new(rt.alloc());
-    edit.delete_file(7, 5)?;
-    let refused = set.log_and_apply(&mut env, edit);
+    let mut stored = new_set(rt.alloc())?;
+    let refused = stored.log(file_deleted(rt.alloc(), 7)?);
     assert!(rt; failed_with(refused, StatusCode::InvalidArgument)?);
-    assert!(rt; !env.exists("db/MANIFEST-000000")?);
-    set.log_and_apply(&mut env, VersionEdit::new(rt.alloc()))
+    assert!(rt; !stored.env.exists("db/MANIFEST-000000")?);
+    stored.log_none(rt.alloc())
 }
 
 /// The row of a new store with one table: the first log is 3, the second 4, the table 5 in level 2.
 /// The edit has 33 bytes, and the manifest 41 and 40 more.
 #[test]
 fn edits_go_on_in_the_manifest_of_a_new_store(rt: HostRuntime) -> Result<()> {
-    let mut env = MemEnv::new(rt.alloc());
-    make_store(rt.alloc(), &mut env, "db", &DefaultCmp)?;
-    let mut set = VersionSet::new(rt.alloc(), "db", &DefaultCmp)?;
-    assert!(rt; !set.recover(&mut env, &Options::default())?);
-    assert!(rt; set.new_file_number()? == 3 && set.new_file_number()? == 4);
-    assert!(rt; set.new_file_number()? == 5);
-    set.set_last_seq(1);
-    let mut edit = VersionEdit::new(rt.alloc());
-    edit.set_log_num(4);
-    edit.add_file(2, table_of_a(rt.alloc())?)?;
-    set.log_and_apply(&mut env, edit)?;
-    assert!(rt; env.size_of("db/MANIFEST-000001")? == 81);
+    let mut stored = Stored::beside_a_store(rt.alloc(), MemEnv::new(rt.alloc()))?;
+    assert!(rt; !stored.recover()?);
+    assert!(rt; stored.set.new_file_number()? == 3 && stored.set.new_file_number()? == 4);
+    assert!(rt; stored.set.new_file_number()? == 5);
+    stored.set.set_last_seq(1);
+    stored.log(table_of_a_added(rt.alloc())?)?;
+    assert!(rt; stored.env.size_of("db/MANIFEST-000001")? == 81);
     Ok(())
+}
+
+/// An edit that adds the table of a=1 to level 2, where the log is 4.
+fn table_of_a_added(alloc: Global) -> Result<VersionEdit> {
+    let mut edit = VersionEdit::new(alloc);
+    edit.set_log_num(4);
+    edit.add_file(2, table_of_a(alloc)?)?;
+    Ok(edit)
 }
 
 /// The file of the table of a=1 with the number 5.
@@ -170,20 +169,21 @@ fn table_of_a(alloc: Global) -> Result<FileMetaData> {
     })
 }
 
+fn recover_for_a_new_manifest(stored: &mut Stored<RecordEnv>) -> Result<bool> {
+    let mut options = Options::default();
+    options.reuse_manifest = false;
+    stored.set.recover(&mut stored.env, &options)
+}
+
 /// Which manifest `CURRENT` names after the last call of making a new one failed, done or not: the
 /// store has a log 3, and its manifest isn't used on.
 fn named_after(alloc: Global, done: bool) -> Result<FileNum> {
-    let mut env = RecordEnv::new(alloc);
-    make_store(alloc, &mut env, "db", &DefaultCmp)?;
-    let mut options = Options::default();
-    options.reuse_manifest = false;
-    let mut set = new_set(alloc)?;
-    set.mark_file_number_used(3)?;
-    set.recover(&mut env, &options)?;
-    env.fail(7, done);
-    let failed = set.log_and_apply(&mut env, VersionEdit::new(alloc));
-    failed_with(failed, StatusCode::IOError)?;
-    Ok(read_current_file(alloc, &mut env, "db")?.1)
+    let mut stored = Stored::beside_a_store(alloc, RecordEnv::new(alloc))?;
+    stored.set.mark_file_number_used(3)?;
+    recover_for_a_new_manifest(&mut stored)?;
+    stored.env.fail(7, done);
+    failed_with(stored.log_none(alloc), StatusCode::IOError)?;
+    Ok(read_current_file(alloc, &mut stored.env, "db")?.1)
 }
 
 /// The rename to `CURRENT` fails: undone it names the old manifest, done the new one.
@@ -198,32 +198,34 @@ fn failed_rename_names_either_manifest(rt: HostRuntime) -> Result<()> {
 /// that the edit may be logged again, or a set that takes no edit any more.
 #[test]
 fn refused_edits_leave_the_files_of_the_set(rt: HostRuntime) -> Result<()> {
-    let mut env = MemEnv::new(rt.alloc());
-    let mut set: VersionSet<MemEnv> = VersionSet::new(rt.alloc(), "db", &DefaultCmp)?;
-    set.log_and_apply(&mut env, VersionEdit::new(rt.alloc()))?;
-    let (edit, again) = (file_added(rt.alloc())?, file_added(rt.alloc())?);
-    if let Err(status) = set.log_and_apply(&mut env, edit) {
-        assert!(rt; set.live_files()?.is_empty());
-        match set.log_and_apply(&mut env, again) {
-            Ok(()) => assert!(rt; env.size_of("db/MANIFEST-000000")? == 50 + 7 + 33),
-            Err(other) => assert!(rt; other.code == StatusCode::IOError),
-        }
-        return Err(status);
+    let mut stored = Stored::new(rt.alloc(), MemEnv::new(rt.alloc()))?;
+    stored.log_none(rt.alloc())?;
+    let edit = file_added(rt.alloc())?;
+    let logged = stored.log(edit);
+    if logged.is_err() {
+        assert!(rt; stored.set.live_files()?.is_empty());
+        assert!(rt; is_logged_again(rt.alloc(), &mut stored)?);
     }
-    Ok(())
+    logged
+}
+
+/// Whether the edit is logged once more, or the set takes no edit any more.
+fn is_logged_again(alloc: Global, stored: &mut Stored<MemEnv>) -> Result<bool> {
+    match stored.log(file_added(alloc)?) {
+        Ok(()) => Ok(stored.env.size_of("db/MANIFEST-000000")? == 50 + 7 + 33),
+        Err(status) => Ok(status.code == StatusCode::IOError),
+    }
 }
 
 /// A recovery that is refused for want of memory leaves the set, and may be done again.
 #[test]
 fn refused_recoveries_leave_the_set(rt: HostRuntime) -> Result<()> {
-    let mut env = MemEnv::new(rt.alloc());
-    make_store(rt.alloc(), &mut env, "db", &DefaultCmp)?;
-    let mut set: VersionSet<MemEnv> = VersionSet::new(rt.alloc(), "db", &DefaultCmp)?;
-    if let Err(status) = set.recover(&mut env, &Options::default()) {
-        assert!(rt; set.next_file_num() == 2 && set.manifest_num() == 0);
-        assert!(rt; !set.recover(&mut env, &Options::default())?);
+    let mut stored = Stored::beside_a_store(rt.alloc(), MemEnv::new(rt.alloc()))?;
+    if let Err(status) = stored.recover() {
+        assert!(rt; stored.set.next_file_num() == 2 && stored.set.manifest_num() == 0);
+        assert!(rt; !stored.recover()?);
         return Err(status);
     }
-    assert!(rt; set.next_file_num() == 3 && set.manifest_num() == 1);
+    assert!(rt; stored.set.next_file_num() == 3 && stored.set.manifest_num() == 1);
     Ok(())
 }

@@ -1,7 +1,7 @@
 //! What a version set recovers from manifests that are written by hand, and what it refuses.
 use crate::checks::failed_with;
 use crate::store_files::{NEW_MANIFEST, TABLE_EDIT};
-use leveldb_base::cmp::DefaultCmp;
+use crate::stored::Stored;
 use leveldb_base::error::{Result, StatusCode};
 use leveldb_base::types::{FileNum, SequenceNumber};
 use leveldb_env::env::Env;
@@ -100,25 +100,28 @@ fn manifest_of(alloc: Global, edits: &[&[u8]]) -> Result<Vec<u8>> {
     Ok(writer.sink)
 }
 
+/// A set of no files, beside a store of this manifest 1.
+fn beside(alloc: Global, manifest: &[u8]) -> Result<Stored<MemEnv>> {
+    let mut stored = Stored::new(alloc, MemEnv::new(alloc))?;
+    put_store(&mut stored.env, manifest)?;
+    Ok(stored)
+}
+
 /// What a set of this manifest returns and has.
 fn recovered(alloc: Global, manifest: &[u8], reuse: bool, limit: usize) -> Result<(bool, Numbers)> {
-    let mut env = MemEnv::new(alloc);
-    put_store(&mut env, manifest)?;
+    let mut stored = beside(alloc, manifest)?;
     let mut options = Options::default();
     options.reuse_manifest = reuse;
     options.max_file_size = limit;
-    let mut set = VersionSet::new(alloc, "db", &DefaultCmp)?;
-    let anew = set.recover(&mut env, &options)?;
-    Ok((anew, numbers_of(&set)))
+    let anew = stored.set.recover(&mut stored.env, &options)?;
+    Ok((anew, numbers_of(&stored.set)))
 }
 
 /// Whether a set of these edits fails so, and stays as it was.
 fn refuses(alloc: Global, edits: &[&[u8]], code: StatusCode) -> Result<bool> {
-    let mut env = MemEnv::new(alloc);
-    put_store(&mut env, manifest_of(alloc, edits)?.as_slice())?;
-    let mut set = VersionSet::new(alloc, "db", &DefaultCmp)?;
-    let failed = failed_with(set.recover(&mut env, &Options::default()), code)?;
-    Ok(failed && numbers_of(&set) == (2, 0, 0, 0))
+    let mut stored = beside(alloc, manifest_of(alloc, edits)?.as_slice())?;
+    let failed = failed_with(stored.recover(), code)?;
+    Ok(failed && numbers_of(&stored.set) == (2, 0, 0, 0))
 }
 
 /// A new store's manifest of 41 bytes goes on to be used where it is short and its end is clean.
@@ -143,18 +146,19 @@ fn torn_manifest(rt: HostRuntime) -> Result<()> {
     Ok(())
 }
 
+fn beside_a_table(alloc: Global) -> Result<Stored<MemEnv>> {
+    let mut manifest = Vec::from_slice(alloc, NEW_MANIFEST)?;
+    manifest.extend_from_slice(TABLE_EDIT)?;
+    beside(alloc, manifest.as_slice())
+}
+
 /// The manifest of a store with one table has 81 bytes.
 #[test]
 fn manifest_of_a_table(rt: HostRuntime) -> Result<()> {
-    let mut manifest = Vec::from_slice(rt.alloc(), NEW_MANIFEST)?;
-    manifest.extend_from_slice(TABLE_EDIT)?;
-    assert!(rt; manifest.len() == 81);
-    let mut env = MemEnv::new(rt.alloc());
-    put_store(&mut env, manifest.as_slice())?;
-    let mut set = VersionSet::new(rt.alloc(), "db", &DefaultCmp)?;
-    let anew = set.recover(&mut env, &Options::default())?;
-    assert!(rt; !anew && numbers_of(&set) == (7, 1, 4, 1));
-    let text = set.current_summary()?;
+    let mut stored = beside_a_table(rt.alloc())?;
+    assert!(rt; stored.env.size_of("db/MANIFEST-000001")? == 81);
+    assert!(rt; !stored.recover()? && numbers_of(&stored.set) == (7, 1, 4, 1));
+    let text = stored.set.current_summary()?;
     assert!(rt; text.as_str() == "level 2: 1 files, 177 bytes ([(5, 177)]); ");
     Ok(())
 }
@@ -177,28 +181,22 @@ fn lacking_edits(rt: HostRuntime) -> Result<()> {
 
 #[test]
 fn missing_manifest(rt: HostRuntime) -> Result<()> {
-    let mut env = MemEnv::new(rt.alloc());
-    put(&mut env, "db/CURRENT", b"MANIFEST-000001\n")?;
-    let mut set = VersionSet::new(rt.alloc(), "db", &DefaultCmp)?;
-    let read = set.recover(&mut env, &Options::default());
-    assert!(rt; failed_with(read, StatusCode::Corruption)?);
+    let mut stored = Stored::new(rt.alloc(), MemEnv::new(rt.alloc()))?;
+    put(&mut stored.env, "db/CURRENT", b"MANIFEST-000001\n")?;
+    assert!(rt; failed_with(stored.recover(), StatusCode::Corruption)?);
     Ok(())
 }
 
 /// How many calls recovering makes, and whether the set stays as it was where one of them fails; 0
 /// is none.
 fn with_failure(alloc: Global, nth: u64, done: bool) -> Result<(u64, bool)> {
-    let mut env = RecordEnv::new(alloc);
-    put_store(&mut env, NEW_MANIFEST)?;
-    let before = env.moment();
-    env.fail(nth, done);
-    let mut set = VersionSet::new(alloc, "db", &DefaultCmp)?;
-    let failed = failed_with(
-        set.recover(&mut env, &Options::default()),
-        StatusCode::IOError,
-    )?;
-    let calls = env.moment().saturating_sub(before) / 2;
-    Ok((calls, failed && numbers_of(&set) == (2, 0, 0, 0)))
+    let mut stored = Stored::new(alloc, RecordEnv::new(alloc))?;
+    put_store(&mut stored.env, NEW_MANIFEST)?;
+    let before = stored.env.moment();
+    stored.env.fail(nth, done);
+    let failed = failed_with(stored.recover(), StatusCode::IOError)?;
+    let calls = stored.env.moment().saturating_sub(before) / 2;
+    Ok((calls, failed && numbers_of(&stored.set) == (2, 0, 0, 0)))
 }
 
 #[test]
