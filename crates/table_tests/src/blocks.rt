@@ -35,20 +35,15 @@ fn block_of(alloc: Global, bytes: &[u8]) -> Result<Block<DefaultCmp>> {
     Block::new(alloc, DefaultCmp, contents)
 }
 
-/// No move goes to a pair.
-fn assert_empty(rt: &impl Abort, it: &mut BlockIter<'_, DefaultCmp>) -> Result<()> {
+#[test]
+fn empty_block(rt: HostRuntime) -> Result<()> {
+    let block = block_of(rt.alloc(), &[0, 0, 0, 0, 1, 0, 0, 0])?;
+    let mut it = block.iter(rt.alloc());
     assert!(rt; !it.advance()?);
     it.seek_to_last()?;
     assert!(rt; !it.valid());
     it.seek(b"")?;
     assert!(rt; !it.valid() && !it.prev()?);
-    Ok(())
-}
-
-#[test]
-fn empty_block(rt: HostRuntime) -> Result<()> {
-    let block = block_of(rt.alloc(), &[0, 0, 0, 0, 1, 0, 0, 0])?;
-    assert_empty(&rt, &mut block.iter(rt.alloc()))?;
     assert!(rt; block.contents()?.len() == 8);
     Ok(())
 }

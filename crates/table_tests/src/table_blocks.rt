@@ -337,27 +337,17 @@ fn long_block(alloc: Global) -> Result<BlockContents> {
     one_pair(alloc, &value)
 }
 
-/// Asserts that a block is read as it is stored, and not where its handle is too long.
-fn check_contents(
-    rt: &(impl Abort + AllocGlobal),
-    env: &mut MemEnv,
-    bytes: &[u8],
-    location: BlockHandle,
-) -> Result<()> {
-    let end = location.offset().saturating_add(location.size());
-    let read = block_at(rt.alloc(), env, bytes, location)?.contents()?;
-    assert!(rt; bytes.get(FRONT.len()..end) == Some(read.as_slice()));
-    let past = BlockHandle::new(FRONT.len(), location.size().saturating_add(5));
-    let answer = block_at(rt.alloc(), env, bytes, past);
-    let text = "Corruption: block at 5: past the end of the file";
-    assert!(rt; failed_saying(answer, StatusCode::Corruption, text)?);
-    Ok(())
-}
-
 /// More bytes than there is room for in a step, each at its offset.
 #[test]
 fn in_steps(rt: HostRuntime) -> Result<()> {
+    let mut env = MemEnv::new(rt.alloc());
     let block = long_block(rt.alloc())?;
     let (bytes, location) = file_bytes(rt.alloc(), block.as_slice(), 0)?;
-    check_contents(&rt, &mut MemEnv::new(rt.alloc()), &bytes, location)
+    let read = block_at(rt.alloc(), &mut env, &bytes, location)?;
+    assert!(rt; read.contents()?.as_slice() == block.as_slice());
+    let past = BlockHandle::new(FRONT.len(), block.len().saturating_add(5));
+    let answer = block_at(rt.alloc(), &mut env, &bytes, past);
+    let text = "Corruption: block at 5: past the end of the file";
+    assert!(rt; failed_saying(answer, StatusCode::Corruption, text)?);
+    Ok(())
 }
