@@ -76,20 +76,20 @@ fn count_steps(it: &mut BlockIter<'_, DefaultCmp>) -> Result<u32> {
     Ok(count)
 }
 
-// The key at which an iterator is.
-fn key<'a>(it: &'a BlockIter<'_, DefaultCmp>) -> Option<&'a [u8]> {
-    Some(it.current()?.0)
+// Whether an iterator is at this pair.
+fn is_at(it: &BlockIter<'_, DefaultCmp>, key: &[u8], value: &[u8]) -> bool {
+    it.current() == Some((key, value))
 }
 
 /// Asserts what is found of the six pairs by seeks, and before what is found.
 fn assert_seeks(rt: &impl Abort, it: &mut BlockIter<'_, DefaultCmp>) -> Result<()> {
     it.seek(b"prefix_key0")?;
-    assert!(rt; it.current() == Some((b"prefix_key1".as_slice(), b"value".as_slice())));
-    assert!(rt; it.prev()? && key(it) == Some(b"medium length key 1".as_slice()));
+    assert!(rt; is_at(it, b"prefix_key1", b"value"));
+    assert!(rt; it.prev()? && is_at(it, b"medium length key 1", b"some value 2"));
     it.seek(b"prefix_key8")?;
     assert!(rt; !it.valid() && !it.prev()?);
     it.seek_to_last()?;
-    assert!(rt; key(it) == Some(b"prefix_key3".as_slice()));
+    assert!(rt; is_at(it, b"prefix_key3", b"value"));
     Ok(())
 }
 

@@ -48,9 +48,19 @@ fn empty_block(rt: HostRuntime) -> Result<()> {
     Ok(())
 }
 
+// Whether an iterator is at the pair with this index, or at no position past the last.
+fn is_at(it: &BlockIter<'_, DefaultCmp>, index: usize) -> bool {
+    it.current() == pair(index)
+}
+
 // Whether a step goes to the pair with this index.
 fn steps_to(it: &mut BlockIter<'_, DefaultCmp>, index: usize) -> Result<bool> {
-    Ok(it.advance()? && it.current() == pair(index))
+    Ok(it.advance()? && is_at(it, index))
+}
+
+// Whether a step back goes from the pair with this index to the one before it.
+fn steps_back(it: &mut BlockIter<'_, DefaultCmp>, index: usize) -> Result<bool> {
+    Ok(is_at(it, index) && it.prev()? == (index > 0))
 }
 
 /// Whether a step goes to the pair with this index, and again once there was a step back. Before
@@ -62,7 +72,7 @@ fn turns_at(it: &mut BlockIter<'_, DefaultCmp>, index: usize) -> Result<bool> {
     if index == 0 {
         return Ok(true);
     }
-    Ok(it.prev()? && it.current() == pair(index - 1) && steps_to(it, index)?)
+    Ok(it.prev()? && is_at(it, index - 1) && steps_to(it, index)?)
 }
 
 /// Forward over all pairs, with a turn at each; the empty key is a position like any other.
@@ -79,10 +89,20 @@ fn assert_forward(rt: &impl Abort, it: &mut BlockIter<'_, DefaultCmp>) -> Result
 fn assert_back(rt: &impl Abort, it: &mut BlockIter<'_, DefaultCmp>) -> Result<()> {
     it.seek_to_last()?;
     for index in (0..5usize).rev() {
-        assert!(rt; it.current() == pair(index), "pair {index}");
-        assert!(rt; it.prev()? == (index > 0), "pair {index}");
+        assert!(rt; steps_back(it, index)?, "pair {index}");
     }
     assert!(rt; !it.valid());
+    Ok(())
+}
+
+/// Both ways over all pairs, to the first again, and to no position.
+fn assert_walks(rt: &impl Abort, it: &mut BlockIter<'_, DefaultCmp>) -> Result<()> {
+    assert_forward(rt, it)?;
+    assert_back(rt, it)?;
+    it.seek_to_first()?;
+    assert!(rt; is_at(it, 0));
+    it.reset();
+    assert!(rt; it.current().is_none());
     Ok(())
 }
 
@@ -90,13 +110,7 @@ fn assert_back(rt: &impl Abort, it: &mut BlockIter<'_, DefaultCmp>) -> Result<()
 fn walks(rt: HostRuntime) -> Result<()> {
     let block = block_of(rt.alloc(), &SMALL)?;
     let mut it = block.iter(rt.alloc());
-    assert_forward(&rt, &mut it)?;
-    assert_back(&rt, &mut it)?;
-    it.seek_to_first()?;
-    assert!(rt; it.current() == pair(0));
-    it.reset();
-    assert!(rt; it.current().is_none());
-    Ok(())
+    assert_walks(&rt, &mut it)
 }
 
 /// Keys, and the index of the first pair at or after each.
@@ -113,17 +127,21 @@ const SEEKS: [(&[u8], usize); 10] = [
     (b"c", 5),
 ];
 
-#[test]
-fn seeks(rt: HostRuntime) -> Result<()> {
-    let block = block_of(rt.alloc(), &SMALL)?;
-    let copy = block.clone()?;
-    let mut it = copy.iter(rt.alloc());
+/// Seeks to each key, and a step back from no position.
+fn assert_seeks(rt: &impl Abort, it: &mut BlockIter<'_, DefaultCmp>) -> Result<()> {
     for (key, index) in &SEEKS {
         it.seek(key)?;
-        assert!(rt; it.current() == pair(*index), "at {key:?}");
+        assert!(rt; is_at(it, *index), "at {key:?}");
     }
     assert!(rt; !it.prev()?);
     Ok(())
+}
+
+#[test]
+fn seeks(rt: HostRuntime) -> Result<()> {
+    let copy = block_of(rt.alloc(), &SMALL)?.clone()?;
+    let mut it = copy.iter(rt.alloc());
+    assert_seeks(&rt, &mut it)
 }
 
 /// Bytes that are too few, restart points that aren't offsets of entries, and keys that don't rise.
@@ -247,11 +265,10 @@ fn slow_pairs(alloc: Global, bytes: &[u8]) -> Result<Option<Pairs>> {
     Ok(if is_block { Some(pairs) } else { None })
 }
 
-/// Whether a block walks over these pairs.
-fn has_pairs(alloc: Global, block: &Block<DefaultCmp>, pairs: &Pairs) -> Result<bool> {
-    let mut it = block.iter(alloc);
+/// Whether a walk goes over exactly these pairs.
+fn has_pairs(alloc: Global, it: &mut BlockIter<'_, DefaultCmp>, pairs: &Pairs) -> Result<bool> {
     for pair in pairs {
-        if !it.advance()? || current_key_val(alloc, &it)?.as_ref() != Some(pair) {
+        if !it.advance()? || current_key_val(alloc, it)?.as_ref() != Some(pair) {
             return Ok(false);
         }
     }
@@ -262,7 +279,7 @@ fn has_pairs(alloc: Global, block: &Block<DefaultCmp>, pairs: &Pairs) -> Result<
 /// over the same pairs.
 fn same_as_slow(alloc: Global, bytes: &[u8]) -> Result<bool> {
     match (block_of(alloc, bytes), slow_pairs(alloc, bytes)?) {
-        (Ok(block), Some(pairs)) => has_pairs(alloc, &block, &pairs),
+        (Ok(block), Some(pairs)) => has_pairs(alloc, &mut block.iter(alloc), &pairs),
         (answer, pairs) => Ok(failed_with(answer, StatusCode::Corruption)? && pairs.is_none()),
     }
 }

@@ -2,6 +2,7 @@
 ghost use Rattle.std.specs.Prelude.{◌≡◌, true, OnErr};
 ghost use Rattle.leveldb_table.specs.TableBuilder.{order_of};
 
+use leveldb_base::blockhandle::BlockHandle;
 use leveldb_base::cmp::{Cmp, DefaultCmp, InternalKeyCmp};
 use leveldb_base::error::{Result, StatusCode};
 use leveldb_base::types::LdbIterator;
@@ -9,7 +10,7 @@ use leveldb_env::compressor::{Compressor, CompressorList};
 use leveldb_env::env::Sink;
 use leveldb_env::filter::{BloomPolicy, FilterPolicy};
 use leveldb_env::options::Options;
-use leveldb_table::block::Block;
+use leveldb_table::block::{Block, BlockIter};
 use leveldb_table::table_builder::{FULL_FOOTER_LENGTH, Footer, TableBuilder};
 use std::alloc::{AllocError, Global};
 use std::process::Abort;
@@ -125,15 +126,28 @@ pub fn change_byte(bytes: &mut [u8], offset: usize, amount: u8) {
     }
 }
 
+/// How many pairs a walk goes over, if they are the first of these.
+pub fn count_pairs(
+    it: &mut BlockIter<'_, DefaultCmp>,
+    pairs: &[Given<'_>],
+) -> Result<Option<usize>> {
+    let mut count = 0usize;
+    for pair in pairs {
+        if !it.advance()? {
+            return Ok(Some(count));
+        }
+        if it.current() != Some(*pair) {
+            return Ok(None);
+        }
+        count = count.saturating_add(1);
+    }
+    Ok(if it.advance()? { None } else { Some(count) })
+}
+
 /// Whether a block has exactly these pairs, in this order.
 pub fn has_pairs(alloc: Global, block: &Block<DefaultCmp>, pairs: &[Given<'_>]) -> Result<bool> {
     let mut it = block.iter(alloc);
-    for pair in pairs {
-        if !it.advance()? || it.current() != Some(*pair) {
-            return Ok(false);
-        }
-    }
-    Ok(!it.advance()?)
+    Ok(count_pairs(&mut it, pairs)? == Some(pairs.len()))
 }
 
 /// Adds pairs to a builder that has none; keys that don't rise end the test.
@@ -158,19 +172,32 @@ pub fn add_all<S: Sink, C: Cmp + Copy, FP: FilterPolicy + Copy>(
     Ok(())
 }
 
-/// The table of these pairs, whose length the builder returns.
-pub fn table_of<FP: FilterPolicy + Copy>(
-    rt: &(impl Abort + AllocGlobal),
-    options: &Options<DefaultCmp, FP>,
+/// The table of these pairs by a builder that has none and returns its length.
+pub fn finish_with<C: Cmp + Copy + Drop, FP: FilterPolicy + Copy + Drop>(
+    rt: &impl Abort,
+    mut builder: TableBuilder<Vec<u8>, C, FP>,
+    cmp: &C,
+    compressors: &CompressorList,
     pairs: &[Given<'_>],
-) -> Result<Vec<u8>> {
-    let compressors = &options.compressor_list;
-    let mut builder = TableBuilder::new_raw(rt.alloc(), options, Vec::new(rt.alloc()));
-    add_all(rt, &mut builder, &options.cmp, compressors, pairs)?;
+) -> Result<Vec<u8>>
+    requires none { builder.core.count ≡ 0 }
+    requires order { order_of builder.core ≡ cmp.now }
+{
+    add_all(rt, &mut builder, cmp, compressors, pairs)?;
     assert!(rt; builder.entries() == pairs.len());
     let (table, size) = builder.finish(compressors);
     assert!(rt; table.len() == size?);
     Ok(table)
+}
+
+/// The table of these pairs.
+pub fn table_of<FP: FilterPolicy + Copy + Drop>(
+    rt: &(impl Abort + AllocGlobal),
+    options: &Options<DefaultCmp, FP>,
+    pairs: &[Given<'_>],
+) -> Result<Vec<u8>> {
+    let builder = TableBuilder::new_raw(rt.alloc(), options, Vec::new(rt.alloc()));
+    finish_with(rt, builder, &options.cmp, &options.compressor_list, pairs)
 }
 
 /// The table of one internal key.
@@ -178,13 +205,16 @@ pub fn internal_table(
     rt: &(impl Abort + AllocGlobal),
     options: &Options<DefaultCmp, BloomPolicy>,
 ) -> Result<Vec<u8>> {
-    let compressors = &options.compressor_list;
-    let mut builder = TableBuilder::new(rt.alloc(), options, Vec::new(rt.alloc()));
+    let builder = TableBuilder::new(rt.alloc(), options, Vec::new(rt.alloc()));
     let cmp = InternalKeyCmp(options.cmp);
-    add_all(rt, &mut builder, &cmp, compressors, &ONE)?;
-    let (table, size) = builder.finish(compressors);
-    assert!(rt; (size?, table.len()) == (177, 177));
+    let table = finish_with(rt, builder, &cmp, &options.compressor_list, &ONE)?;
+    assert!(rt; table.len() == 177);
     Ok(table)
+}
+
+/// The offset and the size that a handle has.
+pub fn numbers(handle: &BlockHandle) -> (usize, usize) {
+    (handle.offset(), handle.size())
 }
 
 /// The footer of a table.

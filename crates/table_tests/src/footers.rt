@@ -1,9 +1,14 @@
 //! Footers, byte by byte.
+use crate::checks::{footer_of, numbers};
 use leveldb_base::blockhandle::BlockHandle;
-use leveldb_table::table_builder::{FOOTER_LENGTH, FULL_FOOTER_LENGTH, Footer};
+use leveldb_table::table_builder::{FULL_FOOTER_LENGTH, Footer};
 
-/// LevelDB's number of a table, by its format.
-const NUMBER: [u8; 8] = [0x57, 0xfb, 0x80, 0x8b, 0x24, 0x75, 0x47, 0xdb];
+/// The footer of the handles (44, 4) and (55, 5), with zeros up to LevelDB's number of a table, by
+/// its format; and two bytes after it.
+const ENCODED: [u8; 50] = [
+    44, 4, 55, 5, 0, 0, 0, 0, 0, 0, 0, 0, 0, 0, 0, 0, 0, 0, 0, 0, 0, 0, 0, 0, 0, 0, 0, 0, 0, 0, 0,
+    0, 0, 0, 0, 0, 0, 0, 0, 0, 0x57, 0xfb, 0x80, 0x8b, 0x24, 0x75, 0x47, 0xdb, 7, 7,
+];
 
 /// Two handles, and their footer byte by byte; what is after it stays.
 #[test]
@@ -11,16 +16,9 @@ fn encoded_and_decoded(rt: HostRuntime) {
     let footer = Footer::new(BlockHandle::new(44, 4), BlockHandle::new(55, 5));
     let mut target = [7; 50];
     footer.encode(&mut target);
-    let (bytes, rest) = target.as_slice().split_at(FULL_FOOTER_LENGTH);
-    let (handles, end) = bytes.split_at(FOOTER_LENGTH);
-    assert!(rt; &handles[..4] == [0x2c, 4, 0x37, 5].as_slice());
-    assert!(rt; &handles[4..] == [0; 36].as_slice());
-    assert!(rt; end == NUMBER.as_slice() && rest == [7; 2].as_slice());
-    let Some(read) = Footer::decode(bytes) else {
-        panic!(rt; "no footer");
-    };
-    assert!(rt; (read.meta_index.offset(), read.meta_index.size()) == (44, 4));
-    assert!(rt; (read.index.offset(), read.index.size()) == (55, 5));
+    assert!(rt; target == ENCODED);
+    let read = footer_of(&rt, &target[..FULL_FOOTER_LENGTH]);
+    assert!(rt; [numbers(&read.meta_index), numbers(&read.index)] == [(44, 4), (55, 5)]);
 }
 
 // A footer that has handles of most bytes.

@@ -61,8 +61,9 @@ fn two_keys(alloc: Global) -> Result<Vec<u8>> {
     builder.finish()
 }
 
-/// A file's bytes: the first ones, these, and after them an id and the checksum.
-fn file_bytes(alloc: Global, stored: &[u8], id: u8) -> Result<Vec<u8>> {
+/// A file's bytes: the first ones, these, and after them an id and the checksum. The handle is
+/// theirs.
+fn file_bytes(alloc: Global, stored: &[u8], id: u8) -> Result<(Vec<u8>, BlockHandle)> {
     let mut digest = digest();
     digest.update(stored);
     digest.update(&[id]);
@@ -70,14 +71,17 @@ fn file_bytes(alloc: Global, stored: &[u8], id: u8) -> Result<Vec<u8>> {
     bytes.extend_from_slice(stored)?;
     bytes.push(id)?;
     bytes.extend_from_slice(&mask_crc(digest.finalize()).to_le_bytes())?;
-    Ok(bytes)
+    Ok((bytes, BlockHandle::new(FRONT.len(), stored.len())))
 }
 
-/// The same bytes, one of them raised by one.
-fn raised(alloc: Global, bytes: &[u8], place: usize) -> Result<Vec<u8>> {
-    let mut raised = Vec::from_slice(alloc, bytes)?;
-    change_byte(&mut raised, place, 1);
-    Ok(raised)
+/// The bytes of a file with the block of the three pairs under an id, and the block's handle.
+fn stored_pairs(alloc: Global, id: u8) -> Result<(Vec<u8>, BlockHandle)> {
+    file_bytes(alloc, three_pairs(alloc)?.as_slice(), id)
+}
+
+/// The same of the filter of two keys.
+fn stored_filter(alloc: Global, id: u8) -> Result<(Vec<u8>, BlockHandle)> {
+    file_bytes(alloc, &two_keys(alloc)?, id)
 }
 
 /// A file of these bytes.
@@ -110,9 +114,37 @@ fn filters_at<E: Env>(
     read_filter_block(alloc, BloomPolicy::new(10), env, &file, location)
 }
 
-/// Whether a block has the three pairs.
-fn has_three_pairs(alloc: Global, block: &Block<DefaultCmp>) -> Result<bool> {
-    has_pairs(alloc, block, &THREE)
+/// Whether the block at a handle of a file has the three pairs.
+fn has_three_pairs<E: Env>(
+    alloc: Global,
+    env: &mut E,
+    bytes: &[u8],
+    location: BlockHandle,
+) -> Result<bool> {
+    has_pairs(alloc, &block_at(alloc, env, bytes, location)?, &THREE)
+}
+
+/// Whether the block at a handle of a file is corrupt.
+fn is_corrupt<E: Env>(
+    alloc: Global,
+    env: &mut E,
+    bytes: &[u8],
+    location: BlockHandle,
+) -> Result<bool> {
+    let answer = block_at(alloc, env, bytes, location);
+    failed_with(answer, StatusCode::Corruption)
+}
+
+/// Whether the filters at a handle of a file fail with this code.
+fn filters_fail<E: Env>(
+    alloc: Global,
+    env: &mut E,
+    bytes: &[u8],
+    location: BlockHandle,
+    code: StatusCode,
+) -> Result<bool> {
+    let answer = filters_at(alloc, env, bytes, location);
+    failed_with(answer, code)
 }
 
 /// Whether filters are those of the two keys.
@@ -127,24 +159,23 @@ fn are_filters(filters: &FilterBlockReader<BloomPolicy>) -> bool {
 fn check_damaged_block<E: Env>(
     rt: &(impl Abort + AllocGlobal),
     env: &mut E,
-    bytes: &[u8],
+    bytes: &mut [u8],
     location: BlockHandle,
     place: usize,
 ) -> Result<()> {
-    let raised = raised(rt.alloc(), bytes, place)?;
-    let answer = block_at(rt.alloc(), env, &raised, location);
-    let is_right = if place < FRONT.len() {
-        has_three_pairs(rt.alloc(), &answer?)?
-    } else {
-        failed_with(answer, StatusCode::Corruption)?
-    };
-    assert!(rt; is_right, "byte {place}");
     let cut = bytes.get(..place).unwrap_or_default();
-    let answer = block_at(rt.alloc(), env, cut, location);
     assert!(rt;
-        failed_with(answer, StatusCode::Corruption)?,
+        is_corrupt(rt.alloc(), env, cut, location)?,
         "{place} bytes"
     );
+    change_byte(bytes, place, 1);
+    let is_right = if place < FRONT.len() {
+        has_three_pairs(rt.alloc(), env, bytes, location)?
+    } else {
+        is_corrupt(rt.alloc(), env, bytes, location)?
+    };
+    assert!(rt; is_right, "byte {place}");
+    change_byte(bytes, place, 255);
     Ok(())
 }
 
@@ -155,25 +186,33 @@ fn check_blocks_past<E: Env>(
     bytes: &[u8],
 ) -> Result<()> {
     for (offset, size) in &PAST {
-        let answer = block_at(rt.alloc(), env, bytes, BlockHandle::new(*offset, *size));
+        let location = BlockHandle::new(*offset, *size);
         assert!(rt;
-            failed_with(answer, StatusCode::Corruption)?,
+            is_corrupt(rt.alloc(), env, bytes, location)?,
             "{offset} {size}"
         );
     }
     Ok(())
 }
 
+/// Asserts that a block is read as the three pairs, and neither damaged nor past the file.
+fn check_stored_block<E: Env>(
+    rt: &(impl Abort + AllocGlobal),
+    env: &mut E,
+    bytes: &mut [u8],
+    location: BlockHandle,
+) -> Result<()> {
+    assert!(rt; has_three_pairs(rt.alloc(), env, bytes, location)?);
+    for place in 0..bytes.len() {
+        check_damaged_block(rt, env, bytes, location, place)?;
+    }
+    check_blocks_past(rt, env, bytes)
+}
+
 /// A block is read as its pairs, and none past the file.
 fn check_block<E: Env>(rt: &(impl Abort + AllocGlobal), env: &mut E) -> Result<()> {
-    let block = three_pairs(rt.alloc())?;
-    let location = BlockHandle::new(FRONT.len(), block.len());
-    let bytes = file_bytes(rt.alloc(), block.as_slice(), 0)?;
-    assert!(rt; has_three_pairs(rt.alloc(), &block_at(rt.alloc(), env, &bytes, location)?)?);
-    for place in 0..bytes.len() {
-        check_damaged_block(rt, env, &bytes, location, place)?;
-    }
-    check_blocks_past(rt, env, &bytes)
+    let (mut bytes, location) = stored_pairs(rt.alloc(), 0)?;
+    check_stored_block(rt, env, &mut bytes, location)
 }
 
 /// Asserts that filters are damaged with a byte of theirs or of their trailer raised, and cut off
@@ -181,22 +220,22 @@ fn check_block<E: Env>(rt: &(impl Abort + AllocGlobal), env: &mut E) -> Result<(
 fn check_damaged_filters<E: Env>(
     rt: &(impl Abort + AllocGlobal),
     env: &mut E,
-    bytes: &[u8],
+    bytes: &mut [u8],
     location: BlockHandle,
     place: usize,
 ) -> Result<()> {
-    let raised = raised(rt.alloc(), bytes, place)?;
-    let answer = filters_at(rt.alloc(), env, &raised, location);
-    assert!(rt;
-        failed_with(answer, StatusCode::Corruption)?,
-        "byte {place}"
-    );
+    let code = StatusCode::Corruption;
     let cut = bytes.get(..place).unwrap_or_default();
-    let answer = filters_at(rt.alloc(), env, cut, location);
     assert!(rt;
-        failed_with(answer, StatusCode::Corruption)?,
+        filters_fail(rt.alloc(), env, cut, location, code)?,
         "{place} bytes"
     );
+    change_byte(bytes, place, 1);
+    assert!(rt;
+        filters_fail(rt.alloc(), env, bytes, location, code)?,
+        "byte {place}"
+    );
+    change_byte(bytes, place, 255);
     Ok(())
 }
 
@@ -212,8 +251,11 @@ fn check_filters_past<E: Env>(
         } else {
             StatusCode::Corruption
         };
-        let answer = filters_at(rt.alloc(), env, bytes, BlockHandle::new(*offset, *size));
-        assert!(rt; failed_with(answer, code)?, "{offset} {size}");
+        let location = BlockHandle::new(*offset, *size);
+        assert!(rt;
+            filters_fail(rt.alloc(), env, bytes, location, code)?,
+            "{offset} {size}"
+        );
     }
     Ok(())
 }
@@ -222,7 +264,7 @@ fn check_filters_past<E: Env>(
 fn check_stored_filters<E: Env>(
     rt: &(impl Abort + AllocGlobal),
     env: &mut E,
-    bytes: &[u8],
+    bytes: &mut [u8],
     location: BlockHandle,
 ) -> Result<()> {
     assert!(rt; are_filters(&filters_at(rt.alloc(), env, bytes, location)?));
@@ -232,16 +274,17 @@ fn check_stored_filters<E: Env>(
     check_filters_past(rt, env, bytes)
 }
 
+/// Whether filters under the id of a compressor are corrupt.
+fn compressed_filters_fail<E: Env>(alloc: Global, env: &mut E) -> Result<bool> {
+    let (bytes, location) = stored_filter(alloc, 1)?;
+    filters_fail(alloc, env, &bytes, location, StatusCode::Corruption)
+}
+
 /// Filters are read if they are stored as they are.
 fn check_filters<E: Env>(rt: &(impl Abort + AllocGlobal), env: &mut E) -> Result<()> {
-    let block = two_keys(rt.alloc())?;
-    let location = BlockHandle::new(FRONT.len(), block.len());
-    let bytes = file_bytes(rt.alloc(), &block, 0)?;
-    check_stored_filters(rt, env, &bytes, location)?;
-    let compressed = file_bytes(rt.alloc(), &block, 1)?;
-    let answer = filters_at(rt.alloc(), env, &compressed, location);
-    assert!(rt; failed_with(answer, StatusCode::Corruption)?);
-    Ok(())
+    assert!(rt; compressed_filters_fail(rt.alloc(), env)?);
+    let (mut bytes, location) = stored_filter(rt.alloc(), 0)?;
+    check_stored_filters(rt, env, &mut bytes, location)
 }
 
 /// Blocks on a disk in memory.
@@ -277,10 +320,8 @@ fn filters_by_short_reads(rt: HostRuntime) -> Result<()> {
 /// An id without a compressor is named.
 #[test]
 fn id_without_a_compressor(rt: HostRuntime) -> Result<()> {
+    let (bytes, location) = stored_pairs(rt.alloc(), 7)?;
     let mut env = MemEnv::new(rt.alloc());
-    let block = three_pairs(rt.alloc())?;
-    let location = BlockHandle::new(FRONT.len(), block.len());
-    let bytes = file_bytes(rt.alloc(), block.as_slice(), 7)?;
     let answer = block_at(rt.alloc(), &mut env, &bytes, location);
     let text = "invalid compression id `7`";
     assert!(rt; failed_saying(answer, StatusCode::NotSupported, text)?);
@@ -301,8 +342,7 @@ fn long_block(alloc: Global) -> Result<BlockContents> {
 fn in_steps(rt: HostRuntime) -> Result<()> {
     let mut env = MemEnv::new(rt.alloc());
     let block = long_block(rt.alloc())?;
-    let bytes = file_bytes(rt.alloc(), block.as_slice(), 0)?;
-    let location = BlockHandle::new(FRONT.len(), block.len());
+    let (bytes, location) = file_bytes(rt.alloc(), block.as_slice(), 0)?;
     let read = block_at(rt.alloc(), &mut env, &bytes, location)?;
     assert!(rt; read.contents()?.as_slice() == block.as_slice());
     let past = BlockHandle::new(FRONT.len(), block.len().saturating_add(5));

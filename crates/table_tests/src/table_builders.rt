@@ -1,7 +1,7 @@
 //! Tables built, and their bytes. The lengths are worked by hand from the format.
 use crate::checks::{
-    EIGHT, Given, ONE, add_all, compressed, failed_saying, footer_of, has_pairs, internal_table,
-    table_of,
+    EIGHT, Given, ONE, add_all, compressed, count_pairs, failed_saying, finish_with, footer_of,
+    internal_table, numbers, table_of,
 };
 use bytes::Bytes;
 use leveldb_base::blockhandle::BlockHandle;
@@ -114,35 +114,25 @@ fn block_at(alloc: Global, table: &[u8], handle: &BlockHandle) -> Result<Block<D
     )
 }
 
-/// Walks over a block, whose pairs are these from an index on. Returns the index after the last of
-/// them.
-fn compare_block(
-    rt: &impl Abort,
+/// How many pairs the block at a handle has, if they are the first of these.
+fn count_in_block(
     alloc: Global,
-    block: &Block<DefaultCmp>,
+    table: &[u8],
+    handle: &BlockHandle,
     pairs: &[Given<'_>],
-    index: usize,
-) -> Result<usize> {
-    let mut walk = block.iter(alloc);
-    let mut end = index;
-    for pair in pairs.iter().skip(index) {
-        if !walk.advance()? {
-            return Ok(end);
-        }
-        assert!(rt; walk.current() == Some(*pair), "at {pair:?}");
-        end = end.saturating_add(1);
-    }
-    assert!(rt; !walk.advance()?);
-    Ok(end)
+) -> Result<Option<usize>> {
+    let block = block_at(alloc, table, handle)?;
+    let mut it = block.iter(alloc);
+    count_pairs(&mut it, pairs)
 }
 
-/// How much of a table was read: how many data blocks, and the offset and the first pair's index of
-/// the next.
+/// How much of a table was read: how many data blocks, the offset of the next, and the pairs that
+/// are left for it.
 #[derive(Clone, Copy)]
-struct Progress {
+struct Progress<'a> {
     blocks: usize,
     offset: usize,
-    index: usize,
+    pairs: &'a [Given<'a>],
 }
 
 /// The key of an index's line, and its handle.
@@ -153,31 +143,56 @@ fn line<'a>(lines: &'a BlockIter<'_, DefaultCmp>) -> Option<(&'a [u8], BlockHand
 }
 
 /// Reads a data block, which is at the next offset and has the next pairs. Its line's key is before
-/// the pair after them.
-fn read_block(
+/// the pair after them. Returns none where that isn't so.
+fn read_block<'a>(
+    alloc: Global,
+    table: &[u8],
+    before: Progress<'a>,
+    (key, handle): (&[u8], BlockHandle),
+) -> Result<Option<Progress<'a>>> {
+    let Some(count) = count_in_block(alloc, table, &handle, before.pairs)? else {
+        return Ok(None);
+    };
+    let pairs = before.pairs.get(count..).unwrap_or_default();
+    let is_parted = pairs
+        .first()
+        .is_none_or(|next| DefaultCmp.cmp(key, next.0).is_lt());
+    if handle.offset() != before.offset || !is_parted {
+        return Ok(None);
+    }
+    let end = handle.offset().saturating_add(handle.size());
+    Ok(Some(Progress {
+        blocks: before.blocks.saturating_add(1),
+        offset: end.saturating_add(5),
+        pairs,
+    }))
+}
+
+/// Reads the data blocks that the lines of an index name, from no position on.
+fn read_blocks<'a>(
     rt: &(impl Abort + AllocGlobal),
     table: &[u8],
-    pairs: &[Given<'_>],
-    before: Progress,
-    (key, handle): (&[u8], BlockHandle),
-) -> Result<Progress> {
-    assert!(rt; handle.offset() == before.offset);
-    let block = block_at(rt.alloc(), table, &handle)?;
-    let index = compare_block(rt, rt.alloc(), &block, pairs, before.index)?;
-    if let Some((next, _)) = pairs.get(index) {
-        assert!(rt;
-            DefaultCmp.cmp(key, next).is_lt(),
-            "the line before {next:?}"
-        );
+    lines: &mut BlockIter<'_, DefaultCmp>,
+    pairs: &'a [Given<'a>],
+) -> Result<Progress<'a>> {
+    let mut progress = Progress {
+        blocks: 0,
+        offset: 0,
+        pairs,
+    };
+    for _ in 0..table.len() {
+        if !lines.advance()? {
+            break;
+        }
+        let Some(line) = line(lines) else {
+            panic!(rt; "no line");
+        };
+        let Some(next) = read_block(rt.alloc(), table, progress, line)? else {
+            panic!(rt; "block {}", progress.blocks);
+        };
+        progress = next;
     }
-    Ok(Progress {
-        blocks: before.blocks.saturating_add(1),
-        offset: handle
-            .offset()
-            .saturating_add(handle.size())
-            .saturating_add(5),
-        index,
-    })
+    Ok(progress)
 }
 
 /// Reads a table slowly: its data blocks are one after another from the front on, have exactly
@@ -189,21 +204,8 @@ fn count_blocks(
 ) -> Result<usize> {
     let index = block_at(rt.alloc(), table, &footer_of(rt, table).index)?;
     let mut lines = index.iter(rt.alloc());
-    let mut progress = Progress {
-        blocks: 0,
-        offset: 0,
-        index: 0,
-    };
-    for _ in 0..table.len() {
-        if !lines.advance()? {
-            break;
-        }
-        let Some(line) = line(&lines) else {
-            panic!(rt; "no line");
-        };
-        progress = read_block(rt, table, pairs, progress, line)?;
-    }
-    assert!(rt; progress.index == pairs.len());
+    let progress = read_blocks(rt, table, &mut lines, pairs)?;
+    assert!(rt; progress.pairs.is_empty());
     Ok(progress.blocks)
 }
 
@@ -242,34 +244,34 @@ fn are_raised(stored: &[u8], plain: &[u8]) -> bool {
     stored.len() == plain.len()
 }
 
+/// Asserts that the blocks of a table of eight pairs but the filters' are stored by a compressor.
+fn assert_compressed(rt: &impl Abort, table: &[u8], plain: &[u8]) {
+    assert!(rt; table.len() == 233);
+    let footer = footer_of(rt, table);
+    assert!(rt; ids_of(table, &footer) == [Some(7), Some(7), Some(7), Some(0)]);
+    assert!(rt; ids_of(plain, &footer) == [Some(0); 4]);
+    let data = table.get(..82).unwrap_or_default();
+    assert!(rt; are_raised(data, plain.get(..82).unwrap_or_default()));
+}
+
 /// The same under a compressor: the blocks but the filters' are stored by it, under its id.
 #[test]
 fn eight_pairs_compressed(rt: HostRuntime) -> Result<()> {
     let plain = table_of(&rt, &options(3), &EIGHT)?;
     let table = table_of(&rt, &compressed(rt.alloc())?, &EIGHT)?;
-    assert!(rt; table.len() == 233);
-    let footer = footer_of(&rt, &table);
-    assert!(rt; ids_of(&table, &footer) == [Some(7), Some(7), Some(7), Some(0)]);
-    assert!(rt; ids_of(&plain, &footer) == [Some(0); 4]);
-    let data = table.get(..82).unwrap_or_default();
-    assert!(rt; are_raised(data, plain.get(..82).unwrap_or_default()));
+    assert_compressed(&rt, &table, &plain);
     Ok(())
 }
 
-/// Asserts that the metaindex of a table has this pair alone.
-fn assert_metaindex(
+/// Asserts that the block at a handle of a table has this pair alone.
+fn assert_only(
     rt: &(impl Abort + AllocGlobal),
     table: &[u8],
     handle: &BlockHandle,
     pair: Given<'_>,
 ) -> Result<()> {
-    let metaindex = block_at(rt.alloc(), table, handle)?;
-    assert!(rt; compare_block(rt, rt.alloc(), &metaindex, &[pair], 0)? == 1);
+    assert!(rt; count_in_block(rt.alloc(), table, handle, &[pair])? == Some(1));
     Ok(())
-}
-
-fn numbers(handle: &BlockHandle) -> (usize, usize) {
-    (handle.offset(), handle.size())
 }
 
 /// One pair by an internal key, with the user's key in the filter.
@@ -279,7 +281,7 @@ fn one_internal_pair(rt: HostRuntime) -> Result<()> {
     let footer = footer_of(&rt, &table);
     assert!(rt; [numbers(&footer.meta_index), numbers(&footer.index)] == [(49, 47), (101, 23)]);
     let filters: Given<'_> = (b"filter.leveldb.BuiltinBloomFilter2", &[26, 18]);
-    assert_metaindex(&rt, &table, &footer.meta_index, filters)?;
+    assert_only(&rt, &table, &footer.meta_index, filters)?;
     let filter = table.get(26..35).unwrap_or_default();
     assert!(rt; BloomPolicy::new(10).key_may_match(b"a", filter));
     Ok(())
@@ -291,23 +293,19 @@ fn one_internal_pair(rt: HostRuntime) -> Result<()> {
 fn index_key_of_one_internal_pair(rt: HostRuntime) -> Result<()> {
     let table = internal_table(&rt, &options(16))?;
     let line: Given<'_> = (b"a\0\x01\x01\0\0\0\0\0\0", &[0, 21]);
-    let index = block_at(rt.alloc(), &table, &footer_of(&rt, &table).index)?;
-    assert!(rt; has_pairs(rt.alloc(), &index, &[line])?);
-    Ok(())
+    assert_only(&rt, &table, &footer_of(&rt, &table).index, line)
 }
 
 /// The same without filters: 21 and 5 bytes, 9 and 5, 21 and 5, 23 and 5, and 48.
 #[test]
 fn one_internal_pair_without_filter(rt: HostRuntime) -> Result<()> {
     let options = options(16);
-    let compressors = &options.compressor_list;
-    let mut builder = TableBuilder::new_no_filter(rt.alloc(), &options, Vec::new(rt.alloc()));
+    let builder = TableBuilder::new_no_filter(rt.alloc(), &options, Vec::new(rt.alloc()));
     let cmp = InternalKeyCmp(options.cmp);
-    add_all(&rt, &mut builder, &cmp, compressors, &ONE)?;
-    let (table, size) = builder.finish(compressors);
-    assert!(rt; (size?, table.len()) == (142, 142));
+    let table = finish_with(&rt, builder, &cmp, &options.compressor_list, &ONE)?;
+    assert!(rt; table.len() == 142);
     let footer = footer_of(&rt, &table);
-    assert_metaindex(&rt, &table, &footer.meta_index, (b"filter._", &[26, 9]))
+    assert_only(&rt, &table, &footer.meta_index, (b"filter._", &[26, 9]))
 }
 
 /// A table without pairs: 5 and 5 bytes, 47 and 5, 8 and 5, and 48.
@@ -410,14 +408,9 @@ fn assert_taken(
     };
     let taken = Vec::new(rt.alloc());
     let mut sink = Limited { taken, room };
-    assert!(rt;
-        fails_into(rt, options, &mut sink, pairs, text)?,
-        "at {room}"
-    );
-    assert!(rt;
-        table.get(..room) == Some(sink.taken.as_slice()),
-        "at {room}"
-    );
+    let fails = fails_into(rt, options, &mut sink, pairs, text)?;
+    let takes_all = table.get(..room) == Some(sink.taken.as_slice());
+    assert!(rt; fails && takes_all, "at {room}");
     Ok(())
 }
 

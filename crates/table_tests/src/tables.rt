@@ -105,6 +105,34 @@ fn first_from<'a>(pairs: &[Given<'a>], key: &[u8]) -> Option<Given<'a>> {
     None
 }
 
+/// Whether a walk is at this pair, or at no position where that is none.
+fn is_at<E: Env, C: Cmp + Copy + Drop, FP: FilterPolicy>(
+    it: &TableIterator<'_, E, C, FP>,
+    pair: Option<Given<'_>>,
+) -> bool {
+    it.valid() == pair.is_some() && it.current() == pair
+}
+
+/// Whether a step goes to this pair, or to no position where that is none.
+fn steps_to<E: Env, FP: FilterPolicy>(
+    it: &mut TableIterator<'_, E, DefaultCmp, FP>,
+    compressors: &CompressorList,
+    pair: Option<Given<'_>>,
+) -> Result<bool> {
+    Ok(it.advance(compressors)? == pair.is_some() && is_at(it, pair))
+}
+
+/// Whether a seek goes to this pair, or to no position where that is none.
+fn seeks_to<E: Env, FP: FilterPolicy>(
+    it: &mut TableIterator<'_, E, DefaultCmp, FP>,
+    compressors: &CompressorList,
+    key: &[u8],
+    pair: Option<Given<'_>>,
+) -> Result<bool> {
+    it.seek(compressors, key)?;
+    Ok(is_at(it, pair))
+}
+
 /// Whether a step goes to each pair in turn, and then to no position.
 fn goes_forward<E: Env, FP: FilterPolicy>(
     it: &mut TableIterator<'_, E, DefaultCmp, FP>,
@@ -112,11 +140,11 @@ fn goes_forward<E: Env, FP: FilterPolicy>(
     pairs: &[Given<'_>],
 ) -> Result<bool> {
     for pair in pairs {
-        if !it.advance(compressors)? || !it.valid() || it.current() != Some(*pair) {
+        if !steps_to(it, compressors, Some(*pair))? {
             return Ok(false);
         }
     }
-    Ok(!it.advance(compressors)? && !it.valid() && it.current().is_none())
+    steps_to(it, compressors, None)
 }
 
 /// Goes through all pairs, past the last, and to the first again.
@@ -129,7 +157,7 @@ fn check_forward<E: Env, FP: FilterPolicy>(
     assert!(rt; goes_forward(it, compressors, pairs)?);
     assert!(rt; !it.prev(compressors)?);
     it.seek_to_first(compressors)?;
-    assert!(rt; it.current() == pairs.first().copied());
+    assert!(rt; is_at(it, pairs.first().copied()));
     Ok(())
 }
 
@@ -141,11 +169,9 @@ fn turns_at<E: Env, FP: FilterPolicy>(
     before: Option<Given<'_>>,
     pair: Given<'_>,
 ) -> Result<bool> {
-    it.seek(compressors, pair.0)?;
-    let is_here = it.current() == Some(pair);
-    let is_before = it.prev(compressors)? == before.is_some() && it.current() == before;
-    let is_again = it.advance(compressors)? && it.current() == Some(pair);
-    Ok(is_here && is_before && is_again)
+    let is_here = seeks_to(it, compressors, pair.0, Some(pair))?;
+    let is_before = it.prev(compressors)? == before.is_some() && is_at(it, before);
+    Ok(is_here && is_before && steps_to(it, compressors, Some(pair))?)
 }
 
 /// At each pair goes back and forward.
@@ -171,27 +197,57 @@ fn check_seeks<E: Env, FP: FilterPolicy>(
     pairs: &[Given<'_>],
 ) -> Result<()> {
     for key in &PROBES {
-        it.seek(compressors, key)?;
-        assert!(rt; it.current() == first_from(pairs, key), "from {key:?}");
+        let first = first_from(pairs, key);
+        assert!(rt; seeks_to(it, compressors, key, first)?, "from {key:?}");
     }
     it.reset();
     assert!(rt; !it.valid());
     Ok(())
 }
 
-/// Walks over a table of these pairs in all ways.
-fn check_walks<E: Env, FP: FilterPolicy>(
-    rt: &(impl Abort + AllocGlobal),
-    table: &Table<E, DefaultCmp, FP>,
-    env: &mut E,
-    cache: &mut BlockCache<DefaultCmp>,
+/// Walks over a table of these pairs in all ways, from no position on.
+fn check_moves<E: Env, FP: FilterPolicy>(
+    rt: &impl Abort,
+    it: &mut TableIterator<'_, E, DefaultCmp, FP>,
     compressors: &CompressorList,
     pairs: &[Given<'_>],
 ) -> Result<()> {
-    let mut it = table.iter(rt.alloc(), env, cache)?;
-    check_forward(rt, &mut it, compressors, pairs)?;
-    check_turns(rt, &mut it, compressors, pairs)?;
-    check_seeks(rt, &mut it, compressors, pairs)
+    check_forward(rt, it, compressors, pairs)?;
+    check_turns(rt, it, compressors, pairs)?;
+    check_seeks(rt, it, compressors, pairs)
+}
+
+/// An open table, with what its calls are given.
+#[derive(Drop)]
+struct Reader<'a, E: Env, FP: FilterPolicy> {
+    table: &'a Table<E, DefaultCmp, FP>,
+    env: &'a mut E,
+    cache: &'a mut BlockCache<DefaultCmp>,
+    compressors: &'a CompressorList,
+}
+
+impl<E: Env, FP: FilterPolicy> Reader<'_, E, FP> {
+    /// Looks a key up by itself.
+    fn get(&mut self, alloc: Global, key: &[u8]) -> Result<Option<(Bytes, Bytes)>> {
+        self.table
+            .get(alloc, self.env, self.cache, self.compressors, key)
+    }
+
+    /// Looks a key up with a finder.
+    fn find(&mut self, alloc: Global, key: &[u8], finder: &mut Finder) -> Result<Option<Bytes>> {
+        self.table
+            .find(alloc, self.env, self.cache, self.compressors, key, finder)
+    }
+}
+
+/// Walks over a table of these pairs in all ways.
+fn check_walks<E: Env, FP: FilterPolicy>(
+    rt: &(impl Abort + AllocGlobal),
+    reader: &mut Reader<'_, E, FP>,
+    pairs: &[Given<'_>],
+) -> Result<()> {
+    let mut it = reader.table.iter(rt.alloc(), reader.env, reader.cache)?;
+    check_moves(rt, &mut it, reader.compressors, pairs)
 }
 
 /// Whether what was found for a key is the first pair at or after it; a filter may rule out a key
@@ -219,27 +275,45 @@ fn is_same_find(found: &Option<(Bytes, Bytes)>, value: &Option<Bytes>, finder: &
     }
 }
 
+/// Whether the first of these pairs at or after a key is found, by itself and with a finder.
+fn finds<E: Env, FP: FilterPolicy>(
+    alloc: Global,
+    reader: &mut Reader<'_, E, FP>,
+    key: &[u8],
+    finder: &mut Finder,
+    pairs: &[Given<'_>],
+    filtered: bool,
+) -> Result<bool> {
+    let found = reader.get(alloc, key)?;
+    let value = reader.find(alloc, key, finder)?;
+    let is_right = is_found(&found, first_from(pairs, key), key, filtered);
+    Ok(is_right && is_same_find(&found, &value, finder))
+}
+
 /// Looks up keys, each by itself and with one finder for all.
 fn check_gets<E: Env, FP: FilterPolicy>(
     rt: &(impl Abort + AllocGlobal),
-    table: &Table<E, DefaultCmp, FP>,
-    env: &mut E,
-    cache: &mut BlockCache<DefaultCmp>,
-    compressors: &CompressorList,
+    reader: &mut Reader<'_, E, FP>,
     pairs: &[Given<'_>],
     filtered: bool,
 ) -> Result<()> {
     let mut finder = Finder::new(rt.alloc());
     for key in &PROBES {
-        let found = table.get(rt.alloc(), env, cache, compressors, key)?;
-        assert!(rt;
-            is_found(&found, first_from(pairs, key), key, filtered),
-            "for {key:?}"
-        );
-        let value = table.find(rt.alloc(), env, cache, compressors, key, &mut finder)?;
-        assert!(rt; is_same_find(&found, &value, &finder), "for {key:?}");
+        let is_right = finds(rt.alloc(), reader, key, &mut finder, pairs, filtered)?;
+        assert!(rt; is_right, "for {key:?}");
     }
     Ok(())
+}
+
+/// Walks over a table of these pairs in all ways, and looks up keys.
+fn check_reads<E: Env, FP: FilterPolicy>(
+    rt: &(impl Abort + AllocGlobal),
+    reader: &mut Reader<'_, E, FP>,
+    pairs: &[Given<'_>],
+    filtered: bool,
+) -> Result<()> {
+    check_walks(rt, reader, pairs)?;
+    check_gets(rt, reader, pairs, filtered)
 }
 
 /// Builds, opens, walks and looks up the table of these pairs.
@@ -253,9 +327,13 @@ fn check_table<E: Env, FP: FilterPolicy + Copy + Drop>(
     let bytes = table_of(rt, options, pairs)?;
     let mut cache = Cache::new(rt.alloc(), 3)?;
     let table = open_file(rt.alloc(), options, env, &mut cache, &bytes)?;
-    let compressors = &options.compressor_list;
-    check_walks(rt, &table, env, &mut cache, compressors, pairs)?;
-    check_gets(rt, &table, env, &mut cache, compressors, pairs, filtered)
+    let mut reader = Reader {
+        table: &table,
+        env,
+        cache: &mut cache,
+        compressors: &options.compressor_list,
+    };
+    check_reads(rt, &mut reader, pairs, filtered)
 }
 
 /// Tables of no, one, two and many pairs.
@@ -311,13 +389,55 @@ fn by_short_reads(rt: HostRuntime) -> Result<()> {
 }
 
 /// A table without filters, and with a block for each pair.
-fn table_in<E: Env>(
+fn table_in(
     rt: &(impl Abort + AllocGlobal),
-    env: &mut E,
+    env: &mut MemEnv,
     cache: &mut BlockCache<DefaultCmp>,
     pairs: &[Given<'_>],
-) -> Result<Table<E, DefaultCmp, NoFilterPolicy>> {
+) -> Result<Table<MemEnv, DefaultCmp, NoFilterPolicy>> {
     let options = unfiltered(1);
     let bytes = table_of(rt, &options, pairs)?;
     open_file(rt.alloc(), &options, env, cache, &bytes)
+}
+
+/// An open table without filters, and a disk for its file alone.
+struct Opened {
+    env: MemEnv,
+    table: Table<MemEnv, DefaultCmp, NoFilterPolicy>,
+}
+
+impl Drop for Opened {
+    // One call for whoever drops one, in place of one for each part of it.
+    fn drop(self) {
+        let Opened { env, table } = self;
+        drop(env);
+        drop(table);
+    }
+}
+
+impl Opened {
+    /// A table of these pairs, with a block for each.
+    fn new(
+        rt: &(impl Abort + AllocGlobal),
+        cache: &mut BlockCache<DefaultCmp>,
+        pairs: &[Given<'_>],
+    ) -> Result<Opened> {
+        let mut env = MemEnv::new(rt.alloc());
+        let table = table_in(rt, &mut env, cache, pairs)?;
+        Ok(Opened { env, table })
+    }
+
+    /// The table, with what its calls are given.
+    fn reader<'a>(
+        &'a mut self,
+        cache: &'a mut BlockCache<DefaultCmp>,
+        compressors: &'a CompressorList,
+    ) -> Reader<'a, MemEnv, NoFilterPolicy> {
+        Reader {
+            table: &self.table,
+            env: &mut self.env,
+            cache,
+            compressors,
+        }
+    }
 }

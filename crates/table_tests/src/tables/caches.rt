@@ -8,9 +8,13 @@ fn check_both_ways<E: Env, FP: FilterPolicy>(
     env: &mut E,
     cache: &mut BlockCache<DefaultCmp>,
 ) -> Result<()> {
-    let compressors = CompressorList::default();
-    check_walks(rt, table, env, cache, &compressors, &PAIRS)?;
-    check_gets(rt, table, env, cache, &compressors, &PAIRS, false)
+    let mut reader = Reader {
+        table,
+        env,
+        cache,
+        compressors: &CompressorList::default(),
+    };
+    check_reads(rt, &mut reader, &PAIRS, false)
 }
 
 /// Goes over two tables in turn, twice.
@@ -28,14 +32,21 @@ fn check_in_turn<E: Env, FP: FilterPolicy>(
     Ok(())
 }
 
+/// Goes over two tables of one file.
+fn check_opened_twice(
+    rt: &(impl Abort + AllocGlobal),
+    cache: &mut BlockCache<DefaultCmp>,
+) -> Result<()> {
+    let mut first = Opened::new(rt, cache, &PAIRS)?;
+    let second = table_in(rt, &mut first.env, cache, &PAIRS)?;
+    check_in_turn(rt, &first.table, &second, &mut first.env, cache)
+}
+
 /// Asserts that two tables of one file have their pairs, and that a cache with this capacity holds
 /// as many of their 24 blocks as it can.
 fn assert_opened_twice(rt: &(impl Abort + AllocGlobal), capacity: usize) -> Result<()> {
-    let mut env = MemEnv::new(rt.alloc());
     let mut cache = Cache::new(rt.alloc(), capacity)?;
-    let first = table_in(rt, &mut env, &mut cache, &PAIRS)?;
-    let second = table_in(rt, &mut env, &mut cache, &PAIRS)?;
-    check_in_turn(rt, &first, &second, &mut env, &mut cache)?;
+    check_opened_twice(rt, &mut cache)?;
     assert!(rt; cache.count() == capacity.min(24));
     Ok(())
 }
@@ -56,6 +67,17 @@ fn opened_twice_with_a_cache_for_all_blocks(rt: HostRuntime) -> Result<()> {
     assert_opened_twice(&rt, 100)
 }
 
+/// Whether a look-up with a cache that holds no block fails by damage.
+fn fails_uncached<E: Env, FP: FilterPolicy>(
+    alloc: Global,
+    table: &Table<E, DefaultCmp, FP>,
+    env: &mut E,
+) -> Result<bool> {
+    let mut cache = Cache::new(alloc, 12)?;
+    let answer = table.get(alloc, env, &mut cache, &CompressorList::default(), b"a");
+    failed_with(answer, StatusCode::Corruption)
+}
+
 /// Asserts that the blocks that a cache holds are read once their file is empty, and that another
 /// cache doesn't help.
 fn assert_cached<E: Env, FP: FilterPolicy>(
@@ -64,23 +86,18 @@ fn assert_cached<E: Env, FP: FilterPolicy>(
     env: &mut E,
     cache: &mut BlockCache<DefaultCmp>,
 ) -> Result<()> {
-    let _emptied = file_of(env, b"")?;
+    drop(file_of(env, b"")?);
     check_both_ways(rt, table, env, cache)?;
-    let mut other = Cache::new(rt.alloc(), 12)?;
-    let compressors = CompressorList::default();
-    let answer = table.get(rt.alloc(), env, &mut other, &compressors, b"a");
-    assert!(rt; failed_with(answer, StatusCode::Corruption)?);
+    assert!(rt; fails_uncached(rt.alloc(), table, env)?);
     Ok(())
 }
 
 #[test]
 fn emptied_file(rt: HostRuntime) -> Result<()> {
-    let mut env = MemEnv::new(rt.alloc());
     let mut cache = Cache::new(rt.alloc(), 12)?;
-    let table = table_in(&rt, &mut env, &mut cache, &PAIRS)?;
-    let compressors = CompressorList::default();
-    check_walks(&rt, &table, &mut env, &mut cache, &compressors, &PAIRS)?;
-    assert_cached(&rt, &table, &mut env, &mut cache)
+    let mut opened = Opened::new(&rt, &mut cache, &PAIRS)?;
+    check_both_ways(&rt, &opened.table, &mut opened.env, &mut cache)?;
+    assert_cached(&rt, &opened.table, &mut opened.env, &mut cache)
 }
 
 const ODD: [Given<'static>; 2] = [(b"a", b"1"), (b"b", b"3")];
@@ -101,27 +118,26 @@ fn have_equal_offsets<E: Env, FP: FilterPolicy>(
     Ok(true)
 }
 
-fn check_values<E: Env, FP: FilterPolicy>(
+fn check_values(
     rt: &(impl Abort + AllocGlobal),
-    table: &Table<E, DefaultCmp, FP>,
-    env: &mut E,
+    opened: &mut Opened,
     cache: &mut BlockCache<DefaultCmp>,
     pairs: &[Given<'_>],
 ) -> Result<()> {
     let compressors = CompressorList::default();
-    check_gets(rt, table, env, cache, &compressors, pairs, false)
+    check_gets(rt, &mut opened.reader(cache, &compressors), pairs, false)
 }
 
 /// Looks up keys in two tables in turn, twice.
-fn check_values_in_turn<E: Env, FP: FilterPolicy>(
+fn check_values_in_turn(
     rt: &(impl Abort + AllocGlobal),
-    odd: (&Table<E, DefaultCmp, FP>, &mut E),
-    even: (&Table<E, DefaultCmp, FP>, &mut E),
+    odd: &mut Opened,
+    even: &mut Opened,
     cache: &mut BlockCache<DefaultCmp>,
 ) -> Result<()> {
     for _ in 0..2 {
-        check_values(rt, odd.0, odd.1, cache, &ODD)?;
-        check_values(rt, even.0, even.1, cache, &EVEN)?;
+        check_values(rt, odd, cache, &ODD)?;
+        check_values(rt, even, cache, &EVEN)?;
     }
     Ok(())
 }
@@ -130,17 +146,10 @@ fn check_values_in_turn<E: Env, FP: FilterPolicy>(
 #[test]
 fn equal_offsets(rt: HostRuntime) -> Result<()> {
     let mut cache = Cache::new(rt.alloc(), 100)?;
-    let mut odd_env = MemEnv::new(rt.alloc());
-    let odd = table_in(&rt, &mut odd_env, &mut cache, &ODD)?;
-    let mut even_env = MemEnv::new(rt.alloc());
-    let even = table_in(&rt, &mut even_env, &mut cache, &EVEN)?;
-    assert!(rt; have_equal_offsets(rt.alloc(), &odd, &even)?);
-    check_values_in_turn(
-        &rt,
-        (&odd, &mut odd_env),
-        (&even, &mut even_env),
-        &mut cache,
-    )?;
+    let mut odd = Opened::new(&rt, &mut cache, &ODD)?;
+    let mut even = Opened::new(&rt, &mut cache, &EVEN)?;
+    assert!(rt; have_equal_offsets(rt.alloc(), &odd.table, &even.table)?);
+    check_values_in_turn(&rt, &mut odd, &mut even, &mut cache)?;
     assert!(rt; cache.count() == 4);
     Ok(())
 }

@@ -12,21 +12,46 @@ fn data_handle(alloc: Global, index: &Block<DefaultCmp>) -> Result<Option<BlockH
     Ok(handle.map(|read| read.0))
 }
 
-/// Asserts that a data block has the eight pairs, and isn't read without the compressor of the id
-/// 7.
-fn assert_data(
-    rt: &(impl Abort + AllocGlobal),
+/// Whether a data block has the eight pairs.
+fn has_eight_pairs(
+    alloc: Global,
     env: &mut MemEnv,
     file: &<MemEnv as Env>::File,
     compressors: &CompressorList,
     handle: BlockHandle,
-) -> Result<()> {
-    let block = read_table_block(rt.alloc(), DefaultCmp, env, file, compressors, handle)?;
-    assert!(rt; has_pairs(rt.alloc(), &block, &EIGHT)?);
+) -> Result<bool> {
+    let block = read_table_block(alloc, DefaultCmp, env, file, compressors, handle)?;
+    has_pairs(alloc, &block, &EIGHT)
+}
+
+/// Whether a block isn't read without the compressor of the id 7.
+fn needs_its_compressor(
+    alloc: Global,
+    env: &mut MemEnv,
+    file: &<MemEnv as Env>::File,
+    handle: BlockHandle,
+) -> Result<bool> {
     let none = CompressorList::default();
-    let answer = read_table_block(rt.alloc(), DefaultCmp, env, file, &none, handle);
+    let answer = read_table_block(alloc, DefaultCmp, env, file, &none, handle);
     let text = "invalid compression id `7`";
-    assert!(rt; failed_saying(answer, StatusCode::NotSupported, text)?);
+    failed_saying(answer, StatusCode::NotSupported, text)
+}
+
+/// Asserts that the one data block of an index has the eight pairs, and isn't read without its
+/// compressor.
+fn assert_compressed(
+    rt: &(impl Abort + AllocGlobal),
+    env: &mut MemEnv,
+    file: &<MemEnv as Env>::File,
+    compressors: &CompressorList,
+    index: BlockHandle,
+) -> Result<()> {
+    let index = read_table_block(rt.alloc(), DefaultCmp, env, file, compressors, index)?;
+    let Some(data) = data_handle(rt.alloc(), &index)? else {
+        panic!(rt; "no handle");
+    };
+    assert!(rt; has_eight_pairs(rt.alloc(), env, file, compressors, data)?);
+    assert!(rt; needs_its_compressor(rt.alloc(), env, file, data)?);
     Ok(())
 }
 
@@ -34,41 +59,45 @@ fn assert_data(
 #[test]
 fn by_a_compressor(rt: HostRuntime) -> Result<()> {
     let options = compressed(rt.alloc())?;
-    let compressors = &options.compressor_list;
     let bytes = table_of(&rt, &options, &EIGHT)?;
     assert!(rt; bytes.len() == 233);
     let mut env = MemEnv::new(rt.alloc());
     let file = file_of(&mut env, &bytes)?;
-    let handle = footer_of(&rt, &bytes).index;
-    let index = read_table_block(rt.alloc(), DefaultCmp, &mut env, &file, compressors, handle)?;
-    let Some(data) = data_handle(rt.alloc(), &index)? else {
-        panic!(rt; "no handle");
-    };
-    assert_data(&rt, &mut env, &file, compressors, data)
+    let index = footer_of(&rt, &bytes).index;
+    assert_compressed(&rt, &mut env, &file, &options.compressor_list, index)
 }
 
-/// Whether a walk over a damaged table goes to its pairs until a step fails, which leaves no
-/// position.
-fn walk_fails<E: Env, C: Cmp + Copy + Drop, FP: FilterPolicy>(
+/// Whether a walk goes to these pairs until a step fails by damage, which leaves no position.
+fn step_fails<E: Env, C: Cmp + Copy + Drop, FP: FilterPolicy>(
+    it: &mut TableIterator<'_, E, C, FP>,
+    compressors: &CompressorList,
+    pairs: &[Given<'_>],
+) -> Result<bool> {
+    for pair in pairs {
+        let answer = it.advance(compressors);
+        if answer.is_err() {
+            return Ok(failed_with(answer, StatusCode::Corruption)? && is_at(it, None));
+        }
+        if !answer? || !is_at(it, Some(*pair)) {
+            return Ok(false);
+        }
+    }
+    Ok(false)
+}
+
+/// Whether a damaged table wasn't opened, or a walk over it goes to its pairs until a step fails.
+fn walk_fails<E: Env, C: Cmp + Copy + Drop, FP: FilterPolicy + Drop>(
     alloc: Global,
-    table: &Table<E, C, FP>,
+    opened: Result<Table<E, C, FP>>,
     env: &mut E,
     cache: &mut BlockCache<C>,
     compressors: &CompressorList,
     pairs: &[Given<'_>],
 ) -> Result<bool> {
-    let mut it = table.iter(alloc, env, cache)?;
-    for pair in pairs {
-        let answer = it.advance(compressors);
-        if answer.is_err() {
-            let is_nowhere = !it.valid() && it.current().is_none();
-            return Ok(failed_with(answer, StatusCode::Corruption)? && is_nowhere);
-        }
-        if !answer? || it.current() != Some(*pair) {
-            return Ok(false);
-        }
+    match opened {
+        Ok(table) => step_fails(&mut table.iter(alloc, env, cache)?, compressors, pairs),
+        answer => failed_with(answer, StatusCode::Corruption),
     }
-    Ok(false)
 }
 
 /// Whether a damaged table of internal keys isn't opened, or a walk over it fails.
@@ -81,11 +110,9 @@ fn internal_fails(
     let mut env = MemEnv::new(alloc);
     let file = file_of(&mut env, bytes)?;
     let mut cache = Cache::new(alloc, 3)?;
+    let opened = Table::new(alloc, options, &mut env, &mut cache, file, bytes.len());
     let compressors = &options.compressor_list;
-    match Table::new(alloc, options, &mut env, &mut cache, file, bytes.len()) {
-        Ok(table) => walk_fails(alloc, &table, &mut env, &mut cache, compressors, pairs),
-        answer => failed_with(answer, StatusCode::Corruption),
-    }
+    walk_fails(alloc, opened, &mut env, &mut cache, compressors, pairs)
 }
 
 /// The same of a table under the order and the policy of its options.
@@ -97,11 +124,9 @@ fn raw_fails(
 ) -> Result<bool> {
     let mut env = MemEnv::new(alloc);
     let mut cache = Cache::new(alloc, 3)?;
+    let opened = open_file(alloc, options, &mut env, &mut cache, bytes);
     let compressors = &options.compressor_list;
-    match open_file(alloc, options, &mut env, &mut cache, bytes) {
-        Ok(table) => walk_fails(alloc, &table, &mut env, &mut cache, compressors, pairs),
-        answer => failed_with(answer, StatusCode::Corruption),
-    }
+    walk_fails(alloc, opened, &mut env, &mut cache, compressors, pairs)
 }
 
 /// Every cut, and every byte raised by one, of a table under its options' order.
@@ -152,17 +177,12 @@ fn is_no_table(alloc: Global, bytes: &[u8]) -> Result<bool> {
     failed_with(answer, StatusCode::Corruption)
 }
 
-/// A table with another footer, of these handles.
-fn with_footer(
-    alloc: Global,
-    table: &[u8],
-    meta_index: BlockHandle,
-    index: BlockHandle,
-) -> Result<Vec<u8>> {
+/// A table with another footer.
+fn with_footer(alloc: Global, table: &[u8], footer: &Footer) -> Result<Vec<u8>> {
     let front = table.get(..table.len().saturating_sub(48));
     let mut bytes = Vec::from_slice(alloc, front.unwrap_or_default())?;
     let mut end = [0; 48];
-    Footer::new(meta_index, index).encode(&mut end);
+    footer.encode(&mut end);
     bytes.extend_from_slice(&end)?;
     Ok(bytes)
 }
@@ -178,6 +198,11 @@ fn zeros(rt: HostRuntime) -> Result<()> {
     Ok(())
 }
 
+/// Whether a table with another footer isn't opened.
+fn is_refused(alloc: Global, table: &[u8], footer: &Footer) -> Result<bool> {
+    is_no_table(alloc, &with_footer(alloc, table, footer)?)
+}
+
 /// Asserts that a table with this handle in place of either of its footer's isn't opened.
 fn assert_neither(
     rt: &(impl Abort + AllocGlobal),
@@ -186,10 +211,9 @@ fn assert_neither(
     (offset, size): (usize, usize),
 ) -> Result<()> {
     let far = BlockHandle::new(offset, size);
-    let bytes = with_footer(rt.alloc(), table, far, footer.index)?;
-    assert!(rt; is_no_table(rt.alloc(), &bytes)?, "{offset} {size}");
-    let bytes = with_footer(rt.alloc(), table, footer.meta_index, far)?;
-    assert!(rt; is_no_table(rt.alloc(), &bytes)?, "{offset} {size}");
+    let without_meta_index = is_refused(rt.alloc(), table, &Footer::new(far, footer.index))?;
+    let without_index = is_refused(rt.alloc(), table, &Footer::new(footer.meta_index, far))?;
+    assert!(rt; without_meta_index && without_index, "{offset} {size}");
     Ok(())
 }
 
@@ -199,8 +223,7 @@ fn assert_neither(
 fn handles_past_the_file(rt: HostRuntime) -> Result<()> {
     let bytes = table_of(&rt, &Options::default(), &EIGHT)?;
     let footer = footer_of(&rt, &bytes);
-    let same = with_footer(rt.alloc(), &bytes, footer.meta_index, footer.index)?;
-    assert!(rt; same == bytes);
+    assert!(rt; with_footer(rt.alloc(), &bytes, &footer)? == bytes);
     let len = bytes.len();
     for handle in [
         (len, 8),
@@ -215,6 +238,18 @@ fn handles_past_the_file(rt: HostRuntime) -> Result<()> {
     Ok(())
 }
 
+/// Whether no filters are read at a handle of size 0.
+fn has_no_filters(
+    alloc: Global,
+    env: &mut MemEnv,
+    file: &<MemEnv as Env>::File,
+    offset: usize,
+) -> Result<bool> {
+    let handle = BlockHandle::new(offset, 0);
+    let answer = read_filter_block(alloc, BloomPolicy::new(10), env, file, handle);
+    failed_with(answer, StatusCode::InvalidArgument)
+}
+
 /// A handle of size 0 stands for no filters, whatever its offset.
 #[test]
 fn no_filters(rt: HostRuntime) -> Result<()> {
@@ -222,12 +257,8 @@ fn no_filters(rt: HostRuntime) -> Result<()> {
     let mut env = MemEnv::new(rt.alloc());
     let file = file_of(&mut env, &bytes)?;
     for offset in [0, 87, usize::MAX] {
-        let handle = BlockHandle::new(offset, 0);
-        let answer = read_filter_block(rt.alloc(), BloomPolicy::new(10), &mut env, &file, handle);
-        assert!(rt;
-            failed_with(answer, StatusCode::InvalidArgument)?,
-            "at {offset}"
-        );
+        let is_right = has_no_filters(rt.alloc(), &mut env, &file, offset)?;
+        assert!(rt; is_right, "at {offset}");
     }
     Ok(())
 }
@@ -243,6 +274,18 @@ fn opening_says(
     let mut cache = Cache::new(alloc, 1)?;
     let answer = open_file(alloc, options, &mut env, &mut cache, bytes);
     failed_saying(answer, StatusCode::Corruption, text)
+}
+
+/// The same of a table with another footer.
+fn footer_says(
+    alloc: Global,
+    options: &Options<DefaultCmp, BloomPolicy>,
+    table: &[u8],
+    footer: &Footer,
+    text: &str,
+) -> Result<bool> {
+    let bytes = with_footer(alloc, table, footer)?;
+    opening_says(alloc, options, &bytes, text)
 }
 
 /// Bytes of the filters, the metaindex, the index and the footer of a table, and what opening it
@@ -287,15 +330,22 @@ fn missing_bytes_say_where(rt: HostRuntime) -> Result<()> {
     let cut = bytes.get(..47).unwrap_or_default();
     let text = "Corruption: table of 47 bytes: too short for a footer";
     assert!(rt; opening_says(rt.alloc(), &options, cut, text)?);
-    let far = BlockHandle::new(5000, 8);
-    let footer = footer_of(&rt, &bytes);
-    let bytes = with_footer(rt.alloc(), &bytes, footer.meta_index, far)?;
+    let far = Footer::new(footer_of(&rt, &bytes).meta_index, BlockHandle::new(5000, 8));
     let text = "Corruption: block at 5000: past the end of the file";
-    assert!(rt; opening_says(rt.alloc(), &options, &bytes, text)?);
+    assert!(rt; footer_says(rt.alloc(), &options, &bytes, &far, text)?);
     Ok(())
 }
 
-/// Whether a key isn't looked up, and the error says this.
+/// Whether a key isn't looked up in an open table, and the error says this.
+fn get_says(
+    alloc: Global,
+    reader: &mut Reader<'_, MemEnv, BloomPolicy>,
+    text: &str,
+) -> Result<bool> {
+    failed_saying(reader.get(alloc, b"abc"), StatusCode::Corruption, text)
+}
+
+/// The same of a table that is opened for it.
 fn look_up_says(
     alloc: Global,
     options: &Options<DefaultCmp, BloomPolicy>,
@@ -305,9 +355,13 @@ fn look_up_says(
     let mut env = MemEnv::new(alloc);
     let mut cache = Cache::new(alloc, 0)?;
     let table = open_file(alloc, options, &mut env, &mut cache, bytes)?;
-    let compressors = &options.compressor_list;
-    let answer = table.get(alloc, &mut env, &mut cache, compressors, b"abc");
-    failed_saying(answer, StatusCode::Corruption, text)
+    let mut reader = Reader {
+        table: &table,
+        env: &mut env,
+        cache: &mut cache,
+        compressors: &options.compressor_list,
+    };
+    get_says(alloc, &mut reader, text)
 }
 
 /// The same of a data block, once a key is looked up in it.
@@ -327,7 +381,8 @@ fn index_without_handles_says_where(rt: HostRuntime) -> Result<()> {
     let options = compressed(rt.alloc())?;
     let bytes = table_of(&rt, &options, &EIGHT)?;
     let data = BlockHandle::new(0, 82);
-    let bytes = with_footer(rt.alloc(), &bytes, footer_of(&rt, &bytes).meta_index, data)?;
+    let footer = Footer::new(footer_of(&rt, &bytes).meta_index, data);
+    let bytes = with_footer(rt.alloc(), &bytes, &footer)?;
     let text = "Corruption: index at 0: no handle of a block";
     assert!(rt; look_up_says(rt.alloc(), &options, &bytes, text)?);
     Ok(())
@@ -343,10 +398,30 @@ fn metaindex_without_handle_says_where(rt: HostRuntime) -> Result<()> {
     let options = Options::default();
     let bytes = table_of(&rt, &options, &NO_FILTERS)?;
     let data = BlockHandle::new(0, 48);
-    let bytes = with_footer(rt.alloc(), &bytes, data, footer_of(&rt, &bytes).index)?;
+    let footer = Footer::new(data, footer_of(&rt, &bytes).index);
     let text = "Corruption: metaindex at 0: no handle of a block";
-    assert!(rt; opening_says(rt.alloc(), &options, &bytes, text)?);
+    assert!(rt; footer_says(rt.alloc(), &options, &bytes, &footer, text)?);
     Ok(())
+}
+
+/// The same of a table whose file is deleted once it is open.
+fn deleted_says(
+    alloc: Global,
+    options: &Options<DefaultCmp, BloomPolicy>,
+    bytes: &[u8],
+    text: &str,
+) -> Result<bool> {
+    let mut env = MemEnv::new(alloc);
+    let mut cache = Cache::new(alloc, 1)?;
+    let table = open_file(alloc, options, &mut env, &mut cache, bytes)?;
+    env.delete("table")?;
+    let mut reader = Reader {
+        table: &table,
+        env: &mut env,
+        cache: &mut cache,
+        compressors: &options.compressor_list,
+    };
+    get_says(alloc, &mut reader, text)
 }
 
 /// A table whose file is deleted while it is open: a block that the cache doesn't have isn't read,
@@ -355,14 +430,8 @@ fn metaindex_without_handle_says_where(rt: HostRuntime) -> Result<()> {
 fn deleted_under_an_open_table(rt: HostRuntime) -> Result<()> {
     let options = Options::default();
     let bytes = table_of(&rt, &options, &EIGHT)?;
-    let mut env = MemEnv::new(rt.alloc());
-    let mut cache = Cache::new(rt.alloc(), 1)?;
-    let table = open_file(rt.alloc(), &options, &mut env, &mut cache, &bytes)?;
-    env.delete("table")?;
-    let compressors = &options.compressor_list;
-    let answer = table.get(rt.alloc(), &mut env, &mut cache, compressors, b"abc");
     let text = "Corruption: table at 0: the file is missing";
-    assert!(rt; failed_saying(answer, StatusCode::Corruption, text)?);
+    assert!(rt; deleted_says(rt.alloc(), &options, &bytes, text)?);
     Ok(())
 }
 
@@ -396,9 +465,13 @@ fn assert_unfiltered(
     let mut env = MemEnv::new(rt.alloc());
     let mut cache = Cache::new(rt.alloc(), 3)?;
     let table = open_unfiltered(rt.alloc(), options, &mut env, &mut cache, bytes)?;
-    let compressors = &options.compressor_list;
-    check_walks(rt, &table, &mut env, &mut cache, compressors, &PAIRS)?;
-    check_gets(rt, &table, &mut env, &mut cache, compressors, &PAIRS, false)
+    let mut reader = Reader {
+        table: &table,
+        env: &mut env,
+        cache: &mut cache,
+        compressors: &options.compressor_list,
+    };
+    check_reads(rt, &mut reader, &PAIRS, false)
 }
 
 /// Damaged filters are passed over by a table that is opened without them, and by no other.
