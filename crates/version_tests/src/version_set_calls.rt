@@ -1,23 +1,24 @@
 //! The numbers that a version set gives, and the file `CURRENT`.
 use crate::checks::failed_with;
-use leveldb_base::cmp::DefaultCmp;
+use crate::stored::Stored;
 use leveldb_base::error::{Result, StatusCode};
 use leveldb_base::types::FileNum;
 use leveldb_env::env::Env;
 use leveldb_env::env::whole_files::read_file;
 use leveldb_env::mem_env::{MemEnv, RecordEnv};
-use leveldb_version::version_set::{VersionSet, read_current_file, set_current_file};
+use leveldb_version::version_set::{read_current_file, set_current_file};
 use std::alloc::Global;
 use std::process::Abort;
 
-fn new_set(alloc: Global) -> Result<VersionSet<MemEnv>> {
-    VersionSet::new(alloc, "db", &DefaultCmp)
+fn new_set(alloc: Global) -> Result<Stored<MemEnv>> {
+    Stored::new(alloc, MemEnv::new(alloc))
 }
 
 /// A number is given again only if it was the last one given.
 #[test]
 fn numbers_are_given_once(rt: HostRuntime) -> Result<()> {
-    let mut set = new_set(rt.alloc())?;
+    let mut stored = new_set(rt.alloc())?;
+    let set = &mut stored.set;
     assert!(rt; set.new_file_number()? == 2);
     set.reuse_file_number(2);
     assert!(rt; set.new_file_number()? == 2 && set.new_file_number()? == 3);
@@ -29,7 +30,8 @@ fn numbers_are_given_once(rt: HostRuntime) -> Result<()> {
 /// A number that was never given isn't taken back, nor is one that is marked as used.
 #[test]
 fn used_numbers_stay_used(rt: HostRuntime) -> Result<()> {
-    let mut set = new_set(rt.alloc())?;
+    let mut stored = new_set(rt.alloc())?;
+    let set = &mut stored.set;
     set.reuse_file_number(1);
     assert!(rt; set.next_file_num() == 2);
     set.mark_file_number_used(9)?;
@@ -41,7 +43,8 @@ fn used_numbers_stay_used(rt: HostRuntime) -> Result<()> {
 
 #[test]
 fn numbers_end(rt: HostRuntime) -> Result<()> {
-    let mut set = new_set(rt.alloc())?;
+    let mut stored = new_set(rt.alloc())?;
+    let set = &mut stored.set;
     let last = set.mark_file_number_used(FileNum::MAX);
     assert!(rt; failed_with(last, StatusCode::NotSupported)? && set.next_file_num() == 2);
     set.mark_file_number_used(FileNum::MAX - 1)?;
@@ -52,8 +55,9 @@ fn numbers_end(rt: HostRuntime) -> Result<()> {
 
 #[test]
 fn no_files_yet(rt: HostRuntime) -> Result<()> {
-    let set = new_set(rt.alloc())?;
-    assert!(rt; set.live_files()?.is_empty() && set.current_summary()?.is_empty());
+    let stored = new_set(rt.alloc())?;
+    assert!(rt; stored.set.live_files()?.is_empty());
+    assert!(rt; stored.set.current_summary()?.is_empty());
     Ok(())
 }
 
