@@ -1,5 +1,8 @@
 //! Looking a key up in a version: what its tables have of it, beside a search through all of their
 //! entries, and which file is charged with a seek.
+ghost use Rattle.std.specs.Prelude.{◌≡◌};
+ghost use Rattle.leveldb_table.specs.TableBuilder.{order_of};
+
 use crate::checks::failed_with;
 use crate::store_files::put;
 use bytes::Bytes;
@@ -7,19 +10,22 @@ use leveldb_base::cmp::{Cmp, DefaultCmp, InternalKeyCmp};
 use leveldb_base::error::{Result, StatusCode};
 use leveldb_base::key_types::{LookupKey, ValueType};
 use leveldb_base::types::{FileMetaData, FileNum, MAX_SEQUENCE_NUMBER, SequenceNumber};
+use leveldb_env::compressor::CompressorList;
 use leveldb_env::env::Env;
-use leveldb_env::filter::BloomPolicy;
+use leveldb_env::filter::{BloomPolicy, InternalFilterPolicy};
 use leveldb_env::mem_env::MemEnv;
 use leveldb_env::options::{Options, in_memory};
 use leveldb_table::table_builder::TableBuilder;
 use leveldb_version::table_cache::{TableCache, table_file_name};
-use leveldb_version::version::Version;
+use leveldb_version::version::{GetStats, Version};
 use std::alloc::Global;
 use std::process::Abort;
 
 type Choices = Options<DefaultCmp, BloomPolicy>;
 
 type Tables = TableCache<MemEnv, DefaultCmp, BloomPolicy>;
+
+type Builder = TableBuilder<Vec<u8>, InternalKeyCmp<DefaultCmp>, InternalFilterPolicy<BloomPolicy>>;
 
 /// An entry: its key, its number, and its value or a deletion.
 type Entry = (&'static str, SequenceNumber, Option<&'static str>);
@@ -80,17 +86,17 @@ fn key_of(rt: &(impl Abort + AllocGlobal), entry: &Entry) -> Result<Bytes> {
     Ok(Bytes::copy_from_slice(rt.alloc(), key.internal_key())?)
 }
 
-/// The table of these entries, and its first and last key.
-fn table_of(
+/// Adds entries to a builder of this order, and returns their first and last key.
+fn add_entries(
     rt: &(impl Abort + AllocGlobal),
-    options: &Choices,
+    builder: &mut Builder,
+    cmp: &InternalKeyCmp<DefaultCmp>,
+    compressors: &CompressorList,
     entries: &[Entry],
-) -> Result<(Vec<u8>, Bytes, Bytes)> {
-    let compressors = &options.compressor_list;
-    let cmp = InternalKeyCmp(options.cmp);
-    let mut builder = TableBuilder::new(rt.alloc(), options, Vec::new(rt.alloc()));
-    let mut first = Bytes::new();
-    let mut last = Bytes::new();
+) -> Result<(Bytes, Bytes)>
+    requires { order_of builder.old.core ≡ cmp.now }
+{
+    let (mut first, mut last) = (Bytes::new(), Bytes::new());
     for entry in entries {
         let key = key_of(rt, entry)?;
         assert!(rt; builder.follows(&key) && cmp.accepts(&key));
@@ -100,9 +106,22 @@ fn table_of(
         }
         last = key;
     }
+    Ok((first, last))
+}
+
+/// The table of these entries, and its first and last key.
+fn table_of(
+    rt: &(impl Abort + AllocGlobal),
+    options: &Choices,
+    entries: &[Entry],
+) -> Result<(Vec<u8>, (Bytes, Bytes))> {
+    let compressors = &options.compressor_list;
+    let mut builder = TableBuilder::new(rt.alloc(), options, Vec::new(rt.alloc()));
+    let cmp = InternalKeyCmp(options.cmp);
+    let ends = add_entries(rt, &mut builder, &cmp, compressors, entries)?;
     let (table, size) = builder.finish(compressors);
     size?;
-    Ok((table, first, last))
+    Ok((table, ends))
 }
 
 /// Writes a table, and returns its file.
@@ -112,14 +131,10 @@ fn put_table(
     options: &Choices,
     rows: &Rows,
 ) -> Result<FileMetaData> {
-    let (table, smallest, largest) = table_of(rt, options, rows.2)?;
+    let (table, (smallest, largest)) = table_of(rt, options, rows.2)?;
     let number = rows.1;
-    put(
-        rt.alloc(),
-        env,
-        &format!(in rt.alloc(); "{number:06}.ldb")?,
-        table.as_slice(),
-    )?;
+    let name = format!(in rt.alloc(); "{number:06}.ldb")?;
+    put(rt.alloc(), env, &name, table.as_slice())?;
     Ok(FileMetaData {
         allowed_seeks: 0,
         num: number,
@@ -140,6 +155,59 @@ fn version_of_tables(
         files.push((rows.0, put_table(rt, env, options, rows)?))?;
     }
     Version::of_files(rt.alloc(), DefaultCmp, files.as_slice())
+}
+
+/// A store of all tables, its version, and a cache of those that are open.
+struct Opened {
+    env: MemEnv,
+    options: Choices,
+    version: Version<DefaultCmp>,
+    tables: Tables,
+}
+
+impl Drop for Opened {
+    // One call for whoever drops one, in place of one for each part of it.
+    fn drop(self) {
+        let Opened {
+            env,
+            options,
+            version,
+            tables,
+        } = self;
+        drop(env);
+        drop(options);
+        drop(version);
+        drop(tables);
+    }
+}
+
+impl Opened {
+    fn new(rt: &(impl Abort + AllocGlobal)) -> Result<Opened> {
+        let (mut env, options) = in_memory(rt.alloc());
+        let version = version_of_tables(rt, &mut env, &options)?;
+        let tables = Tables::new(rt.alloc(), "db", &options)?;
+        Ok(Opened {
+            env,
+            options,
+            version,
+            tables,
+        })
+    }
+
+    /// What the tables have of a key at or below a number, and which file is charged.
+    fn get(
+        &mut self,
+        rt: &(impl Abort + AllocGlobal),
+        key: &str,
+        last: SequenceNumber,
+    ) -> Result<(Option<Option<Bytes>>, GetStats)> {
+        assert!(rt; last <= MAX_SEQUENCE_NUMBER);
+        let key = LookupKey::new(rt.alloc(), key.as_bytes(), last)?;
+        assert!(rt; key.internal_key().len() >= 8);
+        let (env, tables) = (&mut self.env, &mut self.tables);
+        self.version
+            .get(rt.alloc(), env, &self.options, tables, &key)
+    }
 }
 
 // ---- look-ups
@@ -181,27 +249,19 @@ fn is_same(found: Option<Option<Bytes>>, wanted: Option<Option<&str>>) -> bool {
 
 fn assert_found(
     rt: &(impl Abort + AllocGlobal),
-    version: &Version<DefaultCmp>,
-    env: &mut MemEnv,
-    options: &Choices,
-    tables: &mut Tables,
+    opened: &mut Opened,
     row: &(&str, SequenceNumber, Option<(usize, FileNum)>),
 ) -> Result<()> {
-    assert!(rt; row.1 <= MAX_SEQUENCE_NUMBER);
-    let key = LookupKey::new(rt.alloc(), row.0.as_bytes(), row.1)?;
-    assert!(rt; key.internal_key().len() >= 8);
-    let (found, stats) = version.get(rt.alloc(), env, options, tables, &key)?;
+    let (found, stats) = opened.get(rt, row.0, row.1)?;
     assert!(rt; is_same(found, tried(row.0, row.1)) && stats.file == row.2);
     Ok(())
 }
 
 #[test]
 fn found_as_tried(rt: HostRuntime) -> Result<()> {
-    let (mut env, options) = in_memory(rt.alloc());
-    let version = version_of_tables(&rt, &mut env, &options)?;
-    let mut tables = Tables::new(rt.alloc(), "db", &options)?;
+    let mut opened = Opened::new(&rt)?;
     for row in &LOOK_UPS {
-        assert_found(&rt, &version, &mut env, &options, &mut tables, row)?;
+        assert_found(&rt, &mut opened, row)?;
     }
     Ok(())
 }
@@ -209,16 +269,12 @@ fn found_as_tried(rt: HostRuntime) -> Result<()> {
 /// A table that is missing is damage for the keys that are looked up in it, and for no other key.
 #[test]
 fn missing_table(rt: HostRuntime) -> Result<()> {
-    let (mut env, options) = in_memory(rt.alloc());
-    let version = version_of_tables(&rt, &mut env, &options)?;
-    let mut tables = Tables::new(rt.alloc(), "db", &options)?;
-    env.delete(&table_file_name(rt.alloc(), "db", 7)?)?;
+    let mut opened = Opened::new(&rt)?;
+    opened.env.delete(&table_file_name(rt.alloc(), "db", 7)?)?;
     for row in &LOOK_UPS[..7] {
-        assert_found(&rt, &version, &mut env, &options, &mut tables, row)?;
+        assert_found(&rt, &mut opened, row)?;
     }
-    let key = LookupKey::new(rt.alloc(), b"e", 20)?;
-    assert!(rt; key.internal_key().len() >= 8);
-    let missing = version.get(rt.alloc(), &mut env, &options, &mut tables, &key);
+    let missing = opened.get(&rt, "e", 20);
     assert!(rt; failed_with(missing, StatusCode::Corruption)?);
     Ok(())
 }
