@@ -92,8 +92,6 @@ impl<C: Cmp + Drop> Block<C> {
         ensures encoded { HasEntries (C.cmp self.entry.now.cmp) self.entry.now.contents
             self.entry.now.entries }
     {
-        // what holds of every block is known where one of its fields is used
-        let _ = &self.contents;
         BlockIter::new(alloc, self)
     }
 

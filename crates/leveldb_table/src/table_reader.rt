@@ -220,6 +220,8 @@ impl<E: Env, C: Cmp + Copy + Drop, FP: FilterPolicy> Table<E, C, FP> {
             → IfOk result (λ offset. offset ≡ offset_in C.Cmp self.now key.now parts) }
         ensures line { IfOk result
             (IsOffsetBy (line_in C.Cmp self.now key.now) (meta_of self.now).offset) }
+        ensures encoded { HasEntries (C.cmp self.now.index.cmp) self.now.index.contents
+            self.now.index.entries }
         ensures cause { IfErr result (λ status. IsOutOfMemory status
             ⊎ ((status.code ≡ Corruption) × NamesNone (line_in C.Cmp self.now key.now))) }
     {

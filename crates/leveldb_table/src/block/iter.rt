@@ -1,6 +1,7 @@
 //! A walk over a block, beside a borrow of it.
 ghost use Rattle.std.specs.Prelude.{◌≡◌, None};
 ghost use Rattle.leveldb_base.specs.Error.{IsOutOfMemory};
+ghost use Rattle.leveldb_table.specs.Block.{HasEntries};
 ghost use Rattle.leveldb_table.specs.BlockWalk.{IsWithin, pairs_over, position_over};
 ghost use Rattle.leveldb_table.specs.BlockLaws.{IsWithin-prop, position_within-is};
 
@@ -38,7 +39,11 @@ impl<'a, C: Cmp> BlockIter<'a, C> {
     pub fn new(alloc: Global, block: &'a Block<C>) -> BlockIter<'a, C>
         ensures block { result.block ≡ block.entry.now }
         ensures position { position_over result ≡ None }
+        ensures encoded { HasEntries (C.cmp result.block.cmp) result.block.contents
+            result.block.entries }
     {
+        // what holds of every block is known where one of its fields is used
+        let _ = &block.contents;
         BlockIter {
             block,
             core: BlockCore::new(alloc),

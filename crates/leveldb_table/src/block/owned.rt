@@ -2,6 +2,7 @@
 ghost use Rattle.std.specs.Prelude.{◌≡◌, None, IfOk, IfErr, OnOk, OnErr, is_some};
 ghost use Rattle.leveldb_base.specs.Types.{next_position, previous_position, seek_position, pair_at, last_position};
 ghost use Rattle.leveldb_base.specs.Error.{IsOutOfMemory};
+ghost use Rattle.leveldb_table.specs.Block.{HasEntries};
 ghost use Rattle.leveldb_table.specs.BlockWalk.{IsWithin, pair_with, pairs_over, position_over};
 ghost use Rattle.leveldb_table.specs.BlockLaws.{IsWithin-prop, position_within-is};
 
@@ -57,8 +58,12 @@ impl<C: Cmp> BlockWalk<C> {
 
     /// The block.
     pub fn block(&self) -> &Block<C>
-        ensures { result.now ≡ self.now.block }
+        ensures block { result.now ≡ self.now.block }
+        ensures encoded { HasEntries (C.cmp result.now.cmp) result.now.contents
+            result.now.entries }
     {
+        // what holds of every block is known where one of its fields is used
+        let _ = &self.block.contents;
         &self.block
     }
 
