@@ -12,4 +12,5 @@ pub mod ViewLemmas
 pub mod ScanLemmas
 pub mod BackwardLemmas
 pub mod LayersLemmas
+pub mod ThinningLemmas
 pub mod NamesLemmas

@@ -11,4 +11,5 @@ pub mod Entries
 pub mod View
 pub mod Scan
 pub mod Layers
+pub mod Thinning
 pub mod Names

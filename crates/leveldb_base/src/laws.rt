@@ -12,6 +12,7 @@ ghost use Rattle.leveldb_base.specs.Names.{IsFileName, ReadsName, MayHaveNumber,
 ghost use Rattle.leveldb_base.specs.History.{OneView, EachHasView, ViewPasses, SharedViewIsSame, SameWithMore, OneRisingList};
 
 pub mod entries;
+pub mod thinning;
 
 /// The bytes that encode a number are those that are written for it, so equal numbers are equal
 /// bytes.
