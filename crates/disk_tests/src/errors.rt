@@ -16,7 +16,7 @@ eeeeeeeeeeeeeeeeeeeeeeeeeeeeeeeeeeeeeeeeeeeeeeeeeeeeeeeeeeeeeeeeeeeeeeeeeeeeeeee
 const FILE: &str = "disk_tests_errors/file";
 
 /// In a folder with an empty file `file` and a folder `folder`.
-const ERRORS: [(Call<'static>, StatusCode); 32] = [
+const ERRORS: [(Call<'static>, StatusCode); 37] = [
     // a name that is missing
     (Call::Read("disk_tests_errors/x"), StatusCode::NotFound),
     (Call::ReadAt("disk_tests_errors/x", 0), StatusCode::NotFound),
@@ -83,12 +83,14 @@ const ERRORS: [(Call<'static>, StatusCode); 32] = [
         Call::Append("disk_tests_errors/\0", b""),
         StatusCode::InvalidArgument,
     ),
-    // a disk that is full, and a device that can't be synced
-    (Call::Append("/dev/full", b"x"), StatusCode::IOError),
-    (
-        Call::AppendAndSync("/dev/null", b"x"),
-        StatusCode::InvalidArgument,
-    ),
+    // a device under the name
+    (Call::Read("/dev/zero"), StatusCode::IOError),
+    (Call::ReadAt("/dev/zero", 0), StatusCode::IOError),
+    (Call::Append("/dev/full", b""), StatusCode::IOError),
+    (Call::Replace("/dev/null", b""), StatusCode::IOError),
+    (Call::Exists("/dev/zero"), StatusCode::IOError),
+    (Call::SizeOf("/dev/zero"), StatusCode::IOError),
+    (Call::Lock("/dev/null"), StatusCode::IOError),
     // a lock that is free
     (Call::Unlock(FILE), StatusCode::LockError),
     (Call::Exists(FILE), StatusCode::OK),
@@ -198,8 +200,10 @@ fn errors_name_the_file(rt: HostRuntime) -> Result<()> {
 #[test]
 fn reading_handles_take_no_bytes(rt: HostRuntime) -> Result<()> {
     let mut env = PosixDiskEnv::new(&rt);
-    let mut file = env.open_sequential_file("/dev/null")?;
+    env.mkdir("disk_tests_reading")?;
+    env.open_writable_file("disk_tests_reading/file")?;
+    let mut file = env.open_sequential_file("disk_tests_reading/file")?;
     let refused = env.append(&mut file, b"x");
     assert!(rt; refused.is_err_and(|status| status.code == StatusCode::IOError));
-    Ok(())
+    env.rmdir("disk_tests_reading")
 }

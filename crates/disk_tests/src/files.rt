@@ -14,7 +14,7 @@ const B: &str = "disk_tests_files/in/b";
 const C: &str = "disk_tests_files/c";
 
 /// A call, its bytes and its code, one after another.
-const CALLS: [(Call<'static>, &[u8], StatusCode); 27] = [
+const CALLS: [(Call<'static>, &[u8], StatusCode); 32] = [
     (Call::Children(FOLDER), b"", StatusCode::OK),
     (Call::Exists(A), &[0; 8], StatusCode::OK),
     (Call::Append(A, b"one"), b"", StatusCode::OK),
@@ -25,6 +25,12 @@ const CALLS: [(Call<'static>, &[u8], StatusCode); 27] = [
     (Call::ReadAt(A, 4), b"wo", StatusCode::OK),
     (Call::ReadAt(A, 6), b"", StatusCode::OK),
     (Call::ReadAt(A, 1 << 40), b"", StatusCode::OK),
+    // offsets up to which the system reads, and from which on it doesn't
+    (Call::ReadAt(A, (1 << 63) - 65), b"", StatusCode::OK),
+    (Call::ReadAt(A, (1 << 63) - 64), b"", StatusCode::OK),
+    (Call::ReadAt(A, (1 << 63) - 8), b"", StatusCode::OK),
+    (Call::ReadAt(A, 1 << 63), b"", StatusCode::OK),
+    (Call::ReadAt(A, usize::MAX), b"", StatusCode::OK),
     (Call::SizeOf(A), &[6, 0, 0, 0, 0, 0, 0, 0], StatusCode::OK),
     (Call::Exists(A), &[1, 0, 0, 0, 0, 0, 0, 0], StatusCode::OK),
     (Call::Replace(A, b"x"), b"", StatusCode::OK),

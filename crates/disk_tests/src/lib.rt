@@ -8,6 +8,8 @@ mod errors;
 #[cfg(test)]
 mod files;
 #[cfg(test)]
+mod links;
+#[cfg(test)]
 mod locks;
 #[cfg(test)]
 mod scripts;

@@ -1,11 +1,14 @@
-//! The calls of the system, each with what makes it last.
+//! The calls of the system that take a name, each with what makes it last.
 ghost use Rattle.std.specs.Prelude.{◌≡◌, None};
 ghost use Rattle.leveldb_base.specs.declared.error.StatusCode.TheVariants.{OutOfMemory};
 
+use super::folders::{folder_of, open_folder};
+use super::syncs::FailedSyncs;
 use leveldb_base::error::{Result, Status, StatusCode};
 use std::alloc::{AllocError, Global};
 use std::fs::{File, OpenOptions, TryLockError};
 use std::os::fd::{AsRawFd, IntoRawFd};
+use std::os::unix::fs::{MetadataExt, OpenOptionsExt};
 use std::rt::Files;
 use std::{fs, io};
 
@@ -34,93 +37,160 @@ pub(super) fn status_of(alloc: Global, code: StatusCode, name: &str, error: io::
     }
 }
 
-// The folder that a name is in.
-fn folder_of(name: &str) -> &str {
-    match name.rsplit_once('/') {
-        None => ".",
-        Some(("", _)) => "/",
-        Some((folder, _)) => folder,
-    }
-}
-
-// Makes the name, or its absence, last. The folder is there, so its absence is no missing name.
-fn sync_folder(files: &impl Files<File = File>, name: &str) -> io::Result<()> {
-    let synced = File::open(files, folder_of(name)).and_then(|folder| folder.sync_all());
-    match synced {
-        Err(error) if error.kind() == io::ErrorKind::NotFound => {
-            Err(io::Error::other("its folder is gone"))
-        }
-        _ => synced,
-    }
-}
-
-fn refuse_folder(metadata: &fs::Metadata) -> io::Result<()> {
+/// The regular file of a name, if there is one. A folder is none; a pipe or a device is an error,
+/// since opening one may wait, and reading it may never end.
+fn file_at(files: &impl Files, name: &str) -> io::Result<fs::Metadata> {
+    let metadata = fs::metadata(files, name)?;
     if metadata.is_dir() {
         return Err(io::Error::new(io::ErrorKind::NotFound, "it is a folder"));
     }
-    Ok(())
-}
-
-/// Opens a file that is there, to be read.
-pub(super) fn open(files: &impl Files<File = File>, name: &str) -> io::Result<File> {
-    let file = File::open(files, name)?;
-    refuse_folder(&file.metadata()?)?;
-    Ok(file)
-}
-
-/// Opens a file, to be appended to; a missing one is created.
-pub(super) fn create(files: &impl Files<File = File>, name: &str) -> io::Result<File> {
-    let mut options = OpenOptions::new();
-    options.read(true).append(true).create(true);
-    let file = options.open(files, name)?;
-    sync_folder(files, name)?;
-    Ok(file)
-}
-
-/// The same of a file that is emptied, for good.
-pub(super) fn create_empty(files: &impl Files<File = File>, name: &str) -> io::Result<File> {
-    let file = create(files, name)?;
-    if file.metadata()?.len() > 0 {
-        file.set_len(0)?;
-        file.sync_all()?;
+    if !metadata.is_file() {
+        return Err(io::Error::other("it is no regular file"));
     }
-    Ok(file)
+    Ok(metadata)
 }
 
-/// Whether a file has the name.
-pub(super) fn exists(files: &impl Files, name: &str) -> io::Result<bool> {
-    match fs::metadata(files, name) {
-        Ok(metadata) => Ok(!metadata.is_dir()),
-        Err(error) if is_missing(error) => Ok(false),
+fn is_there(files: &impl Files, name: &str) -> io::Result<bool> {
+    match file_at(files, name) {
+        Ok(_) => Ok(true),
+        Err(error) if error.kind() == io::ErrorKind::NotFound => Ok(false),
         Err(error) => Err(error),
     }
 }
 
-fn is_missing(error: io::Error) -> bool {
-    matches!(
-        error.kind(),
-        io::ErrorKind::NotFound | io::ErrorKind::NotADirectory
-    )
+/// Opens a file that is there, to be read.
+pub(super) fn open(
+    files: &impl Files<File = File>,
+    syncs: &mut FailedSyncs,
+    name: &str,
+) -> io::Result<File> {
+    syncs.pay()?;
+    file_at(files, name)?;
+    File::open(files, name)
+}
+
+// How a file is opened to be appended to.
+fn to_append() -> OpenOptions {
+    let mut options = OpenOptions::new();
+    options.read(true).append(true).mode(0o644);
+    options
+}
+
+/// Opens a file, to be appended to; a missing one is created. Its folder is synced where the file is
+/// new, and where the folder `is_settled` by no earlier sync. A file of which a sync failed is
+/// replaced by a copy first.
+pub(super) fn create<R: Files<File = File> + AllocGlobal>(
+    rt: &R,
+    syncs: &mut FailedSyncs,
+    name: &str,
+    is_settled: bool,
+) -> io::Result<File> {
+    syncs.pay()?;
+    if is_there(rt, name)? {
+        if !is_settled {
+            syncs.sync_change(open_folder(rt, name)?)?;
+        }
+        let file = to_append().open(rt, name)?;
+        return replace_lossy(rt, syncs, name, file);
+    }
+    let folder = open_folder(rt, name)?;
+    let file = to_append().create(true).open(rt, name)?;
+    syncs.sync_change(folder)?;
+    syncs.note_new(&file);
+    Ok(file)
+}
+
+// The file, if none of its syncs failed; else a synced copy that has its name from now on.
+fn replace_lossy<R: Files<File = File> + AllocGlobal>(
+    rt: &R,
+    syncs: &mut FailedSyncs,
+    name: &str,
+    file: File,
+) -> io::Result<File> {
+    if !syncs.is_lossy(&file)? {
+        return Ok(file);
+    }
+    let temp = format!(in rt.alloc(); "{name}.dbtmp")?;
+    let folder = open_folder(rt, name)?;
+    let _ = fs::remove_file(rt, temp.as_str());
+    match put_copy(rt, file, temp.as_str(), name) {
+        Ok(copy) => {
+            syncs.note_new(&copy);
+            syncs.sync_change(folder)?;
+            Ok(copy)
+        }
+        Err(error) => {
+            let _ = fs::remove_file(rt, temp.as_str());
+            Err(error)
+        }
+    }
+}
+
+// Copies a file under a temporary name, syncs the copy, and renames it.
+fn put_copy(
+    files: &impl Files<File = File>,
+    mut file: File,
+    temp: &str,
+    name: &str,
+) -> io::Result<File> {
+    let mut copy = to_append().create_new(true).open(files, temp)?;
+    copy.set_permissions(file.metadata()?.permissions())?;
+    io::copy(&mut file, &mut copy)?;
+    copy.sync_all()?;
+    fs::rename(files, temp, name)?;
+    Ok(copy)
+}
+
+/// The same of a file that is emptied, for good.
+pub(super) fn create_empty<R: Files<File = File> + AllocGlobal>(
+    rt: &R,
+    syncs: &mut FailedSyncs,
+    name: &str,
+    is_settled: bool,
+) -> io::Result<File> {
+    let file = create(rt, syncs, name, is_settled)?;
+    if file.metadata()?.len() == 0 {
+        return Ok(file);
+    }
+    file.set_len(0)?;
+    syncs.sync_change(file)
+}
+
+/// Whether a file has the name.
+pub(super) fn exists(files: &impl Files, syncs: &mut FailedSyncs, name: &str) -> io::Result<bool> {
+    syncs.pay()?;
+    match is_there(files, name) {
+        Err(error) if error.kind() == io::ErrorKind::NotADirectory => Ok(false),
+        found => found,
+    }
 }
 
 /// How many bytes the file has.
-pub(super) fn size_of(files: &impl Files, name: &str) -> io::Result<usize> {
-    let metadata = fs::metadata(files, name)?;
-    refuse_folder(&metadata)?;
-    Ok(metadata.len() as usize)
+pub(super) fn size_of(
+    files: &impl Files,
+    syncs: &mut FailedSyncs,
+    name: &str,
+) -> io::Result<usize> {
+    syncs.pay()?;
+    Ok(file_at(files, name)?.len() as usize)
 }
 
-/// The names of the files in a folder that are texts.
+/// The names in a folder that are texts, but for those of folders. What a link leads to isn't
+/// looked at.
 pub(super) fn children<R: Files + Alloc + Clone + Drop>(
     rt: &R,
+    syncs: &mut FailedSyncs,
     alloc: Global,
     folder: &str,
 ) -> io::Result<Vec<String>> {
+    syncs.pay()?;
+    // a folder without folders in it has the links of its own name and of its `.`
+    let may_have_folders = fs::metadata(rt, folder)?.nlink() != 2;
     let mut names = Vec::new(alloc);
     for entry in fs::read_dir(rt, folder)? {
         match entry {
             Ok(entry) => {
-                if exists(rt, entry.path().as_str())? {
+                if !(may_have_folders && is_folder_itself(&entry)) {
                     names.push(String::from_str(alloc, entry.file_name())?)?;
                 }
             }
@@ -131,57 +201,93 @@ pub(super) fn children<R: Files + Alloc + Clone + Drop>(
     Ok(names)
 }
 
-/// Removes a file and its name.
-pub(super) fn delete(files: &impl Files<File = File>, name: &str) -> io::Result<()> {
-    fs::remove_file(files, name)?;
-    sync_folder(files, name)
+// Where its kind can't be found out, it counts as a file.
+fn is_folder_itself<R: Files>(entry: &fs::DirEntry<R, R::A>) -> bool
+where
+    R: Alloc,
+{
+    match entry.file_type() {
+        Ok(kind) => kind.is_dir(),
+        Err(_) => false,
+    }
 }
 
-/// Renames a file.
-pub(super) fn rename(files: &impl Files<File = File>, from: &str, to: &str) -> io::Result<()> {
-    fs::rename(files, from, to)?;
-    sync_folder(files, to)?;
-    if folder_of(from) != folder_of(to) {
-        sync_folder(files, from)?;
-    }
+/// Removes a file and its name.
+pub(super) fn delete(
+    files: &impl Files<File = File>,
+    syncs: &mut FailedSyncs,
+    name: &str,
+) -> io::Result<()> {
+    syncs.pay()?;
+    let folder = open_folder(files, name)?;
+    fs::remove_file(files, name)?;
+    syncs.sync_change(folder)?;
     Ok(())
 }
 
-fn make_folder(files: &impl Files<File = File>, folder: &str) -> io::Result<()> {
-    match fs::create_dir(files, folder) {
-        Ok(()) => sync_folder(files, folder),
-        Err(error) => match fs::metadata(files, folder) {
-            Ok(metadata) if metadata.is_dir() => Ok(()),
-            _ => Err(error),
-        },
+/// Renames a file.
+pub(super) fn rename(
+    files: &impl Files<File = File>,
+    syncs: &mut FailedSyncs,
+    from: &str,
+    to: &str,
+) -> io::Result<()> {
+    syncs.pay()?;
+    let folder = open_folder(files, to)?;
+    if folder_of(from) == folder_of(to) {
+        fs::rename(files, from, to)?;
+        syncs.sync_change(folder)?;
+        return Ok(());
     }
-}
-
-/// Makes a folder and those above it, where they aren't there.
-pub(super) fn make_folders(files: &impl Files<File = File>, folder: &str) -> io::Result<()> {
-    for end in 1..folder.len() {
-        match folder.split_at_checked(end) {
-            Some((above, rest)) if rest.starts_with('/') => make_folder(files, above)?,
-            _ => {}
-        }
-    }
-    make_folder(files, folder)
+    let old_folder = open_folder(files, from)?;
+    fs::rename(files, from, to)?;
+    let synced = syncs.sync_change(folder);
+    syncs.sync_change(old_folder)?;
+    synced?;
+    Ok(())
 }
 
 /// Removes a folder, where it is there, with all that is in it.
-pub(super) fn remove_folder<R: Files<File = File> + Alloc>(rt: &R, folder: &str) -> io::Result<()> {
-    match fs::remove_dir_all(rt, folder) {
-        Ok(()) => sync_folder(rt, folder),
+pub(super) fn remove_folder<R: Files<File = File> + Alloc>(
+    rt: &R,
+    syncs: &mut FailedSyncs,
+    folder: &str,
+) -> io::Result<()> {
+    syncs.pay()?;
+    match remove_all(rt, syncs, folder) {
         Err(error) if error.kind() == io::ErrorKind::NotFound => Ok(()),
-        Err(error) => Err(error),
+        removed => removed,
     }
 }
 
+fn remove_all<R: Files<File = File> + Alloc>(
+    rt: &R,
+    syncs: &mut FailedSyncs,
+    folder: &str,
+) -> io::Result<()> {
+    let above = open_folder(rt, folder)?;
+    fs::remove_dir_all(rt, folder)?;
+    syncs.sync_change(above)?;
+    Ok(())
+}
+
 /// Opens a file and locks it; none where another opening of it holds the lock. A missing file is
-/// created.
-pub(super) fn lock(files: &impl Files<File = File>, name: &str) -> io::Result<Option<File>> {
-    let file = create(files, name)?;
-    match file.try_lock() {
+/// created. Once it is locked its folder is synced: who held the lock before may have ended between
+/// a change and its sync.
+pub(super) fn lock(
+    files: &impl Files<File = File>,
+    syncs: &mut FailedSyncs,
+    name: &str,
+) -> io::Result<Option<File>> {
+    syncs.pay()?;
+    let folder = open_folder(files, name)?;
+    let is_new = !is_there(files, name)?;
+    let file = to_append().create(is_new).open(files, name)?;
+    let locked = file.try_lock();
+    if is_new || locked.is_ok() {
+        syncs.sync_change(folder)?;
+    }
+    match locked {
         Ok(()) => Ok(Some(file)),
         Err(TryLockError::WouldBlock) => Ok(None),
         Err(TryLockError::Error(error)) => Err(error),

@@ -1,0 +1,134 @@
+//! Strange names in a folder, and what is made of it.
+use crate::calls::{Call, shown};
+use leveldb_base::error::{Result, StatusCode};
+use leveldb_env::disk_env::PosixDiskEnv;
+use leveldb_env::env::Env;
+use std::alloc::Global;
+use std::fs;
+use std::os::unix::fs::{MetadataExt, symlink};
+use std::rt::Files;
+
+/// In a folder with an empty file `file` and a folder `folder`, of which `to_file` and `to_folder`
+/// are links, beside links to the device `/dev/zero`, to nothing and to itself.
+const CALLS: [(Call<'static>, &[u8], StatusCode); 14] = [
+    (
+        Call::Children("disk_tests_links"),
+        b"file itself nothing to_file to_folder zero ",
+        StatusCode::OK,
+    ),
+    (
+        Call::Children("disk_tests_links/folder"),
+        b"away itself ",
+        StatusCode::OK,
+    ),
+    (
+        Call::Exists("disk_tests_links/itself"),
+        b"",
+        StatusCode::IOError,
+    ),
+    (
+        Call::Read("disk_tests_links/itself"),
+        b"",
+        StatusCode::IOError,
+    ),
+    (
+        Call::Exists("disk_tests_links/nothing"),
+        &[0; 8],
+        StatusCode::OK,
+    ),
+    (
+        Call::Exists("disk_tests_links/to_folder"),
+        &[0; 8],
+        StatusCode::OK,
+    ),
+    (
+        Call::Read("disk_tests_links/to_folder"),
+        b"",
+        StatusCode::NotFound,
+    ),
+    (
+        Call::Exists("disk_tests_links/to_file"),
+        &[1, 0, 0, 0, 0, 0, 0, 0],
+        StatusCode::OK,
+    ),
+    (
+        Call::Exists("disk_tests_links/zero"),
+        b"",
+        StatusCode::IOError,
+    ),
+    (
+        Call::SizeOf("disk_tests_links/zero"),
+        b"",
+        StatusCode::IOError,
+    ),
+    (
+        Call::Read("disk_tests_links/zero"),
+        b"",
+        StatusCode::IOError,
+    ),
+    (
+        Call::Append("disk_tests_links/zero", b"x"),
+        b"",
+        StatusCode::IOError,
+    ),
+    (
+        Call::Lock("disk_tests_links/zero"),
+        b"",
+        StatusCode::IOError,
+    ),
+    (Call::Delete("disk_tests_links/zero"), b"", StatusCode::OK),
+];
+
+fn make_links<E: Env>(files: &impl Files, env: &mut E) -> Result<()> {
+    env.rmdir("disk_tests_links")?;
+    env.mkdir("disk_tests_links/folder")?;
+    env.open_writable_file("disk_tests_links/file")?;
+    symlink(files, "file", "disk_tests_links/to_file")?;
+    symlink(files, "folder", "disk_tests_links/to_folder")?;
+    symlink(files, "missing", "disk_tests_links/nothing")?;
+    symlink(files, "/dev/zero", "disk_tests_links/zero")?;
+    symlink(files, "itself", "disk_tests_links/itself")?;
+    symlink(files, "itself", "disk_tests_links/folder/itself")?;
+    symlink(files, "../../..", "disk_tests_links/folder/away")?;
+    Ok(())
+}
+
+/// The index of the first call that returns something else, if one does.
+fn first_other<E: Env>(env: &mut E, alloc: Global) -> Result<Option<usize>> {
+    for (at, (call, bytes, code)) in CALLS.iter().enumerate() {
+        let (found, found_code) = shown(env, alloc, *call)?;
+        if found.as_slice() != *bytes || found_code != *code {
+            return Ok(Some(at));
+        }
+    }
+    Ok(None)
+}
+
+/// No name in a folder makes a listing fail, and what is no file is refused at once.
+#[test]
+fn strange_names_are_listed_and_refused(rt: HostRuntime) -> Result<()> {
+    let mut env = PosixDiskEnv::new(&rt);
+    make_links(&rt, &mut env)?;
+    let other = first_other(&mut env, rt.alloc())?;
+    assert!(rt; other == None, "call {other:?}");
+    env.rmdir("disk_tests_links")
+}
+
+/// The permissions that a new name has beyond those that it may have.
+fn beyond(files: &impl Files, name: &str, most: u32) -> Result<u32> {
+    Ok(fs::metadata(files, name)?.mode() & 0o7777 & !most)
+}
+
+/// Only their owner may write to new files and folders, whatever the process would let others do.
+#[test]
+fn others_may_not_write(rt: HostRuntime) -> Result<()> {
+    let mut env = PosixDiskEnv::new(&rt);
+    env.mkdir("disk_tests_modes/folder")?;
+    env.open_writable_file("disk_tests_modes/file")?;
+    env.lock("disk_tests_modes/lock")?;
+    assert!(rt; beyond(&rt, "disk_tests_modes", 0o755)? == 0);
+    assert!(rt; beyond(&rt, "disk_tests_modes/folder", 0o755)? == 0);
+    assert!(rt; beyond(&rt, "disk_tests_modes/file", 0o644)? == 0);
+    assert!(rt; beyond(&rt, "disk_tests_modes/lock", 0o644)? == 0);
+    env.rmdir("disk_tests_modes")
+}

@@ -1,0 +1,97 @@
+//! Folders, whose syncs make the names in them last.
+use super::syncs::FailedSyncs;
+use std::fs::{self, DirBuilder, File};
+use std::io;
+use std::os::unix::fs::DirBuilderExt;
+use std::rt::Files;
+
+/// The folder that a name is in, up to its `/`.
+pub(super) fn folder_of(name: &str) -> &str {
+    match name.rsplit_once('/') {
+        None => ".",
+        Some((folder, _)) => name.get(..folder.len().saturating_add(1)).unwrap_or(name),
+    }
+}
+
+/// Opens the folder of a name, before the name is changed.
+pub(super) fn open_folder(files: &impl Files<File = File>, name: &str) -> io::Result<File> {
+    File::open(files, folder_of(name))
+}
+
+fn is_folder(files: &impl Files, path: &str) -> bool {
+    match fs::metadata(files, path) {
+        Ok(metadata) => metadata.is_dir(),
+        Err(_) => false,
+    }
+}
+
+// The longest part of a path that is a folder; it is empty where none is.
+fn part_there<'a>(files: &impl Files, path: &'a str) -> &'a str {
+    let mut part = path.trim_end_matches('/');
+    for _ in 0..path.len() {
+        if is_folder(files, part) {
+            break;
+        }
+        part = match part.rsplit_once('/') {
+            None => "",
+            Some((above, _)) => above,
+        };
+    }
+    part
+}
+
+// Syncs a folder that is there in the one above it: who made it may have ended before its sync.
+// One above that can't be read is passed over.
+fn keep_folder(
+    files: &impl Files<File = File>,
+    syncs: &mut FailedSyncs,
+    folder: &str,
+) -> io::Result<()> {
+    match open_folder(files, folder) {
+        Ok(above) => {
+            syncs.sync_change(above)?;
+            Ok(())
+        }
+        Err(error) if error.kind() == io::ErrorKind::PermissionDenied => Ok(()),
+        Err(error) => Err(error),
+    }
+}
+
+fn make_folder(
+    files: &impl Files<File = File>,
+    syncs: &mut FailedSyncs,
+    folder: &str,
+) -> io::Result<()> {
+    let above = open_folder(files, folder)?;
+    match DirBuilder::new().mode(0o755).create(files, folder) {
+        Err(error) if !is_folder(files, folder) => Err(error),
+        _ => {
+            syncs.sync_change(above)?;
+            Ok(())
+        }
+    }
+}
+
+/// Makes a folder and those above it, where they aren't there. The last one that is there is synced
+/// in the one above it first.
+pub(super) fn make_folders(
+    files: &impl Files<File = File>,
+    syncs: &mut FailedSyncs,
+    folder: &str,
+) -> io::Result<()> {
+    syncs.pay()?;
+    let there = part_there(files, folder);
+    if !there.is_empty() {
+        keep_folder(files, syncs, there)?;
+    }
+    for end in there.len().saturating_add(1)..folder.len() {
+        match folder.split_at_checked(end) {
+            Some((above, rest)) if rest.starts_with('/') => make_folder(files, syncs, above)?,
+            _ => {}
+        }
+    }
+    if is_folder(files, folder) {
+        return Ok(());
+    }
+    make_folder(files, syncs, folder)
+}
