@@ -1,0 +1,28 @@
+//! The tests of calls on a store: each call by itself, what it returns and which files it leaves.
+
+#[cfg(test)]
+mod acts;
+#[cfg(test)]
+mod batches;
+#[cfg(test)]
+mod build_table;
+#[cfg(test)]
+mod engines;
+#[cfg(test)]
+mod example;
+#[cfg(test)]
+mod iterators;
+#[cfg(test)]
+mod memory;
+#[cfg(test)]
+mod open_tables;
+#[cfg(test)]
+mod openings;
+#[cfg(test)]
+mod refusals;
+#[cfg(test)]
+mod rooms;
+#[cfg(test)]
+mod snapshot_calls;
+#[cfg(test)]
+mod stores;

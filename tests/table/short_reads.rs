@@ -1,0 +1,113 @@
+//! An environment that gives few bytes a read.
+
+use leveldb_base::error::Result;
+use leveldb_env::env::Env;
+use std::alloc::Global;
+
+/// Gives 1 to 9 bytes a read, by its place, and is another environment otherwise.
+#[derive(Drop)]
+pub struct ShortReads<E> {
+    pub env: E,
+}
+
+// At most so many bytes are given at a place.
+fn most(place: usize, target: &[u8]) -> usize {
+    (1 + place % 9).min(target.len())
+}
+
+impl<E: Env> Env for ShortReads<E> {
+    type File = E::File;
+
+    ghost models_disk = { ? };
+
+    ghost models_moments = { ? };
+
+    ghost observed = { ? };
+
+    ghost failures = { ? };
+
+    ghost name_of = { ? };
+
+    ghost offset_of = { ? };
+
+    ghost counts = { ? };
+
+    ghost only_now = { ? };
+
+    ghost counts_now = { ? };
+
+    ghost moments_need_disk = { ? };
+
+    fn open_sequential_file(&mut self, name: &str) -> Result<E::File> {
+        self.env.open_sequential_file(name)
+    }
+
+    fn open_random_access_file(&mut self, name: &str) -> Result<E::File> {
+        self.env.open_random_access_file(name)
+    }
+
+    fn open_writable_file(&mut self, name: &str) -> Result<E::File> {
+        self.env.open_writable_file(name)
+    }
+
+    fn open_appendable_file(&mut self, name: &str) -> Result<E::File> {
+        self.env.open_appendable_file(name)
+    }
+
+    fn read(&mut self, file: &mut E::File, target: &mut [u8]) -> Result<usize> {
+        self.env.read(file, target)
+    }
+
+    fn read_at(&mut self, file: &E::File, place: usize, target: &mut [u8]) -> Result<usize> {
+        let most = most(place, target);
+        self.env.read_at(file, place, &mut target[..most])
+    }
+
+    fn append(&mut self, file: &mut E::File, bytes: &[u8]) -> Result<()> {
+        self.env.append(file, bytes)
+    }
+
+    fn sync(&mut self, file: &mut E::File) -> Result<()> {
+        self.env.sync(file)
+    }
+
+    fn exists(&mut self, name: &str) -> Result<bool> {
+        self.env.exists(name)
+    }
+
+    fn children(&mut self, alloc: Global, folder: &str) -> Result<Vec<String>> {
+        self.env.children(alloc, folder)
+    }
+
+    fn size_of(&mut self, name: &str) -> Result<usize> {
+        self.env.size_of(name)
+    }
+
+    fn delete(&mut self, name: &str) -> Result<()> {
+        self.env.delete(name)
+    }
+
+    fn mkdir(&mut self, folder: &str) -> Result<()> {
+        self.env.mkdir(folder)
+    }
+
+    fn rmdir(&mut self, folder: &str) -> Result<()> {
+        self.env.rmdir(folder)
+    }
+
+    fn rename(&mut self, from: &str, to: &str) -> Result<()> {
+        self.env.rename(from, to)
+    }
+
+    fn lock(&mut self, name: &str) -> Result<()> {
+        self.env.lock(name)
+    }
+
+    fn unlock(&mut self, name: &str) -> Result<()> {
+        self.env.unlock(name)
+    }
+
+    fn micros(&mut self) -> Result<u64> {
+        self.env.micros()
+    }
+}

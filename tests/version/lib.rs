@@ -1,0 +1,28 @@
+//! The tests of version edits, of the names that a version set makes, and of what small stores hold.
+
+#[cfg(test)]
+mod checks;
+#[cfg(test)]
+mod gets;
+#[cfg(test)]
+mod logs;
+#[cfg(test)]
+mod recovers;
+#[cfg(test)]
+mod store_files;
+#[cfg(test)]
+mod store_sweeps;
+#[cfg(test)]
+mod stored;
+#[cfg(test)]
+mod stores;
+#[cfg(test)]
+mod table_caches;
+#[cfg(test)]
+mod version_edits;
+#[cfg(test)]
+mod version_set_calls;
+#[cfg(test)]
+mod version_sets;
+#[cfg(test)]
+mod versions;
