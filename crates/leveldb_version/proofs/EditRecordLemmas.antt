@@ -15,29 +15,29 @@ use Rattle.std.specs.Prelude.{All, Contains, flat_map}
 
 -- ---- bytes
 
-abbrev AreSmall : List ℕ → Type 0
+abbrev pub AreSmall : List ℕ → Type 0
 AreSmall bytes = All (λ (b : ℕ). b < 256) bytes
 
-are_bytes : (bytes : List ℕ) → AreSmall bytes → AreBytes bytes
+pub are_bytes : (bytes : List ℕ) → AreSmall bytes → AreBytes bytes
 are_bytes [] small i = omega arith
 are_bytes (b ∷ bytes) small zero = All-head (λ (x : ℕ). x < 256) b bytes small
 are_bytes (b ∷ bytes) small (suc i) =
     are_bytes bytes (All-tail (λ (x : ℕ). x < 256) b bytes small) i
 
-are_small : (bytes : List ℕ) → AreBytes bytes → AreSmall bytes
+pub are_small : (bytes : List ℕ) → AreBytes bytes → AreSmall bytes
 are_small [] are = All-nil (λ (x : ℕ). x < 256)
 are_small (b ∷ bytes) are =
     All-cons (λ (x : ℕ). x < 256) b bytes (are zero) (are_small bytes (λ i. are (suc i)))
 
-both_small : (these those : List ℕ) → AreSmall these → AreSmall those
+pub both_small : (these those : List ℕ) → AreSmall these → AreSmall those
     → AreSmall (these ++ those)
 both_small = All-append (λ (x : ℕ). x < 256)
 
 -- a tag, and a number after it
-tagged_small : (tag n : ℕ) → tag < 256 → AreSmall (tag ∷ varint n)
+pub tagged_small : (tag n : ℕ) → tag < 256 → AreSmall (tag ∷ varint n)
 tagged_small tag n small = All-cons (λ (x : ℕ). x < 256) tag (varint n) small (All-varint n)
 
-file_small : (file : NewFile) → AreBytes file.smallest → AreBytes file.largest
+pub file_small : (file : NewFile) → AreBytes file.smallest → AreBytes file.largest
     → AreSmall (field_bytes (adds file))
 file_small file first last = All-cons (λ (x : ℕ). x < 256) 7 (file_bytes file) (omega arith)
     (both_small (varint file.level)

@@ -86,7 +86,7 @@ unfolding IsDistinct
 once_kept x files true others once = (others, once)
 once_kept x files false others once = once
 
-still_once : (keeps : NewFile → Bool) (files : List NewFile) → IsDistinct is_same_file (map level_file files) → IsDistinct is_same_file (map level_file (filter keeps files))
+pub still_once : (keeps : NewFile → Bool) (files : List NewFile) → IsDistinct is_same_file (map level_file files) → IsDistinct is_same_file (map level_file (filter keeps files))
 unfolding IsDistinct
 still_once keeps [] once = tt
 still_once keeps (x ∷ files) once =
@@ -134,7 +134,7 @@ others_then : (at : LevelFile) (files : List NewFile) (x : NewFile) → AreOther
 others_then at [] x others e = (e, tt)
 others_then at (y ∷ files) x others e = (others.0, others_then at files x others.1 e)
 
-once_then : (files : List NewFile) (x : NewFile) → IsDistinct is_same_file (map level_file files)
+pub once_then : (files : List NewFile) (x : NewFile) → IsDistinct is_same_file (map level_file files)
     → ((file : NewFile) → Contains files file → is_same_file (level_file file) (level_file x) ≡ false) → IsDistinct is_same_file (map level_file (files ++ x ∷ []))
 unfolding IsDistinct
 once_then [] x once apart = (tt, tt)

@@ -96,3 +96,15 @@ pub mod WalkOrderLemmas
 pub mod WalkTablesLemmas
 pub mod VersionLayersLemmas
 pub mod TablesToWalkLemmas
+pub mod CompactionLemmas
+pub mod CompactedFilesLemmas
+pub mod CompactionOutputsLemmas
+pub mod ReplacingLemmas
+pub mod EditLoggedLemmas
+pub mod CompactionEditLemmas
+pub mod CompactionEditFitsLemmas
+pub mod ShownFromLemmas
+pub mod ChoosingLemmas
+pub mod ScoresLemmas
+pub mod WalksBesideLemmas
+pub mod ContradictionLemmas

@@ -54,7 +54,7 @@ less_first : (o rest : Ordering) → o ≡ Less → ordering_then o rest ≡ Les
 less_first o rest e = ap (λ z. ordering_then z rest) e
 
 -- lists that rise, all keys of the first before those of the second
-rising_append : (cmp : List ℕ → List ℕ → Ordering) (xs ys : List Pair) → AreRising cmp xs → AreRising cmp ys
+pub rising_append : (cmp : List ℕ → List ℕ → Ordering) (xs ys : List Pair) → AreRising cmp xs → AreRising cmp ys
     → ((a b : Pair) → Contains xs a → Contains ys b → cmp a.0 b.0 ≡ Less) → AreRising cmp (xs ++ ys)
 rising_append cmp [] ys first second before = second
 rising_append cmp (x ∷ xs) ys first second before = (

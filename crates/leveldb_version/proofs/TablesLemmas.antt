@@ -54,14 +54,14 @@ not_lt o e is = let never : is_lt Less ≡ false = ap is_lt (sym is) ∙ e in cc
 
 module _ (cmp : List ℕ → List ℕ → Ordering) (total : IsTotalOrder cmp) where
   -- the user key of the second isn't before that of the first
-  abbrev UpTo : List ℕ → List ℕ → Type 0
+  abbrev pub UpTo : List ℕ → List ℕ → Type 0
   UpTo a b = is_lt (cmp (user_part b) (user_part a)) ≡ false
 
-  up_to_itself : (a : List ℕ) → UpTo a a
+  pub up_to_itself : (a : List ℕ) → UpTo a a
   up_to_itself a = turned_is_equal (cmp (user_part a) (user_part a))
       (total.antisymm (user_part a) (user_part a))
 
-  up_to_next : (a b : List ℕ) → internal_cmp cmp a b ≡ Less → UpTo a b
+  pub up_to_next : (a b : List ℕ) → internal_cmp cmp a b ≡ Less → UpTo a b
   up_to_next a b less = ap is_lt (total.antisymm (user_part b) (user_part a))
       ∙ reversed (cmp (user_part a) (user_part b)) ∙ then_less _ _ less
 

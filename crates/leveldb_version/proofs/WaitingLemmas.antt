@@ -63,7 +63,7 @@ front_is_in n logs p log c =
 
 -- ---- files of levels
 
-only_one : {A : Type 0} (x y : A) → Contains (x ∷ []) y → x ≡ y
+pub only_one : {A : Type 0} (x y : A) → Contains (x ∷ []) y → x ≡ y
 only_one x y c =
     ⊎_elim (λ (e : x ≡ y). e) (λ (none : Contains [] y). absurd (in_none y none))
     (in_cases x y [] c)
@@ -83,7 +83,7 @@ number_fits set log file can = (can.fits 4 (adds file) (omega arith)).1
 module _ (store : List ℕ) (cmp : List ℕ → List ℕ → Ordering)
     (IsTableOf : List ℕ → List Pair → Type 0) where
   -- tables of one number have the same entries
-  same_number : OneTableReading IsTableOf → (files : Files) (a b : LiveTable)
+  pub same_number : OneTableReading IsTableOf → (files : Files) (a b : LiveTable)
       → a.file.number ≡ b.file.number → HasTable store cmp IsTableOf files a
       → HasTable store cmp IsTableOf files b → a.entries ≡ b.entries
   same_number one files a b number p q =

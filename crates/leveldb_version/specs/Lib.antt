@@ -41,3 +41,12 @@ pub mod VersionIters
 pub mod StoreWalk
 pub mod StoreWalkLaws
 pub mod Search
+pub mod Compaction
+pub mod CompactionLaws
+pub mod Replacing
+pub mod ShownFrom
+pub mod CompactionEdit
+pub mod Choosing
+pub mod Scores
+pub mod WalksBeside
+pub mod Contradictions

@@ -7,6 +7,7 @@ ghost use Rattle.leveldb_version.specs.VersionEdit.{Edit, NewFile, IsEdit, IsEnc
 ghost use Rattle.leveldb_version.specs.Current.{IsCurrentText, current_text};
 ghost use Rattle.leveldb_version.specs.VersionSet.{Applied, IsLive, ListsFiles, IsFullEdit, SameFiles, SameNumbers, HasNumbers, live_after, live_at, level_file, live_files, full_edit};
 
+pub mod compactions;
 pub mod iters;
 pub mod levels;
 pub mod opening;

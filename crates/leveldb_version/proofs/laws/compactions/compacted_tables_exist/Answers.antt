@@ -1,0 +1,8 @@
+use Rattle.leveldb_version.proofs.CompactionOutputsLemmas.{inputs_are_tables, replaced_tables_exist}
+use Rattle.leveldb_version.proofs.laws.compactions.compacted_tables_exist.Goals as goal
+
+pub returns-clause-inputs : goal.returns-clause-inputs
+returns-clause-inputs c = inputs_are_tables
+
+pub returns-clause-after : goal.returns-clause-after
+returns-clause-after c = replaced_tables_exist

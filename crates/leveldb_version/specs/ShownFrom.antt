@@ -1,0 +1,72 @@
+-- What is shown after entries were dropped: from which numbers on it is what was shown.
+use Rattle.std.specs.Prelude.{◌≤◌, ◌⊎◌, ℕ, List}
+use Rattle.std.specs.Cmp.{IsTotalOrder}
+use Rattle.std.specs.declared.cmp.Ordering.{Ordering}
+use Rattle.leveldb_base.specs.History.{History, entries_of, greatest}
+use Rattle.leveldb_version.specs.Compaction.{AreBounded, AreKnownByNumber, Compacts}
+use Rattle.leveldb_version.specs.Levels.{LiveTable}
+use Rattle.leveldb_version.specs.Writing.{EngineMemory, ShowsHistory}
+
+-- the numbers at which a history shows the same after entries were dropped: those from the
+-- smallest held one on, and those from its own greatest on
+abbrev pub IsFrom : ℕ → History → ℕ → Type 0
+IsFrom smallest history since = (smallest ≤ since) ⊎ (greatest (entries_of history) ≤ since)
+
+-- What a call that may drop entries keeps, where `Was since` and `Is since` say that a history was
+-- shown before it, and is after it, at each number from `since` on. It is shown from the same
+-- number on, or at least from the smallest held one on and from its own greatest on. The smallest
+-- held number is the caller's.
+abbrev pub KeepsFrom : ℕ → History → (ℕ → Type 0) → (ℕ → Type 0) → Type 0
+KeepsFrom smallest history Was Is = (since : ℕ) → Was since → (then : ℕ) × Is then
+    × ((then ≤ since) ⊎ ((then ≤ smallest) × (then ≤ greatest (entries_of history))))
+
+module _ (cmp : List ℕ → List ℕ → Ordering) where
+  -- so for memory and tables before a call, and memory and tables after it
+  abbrev pub KeepsShownFrom : ℕ → EngineMemory → List LiveTable → EngineMemory → List LiveTable
+      → History → Type 0
+  KeepsShownFrom smallest memory before other after history = KeepsFrom smallest history
+      (ShowsHistory cmp memory before history) (ShowsHistory cmp other after history)
+
+  -- ---- laws
+
+  -- what was shown is shown after a compaction at each of those numbers
+  abbrev pub CompactedIsShown : Type 0
+  CompactedIsShown = (memory : EngineMemory) (smallest level : ℕ)
+      (before inputs outputs after : List LiveTable) (history : History) (since from : ℕ)
+      → IsTotalOrder cmp → AreBounded cmp before → AreKnownByNumber before
+      → Compacts cmp smallest level before inputs outputs after
+      → since ≤ from → IsFrom smallest history from
+      → ShowsHistory cmp memory before history since → ShowsHistory cmp memory after history from
+
+  -- so a compaction keeps what is shown from the smallest held number on
+  abbrev pub CompactionsKeepShown : Type 0
+  CompactionsKeepShown = (memory : EngineMemory) (smallest level : ℕ)
+      (before inputs outputs after : List LiveTable) (history : History)
+      → IsTotalOrder cmp → AreBounded cmp before → AreKnownByNumber before
+      → Compacts cmp smallest level before inputs outputs after
+      → KeepsShownFrom smallest memory before memory after history
+
+  -- what follows where a call keeps what is shown so
+  pub record ShownIsKept : Type 0 where
+    -- at each number from the smallest held one on, and from the history's greatest on, it is
+    -- shown
+    pub from : (smallest : ℕ) (memory other : EngineMemory) (before after : List LiveTable)
+        (history : History) (since : ℕ)
+        → KeepsShownFrom smallest memory before other after history
+        → IsFrom smallest history since → ShowsHistory cmp memory before history since
+        → ShowsHistory cmp other after history since
+    -- two such calls in a row keep it
+    pub both : (smallest : ℕ) (a b c : EngineMemory) (these those others : List LiveTable)
+        (history : History) → KeepsShownFrom smallest a these b those history
+        → KeepsShownFrom smallest b those c others history
+        → KeepsShownFrom smallest a these c others history
+    -- a call that keeps what is shown from every number on keeps it so
+    pub all : (smallest : ℕ) (memory other : EngineMemory) (before after : List LiveTable)
+        (history : History)
+        → ((since : ℕ) → ShowsHistory cmp memory before history since
+        → ShowsHistory cmp other after history since)
+        → KeepsShownFrom smallest memory before other after history
+    -- what is shown from a number on is shown from each later one on
+    pub later : (memory : EngineMemory) (tables : List LiveTable) (history : History)
+        (since then : ℕ) → since ≤ then → ShowsHistory cmp memory tables history since
+        → ShowsHistory cmp memory tables history then
