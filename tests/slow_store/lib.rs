@@ -1,10 +1,12 @@
 //! What a store's files hold by their definition, read plainly: a yardstick for tests, and no part
 //! of a store.
 
+mod compaction;
 mod files;
 mod levels;
 mod set;
 mod table;
 
+pub use compaction::{TableEntry, TableSpan, Trial, has, tables_to_compact, value_at, with};
 pub use files::{Contents, read_store};
 pub use levels::{compaction_inputs, files_with_key, has_overlap, new_table_level};

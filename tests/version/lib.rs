@@ -3,6 +3,8 @@
 #[cfg(test)]
 mod checks;
 #[cfg(test)]
+mod compactions;
+#[cfg(test)]
 mod gets;
 #[cfg(test)]
 mod logs;
