@@ -104,7 +104,7 @@ fn is_table_of(
     are_alike(&mut found, &mut memtable.iter(), options, memtable.len())
 }
 
-/// Builds a table by three calls, asserts that it has the memtable's pairs from its first key to its last, and returns its size.
+/// Builds a table by so many calls, asserts that it has the memtable's pairs from its first key to its last, and returns its size.
 fn build_whole(
     rt: &impl Abort,
     alloc: Global,
@@ -112,8 +112,9 @@ fn build_whole(
     options: &Options<DefaultCmp, BloomPolicy>,
     memtable: &MemTable<DefaultCmp>,
     keys: (&[u8], &[u8]),
+    calls: u64,
 ) -> Result<usize> {
-    let end = env.moment().saturating_add(6);
+    let end = env.moment().saturating_add(calls).saturating_add(calls);
     let file = build(alloc, env, options, memtable)?;
     assert!(rt; env.moment() == end && file.num == 5);
     assert!(rt; file.smallest.as_slice() == keys.0 && file.largest.as_slice() == keys.1);
@@ -121,9 +122,12 @@ fn build_whole(
     Ok(file.size)
 }
 
-/// One entry is one table of 177 bytes, made by three calls.
+/// A creation, an append of each of the four blocks and of the footer, and a sync.
+const ONE_CALLS: u64 = 7;
+
+/// One entry is one table of 177 bytes, made by seven calls, so at 14 moments.
 #[test]
-fn one_entry_takes_three_calls(rt: HostRuntime) -> Result<()> {
+fn one_entry_takes_seven_calls(rt: HostRuntime) -> Result<()> {
     let alloc = rt.alloc();
     let options = Options::default();
     let mut env = RecordEnv::new(alloc);
@@ -134,6 +138,7 @@ fn one_entry_takes_three_calls(rt: HostRuntime) -> Result<()> {
         &options,
         &one_entry(alloc)?,
         (ONE, ONE),
+        ONE_CALLS,
     )?;
     assert!(rt; size == 177);
     assert!(rt; read_file(alloc, &mut env, PATH)?.len() == 177);
@@ -155,6 +160,9 @@ fn no_entry_takes_no_call(rt: HostRuntime) -> Result<()> {
 /// The first and the last key of seven entries.
 const SEVEN: (&[u8], &[u8]) = (b"\x01\x04\0\0\0\0\0\0", b"\xff\xff\x01\x06\0\0\0\0\0\0");
 
+/// The entries are in five blocks.
+const SEVEN_CALLS: u64 = 11;
+
 /// A table of several blocks has all entries, deletions among them, and replaces what was there.
 #[test]
 fn all_entries_are_found(rt: HostRuntime) -> Result<()> {
@@ -168,6 +176,7 @@ fn all_entries_are_found(rt: HostRuntime) -> Result<()> {
         &options,
         &one_entry(alloc)?,
         (ONE, ONE),
+        ONE_CALLS,
     )?;
     build_whole(
         &rt,
@@ -176,6 +185,7 @@ fn all_entries_are_found(rt: HostRuntime) -> Result<()> {
         &options,
         &seven_entries(alloc)?,
         SEVEN,
+        SEVEN_CALLS,
     )?;
     Ok(())
 }
@@ -196,7 +206,15 @@ fn a_crash_leaves_the_table(rt: HostRuntime) -> Result<()> {
     let options = small_blocks();
     let mut env = RecordEnv::new(alloc);
     let memtable = seven_entries(alloc)?;
-    let size = build_whole(&rt, alloc, &mut env, &options, &memtable, SEVEN)?;
+    let size = build_whole(
+        &rt,
+        alloc,
+        &mut env,
+        &options,
+        &memtable,
+        SEVEN,
+        SEVEN_CALLS,
+    )?;
     assert!(rt; env.tails(alloc, env.moment(), false)?.is_empty());
     let mut left = durable_disk(alloc, &env)?;
     assert!(rt; is_table_of(alloc, &mut left, &options, size, &memtable)?);
@@ -240,7 +258,7 @@ fn fails_at(alloc: Global, nth: u64, done: bool) -> Result<bool> {
 
 #[test]
 fn each_failure_leaves_only_the_file(rt: HostRuntime) -> Result<()> {
-    for nth in 1..=3 {
+    for nth in 1..=SEVEN_CALLS {
         assert!(rt; fails_at(rt.alloc(), nth, false)?, "call {nth}");
         assert!(rt;
             fails_at(rt.alloc(), nth, true)?,
@@ -266,27 +284,30 @@ impl Compressor for Refusing {
     }
 }
 
-/// Whether a table of one entry, made with these options, fails with this code before any call of the device.
-fn fails_before_any_call(
+/// Whether a table of one entry, made with these options, fails with this code once its file is created, and leaves that empty.
+fn fails_after_the_creation(
     alloc: Global,
     options: &Options<DefaultCmp, BloomPolicy>,
     code: StatusCode,
 ) -> Result<bool> {
     let mut env = RecordEnv::new(alloc);
     let built = build(alloc, &mut env, options, &one_entry(alloc)?);
-    Ok(failed_with(built, code)? && env.moment() == 0)
+    if !failed_with(built, code)? || env.moment() != 2 {
+        return Ok(false);
+    }
+    Ok(env.size_of(PATH)? == 0)
 }
 
-/// Where the compressor fails, or none is set under the id, no call is made.
+/// Where the compressor fails, or none is set under the id, nothing is appended.
 #[test]
-fn a_compressor_fails_before_any_call(rt: HostRuntime) -> Result<()> {
+fn a_compressor_fails_after_the_creation(rt: HostRuntime) -> Result<()> {
     let mut options = small_blocks();
     options.compressor = 9;
-    assert!(rt; fails_before_any_call(rt.alloc(), &options, StatusCode::NotSupported)?);
+    assert!(rt; fails_after_the_creation(rt.alloc(), &options, StatusCode::NotSupported)?);
     let refusing = Box::new(rt.alloc(), Refusing)?;
     options
         .compressor_list
         .set_with_id(rt.alloc(), 9, refusing)?;
-    assert!(rt; fails_before_any_call(rt.alloc(), &options, StatusCode::CompressionError)?);
+    assert!(rt; fails_after_the_creation(rt.alloc(), &options, StatusCode::CompressionError)?);
     Ok(())
 }

@@ -1,7 +1,7 @@
 //! A store with a memtable of one byte: each write but the first makes a table of the batch before.
 use crate::stores::{
-    Change, DefaultEngine, DefaultOptions, batch_of, buffered, damage_file, failed_with, has_files,
-    has_levels, holds, opened, put_all, reopen,
+    Change, DefaultEngine, DefaultOptions, STORE, batch_of, buffered, damage_file, failed_with,
+    has_files, has_levels, holds, opened, put_all, reopen,
 };
 use leveldb_base::error::{Result, StatusCode};
 use leveldb_env::env::Env;
@@ -291,7 +291,7 @@ fn break_at(rt: &impl Abort, alloc: Global, nth: u64) -> Result<()> {
 /// The sync of the log at a switch, and the append and the sync of the edit.
 #[test]
 fn switches_that_break_the_store(rt: HostRuntime) -> Result<()> {
-    for nth in &[1, 6, 7] {
+    for nth in &[1, 10, 11] {
         break_at(&rt, rt.alloc(), *nth)?;
     }
     Ok(())
@@ -369,8 +369,8 @@ fn leave_a_log(rt: &impl Abort, alloc: Global, nth: u64) -> Result<()> {
 
 #[test]
 fn obsolete_files_that_stay(rt: HostRuntime) -> Result<()> {
-    leave_a_log(&rt, rt.alloc(), 8)?;
-    leave_a_log(&rt, rt.alloc(), 9)
+    leave_a_log(&rt, rt.alloc(), 12)?;
+    leave_a_log(&rt, rt.alloc(), 13)
 }
 
 /// How many calls an opening and an `abandon` of this disk take.
@@ -398,5 +398,68 @@ fn an_opening_beside_obsolete_files(rt: HostRuntime) -> Result<()> {
     reopen(rt.alloc(), &mut env, Options::default())?;
     let wanted = "000003.log:24 CURRENT:16 LOCK:0 MANIFEST-000001:41 ";
     assert!(rt; has_files(rt.alloc(), &mut env, wanted)?);
+    Ok(())
+}
+
+/// A memtable of one byte, and a block for each pair of its table.
+fn small_blocks() -> DefaultOptions {
+    let mut options = buffered(1);
+    options.block_size = 1;
+    options
+}
+
+/// How many bytes the tables of the store's folder have.
+fn table_bytes(alloc: Global, env: &mut RecordEnv) -> Result<usize> {
+    let mut sum: usize = 0;
+    for name in &env.children(alloc, STORE)? {
+        if name.as_str().ends_with(".ldb") {
+            let path = format!(in alloc; "{STORE}/{name}")?;
+            sum = sum.saturating_add(env.size_of(&path)?);
+        }
+    }
+    Ok(sum)
+}
+
+/// The disk of a crash at this moment that keeps all that was appended, or of an append in flight.
+fn left_whole(alloc: Global, env: &RecordEnv, moment: u64) -> Result<RecordEnv> {
+    let pick = Pick {
+        tails: env.tails(alloc, moment, true)?,
+        after: true,
+    };
+    env.disk_at(alloc, moment, &pick)
+}
+
+/// The disk on which a write makes a table of the keys a, b and c, and the moment before.
+fn with_one_table(alloc: Global) -> Result<(RecordEnv, u64)> {
+    let mut env = RecordEnv::new(alloc);
+    let mut engine = opened(alloc, &mut env, small_blocks())?;
+    let batch = batch_of(
+        alloc,
+        &[("a", Some("1")), ("b", Some("2")), ("c", Some("3"))],
+    )?;
+    engine.write(&mut env, batch, true)?;
+    let before = env.moment();
+    engine.put(&mut env, b"d", b"4")?;
+    engine.abandon(&mut env)?;
+    Ok((env, before))
+}
+
+/// A table has three blocks of pairs and four more pieces. A crash between two of them leaves a file that isn't live: the next opening finds
+/// the same map.
+#[test]
+fn crashes_between_the_appends_of_a_table(rt: HostRuntime) -> Result<()> {
+    let alloc = rt.alloc();
+    let (mut env, before) = with_one_table(alloc)?;
+    let whole = table_bytes(alloc, &mut env)?;
+    let mut parts: u64 = 0;
+    for moment in before..=env.moment() {
+        let mut left = left_whole(alloc, &env, moment)?;
+        let size = table_bytes(alloc, &mut left)?;
+        if size > 0 && size < whole {
+            parts = parts.saturating_add(1);
+        }
+        assert!(rt; finds_again(alloc, &mut left, "123")?, "moment {moment}");
+    }
+    assert!(rt; parts >= 6, "{parts} moments");
     Ok(())
 }

@@ -10,6 +10,7 @@ use Rattle.leveldb_env.specs.declared.env.env_file.EnvFile.{EnvFile}
 use Rattle.leveldb_env.specs.Env.{File, Files, bytes_of, longer_file, extended, Observed, ChangesFiles, PrefixAppended, IsMissing, IsGone}
 use Rattle.leveldb_base.specs.Error.{IsOutOfMemory}
 use Rattle.leveldb_env.specs.Source.{Draws, ReadFails, GivesSome, GivesAll, GivesUp}
+use Rattle.leveldb_env.proofs.AppendedLemmas.{append_bytes, no_bytes}
 use Rattle.leveldb_env.proofs.EnvLemmas.{at_same, extended-nil, extended-append, PrefixAppended-first, PrefixAppended-second, begun, call, Run-call, Run-trans, Within-trans, Within-mono, cause_after, cause_same, cause_refused}
 use Rattle.leveldb_env.specs.Sink.{PutsEach, PutsAll, PutsPart}
 use Rattle.leveldb_env.proofs.SinkLemmas.{PutsAll-seen, PutsAll-same, PutsPart-seen, PutsPart-same}
@@ -75,11 +76,12 @@ module _ {E F : Type 0} (env : Ghosts E F) where
         locks = λ modelled. refl;
         file = λ modelled. refl;
         counted = refl;
+        are_bytes = no_bytes;
       }
 
   -- one put
   pub IsLonger-put : {from to : Opened E F} {bytes : List ℕ} → Appends env from bytes (Ok tt) to → IsLonger env from bytes to
-  IsLonger-put put = record { does = λ modelled. put.does; locks = put.locks; file = put.file; counted = put.cause.ok }
+  IsLonger-put put = record { does = λ modelled. put.does; locks = put.locks; file = put.file; counted = put.cause.ok; are_bytes = put.are_bytes }
 
   -- the file of its name then
   under_name : {from to : Opened E F} {bytes : List ℕ} → IsLonger env from bytes to → IsTrue env.models_disk
@@ -97,6 +99,7 @@ module _ {E F : Type 0} (env : Ghosts E F) where
     locks = λ modelled. second.locks modelled ∙ first.locks modelled;
     file = λ modelled. second.file modelled ∙ first.file modelled;
     counted = second.counted ∙ first.counted;
+    are_bytes = append_bytes bytes others first.are_bytes second.are_bytes;
   }
 
   longer_each : (from : Opened E F) (pieces : List (List ℕ)) (to : Opened E F) → PutsEach (Appends env) from pieces to → IsLonger env from (concat pieces) to

@@ -3,7 +3,7 @@ use Rattle.std.specs.Prelude.{◌≡◌, ◌⊎◌, ◌≤◌, ◌+◌, ℕ, Lis
 use Rattle.leveldb_base.specs.declared.error.Status.{Status}
 use Rattle.leveldb_env.specs.declared.env.Env.{Ghosts}
 use Rattle.leveldb_env.specs.declared.env.env_file.EnvFile.{EnvFile}
-use Rattle.leveldb_env.specs.Env.{File, bytes_of, same, extended, synced, ChangesFiles, BeforeOrAfter, PrefixAppended, FilesUnchanged, SameLocks, HasCause, IsMissing, IsGone, Run}
+use Rattle.leveldb_env.specs.Env.{AreBytes, File, bytes_of, same, extended, synced, ChangesFiles, BeforeOrAfter, PrefixAppended, FilesUnchanged, SameLocks, HasCause, IsMissing, IsGone, Run}
 
 -- an environment and a file that is open
 pub record Opened (E F : Type 0) : Type 0 where
@@ -70,6 +70,8 @@ module _ {E F : Type 0} (env : Ghosts E F) where
     -- an Err is out of memory, the file's name is gone, or the device failed
     pub cause : HasCause (IsGone env.models_disk (env.name_of old.file) (env.observed old.env))
         (env.failures old.env) (env.failures new.env) result
+    -- each is a byte
+    pub are_bytes : AreBytes bytes
 
   -- the same where they are borrowed
   abbrev pub AppendsBorrowed : EnvFile E F → List ℕ → Result (Unit {0}) Status → EnvFile E F
@@ -113,6 +115,8 @@ module _ {E F : Type 0} (env : Ghosts E F) where
     pub file : IsTrue env.models_disk → env.name_of new.file ≡ env.name_of old.file
     -- no failure was counted
     pub counted : env.failures new.env ≡ env.failures old.env
+    -- each is a byte
+    pub are_bytes : AreBytes bytes
 
   -- a put of these bytes was broken off with this error: any prefix of them may be appended
   pub record IsPartlyAppended (old : Opened E F) (bytes : List ℕ) (status : Status)

@@ -1,8 +1,7 @@
 -- How a builder gets the pairs of a walk, what its table is to a store, and what the file's calls leave.
 use Rattle.std.proofs.Common.{◌≡◌, ◌≢◌, ◌⊎◌, inl, inr, ⊎_elim, ℕ, zero, suc, ◌+◌, ◌^◌, ◌<◌, ◌≤◌, Bool, true, false, List, [], ◌∷◌, ◌++◌, length, take, map, flat_map, nat_lt, Option, None, Some, Result, Ok, Err, refl, sym, ◌∙◌, ap, subst, append_assoc, arith}
 use Rattle.std.specs.Prelude.{All, IsTrue, OnOk, slice_get, slice_index_or, if◌then◌else◌, ◌&&◌}
-use Rattle.std.specs.Global.{Vec}
-use Rattle.std.specs.Option.{option_map}
+use Rattle.std.specs.List.{concat}
 use Rattle.std.proofs.lemmas.Bool.{cases_lt, le-leb, lt-ltb}
 use Rattle.std.proofs.lemmas.List.{nil_from_length, length-append, append-nil, take_all}
 use Rattle.std.proofs.lemmas.List.Elements.{All-cons, All-head, All-nil, All-tail}
@@ -15,27 +14,32 @@ use Rattle.leveldb_base.specs.Entries.{bytes_of_value, internal_pair, type_of, v
 use Rattle.leveldb_base.specs.Error.{IsOutOfMemory}
 use Rattle.leveldb_base.specs.History.{AreRising, AreUpTo, Entry, IsBeforeAll}
 use Rattle.leveldb_base.specs.KeyTypes.{greatest_sequence, internal_cmp, user_part}
-use Rattle.leveldb_base.specs.Types.{IsPosition, Pair, SameWalk, next_position, pair_at, position_within}
+use Rattle.leveldb_base.specs.Types.{IsPosition, Pair, next_position, pair_at, position_within}
 use Rattle.leveldb_base.specs.declared.cmp.Cmp.{Ghosts as CmpGhosts}
 use Rattle.leveldb_base.specs.declared.error.Status.{Status}
 use Rattle.leveldb_base.specs.declared.types.FileMetaData.{FileMetaData}
-use Rattle.leveldb_env.proofs.EnvLemmas.{SameBut-appending, SameBut-emptied, SameBut-refl, SameBut-synced, SameBut-trans, at_same, begun, call, extended-same, with_file-twice}
-use Rattle.leveldb_env.proofs.SinkLemmas.{PutsAll-bytes, PutsAll-none, PutsAll-trans}
-use Rattle.leveldb_env.specs.Env.{AreBytes, BeforeOrAfter, ChangesFiles, Files, HasCause, Observed, PrefixAppended, Run, SameBut, SameLocks, emptied, extended, file_kept, kept_file, longer_file, synced, with_file}
+use Rattle.leveldb_env.proofs.AppendedLemmas.{no_bytes}
+use Rattle.leveldb_env.proofs.EnvFileLemmas.{IsLonger-none, IsLonger-trans}
+use Rattle.leveldb_env.proofs.EnvLemmas.{SameBut-refl, begun, cause_same}
+use Rattle.leveldb_env.proofs.SinkLemmas.{PutsAll-none, PutsAll-one, PutsAll-trans}
+use Rattle.leveldb_env.specs.Env.{AreBytes, Files, kept_file}
+use Rattle.leveldb_env.specs.EnvFile.{Opened, opened, opened_file}
+use Rattle.leveldb_env.specs.Sink.{PutsAll, PutsEach}
 use Rattle.leveldb_env.specs.Compressor.{Codings, Decodes}
 use Rattle.leveldb_env.specs.declared.env.Env.{Ghosts as EnvGhosts}
 use Rattle.leveldb_env.specs.declared.filter.FilterPolicy.{Ghosts as FilterGhosts}
+use Rattle.leveldb_iter.specs.Walk.{KeyOrder, WalkLaws}
+use Rattle.leveldb_iter.specs.declared.walk.Walk.{Ghosts as WalkGhosts}
 use Rattle.leveldb_table.proofs.TableBuilderLemmas.{internal_separated}
 use Rattle.leveldb_table.specs.BlockBuilder.{last_added}
 use Rattle.leveldb_table.specs.Table.{IsTable}
-use Rattle.leveldb_table.specs.TableBuilder.{TableBuilt, AddsPair, stage, IsBegun, IsBuiltTable, IsMeaningOf, KeepsChoices, last_of, order_of, policy_of}
-use Rattle.leveldb_table.specs.TableBuilderAdd.{TakesPair}
-use Rattle.leveldb_table.specs.TableBuilderFinish.{IsFinished}
+use Rattle.leveldb_table.specs.TableBuilder.{TableBuilt, AddsPair, stage, IsBegun, IsBuiltTable, IsMeaningOf, IsNewBuilder, KeepsChoices, last_of, order_of, policy_of}
 use Rattle.leveldb_version.specs.Batches.{Each}
 use Rattle.leveldb_version.specs.Paths.{table_path}
 use Rattle.leveldb_version.specs.Store.{IsFirstKey, IsInternalPair, IsLastKey, IsStoreTable, any_user_key}
-use Rattle.leveldb_version.specs.StoreSteps.{AppendedAreBytes}
-use Rattle.leveldb_store.specs.BuildTable.{IsUnused, AddsPairs, CanBeTabled, HasTaken, IsNotTabled, IsTableBuilt, IsTableFile, IsTableOfStore, IsTableUnder, MakesTable, TableChoices, flushes_in_memory, passed, puts_in_memory}
+use Rattle.leveldb_store.specs.BuildTable.{AddsPairs, CanBeTabled, HasTaken, IsNotTabled, IsTableBuilt, IsTableFile, IsTableOfStore, IsTableUnder, IsUnused, MakesTable, ReadsNoFile, StaysOver, StopsAtPair, StopsBuilding, TableChoices, passed, puts_all}
+use Rattle.leveldb_store.specs.TableFile.{AddsAllToFile, AddsToFile, ChangesOneFile, FailsToWrite, FinishesFile, IsAddFault, IsFinishFault, IsThere, StopsWriting, WritesTable}
+use Rattle.leveldb_store.proofs.TableFileLemmas.{fails_later, longer_file_is, longer_there, own_stops, stops_after, stops_so, synced_file_is}
 
 -- ---- pairs in turn
 
@@ -137,22 +141,53 @@ last_of_more first (next ∷ pairs) =
     let later = last_of_more next pairs in
     (first ∷ later.0, later.1, ap (λ ps. first ∷ ps) later.2)
 
-pub last_key_is : (pairs : List Pair) (pair : Pair) → Some pair ≡ pair_at pairs (position_within pairs 0) → IsLastKey (last_added pairs) pairs
-last_key_is [] pair there = absurd (some_none there)
-last_key_is (first ∷ pairs) pair there = last_of_more first pairs
+last_key_of : {key : List ℕ} {pairs : List Pair} → IsFirstKey key pairs → IsLastKey (last_added pairs) pairs
+last_key_of {key} {pairs} first = subst (λ ps. IsLastKey (last_added ps) ps) (sym first.2) (last_of_more (key, first.0) first.1)
 
-module _ {It : Type 0} {pairs : It → List Pair} {order : It → List ℕ → List ℕ → Ordering} {fails : It → It → Status → Type 0} where
-  pub SameWalk-refl : (it : It) → SameWalk pairs order fails it it
-  SameWalk-refl it = record { same_pairs = refl; same_order = refl; excuses = λ later status failed. failed }
-
-  pub SameWalk-trans : {old mid new : It} → SameWalk pairs order fails old mid → SameWalk pairs order fails mid new → SameWalk pairs order fails old new
-  SameWalk-trans first second = record {
-    same_pairs = second.same_pairs ∙ first.same_pairs;
-    same_order = second.same_order ∙ first.same_order;
-    excuses = λ later status failed. first.excuses later status (second.excuses later status failed);
+module _ {E T W : Type 0} (walk : WalkGhosts W E T) where
+  pub stays_over-none : (world : E × T) (it : W) → StaysOver walk world it world it
+  stays_over-none world it = record {
+    same = λ keys pairs over. over;
+    excuses = λ later status failed. failed;
   }
 
+  pub stays_over-trans : {first second third : E × T} {old mid new : W}
+      → StaysOver walk first old second mid → StaysOver walk second mid third new
+      → StaysOver walk first old third new
+  stays_over-trans before after = record {
+    same = λ keys pairs over. after.same keys pairs (before.same keys pairs over);
+    excuses = λ later status failed.
+        before.excuses later status (after.excuses later status failed);
+  }
+
+  -- beside an environment that changes
+  pub stays_beside : ReadsNoFile walk → (from to : E) (tables : T) (it : W)
+      → StaysOver walk (from, tables) it (to, tables) it
+  stays_beside reads from to tables it = record {
+    same = reads.stays_over from to tables it;
+    excuses = reads.excuses from to tables it;
+  }
+
+-- where the walk is, how far the builder and its file are
+pub record AddsSoFar {E F T W C FP : Type 0} (walk : WalkGhosts W E T) (order : CmpGhosts C)
+    (filters : FilterGhosts FP) (codings : Codings) (env : EnvGhosts E F) (keys : KeyOrder)
+    (pairs : List Pair) (core : TableBuilt C FP) (from : Opened E F) (mid : TableBuilt C FP)
+    (to : Opened E F) (tables : T) (it : W) : Type 0 where
+  pub position : Option ℕ
+  pub here : walk.is_at (to.env, tables) it keys pairs position
+  pub adds : AddsAllToFile order filters codings env core from (take (passed pairs position) pairs)
+      mid to
+  pub count_is : mid.count ≡ passed pairs position
+
 -- ---- into a sink
+
+-- what a sink has that takes all
+each_put : (from : List ℕ) (pieces : List (List ℕ)) (to : List ℕ) → PutsEach puts_all from pieces to → to ≡ from ++ concat pieces
+each_put from [] to put = put ∙ sym (append-nil from)
+each_put from (piece ∷ pieces) to put = each_put put.0 pieces to put.2 ∙ ap (λ b. b ++ concat pieces) put.1.1 ∙ append_assoc from piece (concat pieces)
+
+all_put : {bytes to : List ℕ} → PutsAll puts_all [] bytes to → to ≡ bytes
+all_put {to = to} put = each_put [] put.pieces to put.put ∙ sym put.joined
 
 module _ {S : Type 0} (puts : S → List ℕ → Result (Unit {0}) Status → S → Type 0) where
   -- no pair yet
@@ -206,6 +241,10 @@ IsTableUnder-same order filters codings {c = c} {d = d} {p = p} {q = q} {id = id
     (subst (λ z. IsTableUnder order filters codings d z id interval index_interval bytes pairs) same_policy
     (subst (λ z. IsTableUnder order filters codings z p id interval index_interval bytes pairs) same_order built))))
 
+-- the key that was added last
+last_taken : {key : List ℕ} (pairs : List Pair) (count : ℕ) (pair : Pair) → slice_get pairs count ≡ Some pair → key ≡ pair.0 → key ≡ last_added (take (count + 1) pairs)
+last_taken pairs count pair there last = last ∙ sym (ap last_added (taken_next pairs count pair there) ∙ last_pushed (take count pairs) pair)
+
 module _ {C FP : Type 0} {order : CmpGhosts C} {filters : FilterGhosts FP} (codings : Codings) where
   -- no key was added to a builder that is unused
   pub unused_last : {core : TableBuilt C FP} → IsUnused order filters codings core → last_of core ≡ []
@@ -225,28 +264,105 @@ module _ {C FP : Type 0} {order : CmpGhosts C} {filters : FilterGhosts FP} (codi
 
     -- and one that takes the next
     pub HasTaken-more : {core mid new : TableBuilt C FP} {from at to : S} (pairs : List Pair) (count : ℕ) (pair : Pair) → slice_get pairs count ≡ Some pair
-        → HasTaken order filters codings puts core from (take count pairs) mid at → TakesPair order filters codings puts mid new pair at to → KeepsChoices mid new → HasTaken order filters codings puts core from (take (count + 1) pairs) new to
-    HasTaken-more {core} {mid} {new} {from} {at} {to} pairs count pair there taken takes kept =
+        → HasTaken order filters codings puts core from (take count pairs) mid at → AddsPair puts (IsBegun codings order filters mid) (IsBegun codings order filters new) at pair to → KeepsChoices mid new → new.broken ≡ false
+        → HasTaken order filters codings puts core from (take (count + 1) pairs) new to
+    HasTaken-more {core} {mid} {new} {from} {at} {to} pairs count pair there taken added kept unbroken =
         subst (λ ps. HasTaken order filters codings puts core from ps new to) (sym (taken_next pairs count pair there))
-        (record { adds = AddsPairs-more puts taken.adds takes.added; choices = KeepsChoices-trans taken.choices kept; unbroken = takes.unbroken.1 })
+        (record { adds = AddsPairs-more puts taken.adds added; choices = KeepsChoices-trans taken.choices kept; unbroken = unbroken })
 
-    -- the key that was added last
-    pub last_taken : {mid new : TableBuilt C FP} {at to : S} (pairs : List Pair) (count : ℕ) (pair : Pair) → slice_get pairs count ≡ Some pair → TakesPair order filters codings puts mid new pair at to
-        → last_of new ≡ last_added (take (count + 1) pairs)
-    last_taken pairs count pair there takes = takes.last ∙ sym (ap last_added (taken_next pairs count pair there) ∙ last_pushed (take count pairs) pair)
+  module _ {E F : Type 0} (env : EnvGhosts E F) where
+    -- nothing is in the file yet
+    pub adds_all-none : {core : TableBuilt C FP} (from : Opened E F) → IsUnused order filters codings core → AddsAllToFile order filters codings env core from [] core from
+    adds_all-none {core} from unused = record {
+      bytes = [];
+      longer = IsLonger-none env from;
+      taken = HasTaken-none puts_all core [] unused.unbroken;
+      last = unused_last unused;
+    }
 
-  -- from nothing in memory the builder makes the table
-  pub built_in_memory : {core mid : TableBuilt C FP} {from at to : Vec ℕ} {pairs : List Pair} {size : ℕ} → from.items ≡ [] → IsBegun codings order filters core [] []
-      → HasTaken order filters codings puts_in_memory core from pairs mid at → IsFinished order filters codings mid puts_in_memory flushes_in_memory at size to
-      → IsTableUnder order filters codings (order_of core) (policy_of core) core.compressor core.block.interval core.index.interval to.items pairs
-  built_in_memory {core} {mid} {from} {at} {to} {pairs} none begun taken finished =
-      let built = finished.finishes in
-      let made = built.made taken.adds.bytes pairs (taken.adds.begun [] [] begun) in
-      let all = PutsAll-bytes (λ (v : Vec ℕ). v.items) (PutsAll-trans puts_in_memory taken.adds.put built.put) in
-      let items : to.items ≡ taken.adds.bytes ++ built.bytes = built.flushed.same ∙ all ∙ ap (λ b. b ++ (taken.adds.bytes ++ built.bytes)) none in
-      let kept = taken.choices in
-      subst (λ b. IsTableUnder order filters codings (order_of core) (policy_of core) core.compressor core.block.interval core.index.interval b pairs) (sym items)
-      (IsTableUnder-same order filters codings kept.same_order kept.same_policy kept.same_compressor kept.same_intervals.0 kept.same_intervals.1 made.0)
+    -- one more
+    pub adds_all-more : {core mid new : TableBuilt C FP} {from at to : Opened E F} (pairs : List Pair) (count : ℕ) (pair : Pair) → slice_get pairs count ≡ Some pair
+        → AddsAllToFile order filters codings env core from (take count pairs) mid at → AddsToFile order filters codings env mid at pair new to → KeepsChoices mid new
+        → AddsAllToFile order filters codings env core from (take (count + 1) pairs) new to
+    adds_all-more pairs count pair there all one kept = record {
+      bytes = all.bytes ++ one.bytes;
+      longer = IsLonger-trans env all.longer one.longer;
+      taken = HasTaken-more puts_all pairs count pair there all.taken (record { bytes = one.bytes; put = PutsAll-one puts_all (refl, refl); begun = one.begun }) kept one.unbroken;
+      last = last_taken pairs count pair there one.last;
+    }
+
+    -- the builder doesn't take the next
+    pub stops_at_next : {core mid : TableBuilt C FP} {from at : Opened E F} (pairs : List Pair) (count : ℕ) (pair : Pair) (status : Status) → slice_get pairs count ≡ Some pair
+        → AddsAllToFile order filters codings env core from (take count pairs) mid at → IsAddFault order filters codings mid pair status → StopsAtPair order filters codings puts_all core [] pairs status
+    stops_at_next {mid = mid} pairs count pair status there all fault =
+        let failed = fault all.bytes in
+        record { count = count; pair = pair; next = there; mid = mid; at = all.bytes; taken = all.taken; to = failed.0; cause = failed.1 }
+
+    -- nor finishes
+    pub stops_at_end : {core mid : TableBuilt C FP} {from at : Opened E F} (pairs : List Pair) (status : Status) → AddsAllToFile order filters codings env core from pairs mid at → IsFinishFault order filters codings mid status
+        → StopsBuilding order filters codings core pairs status
+    stops_at_end {mid = mid} pairs status all fault =
+        let failed = fault all.bytes in
+        inr (record { mid = mid; at = all.bytes; taken = all.taken; to = failed.0; cause = failed.1 })
+
+    -- from an empty file the builder makes the table
+    pub table_written : {core mid : TableBuilt C FP} {from : E} {start at to : Opened E F} {path : List ℕ} {pairs : List Pair} {size : ℕ} (largest : List ℕ) → (IsTrue env.models_disk → env.name_of start.file ≡ path)
+        → (IsTrue env.models_disk → opened_file env start ≡ Some (kept_file [])) → IsBegun codings order filters core [] [] → AddsAllToFile order filters codings env core start pairs mid at
+        → FinishesFile order filters codings env mid at size to → size < 2 ^ 64 → largest ≡ last_of mid → AreBytes largest → env.failures start.env ≡ env.failures from
+        → WritesTable order filters codings env core path pairs size largest from to.env
+    table_written {core} {mid} {from} {start} {at} {to} {path} {pairs} {size} largest named empty begun all finishes fits last key counted =
+        let made = finishes.made all.taken.adds.bytes pairs (all.taken.adds.begun [] [] begun) in
+        let put = all_put all.taken.adds.put in
+        let kept = all.taken.choices in
+        record {
+          bytes = all.bytes ++ finishes.bytes;
+          built = subst (λ b. IsTableUnder order filters codings (order_of core) (policy_of core) core.compressor core.block.interval core.index.interval (b ++ finishes.bytes) pairs) (sym put)
+              (IsTableUnder-same order filters codings kept.same_order kept.same_policy kept.same_compressor kept.same_intervals.0 kept.same_intervals.1 made.0);
+          kept = λ modelled.
+              let first = longer_file_is env (kept_file []) all.longer modelled (empty modelled) in
+              let second = longer_file_is env (record { kept = []; since = all.bytes }) finishes.longer modelled first in
+              let last = synced_file_is env (record { kept = []; since = all.bytes ++ finishes.bytes }) finishes.synced modelled second in
+              ap (env.observed to.env).disk.files (sym (finishes.synced.file modelled ∙ finishes.longer.file modelled ∙ all.longer.file modelled ∙ named modelled)) ∙ last;
+          size_is = made.1 ∙ ap (λ b. length (b ++ finishes.bytes)) (sym put);
+          fits = fits;
+          largest_is = last ∙ all.last;
+          key = key;
+          counted = finishes.synced.cause.ok ∙ finishes.longer.counted ∙ all.longer.counted ∙ counted;
+        }
+
+-- ---- beside a walk
+
+module _ {E F T W C FP : Type 0} (walk : WalkGhosts W E T) (laws : WalkLaws walk.over walk.is_at walk.here walk.fails walk.keeps) {order : CmpGhosts C} {filters : FilterGhosts FP} {codings : Codings} (env : EnvGhosts E F) {keys : KeyOrder} {pairs : List Pair}
+    {core mid : TableBuilt C FP} {from at : Opened E F} {tables : T} {it : W} (s : AddsSoFar walk order filters codings env keys pairs core from mid at tables it) where
+  there_so_far : {pair : Pair} → Some pair ≡ walk.here it → slice_get pairs (passed pairs s.position) ≡ Some pair
+  there_so_far {pair} here = pair_passed pairs s.position pair (here ∙ laws.at_position (at.env, tables) it keys pairs s.position s.here)
+
+  -- one pair more
+  pub added_so_far : {new : TableBuilt C FP} {to : Opened E F} {last : E} {more : T} {moved : W} {pair : Pair} → Some pair ≡ walk.here it → AddsToFile order filters codings env mid at pair new to → KeepsChoices mid new → last ≡ to.env
+      → walk.is_at (last, more) moved keys pairs (next_position pairs s.position) → AddsSoFar walk order filters codings env keys pairs core from new (opened last to.file) more moved
+  added_so_far {new} {to} {last} {more} {moved} {pair} here one kept same next =
+      let position = s.position in
+      let count = passed_next pairs position pair (here ∙ laws.at_position (at.env, tables) it keys pairs position s.here) in
+      let all = adds_all-more codings env pairs (passed pairs position) pair (there_so_far here) s.adds one kept in
+      record {
+        position = next_position pairs position;
+        here = next;
+        adds = subst (λ e. AddsAllToFile order filters codings env core from (take (passed pairs (next_position pairs position)) pairs) new (opened e to.file)) (sym same)
+            (subst (λ n. AddsAllToFile order filters codings env core from (take n pairs) new to) (sym count) all);
+        count_is = one.count ∙ ap (λ n. n + 1) s.count_is ∙ sym count;
+      }
+
+  -- the next one wasn't added
+  pub not_added_so_far : {Other : Status → Type 0} {to : Opened E F} {pair : Pair} {status : Status} → Some pair ≡ walk.here it → (IsThere env at → StopsWriting env (IsAddFault order filters codings mid pair) at status to) → IsThere env from
+      → StopsWriting env (λ why. StopsAtPair order filters codings puts_all core [] pairs why ⊎ Other why) from status to
+  not_added_so_far {pair = pair} {status = status} here stops there =
+      stops_so env (λ own. inl (stops_at_next codings env pairs (passed pairs s.position) pair status (there_so_far here) s.adds own)) (stops_after env s.adds.longer (stops (longer_there env s.adds.longer there)))
+
+-- the walk failed, which changed nothing
+pub walk_failed_so_far : {E F C FP : Type 0} (env : EnvGhosts E F) {order : CmpGhosts C} {filters : FilterGhosts FP} {codings : Codings} {Own : Status → Type 0} {core mid new : TableBuilt C FP} {from at to : Opened E F} {last : E} {pairs : List Pair} {pair : Pair} {status : Status}
+    → AddsAllToFile order filters codings env core from pairs mid at → AddsToFile order filters codings env mid at pair new to → last ≡ to.env → Own status → StopsWriting env Own from status (opened last to.file)
+walk_failed_so_far env {Own = Own} {from = from} {to = to} {status = status} all one same own =
+    subst (λ e. StopsWriting env Own from status (opened e to.file)) (sym same) (own_stops env (IsLonger-trans env all.longer one.longer) own)
 
 -- ---- a table of the store
 
@@ -301,49 +417,15 @@ tagged_accepted {accepts} all pairs tagged k d here =
     let key = (slice_index_or pairs k d).0 in
     ap (λ b. b && accepts (user_part key)) (le-leb 8 (length key) (tagged k d here)) ∙ all (user_part key)
 
--- ---- into a file
-
-module _ (path bytes : List ℕ) where
-  -- created, appended to and synced, a file has these bytes
-  written_is : (files : Files) → synced path (extended path bytes (emptied path files)) ≡ with_file path (Some (kept_file bytes)) files
-  written_is files =
-      let f1 = emptied path files in
-      let f2 = extended path bytes f1 in
-      let there1 : f1 path ≡ Some (kept_file []) = at_same path (Some (kept_file [])) files in
-      let there2 = extended-same path bytes f1 (kept_file []) there1 in
-      ap (λ (file : Option _). with_file path (option_map file_kept file) f2) there2
-      ∙ with_file-twice path (Some (kept_file bytes)) (option_map (longer_file bytes) (f1 path)) f1
-      ∙ with_file-twice path (Some (kept_file bytes)) (Some (kept_file [])) files
-
-  module _ {T : Type 0} {x : T} {models_disk : Bool} {v0 v1 : Observed} (modelled : IsTrue models_disk) (opening : ChangesFiles {T = T} models_disk (emptied path) (BeforeOrAfter (emptied path)) v0 v1 (Ok x)) where
-    abbrev first : Files
-    first = v0.disk.files
-
-    at_open : Run (SameBut path first) v0 v1
-    at_open = call modelled (begun v0 (SameBut-refl path first)) (SameBut-emptied path first) opening
-
-    pub at_append : {v2 : Observed} {result : Result (Unit {0}) Status} → ChangesFiles models_disk (extended path bytes) (PrefixAppended path bytes) v1 v2 result → Run (SameBut path first) v0 v2
-    at_append append = call modelled at_open (λ files passes. SameBut-trans path at_open.has (SameBut-appending path bytes v1.disk.files files passes)) append
-
-    pub at_sync : {v2 v3 : Observed} {synced' : Result (Unit {0}) Status} → ChangesFiles {T = Unit {0}} models_disk (extended path bytes) (PrefixAppended path bytes) v1 v2 (Ok tt)
-        → ChangesFiles models_disk (synced path) (BeforeOrAfter (synced path)) v2 v3 synced'
-        → ChangesFiles models_disk (with_file path (Some (kept_file bytes))) (SameBut path) v0 v3 synced'
-    at_sync {v2} {v3} {synced'} append sync =
-        let run : Run (SameBut path first) v0 v3 = call modelled (at_append append) (λ files passes. SameBut-trans path (at_append append).has (SameBut-synced path v2.disk.files files passes)) sync in
-        let made : synced path v2.disk.files ≡ with_file path (Some (kept_file bytes)) first =
-        ap (synced path) (append.ok modelled ∙ ap (extended path bytes) (opening.ok modelled)) ∙ written_is first in
-        record { ok = λ t. subst (λ (f : Files). OnOk synced' (v3.disk.files ≡ f)) made (sync.ok t); now = λ t. run.has; time = run.time }
-
--- no bytes
-no_bytes : AreBytes []
-no_bytes i = omega arith
-
 -- ---- the ends of `build_table`
 
 module _ {C FP : Type 0} {order : CmpGhosts C} {filters : FilterGhosts FP} (choices : TableChoices order filters) (pairs : List Pair) {E F : Type 0} (env : EnvGhosts E F) (Fails : Status → Type 0) (store : List ℕ) (number : ℕ) where
-  -- an error before any call
-  pub MakesTable-before : (old : E) (status : Status) → IsOutOfMemory status ⊎ (IsNotTabled choices pairs status ⊎ Fails status) → MakesTable choices pairs env Fails store number old (Err status) old
-  MakesTable-before old status why = record {
+  abbrev Why : Status → Type 0
+  Why status = IsNotTabled choices pairs status ⊎ Fails status
+
+  -- an error before any call of the device
+  pub MakesTable-before : {old new : E} {status : Status} → new ≡ old → IsOutOfMemory status ⊎ Fails status → MakesTable choices pairs env Fails store number old (Err status) new
+  MakesTable-before {old} {status = status} same why = subst (MakesTable choices pairs env Fails store number old (Err status)) (sym same) (record {
     number_is = tt;
     fits = tt;
     none = λ empty. (refl, tt);
@@ -352,13 +434,13 @@ module _ {C FP : Type 0} {order : CmpGhosts C} {filters : FilterGhosts FP} (choi
     bytes = λ modelled were. were;
     run = λ modelled. begun (env.observed old) (SameBut-refl (table_path store number) (env.observed old).disk.files);
     locks = λ modelled. refl;
-    cause = record { later = omega arith; ok = tt; uncounted = λ excused. refl; cause = inl (⊎_elim (λ memory. inl memory) (λ other. inr (other, refl)) why) };
-  }
+    cause = record { later = omega arith; ok = tt; uncounted = λ excused. refl; cause = inl (⊎_elim (λ memory. inl memory) (λ failed. inr (inr failed, refl)) why) };
+  })
 
   -- no pair
-  pub MakesTable-none : (old : E) (file : FileMetaData) → pairs ≡ [] → number < 2 ^ 64 → file.num ≡ number → file.allowed_seeks ≡ 0 → file.size ≡ 0 → file.smallest ≡ [] → file.largest ≡ []
-      → MakesTable choices pairs env Fails store number old (Ok file) old
-  MakesTable-none old file empty number_fits number_is seeks size smallest largest = record {
+  pub MakesTable-none : {old new : E} (file : FileMetaData) → new ≡ old → pairs ≡ [] → number < 2 ^ 64 → file.num ≡ number → file.allowed_seeks ≡ 0 → file.size ≡ 0 → file.smallest ≡ [] → file.largest ≡ []
+      → MakesTable choices pairs env Fails store number old (Ok file) new
+  MakesTable-none {old} file same empty number_fits number_is seeks size smallest largest = subst (MakesTable choices pairs env Fails store number old (Ok file)) (sym same) (record {
     number_is = (number_is, seeks);
     fits = λ level. record {
       number = omega (arith, number_is, number_fits);
@@ -373,52 +455,80 @@ module _ {C FP : Type 0} {order : CmpGhosts C} {filters : FilterGhosts FP} (choi
     run = λ modelled. begun (env.observed old) (SameBut-refl (table_path store number) (env.observed old).disk.files);
     locks = λ modelled. refl;
     cause = record { later = omega arith; ok = refl; uncounted = tt; cause = tt };
-  }
+  })
 
-  module _ (some : pairs ≢ []) (path bytes : List ℕ) (named : path ≡ table_path store number) {old new : E} (locks : SameLocks env.models_disk (env.observed old) (env.observed new))
-      (stay : IsTrue env.models_disk → AppendedAreBytes (env.observed old).disk.files → AppendedAreBytes (env.observed new).disk.files) where
-    -- a call for the file failed
-    pub MakesTable-failed : (status : Status) → (IsTrue env.models_disk → ChangesFiles {T = Unit {0}} env.models_disk (with_file path (Some (kept_file bytes))) (SameBut path) (env.observed old) (env.observed new) (Err status))
-        → HasCause {T = Unit {0}} IsOutOfMemory (env.failures old) (env.failures new) (Err status) → MakesTable choices pairs env Fails store number old (Err status) new
-    MakesTable-failed status does cause = record {
-      number_is = tt;
-      fits = tt;
-      bytes = stay;
-      none = λ empty. absurd (some empty);
-      made = λ more. tt;
-      has = λ more modelled. tt;
-      run = λ modelled. subst (λ p. Run (SameBut p (env.observed old).disk.files) (env.observed old) (env.observed new)) named (record { has = (does modelled).now modelled; time = (does modelled).time });
-      locks = locks;
-      cause = record {
-        later = cause.later;
-        ok = tt;
-        uncounted = λ excused. ⊎_elim (λ memory. cause.uncounted memory) (λ other. ap env.failures other.1) excused;
-        cause = ⊎_elim (λ memory. inl (inl memory)) (λ counted. inr counted) cause.cause;
-      };
-    }
+  module _ (some : pairs ≢ []) (path : List ℕ) (named : path ≡ table_path store number) {old mid new : E} (same : mid ≡ old) (changes : ChangesOneFile env path mid new) where
+    here : ChangesOneFile env (table_path store number) old new
+    here = subst (λ p. ChangesOneFile env p old new) named (subst (λ e. ChangesOneFile env path e new) same changes)
+
+    -- the table wasn't written, or not all of it
+    pub MakesTable-failed : (status : Status) → FailsToWrite {T = FileMetaData} Why (env.failures mid) (env.failures new) (Err status) → MakesTable choices pairs env Fails store number old (Err status) new
+    MakesTable-failed status cause =
+        let since = subst (λ e. FailsToWrite {T = FileMetaData} Why (env.failures e) (env.failures new) (Err status)) same cause in
+        record {
+          number_is = tt;
+          fits = tt;
+          bytes = here.bytes;
+          none = λ empty. absurd (some empty);
+          made = λ more. tt;
+          has = λ more modelled. tt;
+          run = here.run;
+          locks = here.locks;
+          cause = since;
+        }
 
     -- the file was made
-    pub MakesTable-done : (smallest largest : List ℕ) (size : ℕ) → number < 2 ^ 64 → size < 2 ^ 64 → AreBytes smallest × AreBytes largest → size ≡ length bytes → (IsTrue env.models_disk → ChangesFiles {T = Unit {0}} env.models_disk (with_file path (Some (kept_file bytes))) (SameBut path) (env.observed old) (env.observed new) (Ok tt))
-        → HasCause {T = Unit {0}} IsOutOfMemory (env.failures old) (env.failures new) (Ok tt) → IsTableBuilt choices pairs bytes → IsFirstKey smallest pairs → IsLastKey largest pairs
+    pub MakesTable-done : {core : TableBuilt C FP} {smallest largest : List ℕ} {size : ℕ} → number < 2 ^ 64 → AreBytes smallest → IsNewBuilder order filters choices.cmp choices.policy choices.id choices.block_size choices.restarts core
+        → WritesTable order filters choices.format.codings env core path pairs size largest mid new → IsFirstKey smallest pairs
         → ((read : List ℕ) → IsTableBuilt choices pairs read → (meaning : List ℕ → Option (List ℕ → List ℕ → Bool)) → IsMeaningOf meaning choices.format.policy_name (λ key. choices.format.matches (user_part key))
         → IsStoreTable (Decodes choices.format.codings) choices.format.order meaning read pairs)
         → MakesTable choices pairs env Fails store number old (Ok (record { allowed_seeks = 0; num = number; size = size; smallest = smallest; largest = largest })) new
-    MakesTable-done smallest largest size number_fits size_fits keys size_is does cause built first last reads =
+    MakesTable-done {core} {smallest} {largest} {size} number_fits key is_new writes first reads =
         let file : FileMetaData = record { allowed_seeks = 0; num = number; size = size; smallest = smallest; largest = largest } in
-        let there : IsTrue env.models_disk → (env.observed new).disk.files (table_path store number) ≡ Some (kept_file bytes) = λ modelled. subst (λ p. (env.observed new).disk.files p ≡ Some (kept_file bytes)) named
-        (ap (λ (f : Files). f path) ((does modelled).ok modelled) ∙ at_same path (Some (kept_file bytes)) (env.observed old).disk.files) in
-        let made : IsTableFile choices pairs env.models_disk store (env.observed new).disk.files file = record { bytes = bytes; built = built; kept = there; size = size_is; smallest = first; largest = last } in
+        let built : IsTableBuilt choices pairs writes.bytes = IsTableUnder-same order filters choices.format.codings is_new.order is_new.policy is_new.compressor is_new.interval.0 is_new.interval.1 writes.built in
+        let made : IsTableFile choices pairs env.models_disk store (env.observed new).disk.files file = record {
+          bytes = writes.bytes;
+          built = built;
+          kept = λ modelled. ap (env.observed new).disk.files (sym named) ∙ writes.kept modelled;
+          size = writes.size_is;
+          smallest = first;
+          largest = subst (λ k. IsLastKey k pairs) (sym writes.largest_is) (last_key_of first);
+        } in
         record {
           number_is = (refl, refl);
-          fits = λ level. record { number = number_fits; size = size_fits; smallest = keys.0; largest = keys.1 };
-          bytes = stay;
+          fits = λ level. record { number = number_fits; size = writes.fits; smallest = key; largest = writes.key };
+          bytes = here.bytes;
           none = λ empty. absurd (some empty);
           made = λ more. made;
           has = λ more modelled. file_of_store choices pairs modelled made reads;
-          run = λ modelled. subst (λ p. Run (SameBut p (env.observed old).disk.files) (env.observed old) (env.observed new)) named (record { has = (does modelled).now modelled; time = (does modelled).time });
-          locks = locks;
-          cause = record { later = cause.later; ok = cause.ok; uncounted = tt; cause = tt };
+          run = here.run;
+          locks = here.locks;
+          cause = record { later = here.later; ok = writes.counted ∙ ap env.failures same; uncounted = tt; cause = tt };
         }
+
+-- a walk that never fails is no cause
+pub MakesTable-never : {C FP : Type 0} {order : CmpGhosts C} {filters : FilterGhosts FP} {choices : TableChoices order filters} {pairs : List Pair} {E F : Type 0} {env : EnvGhosts E F} {Fails : Status → Type 0} {store : List ℕ} {number : ℕ} {old new : E} (result : Result FileMetaData Status)
+    → ((status : Status) → Fails status → ⊥) → MakesTable choices pairs env Fails store number old result new → MakesTable choices pairs env (λ status. ⊥) store number old result new
+MakesTable-never {choices = choices} {pairs} {env = env} {Fails} {old = old} {new} result never m = record {
+  number_is = m.number_is;
+  fits = m.fits;
+  none = m.none;
+  made = m.made;
+  has = m.has;
+  run = m.run;
+  bytes = m.bytes;
+  locks = m.locks;
+  cause = cause_same result
+      (λ status. ⊎_elim (λ memory. inl memory) (λ other. inr (⊎_elim (λ not. inl not) (λ failed. inr (never status failed)) other.0, other.1)))
+      (λ status. ⊎_elim (λ memory. inl memory) (λ other. inr (⊎_elim (λ not. inl not) (λ failed. absurd failed) other.0, other.1))) m.cause;
+}
+
+-- why a new builder's table isn't written
+pub written_why : {C FP : Type 0} {order : CmpGhosts C} {filters : FilterGhosts FP} (choices : TableChoices order filters) (pairs : List Pair) {core : TableBuilt C FP} {Others Fails : Status → Type 0} {T U : Type 0} {before now : ℕ} {status : Status}
+    → IsNewBuilder order filters choices.cmp choices.policy choices.id choices.block_size choices.restarts core → ((s : Status) → Others s → Fails s)
+    → FailsToWrite {T = T} (λ s. StopsBuilding order filters choices.format.codings core pairs s ⊎ Others s) before now (Err status) → FailsToWrite {T = U} (λ s. IsNotTabled choices pairs s ⊎ Fails s) before now (Err status)
+written_why choices pairs {core} {status = status} is_new so cause =
+    fails_later refl (⊎_elim (λ stops. inl (inr (core, is_new, stops))) (λ other. inr (so status other))) cause
 
 -- where there is a first key, there is a pair
 pub first_some : {key : List ℕ} {pairs : List Pair} → IsFirstKey key pairs → pairs ≢ []

@@ -1,4 +1,7 @@
 mod BuildTableLemmas
+mod StopsLemmas
+mod TableFileLemmas
+mod WriteTableLemmas
 pub mod WriteLemmas
 mod OpeningNamesLemmas
 mod OpeningCausesLemmas

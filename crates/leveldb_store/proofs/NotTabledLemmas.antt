@@ -1,7 +1,6 @@
 -- Why no table is built of a walk's pairs: three causes.
 use Rattle.std.specs.Prelude.{IsSomeAnd, IsTrue}
 use Rattle.std.proofs.Common.{◌≡◌, ◌⊎◌, ◌∙◌, inl, inr, ⊎_elim, ℕ, true, false, List, [], Option, None, Some, Ok, Err, refl, sym}
-use Rattle.std.specs.Global.{Vec}
 use Rattle.leveldb_base.specs.BlockHandle.{Handle}
 use Rattle.leveldb_base.specs.Error.{IsOutOfMemory}
 use Rattle.leveldb_base.specs.Types.{Pair}
@@ -17,10 +16,10 @@ use Rattle.leveldb_table.specs.PutBlock.{IsNoMetaindex, IsNotPut, IsPutError, St
 use Rattle.leveldb_table.specs.TableBuilder.{TableBuilt}
 use Rattle.leveldb_table.specs.TableBuilderAdd.{IsAddError, IsNotAdded, IsNotClosed, IsNotLined}
 use Rattle.leveldb_table.specs.TableBuilderFinish.{IsFinishError, StopsFromFilters, StopsFromIndex}
-use Rattle.leveldb_store.specs.BuildTable.{IsNotTabled, TableChoices, flushes_in_memory, puts_in_memory}
+use Rattle.leveldb_store.specs.BuildTable.{IsNotTabled, TableChoices, flushes_all, puts_all}
 use Rattle.leveldb_version.specs.Format.{HasCompressorError}
 
--- why a builder that isn't broken fails that puts into memory: out of memory, what isn't supported,
+-- why a builder that isn't broken fails though no put does: out of memory, what isn't supported,
 -- or a compressor that is set
 abbrev pub IsBuildFault : Codings → Status → Type 0
 IsBuildFault codings status = IsOutOfMemory status ⊎ (status.code ≡ NotSupported)
@@ -58,35 +57,37 @@ module _ (codings : Codings) (status : Status) where
   metaindex_fault name filters (inl memory) = memory_fault memory
   metaindex_fault name filters (inr large) = unsupported_fault large.0
 
-  put_fault : (bytes : List ℕ) (count : ℕ) (from to : Vec ℕ)
-      → IsPutError puts_in_memory bytes count from status to → Fault
-  put_fault bytes count from to (inl failed) = memory_fault failed.memory
+  put_fault : (bytes : List ℕ) (count : ℕ) (from to : List ℕ)
+      → IsPutError puts_all bytes count from status to → Fault
+  put_fault bytes count from to (inl failed) =
+      let never : Err status ≡ Ok tt = failed.0 in absurd (cc never)
   put_fault bytes count from to (inr (_, inl memory)) = memory_fault memory
   put_fault bytes count from to (inr (_, inr long)) = unsupported_fault long.0
 
-  not_put_fault : (id : ℕ) (text : List ℕ) (offset : ℕ) (from to : Vec ℕ)
-      → IsNotPut puts_in_memory codings id text offset from status to → Fault
+  not_put_fault : (id : ℕ) (text : List ℕ) (offset : ℕ) (from to : List ℕ)
+      → IsNotPut puts_all codings id text offset from status to → Fault
   not_put_fault id text offset from to (inl unset) = unsupported_fault unset.2.0
   not_put_fault id text offset from to (inr (inl (_, inl memory))) = memory_fault memory
   not_put_fault id text offset from to (inr (inl (_, inr fails))) =
       set_fault id text (codings id) refl fails
   not_put_fault id text offset from to (inr (inr put)) = put_fault _ _ from to put.2
 
-  stops_fault : (id : ℕ) (text : List ℕ) (offset : ℕ) (Rest : Handle → ℕ → Vec ℕ → Status → Vec ℕ
+  stops_fault : (id : ℕ) (text : List ℕ) (offset : ℕ) (Rest : Handle → ℕ → List ℕ → Status → List ℕ
       → Type 0)
-      → ((handle : Handle) (end : ℕ) (mid to : Vec ℕ) → Rest handle end mid status to → Fault)
-      → (from to : Vec ℕ) → StopsFrom puts_in_memory codings id text offset Rest from status to
+      → ((handle : Handle) (end : ℕ) (mid to : List ℕ) → Rest handle end mid status to → Fault)
+      → (from to : List ℕ) → StopsFrom puts_all codings id text offset Rest from status to
       → Fault
   stops_fault id text offset Rest so from to (inl not_put) =
       not_put_fault id text offset from to not_put
   stops_fault id text offset Rest so from to (inr later) = so later.2 later.3 later.4 to later.6
 
-  footer_fault : (bytes : List ℕ) (offset : ℕ) (from to : Vec ℕ)
-      → StopsAtFooter puts_in_memory flushes_in_memory bytes offset from status to → Fault
+  footer_fault : (bytes : List ℕ) (offset : ℕ) (from to : List ℕ)
+      → StopsAtFooter puts_all flushes_all bytes offset from status to → Fault
   footer_fault bytes offset from to (inl long) = unsupported_fault long.1.0
-  footer_fault bytes offset from to (inr (inl failed)) = memory_fault failed.memory
+  footer_fault bytes offset from to (inr (inl failed)) =
+      let never : Err status ≡ Ok tt = failed.0 in absurd (cc never)
   footer_fault bytes offset from to (inr (inr flushed)) =
-      let never : Err status ≡ Ok tt = flushed.2.ok in absurd (cc never)
+      let never : Err status ≡ Ok tt = flushed.2.0 in absurd (cc never)
 
   module _ {C FP : Type 0} (order : CmpGhosts C) (filters : FilterGhosts FP) where
     lined_fault : (core : TableBuilt C FP) (next : List ℕ) (handle : Handle)
@@ -97,15 +98,15 @@ module _ (codings : Codings) (status : Status) where
         filter_fault (filters.too_large core.filter.policy)
         (filters.filter_for core.filter.policy) core.filter.filters core.filter.keys due.1
 
-    closed_fault : (core : TableBuilt C FP) (next : List ℕ) (from to : Vec ℕ)
-        → IsNotClosed order filters codings core puts_in_memory next from status to → Fault
+    closed_fault : (core : TableBuilt C FP) (next : List ℕ) (from to : List ℕ)
+        → IsNotClosed order filters codings core puts_all next from status to → Fault
     closed_fault core next from to (inl memory) = memory_fault memory.1
     closed_fault core next from to (inr (inl put)) =
         not_put_fault core.compressor put.0 core.offset from to put.2
     closed_fault core next from to (inr (inr lined)) = lined_fault core next lined.0 lined.2
 
-    add_fault : (core : TableBuilt C FP) (pair : Pair) (from to : Vec ℕ)
-        → core.broken ≡ false → IsAddError order filters codings core puts_in_memory pair from status to → Fault
+    add_fault : (core : TableBuilt C FP) (pair : Pair) (from to : List ℕ)
+        → core.broken ≡ false → IsAddError order filters codings core puts_all pair from status to → Fault
     add_fault core pair from to usable (inl broke) =
         let never : false ≡ true = sym usable ∙ broke.0 in absurd (cc never)
     add_fault core pair from to usable (inr (_, inl room)) = not_added_fault _ _ pair room.2
@@ -114,29 +115,29 @@ module _ (codings : Codings) (status : Status) where
     add_fault core pair from to usable (inr (_, inr (inr next))) =
         not_added_fault [] core.count pair next.3
 
-    finish_fault : (core : TableBuilt C FP) (from to : Vec ℕ) → core.broken ≡ false
-        → IsFinishError order filters codings core puts_in_memory flushes_in_memory from status to → Fault
+    finish_fault : (core : TableBuilt C FP) (from to : List ℕ) → core.broken ≡ false
+        → IsFinishError order filters codings core puts_all flushes_all from status to → Fault
     finish_fault core from to usable (inl broke) =
         let never : false ≡ true = sym usable ∙ broke.0 in absurd (cc never)
     finish_fault core from to usable (inr (inl left)) = closed_fault core _ from to left.1.1
     finish_fault core from to usable (inr (inr (_, last, mid, _, stops))) = at_filters stops
       where
-        at_index : (meta : Handle) (end : ℕ) (mid to : Vec ℕ)
+        at_index : (meta : Handle) (end : ℕ) (mid to : List ℕ)
             → StopsFromIndex codings (order.cmp core.block.cmp)
             (filters.too_large core.filter.policy) (filters.filter_for core.filter.policy)
-            core.compressor (filters.name core.filter.policy) last puts_in_memory
-            flushes_in_memory meta end mid status to → Fault
+            core.compressor (filters.name core.filter.policy) last puts_all
+            flushes_all meta end mid status to → Fault
         at_index meta end mid to (inl memory) = memory_fault memory.1
         at_index meta end mid to (inr made) = stops_fault core.compressor made.0 end
-            (λ index. StopsAtFooter puts_in_memory flushes_in_memory (footer_bytes meta index))
+            (λ index. StopsAtFooter puts_all flushes_all (footer_bytes meta index))
             (λ index offset at then footer.
             footer_fault (footer_bytes meta index) offset at then footer)
             mid to made.2
 
         at_filters : StopsFromFilters codings (order.cmp core.block.cmp)
             (filters.too_large core.filter.policy) (filters.filter_for core.filter.policy)
-            core.compressor (filters.name core.filter.policy) last puts_in_memory
-            flushes_in_memory mid status to → Fault
+            core.compressor (filters.name core.filter.policy) last puts_all
+            flushes_all mid status to → Fault
         at_filters (inl unmade) = filter_fault (filters.too_large core.filter.policy)
             (filters.filter_for core.filter.policy) last.filter.filters last.filter.keys unmade.1
         at_filters (inr (text, _, inl failed)) = put_fault _ _ mid to failed
@@ -146,8 +147,8 @@ module _ (codings : Codings) (status : Status) where
             stops_fault core.compressor meta.0 end
             (StopsFromIndex codings (order.cmp core.block.cmp)
             (filters.too_large core.filter.policy) (filters.filter_for core.filter.policy)
-            core.compressor (filters.name core.filter.policy) last puts_in_memory
-            flushes_in_memory) at_index at to meta.2
+            core.compressor (filters.name core.filter.policy) last puts_all
+            flushes_all) at_index at to meta.2
 
 -- Memory is out; it isn't supported, as an entry, a filter or a count that is too large, or an id
 -- without a compressor; or a compressor that is set fails for a block.
@@ -166,4 +167,4 @@ not_tabled_causes {order = order} {filters = filters} choices pairs status
     (λ at_pair. add_fault choices.format.codings status order filters at_pair.mid at_pair.pair
     at_pair.at at_pair.to at_pair.taken.unbroken at_pair.cause)
     (λ at_end. finish_fault choices.format.codings status order filters at_end.mid at_end.at at_end.to
-    at_end.taken.unbroken at_end.cause) stops.2)
+    at_end.taken.unbroken at_end.cause) stops)

@@ -527,7 +527,7 @@ module _ {E F D FP C : Type 0} (env : Ghosts E F) {order : CmpGhosts D} {filters
             (λ excused. ⊎_elim (λ (memory : IsOutOfMemory status). inl (inl memory))
             (λ other. inl (inr (
               inr (⊎_elim (λ not. not) (λ never. absurd never) other.0),
-              ap env.failures other.1,
+              other.1,
             ))) excused)
             (λ counted. inr counted) makes.cause.cause;
       };

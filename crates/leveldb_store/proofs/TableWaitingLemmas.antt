@@ -451,7 +451,7 @@ module _ {E F C D FP : Type 0} {order : CmpGhosts D} {filters : FilterGhosts FP}
             → env.failures mid ≡ env.failures from
         uncounted (inl used) = never_used_up status used
         uncounted (inr (inl memory)) = m.cause.uncounted (inl memory)
-        uncounted (inr (inr (inl built))) = ap env.failures built.1
+        uncounted (inr (inr (inl built))) = built.1
         uncounted (inr (inr (inr (inl lost)))) = ⊎_elim
             (λ memory. m.cause.uncounted (inl memory)) (λ missing. missing.2) lost.2
         uncounted (inr (inr (inr (inr broke)))) = absurd (usable broke.0)
@@ -583,7 +583,7 @@ module _ {E F C D FP : Type 0} {order : CmpGhosts D} {filters : FilterGhosts FP}
               → env.failures to ≡ env.failures from
           uncounted (inl numbers) = never_used_up status numbers
           uncounted (inr (inl memory)) = l.cause.uncounted (inl memory) ∙ same_count
-          uncounted (inr (inr (inl built))) = ap env.failures built.1
+          uncounted (inr (inr (inl built))) = built.1
           uncounted (inr (inr (inr (inl lost)))) = ⊎_elim
               (λ memory. l.cause.uncounted (inl memory) ∙ same_count) (λ missing. missing.2) lost.2
           uncounted (inr (inr (inr (inr broke)))) = absurd (usable broke.0)

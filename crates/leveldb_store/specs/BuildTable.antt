@@ -1,6 +1,5 @@
 -- What `build_table` makes of a walk, what changes on the way, and why it fails.
-use Rattle.std.specs.Prelude.{◌≡◌, ◌≢◌, ◌⊎◌, ℕ, Bool, true, false, List, [], ◌++◌, length, take, max, slice_get, All, Option, None, Some, Result, IfOk, IsTrue}
-use Rattle.std.specs.Global.{Vec}
+use Rattle.std.specs.Prelude.{◌≡◌, ◌≢◌, ◌⊎◌, ℕ, Bool, true, false, List, [], ◌++◌, length, take, max, slice_get, All, Option, None, Some, Result, Ok, IfOk, IsTrue}
 use Rattle.std.specs.declared.cmp.Ordering.{Ordering}
 use Rattle.leveldb_base.specs.Error.{IsOutOfMemory}
 use Rattle.leveldb_base.specs.History.{AreRising, Entry}
@@ -13,10 +12,12 @@ use Rattle.leveldb_base.specs.declared.types.FileMetaData.{FileMetaData}
 use Rattle.leveldb_env.specs.Compressor.{Codings, Decodes}
 use Rattle.leveldb_env.specs.Env.{Files, HasCause, Run, SameBut, SameLocks, kept_file}
 use Rattle.leveldb_env.specs.Options.{Boxed, OptionsOf}
-use Rattle.leveldb_env.specs.Sink.{AppendsBytes, FlushesNothing, PutsAll}
+use Rattle.leveldb_env.specs.Sink.{PutsAll}
 use Rattle.leveldb_env.specs.declared.compressor.CompressorList.{CompressorList}
 use Rattle.leveldb_env.specs.declared.env.Env.{Ghosts as EnvGhosts}
 use Rattle.leveldb_env.specs.declared.filter.FilterPolicy.{Ghosts as FilterGhosts}
+use Rattle.leveldb_iter.specs.Walk.{KeyOrder}
+use Rattle.leveldb_iter.specs.declared.walk.Walk.{Ghosts as WalkGhosts}
 use Rattle.leveldb_table.specs.TableBuilder.{TableBuilt, IsBegun, IsBuiltTable, IsMeaningOf, IsNewBuilder, KeepsChoices}
 use Rattle.leveldb_table.specs.TableBuilderAdd.{IsAddError}
 use Rattle.leveldb_table.specs.TableBuilderFinish.{IsFinishError}
@@ -58,13 +59,13 @@ IsTableUnder order filters codings cmp policy id interval index_interval =
     (order.short_succ cmp) (filters.matches policy) (filters.filter_for policy) id
     (filters.name policy) interval index_interval
 
--- bytes in memory as a sink: a put appends, and a flush does nothing
-abbrev pub puts_in_memory : Vec ℕ → List ℕ → Result (Unit {0}) Status → Vec ℕ → Type 0
-puts_in_memory old bytes result new = AppendsBytes old.items bytes result new.items
+-- A sink that takes all: the bytes that were put so far. No put of it fails.
+abbrev pub puts_all : List ℕ → List ℕ → Result (Unit {0}) Status → List ℕ → Type 0
+puts_all old bytes result new = (result ≡ Ok tt) × (new ≡ old ++ bytes)
 
--- a flush of bytes in memory does nothing
-abbrev pub flushes_in_memory : Vec ℕ → Result (Unit {0}) Status → Vec ℕ → Type 0
-flushes_in_memory old result new = FlushesNothing old.items result new.items
+-- nor does a flush, which changes nothing
+abbrev pub flushes_all : List ℕ → Result (Unit {0}) Status → List ℕ → Type 0
+flushes_all old result new = (result ≡ Ok tt) × (new ≡ old)
 
 module _ {C FP : Type 0} (order : CmpGhosts C) (filters : FilterGhosts FP) (codings : Codings) where
   -- nothing is put, no pair is added and no call has failed
@@ -104,12 +105,37 @@ module _ {C FP : Type 0} (order : CmpGhosts C) (filters : FilterGhosts FP) (codi
       pub to : S
       pub cause : IsFinishError order filters codings mid puts flushes at status to
 
-  -- Into no bytes in memory the builder takes some of the pairs, and fails at the next one or at the
-  -- end.
-  abbrev pub StopsInMemory : TableBuilt C FP → List Pair → Status → Type 0
-  StopsInMemory core pairs status =
-      (empty : Vec ℕ) × (empty.items ≡ []) × (StopsAtPair puts_in_memory core empty pairs status
-      ⊎ StopsAtEnd puts_in_memory core empty pairs flushes_in_memory status)
+  -- Though no put fails, the builder takes some of the pairs alone, and fails at the next one or at
+  -- the end.
+  abbrev pub StopsBuilding : TableBuilt C FP → List Pair → Status → Type 0
+  StopsBuilding core pairs status = StopsAtPair puts_all core [] pairs status
+      ⊎ StopsAtEnd puts_all core [] pairs flushes_all status
+
+-- ---- the walk whose pairs go into a table
+
+-- A walk that reads no file: whatever becomes of the environment, it is where it is and has no new
+-- error, and its moves leave the environment as it is.
+pub record ReadsNoFile {E T W : Type 0} (walk : WalkGhosts W E T) : Type 0 where
+  pub stays_over : (from to : E) (tables : T) (it : W) (keys : KeyOrder) (pairs : List Pair)
+      → walk.over (from, tables) it keys pairs → walk.over (to, tables) it keys pairs
+  pub stays : (from to : E) (tables : T) (it : W) (keys : KeyOrder) (pairs : List Pair)
+      (position : Option ℕ) → walk.is_at (from, tables) it keys pairs position
+      → walk.is_at (to, tables) it keys pairs position
+  pub excuses : (from to : E) (tables : T) (it : W) (later : E × T) (status : Status)
+      → walk.fails (to, tables) it later status → walk.fails (from, tables) it later status
+  pub still : (from to : E × T) → walk.keeps from to → to.0 ≡ from.0
+
+-- a walk that was moved is over the same list, with no new error
+pub record StaysOver {E T W : Type 0} (walk : WalkGhosts W E T) (old_world : E × T) (old : W)
+    (new_world : E × T) (new : W) : Type 0 where
+  pub same : (keys : KeyOrder) (pairs : List Pair) → walk.over old_world old keys pairs
+      → walk.over new_world new keys pairs
+  pub excuses : (later : E × T) (status : Status) → walk.fails new_world new later status
+      → walk.fails old_world old later status
+
+-- an error that a walk may have in a world
+abbrev pub WalkFails : {E T W : Type 0} → WalkGhosts W E T → E × T → W → Status → Type 0
+WalkFails {E} {T} walk world it status = (later : E × T) × walk.fails world it later status
 
 -- ---- what a table is built with
 
@@ -143,15 +169,16 @@ choices_of cmp filters keys key_filters codings options = record {
 
 module _ {C FP : Type 0} {order : CmpGhosts C} {filters : FilterGhosts FP}
     (choices : TableChoices order filters) (pairs : List Pair) where
-  -- Why no table of the pairs is built in memory: out of memory; or a new builder of these choices
-  -- takes some of the pairs, and fails at the next one or at the end for a cause of its own.
+  -- Why no table of the pairs is built, whatever sink it is put into: out of memory; or a new builder
+  -- of these choices takes some of the pairs, and fails at the next one or at the end for a cause of
+  -- its own.
   abbrev pub IsNotTabled : Status → Type 0
   IsNotTabled status =
       IsOutOfMemory status
       ⊎ ((core : TableBuilt C FP)
       × IsNewBuilder order filters choices.cmp choices.policy choices.id choices.block_size
       choices.restarts core
-      × StopsInMemory order filters choices.format.codings core pairs status)
+      × StopsBuilding order filters choices.format.codings core pairs status)
 
   -- these bytes are the table that a builder of these choices makes of the pairs
   abbrev pub IsTableBuilt : List ℕ → Type 0
@@ -203,8 +230,8 @@ module _ {C FP : Type 0} {order : CmpGhosts C} {filters : FilterGhosts FP}
     pub bytes : IsTrue env.models_disk → AppendedAreBytes (env.observed old).disk.files
         → AppendedAreBytes (env.observed new).disk.files
     pub locks : SameLocks env.models_disk (env.observed old) (env.observed new)
-    -- Out of memory; or no table was built in memory or the walk failed, and no call was made; or
-    -- the device failed. Keys out of order are no cause: those of the walk rise.
+    -- Out of memory; or no table was built or the walk failed, and no failure was counted; or the
+    -- device failed. Keys out of order are no cause: those of the walk rise.
     pub cause : HasCause (λ status. IsOutOfMemory status
-        ⊎ ((IsNotTabled status ⊎ Fails status) × (new ≡ old)))
+        ⊎ ((IsNotTabled status ⊎ Fails status) × (env.failures new ≡ env.failures old)))
         (env.failures old) (env.failures new) result

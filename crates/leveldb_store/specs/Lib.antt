@@ -1,4 +1,5 @@
 pub mod BuildTable
+pub mod TableFile
 pub mod FoundLogs
 pub mod OpenStore
 pub mod OpenTables

@@ -91,11 +91,12 @@ module _ {E F C : Type 0} (env : Ghosts E F) (old : OpenStoreValue C) (from : E)
       ⊎ ((old.set.manifest ≡ broken) × IsWriterBroken status)
 
   -- Why the entries aren't in a table: the numbers of files are used up; out of memory; no table
-  -- was built of them, and no call was made; or the manifest is lost.
+  -- was built of them, and no failure was counted; or the manifest is lost.
   abbrev pub FailsToTableWaiting : {D FP : Type 0} {order : CmpGhosts D}
       {filters : FilterGhosts FP} → TableChoices order filters → List Pair → E → Status → Type 0
   FailsToTableWaiting choices pairs to status = AreFileNumbersUsedUp old.set.next_file status
-      ⊎ IsOutOfMemory status ⊎ (IsNotTabled choices pairs status × (to ≡ from))
+      ⊎ IsOutOfMemory status
+      ⊎ (IsNotTabled choices pairs status × (env.failures to ≡ env.failures from))
       ⊎ IsManifestLost to status
 
   -- The entries that waited are in a table, which the set has in the level that is picked for it;

@@ -5,3 +5,4 @@
 pub mod build;
 pub mod open_store;
 mod opening;
+mod table_file;

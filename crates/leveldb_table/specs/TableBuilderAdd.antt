@@ -1,5 +1,5 @@
 -- How a pair is added to a table builder, why that fails, and what an error leaves in the sink.
-use Rattle.std.specs.Prelude.{◌≡◌, ◌≢◌, ◌⊎◌, ℕ, ◌+◌, ◌/◌, ◌<◌, true, false, List, [], ◌∷◌, length, None, Result, Ok}
+use Rattle.std.specs.Prelude.{◌≡◌, ◌≢◌, ◌⊎◌, ℕ, ◌+◌, ◌/◌, ◌^◌, ◌<◌, true, false, List, [], ◌∷◌, length, None, Result, Ok}
 use Rattle.std.specs.declared.cmp.Ordering.{Ordering}
 use Rattle.leveldb_base.specs.BlockHandle.{Handle, handle_bytes}
 use Rattle.leveldb_base.specs.Types.{Pair}
@@ -131,6 +131,7 @@ module _ {C FP S : Type 0} (order : CmpGhosts C) (policy : PolicyGhosts FP) (cod
     pub room : (IsFull old → ⊥) → (stage new ≡ with_pair pair (stage old)) × (to ≡ from)
     pub last : last_of new ≡ pair.0
     pub count : new.count ≡ old.count + 1
+    pub counted : new.count < 2 ^ 64
     pub unbroken : (old.broken ≡ false) × (new.broken ≡ false)
 
   -- the pair wasn't added, and the builder is broken from then on

@@ -1,97 +1,98 @@
-use Rattle.std.proofs.Common.{◌≡◌, ◌+◌, ◌∙◌, inr, Some, None, ap, subst, sym, take}
+use Rattle.std.proofs.Common.{◌≡◌, ◌+◌, ◌∙◌, inl, inr, List, Some, None, Err, ap, arith, subst, sym, take}
 use Rattle.std.proofs.lemmas.Result.{err_from_is_err_and}
-use Rattle.leveldb_base.specs.Types.{IsPosition, Pair, next_position, pair_at}
+use Rattle.leveldb_base.specs.Types.{Pair, next_position, pair_at, position_within}
+use Rattle.leveldb_env.specs.EnvFile.{opened}
 use Rattle.leveldb_env.specs.contracts.compressor.CompressorListCompressors.TheImpl.{ghosts as compressors}
-use Rattle.leveldb_table.specs.BlockBuilder.{last_added}
-use Rattle.leveldb_store.specs.BuildTable.{HasTaken, passed}
-use Rattle.leveldb_store.proofs.BuildTableLemmas.{HasTaken-more, HasTaken-none, SameWalk-refl, SameWalk-trans, last_taken, next_accepted, next_rises, pair_passed, passed_first, unused_last, passed_next, taken_all}
+use Rattle.leveldb_iter.specs.Walk.{key_order}
+use Rattle.leveldb_table.specs.TableBuilder.{order_of}
+use Rattle.leveldb_store.specs.BuildTable.{passed}
+use Rattle.leveldb_store.specs.TableFile.{AddsAllToFile}
+use Rattle.leveldb_store.proofs.BuildTableLemmas.{added_so_far, adds_all-none, next_accepted, next_rises, not_added_so_far, pair_passed, passed_first, stays_beside, stays_over-none, stays_over-trans, taken_all, walk_failed_so_far}
 use Rattle.leveldb_store.proofs.build.add_pairs.Goals as goal
 
 pub adding-init : goal.adding-init
 adding-init g c =
     let codings = (compressors g.dyn-1).codings c.args.compressors.now in
-    let pairs = g.I.LdbIterator.pairs c.args.from.now in
-    let none = ap (passed pairs) c.requires.first ∙ passed_first pairs in
+    let start = opened c.args.env.now c.args.file.now in
     record {
-      same = SameWalk-refl c.args.from.now;
-      taken = subst (λ n. HasTaken g.C.Cmp g.FP.FilterPolicy codings g.S.Sink.puts c.args.core.now c.args.sink.now (take n pairs) c.args.core.now c.args.sink.now) (sym none)
-          (HasTaken-none codings g.S.Sink.puts c.args.core.now c.args.sink.now c.requires.unused.unbroken);
-      last = unused_last codings c.requires.unused ∙ sym (ap (λ n. last_added (take n pairs)) none);
-      count_is = c.requires.unused.none ∙ sym none;
+      same = stays_over-none g.W.Walk (c.args.env.now, c.args.tables.now) c.args.from.now;
+      so_far = λ pairs here. record {
+        position = position_within pairs 0;
+        here = here;
+        adds = subst (λ n. AddsAllToFile g.C.Cmp g.FP.FilterPolicy codings g.E.Env c.args.core.now start (take n pairs) c.args.core.now start) (sym (passed_first pairs)) (adds_all-none codings g.E.Env start c.requires.unused);
+        count_is = c.requires.unused.none ∙ sym (passed_first pairs);
+      };
     }
 
-pub add-requires-clause-accepted : goal.add-requires-clause-accepted
-add-requires-clause-accepted g c =
-    let so_far = c.adding.invariant in
-    let pairs = g.I.LdbIterator.pairs c.args.from.now in
-    let position = g.I.LdbIterator.position c.adding.from in
+pub add_pair-requires-clause-accepted : goal.add_pair-requires-clause-accepted
+add_pair-requires-clause-accepted g c =
+    let first = c.requires.first in
+    let s = c.adding.invariant.so_far first.0 first.1 in
+    let laws = g.met.W.Walk.laws in
+    let keys = key_order g.C.Cmp (order_of c.args.core.now) in
     let pair : Pair = (c.in-Some.key.now, c.in-Some.value.now) in
-    let here : Some pair ≡ pair_at pairs position = c.in-Some.ensures ∙ ap (λ ps. pair_at ps position) so_far.same.same_pairs in
-    λ unbroken. next_accepted g.C.Cmp pairs (passed pairs position) pair c.requires.pairs so_far.taken.choices (pair_passed pairs position pair here)
+    let here : Some pair ≡ pair_at first.0 s.position = c.in-Some.ensures ∙ laws.at_position (c.adding.env, c.adding.tables) c.adding.from keys first.0 s.position s.here in
+    let sorted = laws.sorted (c.adding.env, c.adding.tables) c.adding.from keys first.0 (laws.over_list (c.adding.env, c.adding.tables) c.adding.from keys first.0 s.position s.here) in
+    λ unbroken. next_accepted g.C.Cmp first.0 (passed first.0 s.position) pair (record { accepted = sorted.accepted; rising = sorted.rising }) s.adds.taken.choices (pair_passed first.0 s.position pair here)
 
-pub add-requires-clause-rising : goal.add-requires-clause-rising
-add-requires-clause-rising g c =
-    let so_far = c.adding.invariant in
-    let pairs = g.I.LdbIterator.pairs c.args.from.now in
-    let position = g.I.LdbIterator.position c.adding.from in
+pub add_pair-requires-clause-rising : goal.add_pair-requires-clause-rising
+add_pair-requires-clause-rising g c =
+    let first = c.requires.first in
+    let s = c.adding.invariant.so_far first.0 first.1 in
+    let laws = g.met.W.Walk.laws in
+    let keys = key_order g.C.Cmp (order_of c.args.core.now) in
     let pair : Pair = (c.in-Some.key.now, c.in-Some.value.now) in
-    let here : Some pair ≡ pair_at pairs position = c.in-Some.ensures ∙ ap (λ ps. pair_at ps position) so_far.same.same_pairs in
-    λ unbroken some. next_rises g.C.Cmp pairs (passed pairs position) pair c.requires.pairs so_far.taken.choices (pair_passed pairs position pair here) so_far.last so_far.count_is some
+    let here : Some pair ≡ pair_at first.0 s.position = c.in-Some.ensures ∙ laws.at_position (c.adding.env, c.adding.tables) c.adding.from keys first.0 s.position s.here in
+    let sorted = laws.sorted (c.adding.env, c.adding.tables) c.adding.from keys first.0 (laws.over_list (c.adding.env, c.adding.tables) c.adding.from keys first.0 s.position s.here) in
+    λ unbroken some. next_rises g.C.Cmp first.0 (passed first.0 s.position) pair (record { accepted = sorted.accepted; rising = sorted.rising }) s.adds.taken.choices (pair_passed first.0 s.position pair here) s.adds.last s.count_is some
 
-pub returns-in_err-add-clause-cause : goal.returns-in_err-add-clause-cause
-returns-in_err-add-clause-cause g c =
-    let so_far = c.adding.invariant in
-    let pairs = g.I.LdbIterator.pairs c.args.from.now in
-    let position = g.I.LdbIterator.position c.adding.from in
-    let pair : Pair = (c.in-Some.key.now, c.in-Some.value.now) in
-    let here : Some pair ≡ pair_at pairs position = c.in-Some.ensures ∙ ap (λ ps. pair_at ps position) so_far.same.same_pairs in
+pub returns-in_err-add_pair-clause-err : goal.returns-in_err-add_pair-clause-err
+returns-in_err-add_pair-clause-err g c = λ pairs at.
+    let s = c.adding.invariant.so_far pairs at in
     let failed = err_from_is_err_and c.from_residual.result c.from_residual.ensures.1 in
-    rw failed.1 (rw failed.2 (inr (record {
-      count = passed pairs position;
-      pair = pair;
-      next = pair_passed pairs position pair here;
-      mid = c.adding.core;
-      at = c.adding.sink;
-      taken = so_far.taken;
-      to = c.add.new.sink;
-      cause = c.in_err-add.ensures.err.cause;
-    })))
+    rw failed.1 (rw failed.2 (λ there. not_added_so_far g.W.Walk g.met.W.Walk.laws g.E.Env s c.in-Some.ensures c.in_err-add_pair.ensures.err there))
+
+pub returns-in_err-add_pair-clause-walk : goal.returns-in_err-add_pair-clause-walk
+returns-in_err-add_pair-clause-walk g c =
+    stays_over-trans g.W.Walk c.adding.invariant.same (stays_beside g.W.Walk c.requires.reads c.adding.env c.add_pair.new.env c.adding.tables c.adding.from)
+
+pub returns-in_err-advance-clause-err : goal.returns-in_err-advance-clause-err
+returns-in_err-advance-clause-err g c = λ pairs at.
+    let s = c.adding.invariant.so_far pairs at in
+    let moves = c.advance.ensures.moves in
+    let failed = err_from_is_err_and c.from_residual-in_err-advance.result c.from_residual-in_err-advance.ensures.1 in
+    let why = c.adding.invariant.same.excuses _ _ (c.requires.reads.excuses c.adding.env c.add_pair.new.env c.adding.tables c.adding.from _ _ c.in_err-advance.ensures.moves.cause) in
+    rw failed.1 (rw failed.2 (λ there. walk_failed_so_far g.E.Env s.adds c.in_ok-add_pair.ensures.ok (c.requires.reads.still _ _ moves.kept) (inr (_, why))))
+
+pub returns-in_err-advance-clause-walk : goal.returns-in_err-advance-clause-walk
+returns-in_err-advance-clause-walk g c =
+    let moves = c.advance.ensures.moves in
+    stays_over-trans g.W.Walk c.adding.invariant.same (stays_over-trans g.W.Walk (stays_beside g.W.Walk c.requires.reads c.adding.env c.add_pair.new.env c.adding.tables c.adding.from)
+    (record { same = moves.same; excuses = moves.excuses }))
 
 pub adding-preserved : goal.adding-preserved
 adding-preserved g c =
-    let so_far = c.adding.invariant in
-    let codings = (compressors g.dyn-1).codings c.args.compressors.now in
-    let pairs = g.I.LdbIterator.pairs c.args.from.now in
-    let position = g.I.LdbIterator.position c.adding.from in
-    let count = passed pairs position in
-    let pair : Pair = (c.in-Some.key.now, c.in-Some.value.now) in
-    let here : Some pair ≡ pair_at pairs position = c.in-Some.ensures ∙ ap (λ ps. pair_at ps position) so_far.same.same_pairs in
-    let there = pair_passed pairs position pair here in
-    let next : passed pairs (g.I.LdbIterator.position c.advance.new.self) ≡ count + 1 =
-    ap (passed pairs) (c.in_ok-advance.ensures.ok ∙ ap (λ ps. next_position ps position) so_far.same.same_pairs) ∙ passed_next pairs position pair here in
+    let moves = c.advance.ensures.moves in
     record {
-      same = SameWalk-trans so_far.same c.advance.ensures.keeps;
-      taken = subst (λ n. HasTaken g.C.Cmp g.FP.FilterPolicy codings g.S.Sink.puts c.args.core.now c.args.sink.now (take n pairs) c.add.new.self c.add.new.sink) (sym next)
-          (HasTaken-more codings g.S.Sink.puts pairs count pair there so_far.taken c.in_ok-add.ensures.ok c.add.ensures.choices);
-      last = last_taken codings g.S.Sink.puts pairs count pair there c.in_ok-add.ensures.ok ∙ ap (λ n. last_added (take n pairs)) (sym next);
-      count_is = c.in_ok-add.ensures.ok.count ∙ ap (λ n. n + 1) so_far.count_is ∙ sym next;
+      same = stays_over-trans g.W.Walk c.adding.invariant.same (stays_over-trans g.W.Walk (stays_beside g.W.Walk c.requires.reads c.adding.env c.add_pair.new.env c.adding.tables c.adding.from)
+          (record { same = moves.same; excuses = moves.excuses }));
+      so_far = λ pairs at.
+          let s = c.adding.invariant.so_far pairs at in
+          added_so_far g.W.Walk g.met.W.Walk.laws g.E.Env s c.in-Some.ensures c.in_ok-add_pair.ensures.ok c.add_pair.ensures.choices (c.requires.reads.still _ _ moves.kept)
+          (c.in_ok-advance.ensures.moves.ok _ pairs s.position (c.requires.reads.stays c.adding.env c.add_pair.new.env c.adding.tables c.adding.from _ pairs s.position s.here));
     }
 
-pub returns-clause-takes : goal.returns-clause-takes
-returns-clause-takes g c =
-    let so_far = c.adding.invariant in
-    let codings = (compressors g.dyn-1).codings c.args.compressors.now in
-    let pairs = g.I.LdbIterator.pairs c.args.from.now in
-    let position = g.I.LdbIterator.position c.adding.from in
-    let within : IsPosition pairs position = subst (λ ps. IsPosition ps position) so_far.same.same_pairs (g.met.I.LdbIterator.in_range c.adding.from) in
-    let none : None ≡ pair_at pairs position = c.in_default.ensures ∙ ap (λ ps. pair_at ps position) so_far.same.same_pairs in
-    subst (λ ps. HasTaken g.C.Cmp g.FP.FilterPolicy codings g.S.Sink.puts c.args.core.now c.args.sink.now ps c.adding.core c.adding.sink) (taken_all pairs position within none) so_far.taken
+pub adding-smaller : goal.adding-smaller
+adding-smaller g c =
+    let one = c.in_ok-add_pair.ensures.ok in
+    omega (arith, one.count, one.counted)
 
-pub returns-clause-last : goal.returns-clause-last
-returns-clause-last g c =
-    let so_far = c.adding.invariant in
-    let pairs = g.I.LdbIterator.pairs c.args.from.now in
-    let position = g.I.LdbIterator.position c.adding.from in
-    let within : IsPosition pairs position = subst (λ ps. IsPosition ps position) so_far.same.same_pairs (g.met.I.LdbIterator.in_range c.adding.from) in
-    let none : None ≡ pair_at pairs position = c.in_default.ensures ∙ ap (λ ps. pair_at ps position) so_far.same.same_pairs in
-    so_far.last ∙ ap last_added (taken_all pairs position within none)
+pub returns-clause-ok : goal.returns-clause-ok
+returns-clause-ok g c = λ pairs at.
+    let codings = (compressors g.dyn-1).codings c.args.compressors.now in
+    let s = c.adding.invariant.so_far pairs at in
+    let laws = g.met.W.Walk.laws in
+    let keys = key_order g.C.Cmp (order_of c.args.core.now) in
+    let none : None ≡ pair_at pairs s.position = c.in_default.ensures ∙ laws.at_position (c.adding.env, c.adding.tables) c.adding.from keys pairs s.position s.here in
+    subst (λ ps. AddsAllToFile g.C.Cmp g.FP.FilterPolicy codings g.E.Env c.args.core.now (opened c.args.env.now c.args.file.now) ps c.adding.core (opened c.adding.env c.adding.file))
+    (taken_all pairs s.position (laws.in_range (c.adding.env, c.adding.tables) c.adding.from keys pairs s.position s.here) none) s.adds

@@ -1,46 +1,98 @@
-use Rattle.std.proofs.Common.{◌≡◌, ◌∙◌, inl, inr, ⊎_elim, [], arith, refl}
+use Rattle.std.proofs.Common.{◌≡◌, ◌∙◌, inl, inr, subst, sym, refl, None, Some}
 use Rattle.std.proofs.lemmas.Result.{err_from_is_err_and}
-use Rattle.leveldb_base.specs.contracts.cmp.internal.InternalKeyCmpCmp.TheImpl.{ghosts as key_order}
+use Rattle.leveldb_base.specs.Types.{Pair, pair_at, position_within}
+use Rattle.leveldb_base.specs.contracts.cmp.internal.InternalKeyCmpCmp.TheImpl.{ghosts as key_cmp}
+use Rattle.leveldb_env.specs.Env.{AreBytes}
 use Rattle.leveldb_env.specs.contracts.compressor.CompressorListCompressors.TheImpl.{ghosts as compressors}
 use Rattle.leveldb_env.specs.contracts.filter.internal.InternalFilterPolicyFilterPolicy.TheImpl.{ghosts as key_policy}
+use Rattle.leveldb_iter.specs.Walk.{key_order}
 use Rattle.leveldb_version.specs.Paths.{table_path}
-use Rattle.leveldb_store.specs.BuildTable.{IsTableBuilt, choices_of}
-use Rattle.leveldb_store.proofs.BuildTableLemmas.{IsTableUnder-same, MakesTable-before, MakesTable-done, MakesTable-failed, MakesTable-none, built_of_store, first_some}
+use Rattle.leveldb_version.specs.Store.{IsFirstKey}
+use Rattle.leveldb_store.specs.BuildTable.{choices_of}
+use Rattle.leveldb_store.proofs.BuildTableLemmas.{MakesTable-before, MakesTable-done, MakesTable-failed, MakesTable-none, built_of_store, first_key_is, first_some, none_first, stays_over-none, stays_over-trans, written_why}
 use Rattle.leveldb_store.proofs.build.build_table.Goals as goal
 
-pub returns-in_err-table-clause-makes : goal.returns-in_err-table-clause-makes
-returns-in_err-table-clause-makes g c =
-    let failed = err_from_is_err_and c.from_residual-in_err-table.result c.from_residual-in_err-table.ensures.1 in
-    let new = rw c.new-policy.ensures at c.under-core.ensures in
-    rw failed.1 (rw failed.2 (MakesTable-before _ _ g.E.Env _ c.args.store.now c.args.number c.args.env.now _
-    (⊎_elim (λ memory. inl memory) (λ other. inr (⊎_elim (λ walk. inr walk) (λ stops. inl (inr (c.under-core.result, new, stops))) other)) c.in_err-table.ensures.cause)))
+-- there is no path
+pub returns-in_err-path-clause-makes : goal.returns-in_err-path-clause-makes
+returns-in_err-path-clause-makes g c = λ pairs over.
+    let failed = err_from_is_err_and c.from_residual.result c.from_residual.ensures.1 in
+    rw failed.1 (rw failed.2 (MakesTable-before _ pairs g.E.Env _ c.args.store.now c.args.number refl (inl c.in_err-path.ensures.cause)))
+
+pub returns-in_err-path-clause-walk : goal.returns-in_err-path-clause-walk
+returns-in_err-path-clause-walk g c = stays_over-none g.W.Walk (c.args.env.now, c.args.tables.now) c.args.from.now
+
+-- the walk isn't at its first pair, or has none
+pub returns-in_err-seek_to_first-clause-makes : goal.returns-in_err-seek_to_first-clause-makes
+returns-in_err-seek_to_first-clause-makes g c = λ pairs over.
+    let moves = c.seek_to_first.ensures.moves in
+    let failed = err_from_is_err_and c.from_residual-in_err-seek_to_first.result c.from_residual-in_err-seek_to_first.ensures.1 in
+    rw failed.1 (rw failed.2 (MakesTable-before _ pairs g.E.Env _ c.args.store.now c.args.number (c.requires.reads.still _ _ moves.kept) (inr (_, c.in_err-seek_to_first.ensures.moves.cause))))
+
+pub returns-in_err-seek_to_first-clause-walk : goal.returns-in_err-seek_to_first-clause-walk
+returns-in_err-seek_to_first-clause-walk g c = let moves = c.seek_to_first.ensures.moves in record { same = moves.same; excuses = moves.excuses }
 
 pub returns-in_default-clause-makes : goal.returns-in_default-clause-makes
-returns-in_default-clause-makes g c =
-    let empty : g.I.LdbIterator.pairs c.args.from.now ≡ [] = rw c.in_default.is at c.in_ok-table.ensures.none in
-    MakesTable-none _ _ g.E.Env _ c.args.store.now c.args.number c.args.env.now _ empty c.ranges.number.fits refl c.default.ensures.0 c.default.ensures.2 c.default.ensures.3 c.default.ensures.4
+returns-in_default-clause-makes g c = λ pairs over.
+    let moves = c.seek_to_first.ensures.moves in
+    let keys = key_order (key_cmp g.row.C g.C.UserCmp g.C.UserCmp-dict g.C.Cmp g.C.Cmp-dict) (record { 0 = c.args.options.now.cmp }) in
+    let at = c.in_ok-seek_to_first.ensures.moves.ok keys pairs None over in
+    let none = none_first pairs (c.in_default.ensures ∙ g.met.W.Walk.laws.at_position (c.seek_to_first.new.env, c.seek_to_first.new.tables) c.seek_to_first.new.self keys pairs (position_within pairs 0) at) in
+    MakesTable-none _ pairs g.E.Env _ c.args.store.now c.args.number _ (c.requires.reads.still _ _ moves.kept) none c.ranges.number.fits refl c.default.ensures.0 c.default.ensures.2 c.default.ensures.3 c.default.ensures.4
 
-pub returns-in_err-write_synced-clause-makes : goal.returns-in_err-write_synced-clause-makes
-returns-in_err-write_synced-clause-makes g c =
-    let failed = err_from_is_err_and c.from_residual-in_err-write_synced.result c.from_residual-in_err-write_synced.ensures.1 in
-    let table = rw c.in-Some.is at c.in_ok-table.ensures.some in
-    let named : c.deref.result.now ≡ table_path c.args.store.now c.args.number = c.deref.ensures ∙ c.in_ok-path.ensures.ok in
-    rw failed.1 (rw failed.2 (MakesTable-failed _ _ g.E.Env _ c.args.store.now c.args.number (first_some table.1) c.deref.result.now c.deref-2.result.now named c.in_err-write_synced.ensures.locks c.in_err-write_synced.ensures.bytes _
-    c.in_err-write_synced.ensures.does c.in_err-write_synced.ensures.cause))
+pub returns-in_default-clause-walk : goal.returns-in_default-clause-walk
+returns-in_default-clause-walk g c = let moves = c.seek_to_first.ensures.moves in record { same = moves.same; excuses = moves.excuses }
+
+pub returns-in_err-smallest-clause-makes : goal.returns-in_err-smallest-clause-makes
+returns-in_err-smallest-clause-makes g c = λ pairs over.
+    let moves = c.seek_to_first.ensures.moves in
+    let failed = err_from_is_err_and c.from_residual-in_err-smallest.result c.from_residual-in_err-smallest.ensures.1 in
+    rw failed.1 (rw failed.2 (MakesTable-before _ pairs g.E.Env _ c.args.store.now c.args.number (c.requires.reads.still _ _ moves.kept) (inl c.in_err-smallest.ensures.memory)))
+
+pub returns-in_err-smallest-clause-walk : goal.returns-in_err-smallest-clause-walk
+returns-in_err-smallest-clause-walk g c = let moves = c.seek_to_first.ensures.moves in record { same = moves.same; excuses = moves.excuses }
+
+-- the builder is new, and the walk is at its first pair
+pub write_table-requires-clause-first : goal.write_table-requires-clause-first
+write_table-requires-clause-first g c =
+    let keys = key_order (key_cmp g.row.C g.C.UserCmp g.C.UserCmp-dict g.C.Cmp g.C.Cmp-dict) (record { 0 = c.args.options.now.cmp }) in
+    let over = c.requires.over in
+    (over.0, rw c.under-core.ensures.order (c.in_ok-seek_to_first.ensures.moves.ok keys over.0 None over.1))
+
+pub returns-in_err-size-clause-makes : goal.returns-in_err-size-clause-makes
+returns-in_err-size-clause-makes g c = λ pairs over.
+    let keys = key_order (key_cmp g.row.C g.C.UserCmp g.C.UserCmp-dict g.C.Cmp g.C.Cmp-dict) (record { 0 = c.args.options.now.cmp }) in
+    let moves = c.seek_to_first.ensures.moves in
+    let at = c.in_ok-seek_to_first.ensures.moves.ok keys pairs None over in
+    let first : Some (c.in-Some.first.now, c.in-Some.field-0-1.now) ≡ pair_at pairs (position_within pairs 0) = c.in-Some.ensures ∙ g.met.W.Walk.laws.at_position (c.seek_to_first.new.env, c.seek_to_first.new.tables) c.seek_to_first.new.self keys pairs (position_within pairs 0) at in
+    let new = rw c.new-policy.ensures at c.under-core.ensures in
+    let cause = c.in_err-size.ensures.cause pairs (rw c.under-core.ensures.order at) in
+    let named = c.deref.ensures ∙ c.in_ok-path.ensures.ok in
+    let failed = err_from_is_err_and c.from_residual-in_err-size.result c.from_residual-in_err-size.ensures.1 in
+    let key_filters = key_policy g.row.FP g.FP.FilterPolicy g.FP.FilterPolicy-dict in
+    let choices = choices_of g.C.Cmp g.FP.FilterPolicy (key_cmp g.row.C g.C.UserCmp g.C.UserCmp-dict g.C.Cmp g.C.Cmp-dict) key_filters (compressors g.dyn-2).codings c.args.options.now in
+    rw failed.1 (rw failed.2 (MakesTable-failed choices pairs g.E.Env _ c.args.store.now c.args.number (first_some (first_key_is pairs _ first)) _ named (c.requires.reads.still _ _ moves.kept) c.write_table.ensures.changes _
+    (written_why choices pairs new (λ status failed. (failed.0, moves.excuses failed.0 status failed.1)) cause)))
+
+pub returns-in_err-size-clause-walk : goal.returns-in_err-size-clause-walk
+returns-in_err-size-clause-walk g c = let moves = c.seek_to_first.ensures.moves in stays_over-trans g.W.Walk (record { same = moves.same; excuses = moves.excuses }) c.write_table.ensures.walk
 
 pub returns-clause-makes : goal.returns-clause-makes
-returns-clause-makes g c =
+returns-clause-makes g c = λ pairs over.
     let cmp = c.args.options.now.cmp in
-    let keys = key_order g.row.C g.C.UserCmp g.C.UserCmp-dict g.C.Cmp g.C.Cmp-dict in
+    let keys = key_order (key_cmp g.row.C g.C.UserCmp g.C.UserCmp-dict g.C.Cmp g.C.Cmp-dict) (record { 0 = cmp }) in
     let key_filters = key_policy g.row.FP g.FP.FilterPolicy g.FP.FilterPolicy-dict in
-    let choices = choices_of g.C.Cmp g.FP.FilterPolicy keys key_filters (compressors g.dyn-2).codings c.args.options.now in
-    let pairs = g.I.LdbIterator.pairs c.args.from.now in
-    let table = rw c.in-Some.is at c.in_ok-table.ensures.some in
-    let keys_are = rw c.in-Some.is at c.in_ok-table.ensures.keys in
+    let choices = choices_of g.C.Cmp g.FP.FilterPolicy (key_cmp g.row.C g.C.UserCmp g.C.UserCmp-dict g.C.Cmp g.C.Cmp-dict) key_filters (compressors g.dyn-2).codings c.args.options.now in
+    let moves = c.seek_to_first.ensures.moves in
+    let at = c.in_ok-seek_to_first.ensures.moves.ok keys pairs None over in
+    let first : Some (c.in-Some.first.now, c.in-Some.field-0-1.now) ≡ pair_at pairs (position_within pairs 0) = c.in-Some.ensures ∙ g.met.W.Walk.laws.at_position (c.seek_to_first.new.env, c.seek_to_first.new.tables) c.seek_to_first.new.self keys pairs (position_within pairs 0) at in
+    let smallest = subst (λ k. IsFirstKey k pairs) (sym c.in_ok-smallest.ensures.ok) (first_key_is pairs _ first) in
     let new = rw c.new-policy.ensures at c.under-core.ensures in
-    let named : c.deref.result.now ≡ table_path c.args.store.now c.args.number = c.deref.ensures ∙ c.in_ok-path.ensures.ok in
-    let built : IsTableBuilt choices pairs c.in-Some.table.bytes.items = IsTableUnder-same keys key_filters choices.format.codings new.order new.policy new.compressor new.interval.0 new.interval.1 table.0 in
-    rw c.len.ensures (MakesTable-done choices pairs g.E.Env _ c.args.store.now c.args.number (first_some table.1) c.deref.result.now c.in-Some.table.bytes.items named c.in_ok-write_synced.ensures.locks c.in_ok-write_synced.ensures.bytes
-    c.in-Some.table.smallest c.in-Some.table.largest _ c.ranges.number.fits (omega (arith, c.in-Some.table.bytes.ok.0)) keys_are c.in-Some.table.bytes.ok.0 (rw c.deref-2.ensures.value at c.in_ok-write_synced.ensures.does) c.in_ok-write_synced.ensures.cause built table.1 table.2
+    let writes = c.in_ok-size.ensures.writes pairs (rw c.under-core.ensures.order at) in
+    let named = c.deref.ensures ∙ c.in_ok-path.ensures.ok in
+    MakesTable-done choices pairs g.E.Env _ c.args.store.now c.args.number (first_some smallest) _ named (c.requires.reads.still _ _ moves.kept) c.write_table.ensures.changes
+    c.ranges.number.fits (subst AreBytes (sym c.in_ok-smallest.ensures.ok) c.in_ok-smallest.ensures.bytes) new writes smallest
     (λ read is_built meaning known. built_of_store _ (g.met.C.Cmp.preorder cmp) (g.met.C.UserCmp.accepts_all cmp) (g.met.C.UserCmp.exact cmp) (g.C.Cmp.shortest_sep cmp) (g.met.C.Cmp.separates cmp)
-    (g.FP.FilterPolicy.matches c.args.options.now.filter_policy) is_built meaning known))
+    (g.FP.FilterPolicy.matches c.args.options.now.filter_policy) is_built meaning known)
+
+pub returns-clause-walk : goal.returns-clause-walk
+returns-clause-walk g c = let moves = c.seek_to_first.ensures.moves in stays_over-trans g.W.Walk (record { same = moves.same; excuses = moves.excuses }) c.write_table.ensures.walk

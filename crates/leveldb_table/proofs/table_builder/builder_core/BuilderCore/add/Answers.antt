@@ -146,5 +146,6 @@ returns-clause-ok g c =
           ];
       last = rw (c.in_ok-add.ensures.ok.0.pairs) (last_pushed (pairs_of None mid.block.entries) (c.args.key.now, c.args.value.now));
       count = search rules;
+      counted = search rules;
       unbroken = search rules;
     })

@@ -1,0 +1,15 @@
+use Rattle.std.proofs.Common.{rules}
+use Rattle.std.proofs.lemmas.Result.{MatchResult-weaker}
+use Rattle.leveldb_env.proofs.EnvFileLemmas.{ends_as}
+use Rattle.leveldb_env.specs.contracts.compressor.CompressorListCompressors.TheImpl.{ghosts as compressors}
+use Rattle.leveldb_store.proofs.TableFileLemmas.{finished_borrowed, not_finished_borrowed}
+use Rattle.leveldb_store.proofs.table_file.finish_table.Goals as goal
+
+pub returns-clause-ok : goal.returns-clause-ok
+returns-clause-ok g c = MatchResult-weaker c.finish.result c.finish.ensures.ok
+    (λ size finished. ends_as (finished_borrowed g.C.Cmp g.FP.FilterPolicy ((compressors g.dyn-1).codings c.args.compressors.now) g.E.Env finished) (search rules) (search rules))
+    (λ status none. tt)
+
+pub returns-clause-err : goal.returns-clause-err
+returns-clause-err g c = MatchResult-weaker c.finish.result c.finish.ensures.cause (λ size none. tt)
+    (λ status failed. ends_as (not_finished_borrowed g.C.Cmp g.FP.FilterPolicy ((compressors g.dyn-1).codings c.args.compressors.now) g.E.Env c.args.core failed) (search rules) (search rules))
