@@ -26,6 +26,10 @@ tag sequence kind = sequence * 256 + type_number kind
 abbrev pub internal_key : List ℕ → ℕ → ValueType → List ℕ
 internal_key user sequence kind = user ++ little 8 (tag sequence kind)
 
+-- a user's key is longer than the greatest length
+abbrev pub IsLongKey : List ℕ → Type 0
+IsLongKey key = 2 ^ 30 < length key
+
 -- the user's key of an internal key
 abbrev pub user_part : List ℕ → List ℕ
 user_part key = take (length key - 8) key

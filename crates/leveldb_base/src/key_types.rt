@@ -4,13 +4,13 @@
 //! An internal key is the user's key and eight bytes of `sequence << 8 | type`, the lowest first. A
 //! look-up key is an internal key after its length, and a memtable key is that and the value after
 //! its length.
-ghost use Rattle.std.specs.Prelude.{◌≡◌, ◌+◌, ◌/◌, ◌%◌, ◌^◌, ◌<◌, ◌≤◌, ◌⊎◌, ℕ, List, [], ◌++◌, Option, Some, IfOk, IfErr, length, drop, vec_len};
+ghost use Rattle.std.specs.Prelude.{◌≡◌, ◌+◌, ◌/◌, ◌%◌, ◌^◌, ◌<◌, ◌≤◌, ◌⊎◌, ℕ, List, [], ◌++◌, Option, Some, IfOk, IfErr, OnOk, length, drop, vec_len};
 ghost use Rattle.leveldb_base.specs.Error.{IsOutOfMemory};
 ghost use Rattle.leveldb_base.specs.Varint.{little, varint, sized};
-ghost use Rattle.leveldb_base.specs.KeyTypes.{type_from, tag, internal_key, user_part, tag_part, sequence_part, type_part, memtable_key, internal_cmp, memtable_cmp, front_key, after_user_key, SplitsInto, IsMemtableKey, offsets_of};
+ghost use Rattle.leveldb_base.specs.KeyTypes.{type_from, tag, internal_key, user_part, tag_part, sequence_part, type_part, memtable_key, internal_cmp, memtable_cmp, front_key, after_user_key, SplitsInto, IsMemtableKey, IsLongKey, offsets_of};
 
 use crate::cmp::Cmp;
-use crate::error::{Result, Status};
+use crate::error::{Result, Status, StatusCode, err};
 use crate::types::SequenceNumber;
 use crate::varint::{encode_varint64, get_length_prefixed_slice, get_varint64};
 use byteorder::{ByteOrder, LittleEndian};
@@ -35,6 +35,25 @@ pub type InternalKey<'a> = &'a [u8];
 
 /// An internal key after its length, and a value after its length where it is an entry's.
 pub type MemtableKey<'a> = &'a [u8];
+
+/// The greatest length of a user's key, in bytes.
+pub const MAX_KEY_SIZE: usize = 1 << 30;
+
+/// Checks the length of a user's key: one of more than `MAX_KEY_SIZE` bytes is `InvalidArgument`.
+pub fn check_key_size(alloc: Global, key: UserKey<'_>) -> Result<()>
+    ensures ok { OnOk result (IsLongKey key.now → ⊥) }
+    ensures long { IfErr result
+        (λ status. (status.code ≡ StatusCode.InvalidArgument) × IsLongKey key.now) }
+{
+    if key.len() > MAX_KEY_SIZE {
+        return err(
+            alloc,
+            StatusCode::InvalidArgument,
+            "a key has at most 2^30 bytes",
+        );
+    }
+    Ok(())
+}
 
 /// A key to look up as of a sequence number. Clauses see it as its internal key.
 #[derive(Clone, Debug, Drop)]

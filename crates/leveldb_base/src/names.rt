@@ -13,8 +13,8 @@ use std::alloc::Global;
 pub fn parse_file_name(alloc: Global, name: &str) -> Result<(FileNum, FileType)>
     ensures { ReadsName name.now result }
 {
-    match read_name(name) {
-        Some(found) => Ok(found),
+    match file_name_parts(name) {
+        Some(parts) => Ok(parts),
         None => err(
             alloc,
             StatusCode::InvalidArgument,
@@ -23,10 +23,11 @@ pub fn parse_file_name(alloc: Global, name: &str) -> Result<(FileNum, FileType)>
     }
 }
 
-// The number and the type of a store's file by its name.
-fn read_name(name: &str) -> Option<(FileNum, FileType)>
+/// The number and the type of a store's file by its name, as `parse_file_name`, or none for any
+/// other name.
+pub fn file_name_parts(name: &str) -> Option<(FileNum, FileType)>
     ensures { MatchOption result ((n : ℕ) (kind : FileType) → IsFileName name.now n kind → ⊥)
-        (λ found. IsFileName name.now found.0 found.1) }
+        (λ parts. IsFileName name.now parts.0 parts.1) }
 {
     if let Some(kind) = read_word(name) {
         return Some((0, kind));
@@ -80,6 +81,32 @@ fn read_number(digits: &str) -> Option<FileNum>
         return None;
     }
     digits.parse().ok()
+}
+
+/// The path of the file that names the manifest.
+pub fn current_file_name(alloc: Global, store: &str) -> Result<String>
+    ensures ok { IfOk result (λ name. string_bytes name ≡ file_path store.now FileType.Current 0) }
+    ensures cause { IfErr result IsOutOfMemory }
+{
+    Ok(format!(in alloc; "{store}/CURRENT")?)
+}
+
+/// The path of a manifest.
+pub fn manifest_file_name(alloc: Global, store: &str, number: FileNum) -> Result<String>
+    ensures ok { IfOk result (λ name.
+        string_bytes name ≡ file_path store.now FileType.Descriptor number) }
+    ensures cause { IfErr result IsOutOfMemory }
+{
+    Ok(format!(in alloc; "{store}/MANIFEST-{number:06}")?)
+}
+
+/// The path of a temporary file, which is written before it gets its name.
+pub fn temp_file_name(alloc: Global, store: &str, number: FileNum) -> Result<String>
+    ensures ok { IfOk result (λ name.
+        string_bytes name ≡ file_path store.now FileType.Temp number) }
+    ensures cause { IfErr result IsOutOfMemory }
+{
+    Ok(format!(in alloc; "{store}/{number:06}.dbtmp")?)
 }
 
 /// The path of a log.

@@ -1,8 +1,9 @@
 -- Moves of a walk, one after another, and where each of them leads.
-use Rattle.std.specs.Prelude.{◌≡◌, ◌⊎◌, ◌<◌, ◌^◌, ℕ, true, List, [], ◌∷◌, Option, Some, None, length}
+use Rattle.std.specs.Prelude.{◌≡◌, ◌⊎◌, ℕ, true, List, [], ◌∷◌, Option, Some, None}
 use Rattle.leveldb_base.specs.declared.error.Status.{Status}
 use Rattle.leveldb_base.specs.declared.error.StatusCode.TheVariants.{InvalidArgument}
 use Rattle.leveldb_base.specs.Error.{IsOutOfMemory}
+use Rattle.leveldb_base.specs.KeyTypes.{IsLongKey}
 use Rattle.leveldb_base.specs.Types.{Pair, pair_at, position_within, next_position, previous_position, seek_position}
 use Rattle.leveldb_iter.specs.declared.moves.Move.{Move}
 use Rattle.leveldb_iter.specs.declared.moves.Move.TheVariants.{First, Next, Prev, Seek}
@@ -13,7 +14,7 @@ use Rattle.leveldb_iter.specs.Walk.{KeyOrder, Way}
 
 -- the key that a move seeks is longer than the greatest length
 abbrev pub SeeksLongKey : Move → Type 0
-SeeksLongKey (Seek key) = 2 ^ 30 < length key.items
+SeeksLongKey (Seek key) = IsLongKey key.items
 SeeksLongKey one = ⊥
 
 -- the order accepts the key that a move seeks

@@ -1,15 +1,14 @@
 //! Lists of moves of a walk, and where each of them leads.
-ghost use Rattle.std.specs.Prelude.{◌≡◌, ◌≤◌, ◌+◌, ◌++◌, ◌↔◌, IsTrue, List, length, vec_len, vec_capacity};
+ghost use Rattle.std.specs.Prelude.{◌≡◌, ◌≤◌, ◌+◌, ◌++◌, IfErr, List, OnOk, length, vec_len, vec_capacity};
+ghost use Rattle.leveldb_base.specs.declared.error.StatusCode.TheVariants.{InvalidArgument};
 ghost use Rattle.leveldb_iter.specs.Moves.{SeeksLongKey, AcceptsKeyOf, position_moved, MovesTo, MovesAll};
 ghost use Rattle.leveldb_iter.specs.Walk.{MovesWalk};
 
 use crate::walk::Walk;
 use crate::walk_iter::copy_pair;
-use leveldb_base::error::{Result, Status, StatusCode};
+use leveldb_base::error::{Result, Status};
+use leveldb_base::key_types::check_key_size;
 use std::alloc::Global;
-
-/// The greatest length of a key that is sought, in bytes.
-const MAX_KEY_SIZE: usize = 1 << 30;
 
 /// A move of a walk.
 #[derive(Debug, Drop)]
@@ -36,13 +35,15 @@ pub enum Step {
 }
 
 impl Move {
-    // Whether it seeks a key that is longer than the greatest length.
-    fn seeks_long_key(&self) -> bool
-        ensures { IsTrue result ↔ SeeksLongKey self.now }
+    // Checks the length of the key that it seeks, if it does.
+    fn check_key(&self, alloc: Global) -> Result<()>
+        ensures ok { OnOk result (SeeksLongKey self.now → ⊥) }
+        ensures long { IfErr result
+            (λ status. (status.code ≡ InvalidArgument) × SeeksLongKey self.now) }
     {
         match self {
-            Move::Seek(key) => key.len() > MAX_KEY_SIZE,
-            _ => false,
+            Move::Seek(key) => check_key_size(alloc, key),
+            _ => Ok(()),
         }
     }
 }
@@ -79,13 +80,9 @@ pub fn make_move<E, T, W: Walk<E, T>>(
     ensures { MovesTo W.Walk one.now (env.old, tables.old) walk.old result (env.new, tables.new)
         walk.new }
 {
-    if one.seeks_long_key() {
+    if let Err(status) = one.check_key(alloc) {
         walk.reset();
-        return Step::Refused(Status::new(
-            alloc,
-            StatusCode::InvalidArgument,
-            "a key has at most 2^30 bytes",
-        ));
+        return Step::Refused(status);
     }
     if let Err(status) = lead(walk, env, tables, one) {
         return Step::Refused(status);

@@ -1,7 +1,7 @@
 use Rattle.std.proofs.Common.{sym, ◌∙◌, ap, ◌++◌}
 use Rattle.std.specs.Prelude.{codes}
 use Rattle.leveldb_base.proofs.NamesLemmas.{manifest_without_number, undotted, unknown_extension, unnumbered}
-use Rattle.leveldb_base.proofs.names.read_name.Goals as goal
+use Rattle.leveldb_base.proofs.names.file_name_parts.Goals as goal
 
 pub returns-in_err-read_number : goal.returns-in_err-read_number
 returns-in_err-read_number c =
