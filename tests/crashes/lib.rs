@@ -9,6 +9,8 @@ mod lives;
 #[cfg(test)]
 mod program;
 #[cfg(test)]
+mod real_files;
+#[cfg(test)]
 mod replies;
 #[cfg(test)]
 mod rows;

@@ -133,9 +133,9 @@ struct Ending {
 }
 
 /// Runs the program with these arguments, this input and this output, and returns its status and what it wrote of an error.
-fn run_into<R: Read, W: Write>(
+fn run_into<E: Env, R: Read, W: Write>(
     alloc: Global,
-    env: &mut MemEnv,
+    env: &mut E,
     words: &[&str],
     input: &mut R,
     out: &mut W,
@@ -150,9 +150,9 @@ fn run_into<R: Read, W: Write>(
 }
 
 /// Runs the program with these arguments and this input.
-fn run_program<R: Read>(
+fn run_program<E: Env, R: Read>(
     alloc: Global,
-    env: &mut MemEnv,
+    env: &mut E,
     words: &[&str],
     input: &mut R,
 ) -> io::Result<Ending> {
@@ -168,9 +168,9 @@ fn assert_ending(rt: &impl Abort, ending: &Ending, status: u8, out: &[u8], err: 
 }
 
 /// Runs the program over this disk, with input that is text, and compares how it ends.
-pub fn assert_run(
+pub fn assert_run<E: Env>(
     rt: &impl Abort,
-    env: &mut MemEnv,
+    env: &mut E,
     alloc: Global,
     words: &[&str],
     text: &[u8],

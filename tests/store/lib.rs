@@ -19,10 +19,16 @@ mod open_tables;
 #[cfg(test)]
 mod openings;
 #[cfg(test)]
+mod real_folders;
+#[cfg(test)]
 mod refusals;
 #[cfg(test)]
 mod rooms;
 #[cfg(test)]
+mod sinks;
+#[cfg(test)]
 mod snapshot_calls;
 #[cfg(test)]
 mod stores;
+#[cfg(test)]
+mod theirs;

@@ -1,0 +1,80 @@
+// Makes the small stores that crates' tests read, with C++ LevelDB: its library and headers are libleveldb-dev and libsnappy-dev on Debian.
+//
+//     c++ -std=c++17 make.cc -lleveldb -lsnappy -lpthread -o make
+//     ./make plain FOLDER     a store without compression: a table in level 2, one above it, and a log
+//     ./make snappy FOLDER    a store of one table, whose block is compressed
+#include <cstdio>
+#include <cstdlib>
+#include <memory>
+#include <string>
+
+#include "leveldb/db.h"
+#include "leveldb/filter_policy.h"
+#include "leveldb/write_batch.h"
+
+namespace {
+
+void Check(const leveldb::Status& status) {
+  if (!status.ok()) {
+    std::fprintf(stderr, "make: %s\n", status.ToString().c_str());
+    std::exit(1);
+  }
+}
+
+std::unique_ptr<leveldb::DB> Open(const char* folder, const leveldb::Options& options) {
+  leveldb::DB* db = nullptr;
+  Check(leveldb::DB::Open(options, folder, &db));
+  return std::unique_ptr<leveldb::DB>(db);
+}
+
+std::string KeyOf(int number) {
+  char key[8];
+  std::snprintf(key, sizeof key, "key%02d", number);
+  return key;
+}
+
+// Each opening makes a table of what the last one left in its log.
+void MakePlain(const char* folder, const leveldb::Options& options) {
+  leveldb::WriteOptions write;
+  {
+    auto db = Open(folder, options);
+    for (int number = 0; number < 20; ++number) Check(db->Put(write, KeyOf(number), "old " + KeyOf(number)));
+    db->CompactRange(nullptr, nullptr);
+    Check(db->Delete(write, "key03"));
+    Check(db->Put(write, "key05", "new key05"));
+    Check(db->Put(write, "", ""));
+  }
+  auto db = Open(folder, options);
+  leveldb::WriteBatch batch;
+  batch.Put("key07", "newest key07");
+  batch.Delete("key05");
+  batch.Put("zz", std::string(3, '\0'));
+  write.sync = true;
+  Check(db->Write(write, &batch));
+  write.sync = false;
+  Check(db->Put(write, "key20", "in the log"));
+}
+
+void MakeSnappy(const char* folder, const leveldb::Options& options) {
+  {
+    auto db = Open(folder, options);
+    Check(db->Put(leveldb::WriteOptions(), "a", std::string(100, 'a')));
+    Check(db->Put(leveldb::WriteOptions(), "b", std::string(100, 'b')));
+  }
+  Open(folder, options);
+}
+
+}  // namespace
+
+int main(int argc, char** argv) {
+  std::string kind = argc == 3 ? argv[1] : "";
+  std::unique_ptr<const leveldb::FilterPolicy> policy(leveldb::NewBloomFilterPolicy(10));
+  leveldb::Options options;
+  options.create_if_missing = true;
+  options.filter_policy = policy.get();
+  options.compression = kind == "snappy" ? leveldb::kSnappyCompression : leveldb::kNoCompression;
+  if (kind == "plain") MakePlain(argv[2], options);
+  else if (kind == "snappy") MakeSnappy(argv[2], options);
+  else return 2;
+  return 0;
+}
