@@ -1,8 +1,6 @@
 //! The tests of version edits, of the names that a version set makes, and of what small stores hold.
 
 #[cfg(test)]
-mod checks;
-#[cfg(test)]
 mod compactions;
 #[cfg(test)]
 mod gets;
