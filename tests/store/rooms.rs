@@ -308,9 +308,12 @@ impl InfoSink for Counts {
     }
 }
 
-/// Options with a memtable of one byte and a sink that counts its lines here.
-fn counted(alloc: Global, lines: &Rc<Cell<usize>>) -> Result<DefaultOptions> {
-    let mut options = buffered(1);
+/// These options with a sink that counts its lines here.
+fn counted(
+    alloc: Global,
+    mut options: DefaultOptions,
+    lines: &Rc<Cell<usize>>,
+) -> Result<DefaultOptions> {
     options.log = Some(Logger(Box::new(alloc, Counts(lines.clone()?))?));
     Ok(options)
 }
@@ -361,7 +364,7 @@ fn failing_later(
 /// deletes what is left.
 fn leave_a_log(rt: &impl Abort, alloc: Global, nth: u64) -> Result<()> {
     let lines = Rc::new(alloc, Cell::new(0))?;
-    let options = counted(alloc, &lines)?;
+    let options = counted(alloc, buffered(1), &lines)?;
     let mut env = RecordEnv::new(alloc);
     let mut engine = failing_later(alloc, &mut env, options, nth)?;
     leave_and_delete(rt, alloc, &mut env, &mut engine, &lines)
@@ -461,5 +464,22 @@ fn crashes_between_the_appends_of_a_table(rt: HostRuntime) -> Result<()> {
         assert!(rt; finds_again(alloc, &mut left, "123")?, "moment {moment}");
     }
     assert!(rt; parts >= 6, "{parts} moments");
+    Ok(())
+}
+
+/// Where the first of two obsolete files can't be deleted, the other is, and the sink gets one line.
+#[test]
+fn a_deletion_that_fails_stops_no_other(rt: HostRuntime) -> Result<()> {
+    let lines = Rc::new(rt.alloc(), Cell::new(0))?;
+    let mut env = RecordEnv::new(rt.alloc());
+    put_all(rt.alloc(), &mut env, Options::default(), &[("a", "1")])?;
+    drop(env.open_writable_file("db/000007.dbtmp")?);
+    drop(env.open_writable_file("db/000008.dbtmp")?);
+    let calls = calls_of_opening(rt.alloc(), &env)?;
+    env.fail(calls.saturating_sub(2), false);
+    let options = counted(rt.alloc(), Options::default(), &lines)?;
+    reopen(rt.alloc(), &mut env, options)?;
+    assert!(rt; env.exists("db/000007.dbtmp")? != env.exists("db/000008.dbtmp")?);
+    assert!(rt; lines.get() == 1);
     Ok(())
 }
