@@ -5,6 +5,8 @@
 use leveldb_base::error::Result;
 use leveldb_env::disk_env::{PosixDiskEnv, reserve_descriptors};
 use leveldb_env::env::Env;
+use leveldb_env::options::Options;
+use rusty_leveldb::{DB, WriteBatch};
 use std::alloc::Global;
 use std::process::ExitCode;
 use std::{env, io};
@@ -48,6 +50,47 @@ fn change<E: Env>(env: &mut E, alloc: Global, folder: &str) -> Result<()> {
     env.rmdir(folder)
 }
 
+/// Writes four numbered keys, each synced, into a store that is opened for them, and prints each
+/// number once its write is Ok. In every third opening the manifest is made anew, and in every other
+/// one each write but the first makes a table.
+fn write_four<E: Env>(
+    rt: &(impl Print + AllocGlobal),
+    env: &mut E,
+    name: &str,
+    opening: u32,
+) -> Result<()> {
+    let mut options = Options::default();
+    options.reuse_manifest = opening % 3 > 0;
+    if opening % 2 > 0 {
+        options.write_buffer_size = 1;
+    }
+    let mut db = DB::open(rt.alloc(), name, env, options)?;
+    for count in 0..4 {
+        let key = format!(in rt.alloc(); "{opening:04}{count}")?;
+        let mut batch = WriteBatch::new(rt.alloc())?;
+        batch.put(key.as_bytes(), b"1")?;
+        if let Err(status) = db.write(batch, true) {
+            db.abandon()?;
+            return Err(status);
+        }
+        rt.println(&key)?;
+    }
+    let closed = db.close();
+    db.abandon()?;
+    closed
+}
+
+/// Does so six times, whatever fails.
+fn store<E: Env>(rt: &(impl Print + AllocGlobal), env: &mut E, name: &str) -> Result<()> {
+    for opening in 0..6 {
+        if let Err(status) = write_four(rt, env, name, opening) {
+            let code = status.code;
+            rt.println(format_args!("refused {code}"))?;
+        }
+    }
+    Ok(())
+}
+
 /// The call of this name; whether there is one.
 fn run<E: Env>(
     rt: &(impl Print + Input + AllocGlobal),
@@ -59,6 +102,7 @@ fn run<E: Env>(
         "lock" => lock(rt, env, name)?,
         "append" => append(rt, env, name)?,
         "change" => change(env, rt.alloc(), name)?,
+        "store" => store(rt, env, name)?,
         _ => return Ok(false),
     }
     Ok(true)
@@ -71,7 +115,7 @@ fn trial<E: Env>(
     words: &[String],
 ) -> io::Result<u8> {
     let [call, name] = words else {
-        rt.println("usage: disk_trials lock|append|change NAME")?;
+        rt.println("usage: disk_trials lock|append|change|store NAME")?;
         return Ok(2);
     };
     match run(rt, env, call.as_str(), name.as_str()) {
