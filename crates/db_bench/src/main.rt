@@ -7,6 +7,7 @@ use std::process::ExitCode;
 use std::{env, io};
 
 mod block_rows;
+mod disks;
 mod flags;
 mod iter_rows;
 mod keys;
