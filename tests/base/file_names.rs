@@ -1,9 +1,9 @@
 //! Names by LevelDB's rules, and a slow reader of them that looks at each form in turn.
-use crate::checks::failed_with;
 use leveldb_base::error::{Result, StatusCode};
 use leveldb_base::names::{lock_file_name, log_file_name, parse_file_name, table_file_name};
 use leveldb_base::types::{self, FileNum, FileType};
 use std::process::Abort;
+use support::failed_with;
 
 // What comes before and after a number, and what such a file is for.
 const FORMS: [(&[u8], &[u8], FileType); 5] = [
@@ -145,12 +145,13 @@ const NO_NAMES: [&str; 28] = [
 ];
 
 #[test]
-fn no_names(rt: HostRuntime) {
+fn no_names(rt: HostRuntime) -> Result<()> {
     for name in &NO_NAMES {
         let answer = parse_file_name(rt.alloc(), name);
-        assert!(rt; failed_with(answer, StatusCode::InvalidArgument), "{name}");
+        assert!(rt; failed_with(answer, StatusCode::InvalidArgument)?, "{name}");
         assert!(rt; slow_read(name.as_bytes()).is_none(), "{name}");
     }
+    Ok(())
 }
 
 /// Six digits at least, and more where the number has more.

@@ -1,90 +1,14 @@
-//! An iterator over pairs in memory, one that fails, and either of two, which show that the trait
-//! can be met.
+//! The calls that the trait of iterators gives: over an iterator over pairs in memory, one that
+//! fails, and either of two.
 
 use bytes::Bytes;
+use leveldb_base::cmp::DefaultCmp;
 use leveldb_base::error::{Result, Status, StatusCode};
 use leveldb_base::types::{
     Direction, LdbIterator, MAX_SEQUENCE_NUMBER, NUM_LEVELS, current_key_val,
 };
 use std::alloc::Global;
-
-/// A walk over a sorted list in memory.
-#[derive(Drop)]
-struct Listed {
-    pairs: Vec<(Bytes, Bytes)>,
-    at: Option<usize>,
-}
-
-/// How many keys at the front are before the key.
-fn keys_before(pairs: &Vec<(Bytes, Bytes)>, key: &[u8]) -> usize {
-    let mut n = 0;
-    for pair in pairs {
-        if pair.0.as_slice().cmp(key).is_ge() {
-            break;
-        }
-        n += 1;
-    }
-    n
-}
-
-impl LdbIterator for Listed {
-    ghost pairs = { ? };
-
-    ghost position = { ? };
-
-    ghost order = { ? };
-
-    ghost fails = { ? };
-
-    fn advance(&mut self) -> Result<bool> {
-        let next = match self.at {
-            None => 0,
-            Some(i) => i + 1,
-        };
-        let there = next < self.pairs.len();
-        self.at = if there { Some(next) } else { None };
-        Ok(there)
-    }
-
-    fn prev(&mut self) -> Result<bool> {
-        self.at = match self.at {
-            Some(i) if i > 0 => Some(i - 1),
-            _ => None,
-        };
-        Ok(self.at.is_some())
-    }
-
-    fn seek(&mut self, key: &[u8]) -> Result<()> {
-        let n = keys_before(&self.pairs, key);
-        self.at = if n < self.pairs.len() { Some(n) } else { None };
-        Ok(())
-    }
-
-    fn seek_to_last(&mut self) -> Result<()> {
-        self.at = self.pairs.len().checked_sub(1);
-        Ok(())
-    }
-
-    fn current(&self) -> Option<(&[u8], &[u8])> {
-        match self.at {
-            None => None,
-            Some(i) => {
-                let pair = &self.pairs[i];
-                Some((pair.0.as_slice(), pair.1.as_slice()))
-            }
-        }
-    }
-
-    fn reset(&mut self) {
-        self.at = None;
-    }
-
-    fn valid(&self) -> bool {
-        self.at.is_some()
-    }
-
-    ghost in_range = { ? };
-}
+use support::Listed;
 
 /// A walk that is refused at each move.
 #[derive(Drop)]
@@ -218,12 +142,12 @@ fn pair(i: Option<usize>) -> Option<(&'static [u8], &'static [u8])> {
     PAIRS.get(i?).copied()
 }
 
-fn walk(alloc: Global) -> Result<Either<Listed, Broken>> {
+fn walk(alloc: Global) -> Result<Either<Listed<DefaultCmp>, Broken>> {
     let mut pairs = Vec::new(alloc);
     for (key, value) in PAIRS {
         pairs.push((Bytes::from_static(key), Bytes::from_static(value)))?;
     }
-    Ok(Either::Left(Listed { pairs, at: None }))
+    Ok(Either::Left(Listed::new(DefaultCmp, pairs)))
 }
 
 // A step forward or back.
@@ -371,7 +295,7 @@ fn counts_what_is_left(rt: HostRuntime) -> Result<()> {
 
 #[test]
 fn a_failed_move_leaves_no_position(rt: HostRuntime) {
-    let mut it: Either<Listed, Broken> = Either::Right(Broken);
+    let mut it: Either<Listed<DefaultCmp>, Broken> = Either::Right(Broken);
     for moves in ["a", "p", "f", "l", "n"] {
         let answer = go(rt.alloc(), &mut it, moves);
         assert!(rt; answer.is_err() && it.current().is_none(), "{moves}");

@@ -3,8 +3,6 @@
 #[cfg(test)]
 mod block_handles;
 #[cfg(test)]
-mod checks;
-#[cfg(test)]
 mod checksums;
 #[cfg(test)]
 mod comparators;

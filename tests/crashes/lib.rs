@@ -19,8 +19,6 @@ mod snapshots;
 #[cfg(test)]
 mod steps;
 #[cfg(test)]
-mod stores;
-#[cfg(test)]
 mod sweep;
 #[cfg(test)]
 mod sweeps;

@@ -2,7 +2,6 @@
 use crate::crash_disks::{Tally, add_calls, assert_tally, judge_crash};
 use crate::replies::{bytes_of, look_ups};
 use crate::steps::{Call, Step, commands_of};
-use crate::stores::failed_with;
 use leveldb_base::cmp::DefaultCmp;
 use leveldb_base::error::{Result, StatusCode};
 use leveldb_env::filter::BloomPolicy;
@@ -11,6 +10,7 @@ use leveldb_env::options::Options;
 use rusty_leveldb::shell::{Command, Life, Reply, Report, lives};
 use std::alloc::Global;
 use std::process::Abort;
+use support::failed_with;
 
 /// It begins with a look-up, whose reply shows when the opening returned.
 const STEPS: [Step; 8] = [

@@ -2,9 +2,9 @@
 //! moment and call of its script.
 use crate::crash_disks::{Script, Setting, Tails, assert_tally, record};
 use crate::steps::Step;
-use crate::stores::has_levels;
 use crate::sweep::{crash_everywhere, crash_twice_everywhere, fail_everywhere};
 use leveldb_base::error::Result;
+use slow_store::has_levels;
 use std::alloc::Global;
 
 /// Two lives of one store, the first closed, the second abandoned. Each begins with a look-up, whose reply shows when its opening returned.
@@ -65,7 +65,7 @@ const ANEW: Script = Script {
 /// Whether the tables are in these levels after a script.
 fn leaves(alloc: Global, script: Script, levels: &str) -> Result<bool> {
     let mut recorded = record(alloc, script)?;
-    has_levels(alloc, &mut recorded.env, levels)
+    has_levels(alloc, &mut recorded.env, "db", levels)
 }
 
 /// An opening that uses no log on makes one more table of level 0.

@@ -2,13 +2,13 @@
 //! a script. And walks over tables of which one can't be read.
 use crate::crash_disks::{Script, Setting, Tails, assert_tally, record, record_life};
 use crate::steps::{Call, Step};
-use crate::stores::damage_file;
 use crate::sweep::{crash_everywhere, fail_everywhere, is_possible};
 use leveldb_base::error::Result;
 use rusty_leveldb::shell::{Reply, Step as ShellStep};
 use slow_history::Move;
 use std::alloc::Global;
 use std::process::Abort;
+use support::damage_file;
 
 /// Over all pairs, past both ends.
 const ALL: &[Move<'static>] = &[

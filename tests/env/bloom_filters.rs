@@ -1,8 +1,8 @@
 //! Bloom filters: the hash of a key, and the bits that keys set.
-use crate::checks::failed_with;
 use leveldb_base::error::{Result, StatusCode};
 use leveldb_env::filter::{BloomPolicy, FilterPolicy};
 use std::process::Abort;
+use support::failed_with;
 
 const SEED: u32 = 0xbc9f_1d34;
 

@@ -1,38 +1,9 @@
 //! Compressors, and lists of them.
 
 use leveldb_base::error::{Result, Status, StatusCode};
-use leveldb_env::compressor::{Compressor, CompressorId, CompressorList, NoneCompressor};
+use leveldb_env::compressor::{Compressor, CompressorList, NoneCompressor};
 use std::alloc::Global;
-
-// Adds 1 modulo 256 to each byte.
-#[derive(Clone, Copy)]
-struct Shift;
-
-impl CompressorId for Shift {
-    ghost ID = { ? };
-
-    const ID: u8 = 7;
-}
-
-impl Compressor for Shift {
-    ghost coding = { ? };
-
-    fn encode(&self, alloc: Global, block: Vec<u8>) -> Result<Vec<u8>> {
-        let mut stored = Vec::new(alloc);
-        for byte in &block {
-            stored.push(byte.wrapping_add(1))?;
-        }
-        Ok(stored)
-    }
-
-    fn decode(&self, alloc: Global, stored: Vec<u8>) -> Result<Vec<u8>> {
-        let mut block = Vec::new(alloc);
-        for byte in &stored {
-            block.push(byte.wrapping_add(255))?;
-        }
-        Ok(block)
-    }
-}
+use support::Raised;
 
 // A block that is stored and read again, by any compressor. An error is that of encoding this very
 // block, or out of memory.
@@ -63,8 +34,8 @@ const BLOCK: &[u8] = &[0, 1, 254, 255];
 #[test]
 fn compressors(rt: HostRuntime) -> Result<()> {
     assert!(rt; is_stored_as(NoneCompressor, rt.alloc(), BLOCK, BLOCK)?);
-    assert!(rt; is_stored_as(Shift, rt.alloc(), BLOCK, &[1, 2, 255, 0])?);
-    assert!(rt; is_read_again(Shift, rt.alloc(), BLOCK)?);
+    assert!(rt; is_stored_as(Raised, rt.alloc(), BLOCK, &[1, 2, 255, 0])?);
+    assert!(rt; is_read_again(Raised, rt.alloc(), BLOCK)?);
     assert!(rt; is_read_again(NoneCompressor, rt.alloc(), BLOCK)?);
     Ok(())
 }
@@ -97,7 +68,7 @@ fn default_list(rt: HostRuntime) -> Result<()> {
 #[test]
 fn list_with_a_compressor(rt: HostRuntime) -> Result<()> {
     let mut list = CompressorList::default();
-    list.set::<Shift>(rt.alloc(), Box::new(rt.alloc(), Shift)?)?;
+    list.set::<Raised>(rt.alloc(), Box::new(rt.alloc(), Raised)?)?;
     assert!(rt; list.is_set(7));
     assert!(rt; decodes_to(&list, rt.alloc(), 7, &[1, 0], &[0, 255])?);
     let listed = list.get(rt.alloc(), 7)?;
@@ -105,22 +76,22 @@ fn list_with_a_compressor(rt: HostRuntime) -> Result<()> {
     Ok(())
 }
 
-fn set_shift(list: &mut CompressorList, alloc: Global, id: u8) -> Result<()> {
-    list.set_with_id(alloc, id, Box::new(alloc, Shift)?)
+fn set_raised(list: &mut CompressorList, alloc: Global, id: u8) -> Result<()> {
+    list.set_with_id(alloc, id, Box::new(alloc, Raised)?)
 }
 
-// A list with `Shift` under two ids. Under one of them it replaces another compressor.
-fn list_of_shifts(alloc: Global) -> Result<CompressorList> {
+// A list with `Raised` under two ids. Under one of them it replaces another compressor.
+fn list_of_two(alloc: Global) -> Result<CompressorList> {
     let mut list = CompressorList::default();
     list.set_with_id(alloc, 9, Box::new(alloc, NoneCompressor)?)?;
-    set_shift(&mut list, alloc, 0)?;
-    set_shift(&mut list, alloc, 9)?;
+    set_raised(&mut list, alloc, 0)?;
+    set_raised(&mut list, alloc, 9)?;
     Ok(list)
 }
 
 #[test]
 fn compressors_replaced(rt: HostRuntime) -> Result<()> {
-    let mut list = list_of_shifts(rt.alloc())?;
+    let mut list = list_of_two(rt.alloc())?;
     assert!(rt; decodes_to(&list, rt.alloc(), 0, &[1], &[0])?);
     assert!(rt; decodes_to(&list, rt.alloc(), 9, &[1], &[0])?);
     list.set::<NoneCompressor>(rt.alloc(), Box::new(rt.alloc(), NoneCompressor)?)?;

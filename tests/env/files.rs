@@ -1,7 +1,6 @@
 //! Any sink and any source at work: what a caller knows of the vector, slice or file that they
 //! write or read.
 
-use crate::checks::failed_with;
 use crate::disks::no_tails;
 use leveldb_base::error::{Result, Status, StatusCode};
 use leveldb_env::env::source::read_to_end;
@@ -10,6 +9,7 @@ use leveldb_env::env::{Env, EnvFile, Sink, Source};
 use leveldb_env::mem_env::{MemEnv, MemHandle};
 use std::alloc::Global;
 use std::process::Abort;
+use support::failed_with;
 
 fn put_pair<S: Sink>(sink: &mut S, first: &[u8], second: &[u8]) -> Result<()> {
     sink.put_all(first)?;

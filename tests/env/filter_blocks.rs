@@ -1,12 +1,12 @@
 //! Filter blocks built and read, under a policy whose filters show the keys that they were made of.
 
-use crate::checks::failed_with;
 use leveldb_base::error::{Result, StatusCode, err};
 use leveldb_env::filter::{BloomPolicy, FilterPolicy};
 use leveldb_env::filter_block::{FilterBlockBuilder, FilterBlockReader};
 use leveldb_env::laws::{added_keys_pass, filter_blocks_have_one_reading};
 use std::alloc::Global;
 use std::process::Abort;
+use support::failed_with;
 
 /// A filter is the keys, one after the other, which are at most `limit` bytes. A longer key is none
 /// of them.

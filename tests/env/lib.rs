@@ -3,8 +3,6 @@
 #[cfg(test)]
 mod bloom_filters;
 #[cfg(test)]
-mod checks;
-#[cfg(test)]
 mod compressors;
 #[cfg(test)]
 mod disks;

@@ -1,6 +1,5 @@
 //! A disk in memory, call by call.
 
-use crate::checks::{code_of, failed_with};
 use crate::disks::{Call, handle_of, names_of, no_tails, pick_of, run, run_all, show_file};
 use leveldb_base::error::StatusCode::{InvalidArgument, LockError, NotFound, OK, OutOfMemory};
 use leveldb_base::error::{Result, Status, StatusCode};
@@ -8,6 +7,7 @@ use leveldb_env::env::Env;
 use leveldb_env::mem_env::{MemEnv, MemHandle};
 use std::alloc::{AllocError, Global};
 use std::process::Abort;
+use support::{code_of, failed_with};
 
 /// Appends a name with what `left`, the disk that a crash leaves, keeps of its file, and what was
 /// appended since.

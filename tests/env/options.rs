@@ -1,5 +1,4 @@
 //! What options are if nothing else is chosen, and which are taken.
-use crate::checks::code_of;
 use leveldb_base::cmp::{Cmp, DefaultCmp};
 use leveldb_base::error::StatusCode::{InvalidArgument, NotSupported, OK};
 use leveldb_base::error::{Result, StatusCode};
@@ -8,6 +7,7 @@ use leveldb_env::filter::{BloomPolicy, FilterPolicy};
 use leveldb_env::mem_env::MemEnv;
 use leveldb_env::options::{Options, for_test, in_memory};
 use std::alloc::Global;
+use support::code_of;
 
 #[test]
 fn defaults(rt: HostRuntime) {

@@ -1,6 +1,5 @@
 //! A run of calls, each of its moments, and what a crash leaves of them.
 
-use crate::checks::{code_of, failed_with};
 use crate::disks::{Call, handle_of, names_of, no_tails, pick_of, run, run_all, show_file};
 use leveldb_base::error::StatusCode::{IOError, InvalidArgument, LockError, NotFound, OK};
 use leveldb_base::error::{Result, StatusCode};
@@ -8,6 +7,7 @@ use leveldb_env::env::Env;
 use leveldb_env::mem_env::RecordEnv;
 use std::alloc::Global;
 use std::process::Abort;
+use support::{code_of, failed_with};
 
 /// The code of what a call returns. Out of memory ends the test.
 fn code_after(env: &mut RecordEnv, alloc: Global, call: Call) -> Result<StatusCode> {

@@ -1,5 +1,5 @@
 //! Merges of lists beside the sorted list of their pairs.
-use crate::children::{Device, Listed, Source};
+use crate::children::{Device, Source, list_of, list_of_keys};
 use leveldb_base::cmp::DefaultCmp;
 use leveldb_base::error::{Result, StatusCode};
 use leveldb_iter::merging_iter::{MergeCore, MergingIter};
@@ -26,7 +26,7 @@ fn merge(alloc: Global, lists: &[&'static str; 3]) -> Result<Merged> {
     let mut children = Vec::new(alloc);
     for keys in lists {
         children.push(Source {
-            list: Listed::of(alloc, keys)?,
+            list: list_of(alloc, keys)?,
         })?;
     }
     Ok(MergeCore::new::<Device, ()>(DefaultCmp, children))
@@ -198,7 +198,7 @@ fn iterators_as_walks(rt: HostRuntime) -> Result<()> {
     let mut tables = ();
     let mut children = Vec::new(rt.alloc());
     for keys in ["ac", "bd"] {
-        children.push(Unlent(Listed::of(rt.alloc(), keys)?))?;
+        children.push(Unlent(list_of(rt.alloc(), keys)?))?;
     }
     let core = MergeCore::new::<Device, ()>(DefaultCmp, children);
     let mut it = WalkIter::new(core, &mut device, &mut tables);
@@ -222,8 +222,8 @@ fn keys_that_share_a_prefix(rt: HostRuntime) -> Result<()> {
     let mut device = Device { calls_left: 0 };
     let mut tables = ();
     let mut children = Vec::new(alloc);
-    children.push(Unlent(Listed::of_keys(alloc, &[b"aba", b"abc", b"abe"])?))?;
-    children.push(Unlent(Listed::of_keys(alloc, &[b"abb", b"abd"])?))?;
+    children.push(Unlent(list_of_keys(alloc, &[b"aba", b"abc", b"abe"])?))?;
+    children.push(Unlent(list_of_keys(alloc, &[b"abb", b"abd"])?))?;
     let core = MergeCore::new::<Device, ()>(DefaultCmp, children);
     let mut it = WalkIter::new(core, &mut device, &mut tables);
     it.seek(b"ab0")?;

@@ -1,5 +1,5 @@
 //! Lists of moves of a walk over a list in memory.
-use crate::children::{Device, Listed, Source};
+use crate::children::{Device, Source, list_of};
 use leveldb_base::cmp::DefaultCmp;
 use leveldb_base::error::{Result, StatusCode};
 use leveldb_iter::moves::{Move, Step, make_moves};
@@ -41,7 +41,7 @@ fn text_of(alloc: Global, steps: &[Step]) -> Result<Vec<u8>> {
 // before one that fails.
 fn walked(alloc: Global, letters: &[u8], calls_left: u64) -> Result<Vec<u8>> {
     let mut list: Source<DefaultCmp> = Source {
-        list: Listed::of(alloc, "ace")?,
+        list: list_of(alloc, "ace")?,
     };
     let mut device = Device { calls_left };
     let moves = moves_of(alloc, letters)?;

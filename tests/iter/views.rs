@@ -1,5 +1,5 @@
 //! Views of lists of entries beside a slow search for each key.
-use crate::children::{Device, Listed, Source};
+use crate::children::{Device, Source, list_of_damaged, list_of_entries};
 use crate::merges::{MOVES, go, gone, is_at};
 use leveldb_base::cmp::{DefaultCmp, InternalKeyCmp};
 use leveldb_base::error::{Result, StatusCode};
@@ -78,7 +78,7 @@ impl Pairs {
 }
 
 fn view(alloc: Global, entries: &[(u8, u8, ValueType)], sequence: u8) -> Result<View> {
-    let list = Listed::of_entries(alloc, entries)?;
+    let list = list_of_entries(alloc, entries)?;
     Ok(DbIterCore::new::<Device, ()>(alloc, Source { list }, u64::from(sequence)))
 }
 
@@ -179,7 +179,7 @@ fn a_key_without_a_tag_is_corrupt_and_the_view_goes_on(rt: HostRuntime) -> Resul
     for (front, back, letters, keys) in &DAMAGED {
         let front = entries_of(rt.alloc(), front.as_bytes())?;
         let back = entries_of(rt.alloc(), back.as_bytes())?;
-        let list = Listed::of_damaged(rt.alloc(), front.as_slice(), back.as_slice())?;
+        let list = list_of_damaged(rt.alloc(), front.as_slice(), back.as_slice())?;
         let mut it = DbIterCore::new::<Device, ()>(rt.alloc(), Source { list }, 9);
         for (letter, key) in letters.as_bytes().iter().zip(keys.as_bytes()) {
             assert!(rt; leads_to(&mut it, *letter, *key), "{letters}: {letter}");

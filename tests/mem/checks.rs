@@ -1,15 +1,7 @@
 //! What several tests ask, and the batch that they share.
-use leveldb_base::error::{Result, StatusCode};
+use leveldb_base::error::Result;
 use leveldb_mem::write_batch::WriteBatch;
 use std::alloc::Global;
-
-/// Whether a call failed with this code.
-pub fn failed_with<T: Drop>(answer: Result<T>, code: StatusCode) -> bool {
-    match answer {
-        Ok(_) => false,
-        Err(status) => status.code == code,
-    }
-}
 
 /// Whether these are the records, in this order.
 pub fn are_records(found: &[Vec<u8>], wanted: &[&[u8]]) -> bool {
@@ -19,13 +11,6 @@ pub fn are_records(found: &[Vec<u8>], wanted: &[&[u8]]) -> bool {
         }
     }
     found.len() == wanted.len()
-}
-
-/// Adds `amount` to the byte at `offset`, past 255 from 0 on.
-pub fn change_byte(bytes: &mut [u8], offset: usize, amount: u8) {
-    if let Some(byte) = bytes.get_mut(offset) {
-        *byte = byte.wrapping_add(amount);
-    }
 }
 
 /// Three puts and two deletions.

@@ -1,12 +1,13 @@
 //! Logs of known lengths, read in pieces, cut and damaged; and what is read of a log in memory.
 
-use crate::checks::{are_records, change_byte, failed_with};
+use crate::checks::are_records;
 use leveldb_base::error::{Result, StatusCode, err};
 use leveldb_env::env::{Env, Sink, Source};
 use leveldb_env::mem_env::MemEnv;
 use leveldb_mem::log::{LogReader, LogWriter, ReaderCore, WriterCore, read_log_file, read_records};
 use std::alloc::Global;
 use std::process::Abort;
+use support::{change_byte, failed_with};
 
 const NINE: &[u8] = b"abcdefghi";
 
@@ -61,8 +62,13 @@ fn assert_all_read<R: Source>(
     Ok(())
 }
 
-fn assert_corruption<R: Source>(rt: &impl Abort, reader: &mut LogReader<R>, record: &mut Vec<u8>) {
-    assert!(rt; failed_with(reader.read(record), StatusCode::Corruption));
+fn assert_corruption<R: Source>(
+    rt: &impl Abort,
+    reader: &mut LogReader<R>,
+    record: &mut Vec<u8>,
+) -> Result<()> {
+    assert!(rt; failed_with(reader.read(record), StatusCode::Corruption)?);
+    Ok(())
 }
 
 /// A source that gives at most `most` bytes a read.
@@ -262,8 +268,8 @@ fn assert_cut(rt: &(impl Abort + AllocGlobal), log: &[u8], end: usize) -> Result
     if [0, 16, 43, 93].contains(&end) {
         return assert_read(rt, &mut reader, &mut record, b"");
     }
-    assert_corruption(rt, &mut reader, &mut record);
-    assert_corruption(rt, &mut reader, &mut record);
+    assert_corruption(rt, &mut reader, &mut record)?;
+    assert_corruption(rt, &mut reader, &mut record)?;
     Ok(())
 }
 
@@ -280,7 +286,7 @@ fn assert_damage_at(rt: &(impl Abort + AllocGlobal), log: &[u8], offset: usize) 
     let mut record = Vec::new(rt.alloc());
     let mut reader = LogReader::sized(rt.alloc(), log, true, 17);
     assert_all_read(rt, &mut reader, &mut record, records_before(offset))?;
-    assert_corruption(rt, &mut reader, &mut record);
+    assert_corruption(rt, &mut reader, &mut record)?;
     Ok(())
 }
 
@@ -309,13 +315,14 @@ const MISPLACED: [&[u8]; 7] = [
 ];
 
 #[test]
-fn misplaced_fragments(rt: HostRuntime) {
+fn misplaced_fragments(rt: HostRuntime) -> Result<()> {
     let mut record = Vec::new(rt.alloc());
     for log in &MISPLACED {
         let mut reader = LogReader::new(rt.alloc(), *log, false);
         let answer = reader.read(&mut record);
-        assert!(rt; failed_with(answer, StatusCode::Corruption), "{log:?}");
+        assert!(rt; failed_with(answer, StatusCode::Corruption)?, "{log:?}");
     }
+    Ok(())
 }
 
 #[test]
@@ -351,7 +358,7 @@ fn files_of_logs(rt: HostRuntime) -> Result<()> {
         assert!(rt; is_whole == (*name != "torn"), "the {name} log");
     }
     let missing = read_log_file(rt.alloc(), &mut env, "missing");
-    assert!(rt; failed_with(missing, StatusCode::NotFound));
+    assert!(rt; failed_with(missing, StatusCode::NotFound)?);
     Ok(())
 }
 
@@ -374,7 +381,7 @@ fn broken_writer_stays_broken(rt: HostRuntime) -> Result<()> {
     let mut failing = Failing(rt.alloc());
     assert!(rt; core.add_record(&mut failing, b"")? == 0);
     let answer = core.add_record(&mut failing, b"x");
-    assert!(rt; failed_with(answer, StatusCode::PermissionDenied));
+    assert!(rt; failed_with(answer, StatusCode::PermissionDenied)?);
     assert_broken(&rt, &mut core, b"x")?;
     assert_broken(&rt, &mut core, b"")?;
     let mut log = Vec::new(rt.alloc());
@@ -396,10 +403,10 @@ fn failed_reader_stays_failed(rt: HostRuntime) -> Result<()> {
     let mut core = ReaderCore::sized(rt.alloc(), true, 17);
     let mut record = Vec::new(rt.alloc());
     let answer = core.read(&mut Failing(rt.alloc()), &mut record);
-    assert!(rt; failed_with(answer, StatusCode::PermissionDenied));
+    assert!(rt; failed_with(answer, StatusCode::PermissionDenied)?);
     let mut source = log.as_slice();
     let answer = core.read(&mut source, &mut record);
-    assert!(rt; failed_with(answer, StatusCode::Corruption));
+    assert!(rt; failed_with(answer, StatusCode::Corruption)?);
     assert!(rt; source.len() == 93);
     Ok(())
 }

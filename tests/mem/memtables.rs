@@ -1,7 +1,7 @@
 //! What is found of keys at sequence numbers before, at, between and after their versions, and what
 //! failed calls leave.
 
-use crate::checks::{failed_with, five_changes};
+use crate::checks::five_changes;
 use leveldb_base::cmp::DefaultCmp;
 use leveldb_base::error::{Result, StatusCode};
 use leveldb_base::key_types::{LookupKey, ValueType};
@@ -10,6 +10,7 @@ use leveldb_mem::memtable::{MemTable, MemtableIterator};
 use leveldb_mem::write_batch::WriteBatch;
 use std::alloc::Global;
 use std::process::Abort;
+use support::failed_with;
 
 // abc has a value at 1, a deletion at 2 and a value at 5, and abd one at 3.
 fn versions(alloc: Global) -> Result<MemTable<DefaultCmp>> {
@@ -73,21 +74,13 @@ fn sizes(table: &MemTable<DefaultCmp>) -> (usize, usize) {
 // What the four versions count as.
 const VERSIONS_SIZE: usize = 128 + 4 * 64 + 16 + 16 + 13 + 13;
 
-// Whether a call failed since the entry is there. Out of memory is passed on.
-fn is_present(answer: Result<()>) -> Result<bool> {
-    match answer {
-        Err(status) if status.code == StatusCode::OutOfMemory => Err(status),
-        _ => Ok(failed_with(answer, StatusCode::AlreadyExists)),
-    }
-}
-
 #[test]
 fn present_entry_is_not_added(rt: HostRuntime) -> Result<()> {
     let mut table = versions(rt.alloc())?;
     assert!(rt; sizes(&table) == (4, VERSIONS_SIZE));
     let answer = table.add(2, ValueType::TypeValue, b"abc", b"other");
     assert!(rt; sizes(&table) == (4, VERSIONS_SIZE));
-    assert!(rt; is_present(answer)?);
+    assert!(rt; failed_with(answer, StatusCode::AlreadyExists)?);
     assert!(rt; table.newest(b"abc", 2) == Some(None));
     Ok(())
 }
@@ -243,7 +236,7 @@ fn greatest_number(rt: HostRuntime) -> Result<()> {
 fn numbers_run_out(rt: HostRuntime) -> Result<()> {
     for first in [MAX_SEQUENCE_NUMBER - 3, MAX_SEQUENCE_NUMBER + 1, u64::MAX] {
         let (table, answer) = placed_at(rt.alloc(), first)?;
-        assert!(rt; failed_with(answer, StatusCode::NotSupported), "{first}");
+        assert!(rt; failed_with(answer, StatusCode::NotSupported)?, "{first}");
         assert!(rt; sizes(&table) == (0, 128), "{first}");
     }
     Ok(())

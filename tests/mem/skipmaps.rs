@@ -1,6 +1,5 @@
 //! The keys aba to abz, put out of order: what is there, walks with a turn at each position, seeks,
 //! and failed insertions.
-use crate::checks::failed_with;
 use leveldb_base::cmp::{Cmp, DefaultCmp};
 use leveldb_base::error::{Result, StatusCode};
 use leveldb_base::key_types::{ValueType, build_memtable_key};
@@ -8,6 +7,7 @@ use leveldb_base::types::LdbIterator;
 use leveldb_mem::skipmap::{SkipMap, SkipMapIter};
 use std::alloc::Global;
 use std::process::Abort;
+use support::failed_with;
 
 // Seven has no divisor in common with 26, so that each letter comes once.
 fn letters(alloc: Global) -> Result<SkipMap<DefaultCmp>> {
@@ -53,9 +53,10 @@ fn counts_and_finds(rt: HostRuntime) -> Result<()> {
 }
 
 /// Whether a present key and an empty one aren't inserted.
-fn neither_is_inserted(map: &mut SkipMap<DefaultCmp>) -> bool {
-    let is_present = failed_with(map.insert(b"abc", b"other"), StatusCode::AlreadyExists);
-    is_present && failed_with(map.insert(b"", b"def"), StatusCode::InvalidArgument)
+fn neither_is_inserted(map: &mut SkipMap<DefaultCmp>) -> Result<bool> {
+    let is_present = failed_with(map.insert(b"abc", b"other"), StatusCode::AlreadyExists)?;
+    let is_empty = failed_with(map.insert(b"", b"def"), StatusCode::InvalidArgument)?;
+    Ok(is_present && is_empty)
 }
 
 /// Whether the first pair at or after this key is of it, with this value.
@@ -68,7 +69,7 @@ fn has_value(map: &SkipMap<DefaultCmp>, key: &[u8], value: &[u8]) -> Result<bool
 #[test]
 fn present_and_empty_keys_are_not_inserted(rt: HostRuntime) -> Result<()> {
     let mut map = letters(rt.alloc())?;
-    assert!(rt; neither_is_inserted(&mut map));
+    assert!(rt; neither_is_inserted(&mut map)?);
     assert!(rt; (map.len(), map.approx_memory()) == (26, 1948));
     assert!(rt; has_value(&map, b"abc", b"def")?);
     Ok(())

@@ -1,8 +1,9 @@
 //! Batches and their bytes: changes read back, and bytes that are cut, raised or malformed.
-use crate::checks::{CHANGES, change_byte, failed_with, five_changes};
+use crate::checks::{CHANGES, five_changes};
 use leveldb_base::error::{Result, StatusCode};
 use leveldb_mem::write_batch::WriteBatch;
 use std::process::Abort;
+use support::{change_byte, failed_with};
 
 #[test]
 fn one_put(rt: HostRuntime) -> Result<()> {
@@ -61,7 +62,7 @@ fn malformed(rt: HostRuntime) -> Result<()> {
     for bytes in &MALFORMED {
         let answer = batch.set_contents(bytes);
         assert!(rt;
-            failed_with(answer, StatusCode::InvalidArgument),
+            failed_with(answer, StatusCode::InvalidArgument)?,
             "{bytes:?}"
         );
         assert!(rt; batch.contents() == before.as_slice(), "{bytes:?}");

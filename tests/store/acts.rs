@@ -1,7 +1,7 @@
 //! Stores in memory by rows: what is done to a store and its files, and what is then asked of them.
 use crate::stores::{
-    DefaultOptions, Row, STORE, cut_file, failed_with, file_bytes, files_of, has_files, holds,
-    put_all, put_file, put_log, reopen,
+    DefaultOptions, Row, STORE, cut_file, file_bytes, files_of, has_files, holds, put_all,
+    put_file, put_log, reopen,
 };
 use leveldb_base::error::{Result, StatusCode};
 use leveldb_env::env::Env;
@@ -10,6 +10,7 @@ use leveldb_env::options::Options;
 use rusty_leveldb::db_impl::Engine;
 use std::alloc::Global;
 use std::process::Abort;
+use support::failed_with;
 
 /// What a store is opened with that differs from the defaults.
 #[derive(Clone, Copy)]

@@ -1,11 +1,9 @@
 //! Tables made of memtables: the calls that they take, what they hold, and what is left where one fails.
 
-use crate::stores::failed_with;
 use leveldb_base::cmp::{DefaultCmp, InternalKeyCmp};
-use leveldb_base::error::{Result, Status, StatusCode, err};
+use leveldb_base::error::{Result, StatusCode};
 use leveldb_base::key_types::ValueType;
 use leveldb_base::types::{FileMetaData, LdbIterator};
-use leveldb_env::compressor::Compressor;
 use leveldb_env::env::Env;
 use leveldb_env::env::whole_files::read_file;
 use leveldb_env::filter::{BloomPolicy, InternalFilterPolicy};
@@ -17,6 +15,7 @@ use leveldb_table::table_reader::{Table, TableIterator};
 use rusty_leveldb::db_impl::build_memtable;
 use std::alloc::Global;
 use std::process::Abort;
+use support::{Refusing, failed_with};
 
 type TablePairs<'a> = TableIterator<
     'a,
@@ -266,22 +265,6 @@ fn each_failure_leaves_only_the_file(rt: HostRuntime) -> Result<()> {
         );
     }
     Ok(())
-}
-
-/// Encodes no block.
-#[derive(Clone, Copy)]
-struct Refusing;
-
-impl Compressor for Refusing {
-    ghost coding = { ? };
-
-    fn encode(&self, alloc: Global, _block: Vec<u8>) -> Result<Vec<u8>> {
-        err(alloc, StatusCode::CompressionError, "no block is encoded")
-    }
-
-    fn decode(&self, alloc: Global, _stored: Vec<u8>) -> Result<Vec<u8>> {
-        err(alloc, StatusCode::CompressionError, "no block is decoded")
-    }
 }
 
 /// Whether a table of one entry, made with these options, fails with this code once its file is created, and leaves that empty.

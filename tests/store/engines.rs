@@ -9,19 +9,12 @@ use leveldb_mem::write_batch::WriteBatch;
 use rusty_leveldb::db_impl::{DB, Engine, Store};
 use std::alloc::Global;
 use std::process::Abort;
+use support::failed_with;
 
 /// The first log.
 const LOG: &str = "db/000003.log";
 
 type Opened<'a, E> = DB<'a, E, DefaultCmp, BloomPolicy>;
-
-/// Whether a call failed with this code.
-fn failed_with<T: Drop>(answer: Result<T>, code: StatusCode) -> bool {
-    match answer {
-        Ok(_) => false,
-        Err(status) => status.code == code,
-    }
-}
 
 /// The one byte of the key's value, `-` for none, `?` for another value.
 fn byte_at<E: Env>(db: &mut Opened<'_, E>, key: &[u8]) -> Result<u8> {
@@ -73,11 +66,11 @@ fn open<E: Env>(alloc: Global, env: &mut E) -> Result<Opened<'_, E>> {
 }
 
 /// Whether an opening fails with this code.
-fn opening_fails<E: Env>(alloc: Global, env: &mut E, name: &str, code: StatusCode) -> bool {
+fn opening_fails<E: Env>(alloc: Global, env: &mut E, name: &str, code: StatusCode) -> Result<bool> {
     failed_with(DB::open(alloc, name, env, Options::default()), code)
 }
 
-fn unlock_fails<E: Env>(env: &mut E) -> bool {
+fn unlock_fails<E: Env>(env: &mut E) -> Result<bool> {
     failed_with(env.unlock("db/LOCK"), StatusCode::LockError)
 }
 
@@ -179,11 +172,11 @@ fn a_store_that_is_dropped_keeps_its_lock(rt: HostRuntime) -> Result<()> {
     let alloc = rt.alloc();
     let mut env = MemEnv::new(alloc);
     drop(open(alloc, &mut env)?);
-    assert!(rt; opening_fails(alloc, &mut env, "db", StatusCode::LockError));
+    assert!(rt; opening_fails(alloc, &mut env, "db", StatusCode::LockError)?);
     env.unlock("db/LOCK")?;
     let db = open(alloc, &mut env)?;
     db.abandon()?;
-    assert!(rt; unlock_fails(&mut env));
+    assert!(rt; unlock_fails(&mut env)?);
     Ok(())
 }
 
@@ -191,12 +184,12 @@ fn a_store_that_is_dropped_keeps_its_lock(rt: HostRuntime) -> Result<()> {
 fn openings_are_refused(rt: HostRuntime) -> Result<()> {
     let alloc = rt.alloc();
     let mut env = MemEnv::new(alloc);
-    assert!(rt; opening_fails(alloc, &mut env, "", StatusCode::InvalidArgument));
+    assert!(rt; opening_fails(alloc, &mut env, "", StatusCode::InvalidArgument)?);
     let mut options = Options::default();
     options.create_if_missing = false;
     let missing = DB::open(alloc, "db", &mut env, options);
-    assert!(rt; failed_with(missing, StatusCode::InvalidArgument));
-    assert!(rt; unlock_fails(&mut env));
+    assert!(rt; failed_with(missing, StatusCode::InvalidArgument)?);
+    assert!(rt; unlock_fails(&mut env)?);
     Ok(())
 }
 
@@ -254,11 +247,11 @@ fn a_failed_write_breaks_the_store(rt: HostRuntime) -> Result<()> {
 /// The `nth` call of the device in a close fails: the store is broken, and has its lock until `abandon` gives that back.
 fn fail_a_close(rt: &impl Abort, alloc: Global, env: &mut RecordEnv, nth: u64) -> Result<()> {
     let mut engine = open_to_fail(alloc, env, nth, false)?;
-    assert!(rt; failed_with(engine.close(env), StatusCode::IOError));
-    assert!(rt; failed_with(engine.put(env, b"a", b"1"), StatusCode::IOError));
-    assert!(rt; failed_with(env.lock("db/LOCK"), StatusCode::LockError));
+    assert!(rt; failed_with(engine.close(env), StatusCode::IOError)?);
+    assert!(rt; failed_with(engine.put(env, b"a", b"1"), StatusCode::IOError)?);
+    assert!(rt; failed_with(env.lock("db/LOCK"), StatusCode::LockError)?);
     env.fail(1, false);
-    assert!(rt; failed_with(engine.abandon(env), StatusCode::IOError));
+    assert!(rt; failed_with(engine.abandon(env), StatusCode::IOError)?);
     env.unlock("db/LOCK")
 }
 

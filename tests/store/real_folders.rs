@@ -1,5 +1,5 @@
 //! Openings that fail before anything is changed, in memory and in folders of the system.
-use crate::stores::{DefaultOptions, failed_with};
+use crate::stores::DefaultOptions;
 use leveldb_base::error::{Result, StatusCode};
 use leveldb_env::disk_env::PosixDiskEnv;
 use leveldb_env::env::Env;
@@ -10,6 +10,7 @@ use leveldb_mem::log::LogWriter;
 use rusty_leveldb::db_impl::Engine;
 use std::alloc::Global;
 use std::process::Abort;
+use support::failed_with;
 
 /// The one record of a manifest whose comparator has another name.
 const OTHER_ORDER: &[u8] = b"\x01\x0aother.Cmp1\x02\0\x03\x02\x04\0";

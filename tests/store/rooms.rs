@@ -1,17 +1,19 @@
 //! A store with a memtable of one byte: each write but the first makes a table of the batch before.
 use crate::stores::{
-    Change, DefaultEngine, DefaultOptions, STORE, batch_of, buffered, damage_file, failed_with,
-    has_files, has_levels, holds, opened, put_all, reopen,
+    Change, DefaultEngine, DefaultOptions, STORE, batch_of, buffered, damage_file, has_files,
+    holds, opened, put_all, reopen,
 };
 use leveldb_base::error::{Result, StatusCode};
 use leveldb_env::env::Env;
 use leveldb_env::infolog::{InfoSink, Logger};
 use leveldb_env::mem_env::{MemEnv, Pick, RecordEnv};
 use leveldb_env::options::Options;
+use slow_store::has_levels;
 use std::alloc::Global;
 use std::cell::Cell;
 use std::process::Abort;
 use std::rc::Rc;
+use support::failed_with;
 
 type RecordEngine = DefaultEngine<RecordEnv>;
 
@@ -120,7 +122,7 @@ fn is_right(
         Act::FindsInMemory(keys, wanted) => finds_in_memory(env, engine, keys, wanted),
         Act::FindsDamage(key) => finds_damage(env, engine, key),
         Act::HasFiles(wanted) => has_files(alloc, env, wanted),
-        Act::HasLevels(wanted) => has_levels(alloc, env, wanted),
+        Act::HasLevels(wanted) => has_levels(alloc, env, STORE, wanted),
         Act::Holds(wanted) => holds(alloc, env, wanted),
         _ => {
             change(alloc, env, engine, act)?;

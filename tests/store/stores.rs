@@ -1,6 +1,6 @@
 //! What several tests do with a store's files: their names and sizes, what they hold, and logs and manifests that are made by hand.
 use leveldb_base::cmp::DefaultCmp;
-use leveldb_base::error::{Result, StatusCode};
+use leveldb_base::error::Result;
 use leveldb_base::types::SequenceNumber;
 use leveldb_env::env::Env;
 use leveldb_env::env::whole_files::read_file;
@@ -9,7 +9,6 @@ use leveldb_env::mem_env::MemEnv;
 use leveldb_env::options::Options;
 use leveldb_mem::log::LogWriter;
 use leveldb_mem::write_batch::WriteBatch;
-use leveldb_version::version_set::VersionSet;
 use rusty_leveldb::DB;
 use rusty_leveldb::db_impl::Engine;
 use slow_history::Entry;
@@ -130,18 +129,6 @@ pub fn has_files<E: Env>(alloc: Global, env: &mut E, wanted: &str) -> Result<boo
     Ok(files_of(alloc, env)?.as_str() == wanted)
 }
 
-/// Which levels the live files of the store's manifest are in. No file changes.
-fn levels_of<E: Env>(alloc: Global, env: &mut E) -> Result<String> {
-    let mut set = VersionSet::new(alloc, STORE, &DefaultCmp)?;
-    let _ = set.recover(env, &reusing(false, false))?;
-    set.current_summary()
-}
-
-/// Whether the live files are in these levels.
-pub fn has_levels<E: Env>(alloc: Global, env: &mut E, wanted: &str) -> Result<bool> {
-    Ok(levels_of(alloc, env)?.as_str() == wanted)
-}
-
 /// A number and its key.
 fn word_of(alloc: Global, entry: &Entry) -> Result<String> {
     let key = std::str::from_utf8(entry.key.as_slice()).unwrap_or("?");
@@ -188,11 +175,8 @@ pub fn cut_file(alloc: Global, env: &mut MemEnv, name: &str, size: usize) -> Res
 
 /// Raises the byte of a file of the store at this offset by one.
 pub fn damage_file<E: Env>(alloc: Global, env: &mut E, name: &str, at: usize) -> Result<()> {
-    let mut bytes = file_bytes(alloc, env, name)?;
-    if let Some(byte) = bytes.get_mut(at) {
-        *byte = byte.wrapping_add(1);
-    }
-    put_file(alloc, env, name, &bytes)
+    let path = format!(in alloc; "{STORE}/{name}")?;
+    support::damage_file(alloc, env, &path, at)
 }
 
 /// A number, and a key whose value is `v`.
@@ -208,15 +192,4 @@ pub fn put_log(alloc: Global, env: &mut MemEnv, name: &str, rows: &[Row]) -> Res
         writer.add_record(batch.contents())?;
     }
     put_file(alloc, env, name, writer.sink.as_slice())
-}
-
-/// Whether an answer is an error of this code. Out of memory is passed on.
-pub fn failed_with<T: Drop>(answer: Result<T>, code: StatusCode) -> Result<bool> {
-    let Err(status) = answer else {
-        return Ok(false);
-    };
-    if status.code == StatusCode::OutOfMemory {
-        return Err(status);
-    }
-    Ok(status.code == code)
 }

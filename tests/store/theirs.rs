@@ -1,5 +1,5 @@
 //! Stores that C++ LevelDB 1.23 made (tools/theirstores/make.cc says how), which are opened and read.
-use crate::stores::{DefaultOptions, STORE, failed_with, file_bytes, put_file};
+use crate::stores::{DefaultOptions, STORE, file_bytes, put_file};
 use leveldb_base::error::{Result, StatusCode};
 use leveldb_env::env::Env;
 use leveldb_env::mem_env::MemEnv;
@@ -7,6 +7,7 @@ use leveldb_env::options::Options;
 use rusty_leveldb::DB;
 use std::alloc::Global;
 use std::process::Abort;
+use support::failed_with;
 
 /// Two edits: a table in level 2, and one in level 0.
 const MANIFEST: &[u8] =

@@ -1,5 +1,5 @@
 //! Blocks read and walked both ways, and compared with a slow reader of their grammar.
-use crate::checks::{Given, change_byte, failed_with};
+use crate::checks::Given;
 use byteorder::{ByteOrder, LittleEndian};
 use bytes::Bytes;
 use leveldb_base::cmp::DefaultCmp;
@@ -9,6 +9,7 @@ use leveldb_base::varint::get_varint32;
 use leveldb_table::block::{Block, BlockIter};
 use std::alloc::Global;
 use std::process::Abort;
+use support::{change_byte, failed_with};
 
 /// The keys "", a, ab, abc and b, with the values 0 to 4 and restart points at the first and the
 /// fourth.

@@ -4,7 +4,7 @@ use leveldb_base::blockhandle::BlockHandle;
 use leveldb_base::cmp::{Cmp, DefaultCmp, InternalKeyCmp};
 use leveldb_base::error::{Result, StatusCode};
 use leveldb_base::types::LdbIterator;
-use leveldb_env::compressor::{Compressor, CompressorList};
+use leveldb_env::compressor::CompressorList;
 use leveldb_env::env::Sink;
 use leveldb_env::filter::{BloomPolicy, FilterPolicy};
 use leveldb_env::options::Options;
@@ -12,6 +12,7 @@ use leveldb_table::block::{Block, BlockIter};
 use leveldb_table::table_builder::{FULL_FOOTER_LENGTH, Footer, TableBuilder};
 use std::alloc::{AllocError, Global};
 use std::process::Abort;
+use support::Raised;
 
 /// A key and its value.
 pub type Given<'a> = (&'a [u8], &'a [u8]);
@@ -30,30 +31,6 @@ pub const EIGHT: [Given<'static>; 8] = [
 
 /// The user's key `a` at the sequence 1, for a value.
 pub const ONE: [Given<'static>; 1] = [(b"a\x01\x01\0\0\0\0\0\0", b"1")];
-
-/// Adds 1 modulo 256 to each byte.
-#[derive(Clone, Copy)]
-pub struct Raised;
-
-impl Compressor for Raised {
-    ghost coding = { ? };
-
-    fn encode(&self, alloc: Global, block: Vec<u8>) -> Result<Vec<u8>> {
-        let mut stored = Vec::new(alloc);
-        for byte in &block {
-            stored.push(byte.wrapping_add(1))?;
-        }
-        Ok(stored)
-    }
-
-    fn decode(&self, alloc: Global, stored: Vec<u8>) -> Result<Vec<u8>> {
-        let mut block = Vec::new(alloc);
-        for byte in &stored {
-            block.push(byte.wrapping_add(255))?;
-        }
-        Ok(block)
-    }
-}
 
 /// The options by default but for an order of keys and a filter policy.
 pub fn options_under<C, FP>(cmp: C, filter_policy: FP) -> Options<C, FP> {
@@ -88,17 +65,6 @@ pub fn compressed(alloc: Global) -> Result<Options<DefaultCmp, BloomPolicy>> {
     Ok(options)
 }
 
-/// Whether a call failed with this code. Out of memory is passed on.
-pub fn failed_with<T: Drop>(answer: Result<T>, code: StatusCode) -> Result<bool> {
-    let Err(status) = answer else {
-        return Ok(false);
-    };
-    if status.code == StatusCode::OutOfMemory {
-        return Err(status);
-    }
-    Ok(status.code == code)
-}
-
 /// Whether a call failed with this code and text. Out of memory is passed on.
 pub fn failed_saying<T: Drop>(answer: Result<T>, code: StatusCode, text: &str) -> Result<bool> {
     let Err(status) = answer else {
@@ -109,13 +75,6 @@ pub fn failed_saying<T: Drop>(answer: Result<T>, code: StatusCode, text: &str) -
     }
     let found = status.err.ok_or(AllocError)?;
     Ok(status.code == code && found.as_str() == text)
-}
-
-/// Adds `amount` to the byte at `offset`, past 255 from 0 on.
-pub fn change_byte(bytes: &mut [u8], offset: usize, amount: u8) {
-    if let Some(byte) = bytes.get_mut(offset) {
-        *byte = byte.wrapping_add(amount);
-    }
 }
 
 /// How many pairs a walk goes over, if they are the first of these.

@@ -14,8 +14,6 @@ pub mod passed;
 #[cfg(test)]
 mod round_trip;
 #[cfg(test)]
-mod short_reads;
-#[cfg(test)]
 mod table_blocks;
 #[cfg(test)]
 mod table_builders;

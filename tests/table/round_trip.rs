@@ -6,7 +6,7 @@ use crate::passed::BothWays;
 use bytes::Bytes;
 use leveldb_base::cmp::{Cmp, DefaultCmp, InternalKeyCmp, UserCmp};
 use leveldb_base::error::{Result, StatusCode, err};
-use leveldb_env::compressor::{CompressorList, Compressors};
+use leveldb_env::compressor::CompressorList;
 use leveldb_env::env::{Env, EnvFile, Sink};
 use leveldb_env::filter::{BloomPolicy, FilterPolicy, InternalFilterPolicy};
 use leveldb_env::mem_env::MemEnv;

@@ -1,6 +1,5 @@
 //! Blocks and filters read from files: whole, damaged, cut, and at handles past the file.
-use crate::checks::{Given, change_byte, failed_saying, failed_with, has_pairs};
-use crate::short_reads::ShortReads;
+use crate::checks::{Given, failed_saying, has_pairs};
 use leveldb_base::blockhandle::BlockHandle;
 use leveldb_base::cmp::DefaultCmp;
 use leveldb_base::crc::{digest, mask_crc};
@@ -16,6 +15,7 @@ use leveldb_table::block_builder::BlockBuilder;
 use leveldb_table::table_block::{read_filter_block, read_table_block};
 use std::alloc::Global;
 use std::process::Abort;
+use support::{ShortReads, change_byte, failed_with};
 
 /// The first bytes of each file.
 const FRONT: &[u8] = b"front";

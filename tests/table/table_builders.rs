@@ -8,7 +8,6 @@ use leveldb_base::blockhandle::BlockHandle;
 use leveldb_base::cmp::{Cmp, DefaultCmp, InternalKeyCmp};
 use leveldb_base::error::{Result, StatusCode, err};
 use leveldb_base::types::LdbIterator;
-use leveldb_env::compressor::Compressor;
 use leveldb_env::env::Sink;
 use leveldb_env::filter::{BloomPolicy, FilterPolicy};
 use leveldb_env::options::Options;
@@ -16,22 +15,7 @@ use leveldb_table::block::{Block, BlockIter};
 use leveldb_table::table_builder::{Footer, TableBuilder};
 use std::alloc::Global;
 use std::process::Abort;
-
-/// Fails for each block, with a code of its own.
-#[derive(Clone, Copy)]
-struct Refusing;
-
-impl Compressor for Refusing {
-    ghost coding = { ? };
-
-    fn encode(&self, alloc: Global, _block: Vec<u8>) -> Result<Vec<u8>> {
-        err(alloc, StatusCode::CompressionError, "too dense")
-    }
-
-    fn decode(&self, alloc: Global, _stored: Vec<u8>) -> Result<Vec<u8>> {
-        err(alloc, StatusCode::CompressionError, "too dense")
-    }
-}
+use support::Refusing;
 
 /// Takes the first `room` bytes; so a put may be taken in part. A flush fails if no room is left.
 #[derive(Drop)]

@@ -1,9 +1,8 @@
 //! Tables built, opened, looked up and walked over, and compared with the lists of their pairs.
 use crate::checks::{
-    EIGHT, Given, ONE, change_byte, compressed, failed_saying, failed_with, footer_of, has_pairs,
-    internal_table, options_under, table_of,
+    EIGHT, Given, ONE, compressed, failed_saying, footer_of, has_pairs, internal_table,
+    options_under, table_of,
 };
-use crate::short_reads::ShortReads;
 use bytes::Bytes;
 use leveldb_base::blockhandle::BlockHandle;
 use leveldb_base::cmp::{Cmp, DefaultCmp};
@@ -22,6 +21,7 @@ use leveldb_table::table_builder::Footer;
 use leveldb_table::table_reader::{Finder, Table, TableIterator};
 use std::alloc::Global;
 use std::process::Abort;
+use support::{ShortReads, change_byte, failed_with};
 
 mod caches;
 mod damage;

@@ -1,7 +1,6 @@
 //! Looking a key up in a version: what its tables have of it, beside a search through all of their
 //! entries, and which file is charged with a seek.
 
-use crate::checks::failed_with;
 use crate::store_files::put;
 use bytes::Bytes;
 use leveldb_base::cmp::{Cmp, DefaultCmp, InternalKeyCmp};
@@ -19,6 +18,7 @@ use leveldb_version::table_cache::{ReadTables, TableCache, table_file_name};
 use leveldb_version::version::{GetStats, Version, new_version_iter};
 use std::alloc::Global;
 use std::process::Abort;
+use support::failed_with;
 
 type Choices = Options<DefaultCmp, BloomPolicy>;
 

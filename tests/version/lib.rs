@@ -3,8 +3,6 @@
 #[cfg(test)]
 mod changes;
 #[cfg(test)]
-mod checks;
-#[cfg(test)]
 mod compactions;
 #[cfg(test)]
 mod gets;

@@ -1,5 +1,4 @@
 //! New stores, and edits that are logged.
-use crate::checks::failed_with;
 use crate::stored::Stored;
 use bytes::Bytes;
 use leveldb_base::cmp::DefaultCmp;
@@ -13,6 +12,7 @@ use leveldb_version::version_edit::VersionEdit;
 use leveldb_version::version_set::{make_store, read_current_file};
 use std::alloc::Global;
 use std::process::Abort;
+use support::failed_with;
 
 /// The first edit has 34 bytes, and the header of its record 7.
 #[test]

@@ -1,5 +1,4 @@
 //! What a version set recovers from manifests that are written by hand, and what it refuses.
-use crate::checks::failed_with;
 use crate::store_files::{NEW_MANIFEST, TABLE_EDIT};
 use crate::stored::Stored;
 use leveldb_base::error::{Result, StatusCode};
@@ -11,6 +10,7 @@ use leveldb_mem::log::LogWriter;
 use leveldb_version::version_set::VersionSet;
 use std::alloc::Global;
 use std::process::Abort;
+use support::failed_with;
 
 /// An edit that a store can begin with: log 0, next file 2, last sequence number 0.
 const BEGINNING: &[u8] = b"\x01\x1aleveldb.BytewiseComparator\x02\x00\x03\x02\x04\x00";

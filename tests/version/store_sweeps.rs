@@ -3,7 +3,6 @@
 //!
 //! The store has manifest 1 with the edit of a table, the table, and two logs of two batches each.
 //! A second manifest is beside the first.
-use crate::checks::failed_with;
 use crate::store_files::{
     A, B, C, LATER_MANIFEST, Row, TABLE, TABLE_EDIT, are_rows, bytes_of, put, put_log, read,
     store_of,
@@ -13,6 +12,7 @@ use leveldb_base::types::SequenceNumber;
 use leveldb_env::mem_env::MemEnv;
 use std::alloc::Global;
 use std::process::Abort;
+use support::failed_with;
 
 const D: Row = (4, b"a", Some(b"4"));
 

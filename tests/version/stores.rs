@@ -1,6 +1,5 @@
 //! What the files of small stores hold, by the slow reading of them: the expected contents are
 //! written by hand.
-use crate::checks::failed_with;
 use crate::store_files::{
     A, B, C, NEW_MANIFEST, NEXT_MANIFEST, PAIR_EDIT, PAIR_TABLE, PAST_EDIT, Row, TABLE, TABLE_EDIT,
     are_rows, bytes_of, put, put_log, read, store_of,
@@ -10,6 +9,7 @@ use leveldb_base::types::SequenceNumber;
 use leveldb_env::mem_env::MemEnv;
 use std::alloc::Global;
 use std::process::Abort;
+use support::failed_with;
 
 /// What is done to the files of a store, or asked of them.
 #[derive(Clone, Copy)]

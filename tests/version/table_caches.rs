@@ -1,5 +1,4 @@
 //! Caches of a store's open tables, over tables whose bytes are written by hand.
-use crate::checks::failed_with;
 use crate::store_files::{PAIR_TABLE, TABLE, put};
 use bytes::Bytes;
 use leveldb_base::cmp::DefaultCmp;
@@ -12,6 +11,7 @@ use leveldb_env::options::{Options, in_memory};
 use leveldb_version::table_cache::{TableCache, table_file_name};
 use std::alloc::Global;
 use std::process::Abort;
+use support::failed_with;
 
 type Choices = Options<DefaultCmp, BloomPolicy>;
 

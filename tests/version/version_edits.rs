@@ -1,5 +1,4 @@
 //! Edits of known bytes, in other orders of fields, cut and changed.
-use crate::checks::failed_with;
 use bytes::Bytes;
 use leveldb_base::error::{Result, Status, StatusCode};
 use leveldb_base::types::{FileMetaData, FileNum};
@@ -7,6 +6,7 @@ use leveldb_mem::log::LogWriter;
 use leveldb_version::version_edit::{CompactionPointer, VersionEdit};
 use std::alloc::Global;
 use std::process::Abort;
+use support::{change_byte, failed_with};
 
 const NAME: &str = "leveldb.BytewiseComparator";
 
@@ -261,13 +261,6 @@ fn cut_anywhere(rt: HostRuntime) -> Result<()> {
     }
     assert!(rt; read.len() == 12);
     Ok(())
-}
-
-/// Adds `amount` to the byte at `offset`, past 255 from 0 on.
-fn change_byte(bytes: &mut [u8], offset: usize, amount: u8) {
-    if let Some(byte) = bytes.get_mut(offset) {
-        *byte = byte.wrapping_add(amount);
-    }
 }
 
 /// With a byte raised by one an edit is another at least where that byte is of the name or of a

@@ -1,5 +1,4 @@
 //! The numbers that a version set gives, and the file `CURRENT`.
-use crate::checks::failed_with;
 use crate::stored::Stored;
 use leveldb_base::error::{Result, StatusCode};
 use leveldb_base::types::FileNum;
@@ -9,6 +8,7 @@ use leveldb_env::mem_env::{MemEnv, RecordEnv};
 use leveldb_version::version_set::{read_current_file, set_current_file};
 use std::alloc::Global;
 use std::process::Abort;
+use support::failed_with;
 
 fn new_set(alloc: Global) -> Result<Stored<MemEnv>> {
     Stored::new(alloc, MemEnv::new(alloc))

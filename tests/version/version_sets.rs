@@ -1,6 +1,5 @@
 //! The names that a store gives to its manifests, texts of `CURRENT`, the keys of a table's file, and
 //! the files that edits leave.
-use crate::checks::failed_with;
 use bytes::Bytes;
 use leveldb_base::cmp::DefaultCmp;
 use leveldb_base::error::{Result, StatusCode};
@@ -10,6 +9,7 @@ use leveldb_version::version_edit::VersionEdit;
 use leveldb_version::version_set::{check_key_ranges, current_text, parse_current_text};
 use std::alloc::Global;
 use std::process::Abort;
+use support::failed_with;
 
 /// Numbers, and the names of their manifests and temporary files.
 const NAMES: [(FileNum, &str, &str); 3] = [

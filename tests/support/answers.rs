@@ -1,9 +1,10 @@
-//! What several tests ask.
+//! Questions to what a call returned.
 use leveldb_base::error::{Result, StatusCode};
 
-/// Whether a call failed with this code. Out of memory is passed on.
+/// Whether a call failed with this code. Out of memory is passed on, so that a test ends with it
+/// (tools/refuse).
 pub fn failed_with<T: Drop>(answer: Result<T>, code: StatusCode) -> Result<bool> {
-    let Some(status) = answer.err() else {
+    let Err(status) = answer else {
         return Ok(false);
     };
     if status.code == StatusCode::OutOfMemory {

@@ -1,0 +1,17 @@
+//! Which levels a store's live files are in, as the version set says.
+use leveldb_base::cmp::DefaultCmp;
+use leveldb_base::error::Result;
+use leveldb_env::env::Env;
+use leveldb_env::options::Options;
+use leveldb_version::version_set::VersionSet;
+use std::alloc::Global;
+
+/// Whether the live files of a store's manifest are in these levels. No file changes.
+pub fn has_levels<E: Env>(alloc: Global, env: &mut E, store: &str, wanted: &str) -> Result<bool> {
+    let mut options = Options::default();
+    options.reuse_logs = false;
+    options.reuse_manifest = false;
+    let mut set = VersionSet::new(alloc, store, &DefaultCmp)?;
+    let _ = set.recover(env, &options)?;
+    Ok(set.current_summary()?.as_str() == wanted)
+}
