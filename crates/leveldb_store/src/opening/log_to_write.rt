@@ -61,7 +61,6 @@ fn reopen_log<E: Env>(
     let file = env.open_appendable_file(&path)?;
     Ok(OpenLog {
         number,
-        path,
         file,
         writer: WriterCore::new_with_off(alloc, size),
     })
@@ -89,7 +88,6 @@ fn make_log<E: Env>(
     let file = env.open_writable_file(&path)?;
     Ok(OpenLog {
         number,
-        path,
         file,
         writer: WriterCore::new(alloc),
     })
