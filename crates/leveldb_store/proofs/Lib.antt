@@ -20,6 +20,7 @@ pub mod TableWaitingLemmas
 pub mod NotTabledLemmas
 pub mod SoundLemmas
 pub mod RoomLemmas
+mod DamageLemmas
 mod ReadLemmas
 pub mod LookUpLemmas
 pub mod ViewLemmas

@@ -24,7 +24,7 @@ use Rattle.leveldb_base.specs.Error.{IsOutOfMemory}
 use Rattle.leveldb_base.specs.History.{History}
 use Rattle.leveldb_base.specs.Names.{IsFileName, IsNumber, IsNumbered, file_name}
 use Rattle.leveldb_base.specs.declared.error.Status.{Status}
-use Rattle.leveldb_base.specs.declared.error.StatusCode.TheVariants.{NotFound}
+use Rattle.leveldb_base.specs.declared.error.StatusCode.TheVariants.{Corruption, NotFound}
 use Rattle.leveldb_base.specs.declared.types.FileType.{FileType}
 use Rattle.leveldb_base.specs.declared.types.FileType.TheVariants.{Current, DBLock, Descriptor, InfoLog, Log, Table, Temp}
 use Rattle.leveldb_env.proofs.EnvLemmas.{Run-mono, Run-trans, SameBut-deleted, at_other, at_same, begun, bytes_eq-apart, call, with_file-itself}
@@ -557,9 +557,20 @@ module _ {E F : Type 0} (env : Ghosts E F) (set : VersionSetValue) (from : E) wh
     cause = record {
       later = cause.later;
       ok = tt;
-      cause = ⊎_elim (λ excused. inl excused)
+      cause = ⊎_elim (λ excused. inl (inl excused))
           (λ counted. inr (⊎_elim (λ one. inl (omega (arith, one))) (λ most. inr most) counted)) cause.cause;
     };
+  }
+
+  -- files are kept
+  pub RemovesObsolete-kept : set.manifest ≢ broken → (status : Status) → status.code ≡ Corruption → RemovesObsolete env set from (Err status) from
+  RemovesObsolete-kept usable status code = record {
+    run = λ modelled. begun (env.observed from) (λ path. inl refl);
+    all = λ again. tt;
+    left = λ again. inr (inl (tt, λ modelled. refl));
+    broken_keeps = λ is. absurd (usable is);
+    locks = λ modelled. refl;
+    cause = record { later = omega arith; ok = tt; cause = inl (inr code) };
   }
 
   module _ (usable : set.manifest ≢ broken) (mid : E) (listing : IsTrue env.models_disk → Run (FilesUnchanged (env.observed from).disk.files) (env.observed from) (env.observed mid)) (counted : env.failures mid ≡ env.failures from)
@@ -613,11 +624,11 @@ module _ {E F : Type 0} (env : Ghosts E F) (set : VersionSetValue) (from : E) wh
     }
       where
         widened : {before now : ℕ} (result' : Result (Unit {0}) Status) → HasFirstCause (λ status. IsOutOfMemory status ⊎ ((status.code ≡ NotFound) × (IsTrue env.models_disk → ⊥))) before now result'
-            → HasFirstCause (IsEmptyFolder env.models_disk set.store (env.observed from)) before now result'
+            → HasFirstCause (λ status. IsEmptyFolder env.models_disk set.store (env.observed from) status ⊎ (status.code ≡ Corruption)) before now result'
         widened (Ok x) cause = record { later = cause.later; ok = cause.ok; cause = tt }
         widened (Err e) cause = record {
           later = cause.later;
           ok = tt;
-          cause = ⊎_elim (λ excused. inl (⊎_elim (λ memory. inl memory)
-              (λ (missing : (e.code ≡ NotFound) × (IsTrue env.models_disk → ⊥)). inr (missing.0, λ modelled. absurd (missing.1 modelled))) excused)) (λ counted'. inr counted') cause.cause;
+          cause = ⊎_elim (λ excused. inl (inl (⊎_elim (λ memory. inl memory)
+              (λ (missing : (e.code ≡ NotFound) × (IsTrue env.models_disk → ⊥)). inr (missing.0, λ modelled. absurd (missing.1 modelled))) excused))) (λ counted'. inr counted') cause.cause;
         }

@@ -1,6 +1,6 @@
 -- What making room in the memtable returns and leaves, and why it fails; and deletions whose
 -- failures are told to a sink alone.
-use Rattle.std.specs.Prelude.{◌≡◌, ◌≢◌, ◌≤◌, ◌<◌, ◌-◌, ◌^◌, ◌⊎◌, ℕ, List, [], Option, None, Some, Result, IfErr, OnErr, OnOk, IsTrue, is_some, map}
+use Rattle.std.specs.Prelude.{◌≡◌, ◌≢◌, ◌≤◌, ◌<◌, ◌-◌, ◌^◌, ◌⊎◌, ℕ, List, [], Option, None, Some, Result, Ok, Err, IfErr, OnErr, OnOk, IsTrue, is_some, map}
 use Rattle.std.specs.declared.cmp.Ordering.{Ordering}
 use Rattle.leveldb_base.specs.Entries.{internal_pair}
 use Rattle.leveldb_base.specs.Error.{IsOutOfMemory}
@@ -15,6 +15,7 @@ use Rattle.leveldb_env.specs.declared.filter.FilterPolicy.{Ghosts as FilterGhost
 use Rattle.leveldb_mem.specs.MemTable.{Kept, memory_of_entries}
 use Rattle.leveldb_store.specs.BuildTable.{IsNotTabled, TableChoices}
 use Rattle.leveldb_version.specs.Format.{Agrees, Format, Meaning}
+use Rattle.leveldb_version.specs.VersionSetValue.{VersionSetValue}
 use Rattle.leveldb_store.specs.OpenStore.{IsUnbroken, OpenStoreValue}
 use Rattle.leveldb_store.specs.Switch.{AreFileNumbersTooFew, RemovesNoOther, RemovesObsolete}
 use Rattle.leveldb_store.specs.Written.{IsWritten, KeepsWritten, SparesRest}
@@ -38,6 +39,18 @@ pub record TellsOnly {C FP : Type 0} {B : Boxed} (before after : OptionsOf C FP 
   pub rest : after ≡ record before { log = after.log }
   -- there is one if there was one
   pub sink : is_some after.log ≡ is_some before.log
+
+-- ---- removals
+
+-- what a call returned, beside what the removal at its end did
+abbrev pub but_removal : Result (Result (Unit {0}) Status) Status → Result (Unit {0}) Status
+but_removal (Ok removal) = Ok tt
+but_removal (Err status) = Err status
+
+-- the last that was done is a removal of the files that are obsolete by this set
+abbrev pub RemovesAtLast : {E F : Type 0} → Ghosts E F → VersionSetValue → Result (Unit {0}) Status
+    → E → Type 0
+RemovesAtLast {E} env set removal to = (at : E) × RemovesObsolete env set at removal to
 
 -- ---- room
 
@@ -95,11 +108,8 @@ module _ {E F C : Type 0} (env : Ghosts E F) (cmp : List ℕ → List ℕ → Or
     pub rest : SparesRest env.models_disk old (env.observed from) new (env.observed to)
     pub cause : FailsFor (FailsToMakeRoom choices) (env.failures from) (env.failures to) result
 
-  -- Obsolete files are deleted, and what failed of that is told.
+  -- What a deletion of obsolete files keeps, whatever it returns.
   pub record TidiesUp (to : E) : Type 0 where
-    -- the removal, which may have failed
-    pub removal : Result (Unit {0}) Status
-    pub removes : RemovesObsolete env old.set from removal to
     pub others : IsTrue env.models_disk
         → RemovesNoOther old.set (env.observed from).disk.files (env.observed to).disk.files
     pub keeps : IsTrue env.models_disk → (meaning : Meaning)

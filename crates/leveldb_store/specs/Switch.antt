@@ -7,7 +7,7 @@ use Rattle.leveldb_base.specs.Types.{Pair}
 use Rattle.std.specs.declared.cmp.Ordering.{Ordering}
 use Rattle.leveldb_base.specs.declared.cmp.Cmp.{Ghosts as CmpGhosts}
 use Rattle.leveldb_base.specs.declared.error.Status.{Status}
-use Rattle.leveldb_base.specs.declared.error.StatusCode.TheVariants.{NotFound, NotSupported, OutOfMemory}
+use Rattle.leveldb_base.specs.declared.error.StatusCode.TheVariants.{Corruption, NotFound, NotSupported, OutOfMemory}
 use Rattle.leveldb_base.specs.declared.types.FileType.{FileType}
 use Rattle.leveldb_env.specs.Env.{BeforeOrAfter, ChangesFiles, Files, HasCause, IsEmptyFolder, IsMissing, Run, SameLocks, deleted, in_folder}
 use Rattle.leveldb_env.specs.WholeFiles.{IsLost}
@@ -191,7 +191,7 @@ module _ {E F : Type 0} (env : Ghosts E F) (set : VersionSetValue) (from : E) wh
     pub counted : (env.failures from + length failed ≤ env.failures to)
         ⊎ (2 ^ 64 - 1 ≤ env.failures to)
 
-  -- the folder wasn't listed, and no file changed
+  -- the folder wasn't listed, or its files are kept, and none changed
   abbrev pub IsUnlisted : Result (Unit {0}) Status → E → Type 0
   IsUnlisted result to = OnOk result ⊥ × (IsTrue env.models_disk
       → (env.observed to).disk.files ≡ (env.observed from).disk.files)
@@ -210,9 +210,11 @@ module _ {E F : Type 0} (env : Ghosts E F) (set : VersionSetValue) (from : E) wh
     pub broken_keeps : set.manifest ≡ broken → (result ≡ Ok tt) × (to ≡ from)
     pub locks : SameLocks env.models_disk (env.observed from) (env.observed to)
     -- out of memory, the folder has no file, or a call of the device failed; where no disk is
-    -- modelled, a file may be missing that was listed
-    pub cause : HasFirstCause (IsEmptyFolder env.models_disk set.store (env.observed from))
-        (env.failures from) (env.failures to) result
+    -- modelled, a file may be missing that was listed; or files are kept, since the opening left
+    -- records out
+    pub cause : HasFirstCause (λ status.
+        IsEmptyFolder env.models_disk set.store (env.observed from) status
+        ⊎ (status.code ≡ Corruption)) (env.failures from) (env.failures to) result
 
   -- ---- one file after the other
 

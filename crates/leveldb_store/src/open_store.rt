@@ -2,6 +2,7 @@
 ghost use Rattle.std.specs.Prelude.{◌≡◌, ◌↔◌, IsTrue, false};
 ghost use Rattle.leveldb_store.specs.OpenStore.{IsUnbroken};
 
+mod damage;
 mod obsolete;
 mod read;
 mod room;
@@ -44,6 +45,10 @@ pub struct OpenStore<E: Env, C: Cmp> {
     pub(crate) recent: MemTable<C>,
     // Those of the logs before it, until they are in a table.
     pub(crate) waiting: Option<MemTable<C>>,
+    // Whether the opening left aside a log or a manifest that it read.
+    pub(crate) leaves_files: bool,
+    // Whether no file is removed, since one of those has records that the opening left out.
+    pub(crate) keeps_files: bool,
 }
 
 impl<E: Env, C: Cmp + Drop> Drop for OpenStore<E, C> {
@@ -58,6 +63,8 @@ impl<E: Env, C: Cmp + Drop> Drop for OpenStore<E, C> {
             log,
             recent,
             waiting,
+            leaves_files: _,
+            keeps_files: _,
         } = self;
         drop(name);
         drop(cmp);

@@ -11,7 +11,7 @@ ghost use Rattle.leveldb_store.specs.Written.{KeepsWritten};
 
 use super::OpenStore;
 use leveldb_base::cmp::UserCmp;
-use leveldb_base::error::{Result, StatusCode};
+use leveldb_base::error::{Result, StatusCode, err};
 use leveldb_base::names::file_name_parts;
 use leveldb_base::types::{FileNum, FileType};
 use leveldb_env::env::Env;
@@ -24,7 +24,8 @@ impl<E: Env, C: UserCmp + Copy + Drop> OpenStore<E, C> {
     /// manifests below the one in use, tables that aren't live, and temporary files. A table is
     /// closed before its file is deleted. It goes on after a deletion that fails, and returns the
     /// first error, or `OutOfMemory` if memory was out for one of them. Where a call on the manifest
-    /// failed it deletes nothing, since the manifest may know of more than the set does.
+    /// failed it deletes nothing, since the manifest may know of more than the set does. `Corruption`
+    /// where the opening left records out: then all files are kept for a repair.
     pub fn remove_obsolete<FP: FilterPolicy + Copy + Drop>(
         &self,
         env: &mut E,
@@ -38,6 +39,13 @@ impl<E: Env, C: UserCmp + Copy + Drop> OpenStore<E, C> {
     {
         if self.versions.is_broken() {
             return Ok(());
+        }
+        if self.keeps_files {
+            return err(
+                self.alloc,
+                StatusCode::Corruption,
+                "files are kept, since the opening left records out",
+            );
         }
         let live = self.versions.live_files()?;
         let names = env.children(self.alloc, &self.name)?;

@@ -56,6 +56,8 @@ pub(super) fn begin_writing<E: Env, C: UserCmp + Copy + Drop, FP: FilterPolicy +
         log,
         recent,
         waiting: None,
+        leaves_files: wanted,
+        keeps_files: false,
     })
 }
 

@@ -5,7 +5,7 @@ use Rattle.leveldb_env.proofs.EnvLemmas.{Run-call, Run-mono}
 use Rattle.leveldb_env.specs.Env.{ListsChildren}
 use Rattle.leveldb_version.specs.VersionSetValue.{broken}
 use Rattle.leveldb_store.proofs.OpenTablesLemmas.{no_removal, removal_then}
-use Rattle.leveldb_store.proofs.RemoveLemmas.{RemovesObsolete-after, RemovesObsolete-unlisted, none_removed, removal_keeps, removing_after}
+use Rattle.leveldb_store.proofs.RemoveLemmas.{RemovesObsolete-after, RemovesObsolete-kept, RemovesObsolete-unlisted, none_removed, removal_keeps, removing_after}
 use Rattle.leveldb_store.proofs.open_store.OpenStore.remove_obsolete.Goals as goal
 
 pub returns-in_err-names-clause-keeps : goal.returns-in_err-names-clause-keeps
@@ -15,6 +15,14 @@ returns-in_err-names-clause-keeps g c = λ modelled meaning allowed w.
     let to = g.E.Env.observed c.children.new.self in
     removal_keeps (g.C.Cmp.cmp old.cmp) meaning (λ store. IsTrue (allowed store)) old from to
     (Run-mono (λ files same. none_removed old.set from.disk.files files same) (Run-call modelled c.in_err-names.ensures.does)) w
+
+pub returns-then-self-clause-removes : goal.returns-then-self-clause-removes
+returns-then-self-clause-removes g c =
+    let set = c.args.self.now.set in
+    let failed = err_from_is_err_and c.err.result c.err.ensures.code in
+    let same_set : c.self.inside.versions ≡ set = ap (λ v. v.set) c.self.view_is in
+    let usable : set.manifest ≢ broken = λ is. let never : false ≡ true = c.if-is_broken.ensures.1 (ap (λ v. v.manifest) same_set ∙ is) in cc in
+    rw failed.1 (RemovesObsolete-kept g.E.Env set c.args.env.now usable failed.0 failed.2)
 
 pub returns-in_err-names-clause-removes : goal.returns-in_err-names-clause-removes
 returns-in_err-names-clause-removes g c =

@@ -123,9 +123,9 @@ returns-in_err-lock-2 g c =
     ))))
 
 pub returns-in-Ok : goal.returns-in-Ok
-returns-in-Ok g c = done_opens g.E.Env _ c.args.name.now c.args.options
+returns-in-Ok g c = rw c.tidy_up_first.ensures.same (done_opens g.E.Env _ c.args.name.now c.args.options
     (opening_of g.C.Cmp g.FP.FilterPolicy (compressors g.dyn-2).codings c.args.options)
-    c.args.env.now c.lock.new.self c.open.new.env c.tidy_up.new.env _
+    c.args.env.now c.lock.new.self c.open.new.env c.tidy_up_first.new.env _
     (λ modelled. lock_taken c.args.name.now c.deref.result.now (g.E.Env.observed c.args.env.now)
     (g.E.Env.observed c.mkdir.new.self) (g.E.Env.observed c.lock.new.self) modelled
     (c.deref.ensures ∙ c.in_ok-lock.ensures.ok)
@@ -135,19 +135,19 @@ returns-in-Ok g c = done_opens g.E.Env _ c.args.name.now c.args.options
     c.in_ok-lock-2.ensures.does) (c.mkdir.ensures.locks modelled) c.in_ok-lock-2.ensures.does
     c.in_ok-lock-2.ensures.locks (c.in_ok-lock-2.ensures.was_free modelled))
     c.args.options.write_buffer_size c.in-Ok.ensures.opens c.in-Ok.ensures.cause.ok c.in-Ok.ensures.bytes
-    (subst (λ cmp. TidiesUp g.E.Env (g.C.Cmp.cmp cmp) c.in-Ok.store c.open.new.env c.tidy_up.new.env)
-    c.in-Ok.ensures.cmp c.tidy_up.ensures.tidies)
-    c.tidy_up.ensures.time refl c.new-in-Ok.ensures c.in_ok-lock.ensures.ok
-    (record { rest = refl; sink = c.tidy_up.ensures.log }) c.in-Ok.ensures.cmp
+    (subst (λ cmp. TidiesUp g.E.Env (g.C.Cmp.cmp cmp) c.in-Ok.store c.open.new.env c.tidy_up_first.new.env)
+    c.in-Ok.ensures.cmp c.tidy_up_first.ensures.tidies)
+    c.tidy_up_first.ensures.time refl c.new-in-Ok.ensures c.in_ok-lock.ensures.ok
+    (record { rest = refl; sink = c.tidy_up_first.ensures.log }) c.in-Ok.ensures.cmp
     (λ a b is. ap (format_of g.C.Cmp g.FP.FilterPolicy (compressors g.dyn-2).codings) is.rest) refl
     (c.in_ok-lock-2.ensures.cause.ok ∙ c.in_ok-mkdir.ensures.cause.ok)
     (opened_tables g.E.Env _ (g.C.Cmp.cmp c.in-Ok.store.cmp) c.in-Ok.store c.args.options
-    c.in_ok-tables.tables _ c.open.new.env c.tidy_up.new.env c.args.name.now c.in-Ok.ensures.opens.path c.in_ok-tables.ensures.ok
-    c.in_ok-tables.ensures.matches c.tidy_up.ensures.tidies c.tidy_up.ensures.closes) (
+    c.in_ok-tables.tables _ c.open.new.env c.tidy_up_first.new.env c.args.name.now c.in-Ok.ensures.opens.path c.in_ok-tables.ensures.ok
+    c.in_ok-tables.ensures.matches c.tidy_up_first.ensures.tidies c.tidy_up_first.ensures.closes) (
       c.in_ok-check_name.ensures.ok,
       within_is c.args.options c.in_ok-check.ensures.limits,
       c.in_ok-check.ensures.compressor,
-    )
+    ))
 
 pub returns-in-Err : goal.returns-in-Err
 returns-in-Err g c = late_opens g.E.Env _ c.args.options c.args.name.now
