@@ -61,3 +61,4 @@ mod ViewListsLemmas
 mod ViewTablesLemmas
 mod ViewChildrenLemmas
 mod ViewStoreLemmas
+mod StoreWalkLemmas

@@ -2,7 +2,6 @@
 #![tactic(auto)]
 
 pub mod laws;
-pub mod store_walk;
 pub mod table_cache;
 pub mod version;
 pub mod version_edit;
