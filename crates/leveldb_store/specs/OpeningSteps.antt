@@ -1,5 +1,5 @@
 -- What each step of an opening returns and leaves of a store's files, and why it fails.
-use Rattle.std.specs.Prelude.{◌≡◌, ◌≢◌, ◌≤◌, ◌<◌, ◌⊎◌, ◌+◌, ◌%◌, ◌^◌, ℕ, Bool, false, true, List, [], ◌∷◌, ◌++◌, map, Contains, Option, None, Some, IsSome, IfNone, IfSome, Result, OnErr, OnOk, IfOk, IsErrAnd, IsTrue, length}
+use Rattle.std.specs.Prelude.{◌≡◌, ◌≢◌, ◌≤◌, ◌<◌, ◌⊎◌, ◌+◌, ◌%◌, ◌^◌, ℕ, Bool, false, true, List, [], ◌∷◌, ◌++◌, map, Contains, Option, None, Some, IsSome, IfNone, IfSome, Result, OnErr, OnOk, IfOk, IsErrAnd, IsTrue, length, string_bytes}
 use Rattle.std.specs.List.Sorted.{IsStrictlySortedBy}
 use Rattle.std.specs.Ordering.{nat_cmp}
 use Rattle.std.specs.declared.cmp.Ordering.{Ordering}
@@ -216,6 +216,7 @@ module _ {E F : Type 0} (env : Ghosts E F) (store : List ℕ) where
         (env.observed to) result
     pub locks : SameLocks env.models_disk (env.observed from) (env.observed to)
     pub number : IfOk result (λ log. log.number ≡ n)
+    pub path : IfOk result (λ log. string_bytes log.path ≡ log_path store n)
     pub file : IfOk result (λ log. IsTrue env.models_disk
         → env.name_of log.file ≡ log_path store n)
     pub writer : IfOk result (λ log.
@@ -235,6 +236,8 @@ module _ {E F : Type 0} (env : Ghosts E F) (store : List ℕ) where
         (env.observed to) result
     pub locks : SameLocks env.models_disk (env.observed from) (env.observed to)
     pub number : IfOk result (λ it. it.0.number ≡ number_to_write used old.next_file)
+    pub path : IfOk result (λ it.
+        string_bytes it.0.path ≡ log_path store (number_to_write used old.next_file))
     pub file : IfOk result (λ it. IsTrue env.models_disk
         → env.name_of it.0.file ≡ log_path store (number_to_write used old.next_file))
     pub writer : IfOk result (λ it.

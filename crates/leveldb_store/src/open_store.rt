@@ -22,10 +22,13 @@ use std::alloc::Global;
 use std::marker::Model;
 pub use view::StoreView;
 
-/// A log that batches are appended to: its number, its file, and the writer of its records.
+/// A log that batches are appended to: its number and its path, its file, and the writer of its
+/// records.
 #[derive(Drop)]
 pub(crate) struct OpenLog<E: Env> {
     pub(crate) number: FileNum,
+    // What an error of a call on its file names.
+    pub(crate) path: String,
     pub(crate) file: E::File,
     pub(crate) writer: WriterCore,
 }
@@ -88,13 +91,14 @@ impl<E: Env, C: Cmp> Model for OpenStore<E, C> {
       waiting = option_map (λ memtable. memtable.kept) it.waiting;
     } };
 
-    // The version set is of the store's path, the log's file has the log's path, and both memtables
-    // have the store's order. A manifest in use is in the store's folder. The manifest is in use or
+    // The version set is of the store's path, the log has the path of its number, and so has its file,
+    // and both memtables have the store's order. A manifest in use is in the store's folder. The manifest is in use or
     // broken. No entry of the log's memtable has a number past the last one, and a memtable that
     // waits has entries. The version has the live files, the number of each of them was given, and
     // they are in levels.
     ghost invariant = { λ it. (it.versions.store ≡ string_bytes it.name)
-        × (IsTrue E.models_disk → E.name_of it.log.file ≡ log_path (string_bytes it.name) it.log.number)
+        × ((string_bytes it.log.path ≡ log_path (string_bytes it.name) it.log.number)
+        × (IsTrue E.models_disk → E.name_of it.log.file ≡ string_bytes it.log.path))
         × (it.recent.cmp ≡ it.cmp)
         × IfSome it.waiting (λ memtable. memtable.cmp ≡ it.cmp)
         × (IsTrue E.models_disk → HasOwnManifest it.versions)

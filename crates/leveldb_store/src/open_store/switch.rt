@@ -44,6 +44,7 @@ impl<E: Env, C: UserCmp + Copy> OpenStore<E, C> {
         self.waiting = Some(std::mem::replace(&mut self.recent, fresh));
         self.log = OpenLog {
             number,
+            path,
             file,
             writer: WriterCore::new(self.alloc),
         };

@@ -5,14 +5,13 @@ ghost use Rattle.leveldb_env.specs.EnvFile.{Appends, Syncs, opened};
 ghost use Rattle.leveldb_mem.specs.Log.Writer.{AddsRecord, FailsToAdd, Flushes, IsWriterBroken, broken_writer};
 ghost use Rattle.leveldb_mem.specs.WriteBatch.{BatchOf, batch_bytes};
 ghost use Rattle.leveldb_store.specs.SoundCall.{IsSoundCall, any_meaning};
-ghost use Rattle.leveldb_store.specs.Write.{AppendsToLog, AreNumbersUsedUp, CanBeInserted, HasNumbers, InsertsBatch, PreparesBatch, SyncsLog, open_log_path, with_writer};
+ghost use Rattle.leveldb_store.specs.Write.{AppendsToLog, AreNumbersUsedUp, CanBeInserted, HasNumbers, InsertsBatch, PreparesBatch, SyncsLog, with_writer};
 ghost use Rattle.leveldb_store.specs.WriteBatch.{SyncsBatches};
 ghost use Rattle.leveldb_store.specs.Written.{SparesRest};
 
 use super::OpenStore;
 use leveldb_base::cmp::UserCmp;
 use leveldb_base::error::{Result, StatusCode, err};
-use leveldb_base::names::log_file_name;
 use leveldb_base::types::{MAX_SEQUENCE_NUMBER, SequenceNumber};
 use leveldb_env::env::whole_files::found;
 use leveldb_env::env::{Env, EnvFile};
@@ -69,25 +68,22 @@ impl<E: Env, C: UserCmp + Copy> OpenStore<E, C> {
         ensures sound { IsSoundCall E.Env (C.cmp self.old.cmp) any_meaning self.old env.old result
             self.new env.new }
     {
-        let path = log_file_name(self.alloc, &self.name, self.log.number)?;
-        self.sync_log(env, &path)
+        self.sync_log(env)
     }
 
-    // Syncs the log, which has this path. It takes no memory, so that an error breaks the store.
-    pub(super) fn sync_log(&mut self, env: &mut E, path: &str) -> Result<()>
-        requires { path.now ≡ open_log_path self.old }
+    // Syncs the log. It takes no memory before, so that an error breaks the store.
+    pub(super) fn sync_log(&mut self, env: &mut E) -> Result<()>
         ensures syncs { SyncsLog E.Env self.old env.old result self.new env.new }
         ensures breaks { OnErr result
             (self.new ≡ with_writer self.old (broken_writer self.old.log.writer)) }
     {
         let synced = sync_file(&mut self.log.writer, env, &mut self.log.file);
-        found(self.alloc, path, synced)
+        found(self.alloc, &self.log.path, synced)
     }
 
-    // Appends the record of a batch to the log, which has this path. If that fails once it has
-    // begun, the store is broken, and the batch may be found when it is opened again.
-    pub(super) fn append(&mut self, env: &mut E, path: &str, batch: &WriteBatch) -> Result<()>
-        requires { path.now ≡ open_log_path self.old }
+    // Appends the record of a batch to the log. If that fails once it has begun, the store is broken,
+    // and the batch may be found when it is opened again.
+    pub(super) fn append(&mut self, env: &mut E, batch: &WriteBatch) -> Result<()>
         ensures appends { AppendsToLog E.Env self.old env.old
             (batch_bytes batch.now.first batch.now.items) result self.new env.new }
         ensures encoded { BatchOf (batch_bytes batch.now.first batch.now.items) batch.now.first
@@ -96,7 +92,7 @@ impl<E: Env, C: UserCmp + Copy> OpenStore<E, C> {
     {
         let text = batch.contents();
         let added = put_record(&mut self.log.writer, env, &mut self.log.file, text);
-        found(self.alloc, path, added)?;
+        found(self.alloc, &self.log.path, added)?;
         Ok(())
     }
 }

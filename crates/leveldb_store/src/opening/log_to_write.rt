@@ -61,6 +61,7 @@ fn reopen_log<E: Env>(
     let file = env.open_appendable_file(&path)?;
     Ok(OpenLog {
         number,
+        path,
         file,
         writer: WriterCore::new_with_off(alloc, size),
     })
@@ -88,6 +89,7 @@ fn make_log<E: Env>(
     let file = env.open_writable_file(&path)?;
     Ok(OpenLog {
         number,
+        path,
         file,
         writer: WriterCore::new(alloc),
     })

@@ -55,7 +55,10 @@ invariant_of-result g c =
     c.in_ok-log_if.ensures.locks in
     let named = c.in_ok-path.ensures.ok in (
       path ∙ sym named,
-      λ modelled. opens.file modelled ∙ ap (log_path c.args.name.now) (sym opens.number) ∙ ap (λ s. log_path s c.in_ok-log.log.number) (sym named),
+      (
+        opens.path ∙ ap (log_path c.args.name.now) (sym opens.number) ∙ ap (λ s. log_path s c.in_ok-log.log.number) (sym named),
+        λ modelled. opens.file modelled ∙ sym opens.path,
+      ),
       opens.order,
       tt,
       ended_own g.E.Env _ _ c.args.name.now c.args.set.is_anew c.args.set.versions c.args.set.logs.keys c.args.env.now c.requires c.in_ok-replay.replay set1

@@ -25,6 +25,7 @@ not_made env store cmp old from status new to opens fits given cause = record {
   does = record { ok = λ modelled. tt; now = opens.does.now; time = opens.does.time };
   locks = opens.locks;
   number = tt;
+  path = tt;
   file = tt;
   writer = tt;
   order = tt;
