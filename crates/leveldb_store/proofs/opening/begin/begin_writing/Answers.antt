@@ -72,12 +72,7 @@ invariant_of-result g c =
           c.in_ok-log_if.ensures.locks c.in_ok-log.recent.kept.entries opens.entries,
       tt,
       made_current (g.C.Cmp.cmp c.args.options.now.cmp) c.args.options.now.cmp c.log_if.new.versions c.files.result.now c.in_ok-current.current c.in_ok-current.ensures.ok c.files.ensures
-          (ended_given g.E.Env _ _ c.args.name.now c.args.set.is_anew c.args.set.versions c.args.set.logs.keys c.args.env.now c.requires c.in_ok-replay.replay set1
-          c.replay_logs.new.env c.in_ok-replay.ensures.replays c.set_last_seq.new.self set2 c.args.options.now.cmp (c.in_ok-log.log, c.in_ok-log.recent) c.open_log.new.versions c.open_log.new.env
-          opens _ (neither c.args.set.is_anew c.in_ok-replay.replay.leaves_log) c.in_ok-log_if.field-0 c.log_if.new.versions c.log_if.new.env c.in_ok-log_if.ensures.logs
-          c.in_ok-log_if.ensures.locks)
-          (let next : c.log_if.new.versions.next_file < 2 ^ 64 = search rules in next)
-          c.in_ok-current.ensures.sizes,
+          c.in_ok-current.ensures.fit,
       ended_given g.E.Env _ _ c.args.name.now c.args.set.is_anew c.args.set.versions c.args.set.logs.keys c.args.env.now c.requires c.in_ok-replay.replay set1
           c.replay_logs.new.env c.in_ok-replay.ensures.replays c.set_last_seq.new.self set2 c.args.options.now.cmp (c.in_ok-log.log, c.in_ok-log.recent) c.open_log.new.versions c.open_log.new.env
           opens _ (neither c.args.set.is_anew c.in_ok-replay.replay.leaves_log) c.in_ok-log_if.field-0 c.log_if.new.versions c.log_if.new.env c.in_ok-log_if.ensures.logs
