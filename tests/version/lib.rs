@@ -1,6 +1,8 @@
 //! The tests of version edits, of the names that a version set makes, and of what small stores hold.
 
 #[cfg(test)]
+mod changes;
+#[cfg(test)]
 mod compactions;
 #[cfg(test)]
 mod gets;

@@ -7,6 +7,7 @@ use leveldb_base::error::Result;
 use leveldb_base::key_types::LookupKey;
 use leveldb_base::types::{FileMetaData, FileNum, NUM_LEVELS};
 use leveldb_version::version::{GetStats, Version, total_size};
+use leveldb_version::version_edit::VersionEdit;
 use slow_store::{compaction_inputs, files_with_key, has_overlap, new_table_level};
 use std::alloc::Global;
 use std::process::Abort;
@@ -377,7 +378,7 @@ fn assert_unchosen(
 }
 
 /// The hundredth charge of a small file chooses it, and no other is chosen then. The seeks that are
-/// left and the choice stay with one file more.
+/// left and the choice stay after an edit that adds a file.
 #[test]
 fn charged_files(rt: HostRuntime) -> Result<()> {
     let mut version = version_of(rt.alloc(), &STORE)?;
@@ -386,8 +387,9 @@ fn charged_files(rt: HostRuntime) -> Result<()> {
     assert_unchosen(&rt, &mut version, charge(1, 5), 98);
     assert!(rt; version.file_to_compact().is_none() && version.update_stats(charge(1, 4)));
     assert_unchosen(&rt, &mut version, charge(1, 5), 3);
-    let added = file_of(rt.alloc(), &(1, 20, 1_654_784, "pa", "pb"))?;
-    let next = version.with_file(rt.alloc(), 1, &added)?;
+    let mut edit = VersionEdit::new(rt.alloc());
+    edit.add_file(1, file_of(rt.alloc(), &(1, 20, 1_654_784, "pa", "pb"))?)?;
+    let next = version.with_edit(rt.alloc(), &edit)?;
     assert!(rt; next.file_to_compact() == Some((1, 4)));
     let seeks = seeks_in(rt.alloc(), &next, 1)?;
     assert!(rt; seeks.as_slice() == [100, 1, 0, 101].as_slice());

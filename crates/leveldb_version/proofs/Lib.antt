@@ -5,6 +5,8 @@ pub mod VersionSetLemmas
 pub mod FullEditLemmas
 pub mod SummaryLemmas
 pub mod VersionLemmas
+pub mod ChangeLemmas
+pub mod SeeksLemmas
 pub mod OverlapLemmas
 pub mod FindFileLemmas
 pub mod OutputLevelLemmas

@@ -1,6 +1,6 @@
 -- In what order a look-up goes through the files of a version.
 use Rattle.std.specs.Prelude.{Contains, All, IfSome, IsPermutation, is_some, remove, slice_get}
-use Rattle.std.proofs.Common.{◌≡◌, ◌≢◌, ◌⊎◌, inl, inr, ⊎_elim, ℕ, zero, suc, ◌==◌, ◌+◌, ◌-◌, ◌<◌, ◌≤◌, Bool, true, false, cond, List, [], ◌∷◌, ◌++◌, Option, None, Some, length, map, take, drop, get_or, refl, sym, ◌∙◌, ap, append_assoc, subst, arith}
+use Rattle.std.proofs.Common.{◌≡◌, ◌≢◌, ◌^◌, ◌⊎◌, inl, inr, ⊎_elim, ℕ, zero, suc, ◌==◌, ◌+◌, ◌-◌, ◌<◌, ◌≤◌, Bool, true, false, cond, List, [], ◌∷◌, ◌++◌, Option, None, Some, length, map, take, drop, get_or, refl, sym, ◌∙◌, ap, append_assoc, subst, arith}
 use Rattle.std.proofs.lemmas.Bool.{cases_lt, eq-eqb, eqb-true}
 use Rattle.std.proofs.lemmas.Bool.Decides.{nat_tests}
 use Rattle.std.proofs.lemmas.List.{append-nil, get_or-append-add, get_or_append_left, get_or-append_right, get_or-drop, get_or-take, length-append, length-drop, length-take, map-append, take_all}
@@ -24,7 +24,7 @@ use Rattle.leveldb_version.specs.Levels.{IsInRange}
 use Rattle.leveldb_version.specs.Overlap.{AreDisjointRanges, IsFileFor}
 use Rattle.leveldb_version.specs.Search.{AreDisjointLevels, IsTriedBefore, TakesNextFile}
 use Rattle.leveldb_version.specs.Summary.{files_of_level}
-use Rattle.leveldb_version.specs.Version.{AreInVersionOrder, at_level, version_order}
+use Rattle.leveldb_version.specs.Version.{AreInVersionOrder, FilesFit, at_level, version_order}
 use Rattle.leveldb_version.specs.VersionEdit.{NewFile, new_file_of}
 
 -- ---- numbers
@@ -501,6 +501,14 @@ empty (x ∷ xs) none = absurd (omega (arith, none))
 pub no_first : {A : Type 0} (xs : List A) → slice_get xs 0 ≡ None → xs ≡ []
 no_first [] none = refl
 no_first (x ∷ xs) none = cc
+
+-- the number and the size of each file have 64 bits
+pub each_fits : (files : List (ℕ × FileMetaData)) → FilesFit files → (file : NewFile)
+    → Contains (map new_file_of files) file → (file.number < 2 ^ 64) × (file.size < 2 ^ 64)
+each_fits files fit file c =
+    let one = in_map new_file_of files file c in
+    subst (λ (f : NewFile). (f.number < 2 ^ 64) × (f.size < 2 ^ 64)) one.2
+    (All-contains (λ (f : ℕ × FileMetaData). (f.1.num < 2 ^ 64) × (f.1.size < 2 ^ 64)) files one.0 fit one.1)
 
 -- what holds of the size of each file
 pub sizes_are : (P : ℕ → Type 0) (files : List (ℕ × FileMetaData)) → All (λ file. P file.1.size) files → (file : NewFile) → Contains (map new_file_of files) file → P file.size

@@ -4,7 +4,7 @@ use Rattle.std.proofs.lemmas.Bool.{eq-eqb, eqb-true, leb-true, leb-false, ltb-tr
 use Rattle.leveldb_base.proofs.OrderLemmas.{is_false}
 use Rattle.std.proofs.lemmas.Cmp.{back_total, nat_cmp_total, on_total, ranked, then_total, tied_itself}
 use Rattle.std.proofs.lemmas.Bool.Decides.{nat_tests}
-use Rattle.std.proofs.lemmas.List.{append-nil, drop_all, get_or-map, length-map, take_all}
+use Rattle.std.proofs.lemmas.List.{append-nil, drop_all, get_or-drop, get_or-map, get_or-take, length-drop, length-map, length-take, take_all}
 use Rattle.std.proofs.lemmas.Fn.{always_returns_same}
 use Rattle.std.proofs.lemmas.List.Elements.{All-map, All-weaker, filter_passes}
 use Rattle.std.proofs.lemmas.List.Kept.{IsSortedBy-filter}
@@ -20,7 +20,7 @@ use Rattle.std.specs.declared.cmp.Ordering.TheVariants.{Equal, Greater, Less}
 use Rattle.leveldb_base.specs.KeyTypes.{internal_cmp, sequence_part, user_part}
 use Rattle.leveldb_base.specs.declared.types.FileMetaData.{FileMetaData}
 use Rattle.leveldb_version.specs.Summary.{files_of_level}
-use Rattle.leveldb_version.specs.Version.{AreInVersionOrder, at_level, is_named, version_order, after_seek}
+use Rattle.leveldb_version.specs.Version.{AreInVersionOrder, FilesFit, IsRangeOfLevel, at_level, is_named, version_order, after_seek}
 use Rattle.leveldb_version.specs.VersionEdit.{LevelFile, NewFile, new_file_of}
 
 -- ---- the files of a level
@@ -100,7 +100,7 @@ module _ (level : ℕ) (files : List (ℕ × FileMetaData)) (i j : ℕ) (i_in : 
   other_level : (f : ℕ × FileMetaData) → f.0 ≢ level → (f.0 == level) ≡ false
   other_level f differ = is_false (f.0 == level) (λ t. differ (eqb-true f.0 level t))
 
-  pub start_before_end : i ≤ j
+  start_before_end : i ≤ j
   start_before_end = by files refl
     where
       by : (fs : List (ℕ × FileMetaData)) → files ≡ fs → i ≤ j
@@ -115,7 +115,7 @@ module _ (level : ℕ) (files : List (ℕ × FileMetaData)) (i j : ℕ) (i_in : 
               let past = from_end j f (omega arith) (omega (arith, less, i_in)) in
               absurd (omega (arith, below, past))
 
-  pub part_is_level : take (j - i) (drop i files) ≡ at_level level files
+  part_is_level : take (j - i) (drop i files) ≡ at_level level files
   part_is_level = part_is_filter (λ (f : ℕ × FileMetaData). f.0 == level) files i (j - i)
       (omega (arith, start_before_end, j_in))
       (λ k d low high. other_level (get_or files k d)
@@ -126,6 +126,21 @@ module _ (level : ℕ) (files : List (ℕ × FileMetaData)) (i j : ℕ) (i_in : 
       omega (arith, from, upto)))
       (λ k d low high. other_level (get_or files k d)
       (λ e. let past = from_end k d (omega (arith, start_before_end, low)) high in omega (arith, e, past)))
+
+  -- the two are where the files of the level begin and end
+  pub level_between : IsRangeOfLevel level files i j
+  level_between = record {
+    ordered = start_before_end;
+    within = j_in;
+    lesser = λ k d inside.
+        let first : k < i = omega (arith, inside, length-take i files) in
+        subst (λ (f : ℕ × FileMetaData). f.0 < level) (sym (get_or-take i files k d first)) (below_start k d first);
+    here = part_is_level;
+    greater = λ k d inside.
+        let last : j + k < length files = omega (arith, inside, length-drop j files) in
+        subst (λ (f : ℕ × FileMetaData). level < f.0) (sym (get_or-drop j files k d))
+        (from_end (j + k) d (omega arith) last);
+  }
 
 -- ---- orders
 
@@ -315,12 +330,16 @@ seeks_keep_order cmp at xs ys n sorted is n_is =
     same = ap (λ l. take n (ys ++ l)) (drop_all (length ys) xs (omega (arith, long)))
         ∙ ap (take n) (append-nil ys) ∙ take_all n ys (omega (arith, long, n_is))
 
--- and have the sizes that they had
-pub seeks_keep_sizes : (at : LevelFile) (xs ys : List (ℕ × FileMetaData)) (n : ℕ) → All (λ file. file.1.size < 2 ^ 64) xs
-    → ys ≡ map (after_seek at) xs → n ≡ length xs → All (λ file. file.1.size < 2 ^ 64) (take n (ys ++ drop (length ys) xs))
-seeks_keep_sizes at xs ys n fits is n_is =
-    subst (All (λ (file : ℕ × FileMetaData). file.1.size < 2 ^ 64)) (sym same) (subst (All (λ (file : ℕ × FileMetaData). file.1.size < 2 ^ 64)) (sym is)
-    (All-map (λ (file : ℕ × FileMetaData). file.1.size < 2 ^ 64) (after_seek at) xs (All-weaker (λ (file : ℕ × FileMetaData). file.1.size < 2 ^ 64) (λ file. (after_seek at file).1.size < 2 ^ 64) after xs fits)))
+-- the number and the size of a file have 64 bits
+abbrev Fits : ℕ × FileMetaData → Type 0
+Fits file = (file.1.num < 2 ^ 64) × (file.1.size < 2 ^ 64)
+
+-- and have the numbers and the sizes that they had
+pub seeks_keep_fit : (at : LevelFile) (xs ys : List (ℕ × FileMetaData)) (n : ℕ) → FilesFit xs
+    → ys ≡ map (after_seek at) xs → n ≡ length xs → FilesFit (take n (ys ++ drop (length ys) xs))
+seeks_keep_fit at xs ys n fits is n_is =
+    subst FilesFit (sym same) (subst FilesFit (sym is)
+    (All-map Fits (after_seek at) xs (All-weaker Fits (λ file. Fits (after_seek at file)) after xs fits)))
   where
     long : length ys ≡ length xs
     long = ap length is ∙ length-map xs (after_seek at)
@@ -329,10 +348,10 @@ seeks_keep_sizes at xs ys n fits is n_is =
     same = ap (λ l. take n (ys ++ l)) (drop_all (length ys) xs (omega (arith, long)))
         ∙ ap (take n) (append-nil ys) ∙ take_all n ys (omega (arith, long, n_is))
 
-    after : (file : ℕ × FileMetaData) → file.1.size < 2 ^ 64 → (after_seek at file).1.size < 2 ^ 64
+    after : (file : ℕ × FileMetaData) → Fits file → Fits (after_seek at file)
     after file small = by (is_named at file)
       where
-        by : (b : Bool) → (cond b (file.0, record file.1 { allowed_seeks = file.1.allowed_seeks - 1 }) file).1.size < 2 ^ 64
+        by : (b : Bool) → Fits (cond b (file.0, record file.1 { allowed_seeks = file.1.allowed_seeks - 1 }) file)
         by true = small
         by false = small
 

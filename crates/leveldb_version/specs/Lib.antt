@@ -7,6 +7,7 @@ pub mod FullEdit
 pub mod Summary
 pub mod VersionSetValue
 pub mod Version
+pub mod Change
 pub mod Contents
 pub mod Paths
 pub mod Holds

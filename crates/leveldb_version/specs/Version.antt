@@ -1,5 +1,5 @@
 -- A version: the files of a store by levels, and the file that is chosen for a compaction.
-use Rattle.std.specs.Prelude.{◌≡◌, ◌==◌, ◌-◌, ◌/◌, ◌&&◌, ℕ, Bool, false, true, if◌then◌else◌, nat_le, List, [], ◌∷◌, ◌++◌, Option, None, Some, is_none, IsPermutation, IsSorted, filter, map, max}
+use Rattle.std.specs.Prelude.{◌≡◌, ◌<◌, ◌≤◌, ◌^◌, ◌==◌, ◌-◌, ◌/◌, ◌&&◌, ℕ, Bool, false, true, if◌then◌else◌, nat_le, List, [], ◌∷◌, ◌++◌, Option, None, Some, is_none, All, IsPermutation, IsSorted, drop, filter, length, map, max, take}
 use Rattle.std.specs.Borrow.{Bor}
 use Rattle.std.specs.List.{list_any}
 use Rattle.std.specs.Ordering.{nat_cmp, ordering_then}
@@ -24,9 +24,23 @@ new_files_of version = map new_file_of version.files
 abbrev pub borrowed_files : List (Bor (ℕ × FileMetaData)) → List NewFile
 borrowed_files files = map (λ file. new_file_of file.now) files
 
+-- the numbers and the sizes of files have 64 bits
+abbrev pub FilesFit : List (ℕ × FileMetaData) → Type 0
+FilesFit files = All (λ file. (file.1.num < 2 ^ 64) × (file.1.size < 2 ^ 64)) files
+
 -- the files of a level
 abbrev pub at_level : ℕ → List (ℕ × FileMetaData) → List (ℕ × FileMetaData)
 at_level level files = filter (λ file. file.0 == level) files
+
+-- The files of a level are those from one index to another: those before them are of lesser levels,
+-- and those after them of greater ones.
+pub record IsRangeOfLevel (level : ℕ) (files : List (ℕ × FileMetaData)) (start end : ℕ)
+    : Type 0 where
+  pub ordered : start ≤ end
+  pub within : end ≤ length files
+  pub lesser : All (λ file. file.0 < level) (take start files)
+  pub here : take (end - start) (drop start files) ≡ at_level level files
+  pub greater : All (λ file. level < file.0) (drop end files)
 
 -- The order of a version's files: by level, in level 0 by number, and from level 1 on by the
 -- smallest key.

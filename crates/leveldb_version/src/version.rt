@@ -16,6 +16,7 @@ use leveldb_base::types::{FileMetaData, FileNum};
 use std::alloc::Global;
 use std::marker::Model;
 
+mod change;
 mod find;
 mod get;
 mod iters;
@@ -57,12 +58,12 @@ impl<C: Cmp> Model for Version<C> {
 
     ghost view = { λ it. record { cmp = it.cmp; files = it.files.items; chosen = it.chosen } };
 
-    ghost use Rattle.std.specs.Prelude.{◌<◌, ◌^◌, All, map};
-    ghost use Rattle.leveldb_version.specs.Version.{AreInVersionOrder};
+    ghost use Rattle.std.specs.Prelude.{map};
+    ghost use Rattle.leveldb_version.specs.Version.{AreInVersionOrder, FilesFit};
     ghost use Rattle.leveldb_version.specs.VersionEdit.{new_file_of};
 
     ghost invariant = { λ it. AreInVersionOrder (C.cmp it.cmp) (map new_file_of it.files.items)
-        × All (λ file. file.1.size < 2 ^ 64) it.files.items };
+        × FilesFit it.files.items };
 }
 
 impl<C: UserCmp> Version<C> {

@@ -3,7 +3,7 @@ ghost use Rattle.std.specs.Prelude.{◌≡◌, IsPermutation, IfErr, OnOk, map};
 ghost use Rattle.std.specs.List.Sorted.{IsNonDecreasingBy};
 ghost use Rattle.leveldb_base.specs.Error.{IsOutOfMemory};
 ghost use Rattle.leveldb_version.specs.Summary.{total_size};
-ghost use Rattle.leveldb_version.specs.Version.{AreInVersionOrder, at_level, version_order};
+ghost use Rattle.leveldb_version.specs.Version.{AreInVersionOrder, IsRangeOfLevel, at_level, version_order};
 ghost use Rattle.leveldb_version.specs.VersionEdit.{new_file_of};
 
 use leveldb_base::cmp::{Cmp, UserCmp};
@@ -55,7 +55,17 @@ pub(super) fn part_of_level(
     requires { IsNonDecreasingBy (λ file. file.0) files.now }
     ensures { result.now ≡ at_level level files.now }
 {
+    let (start, end) = range_of_level(files, level);
+    &files[start..end]
+}
+
+/// Where they are among the files: the index of the first, and the one after the last, found by
+/// halving.
+pub(super) fn range_of_level(files: &[(usize, FileMetaData)], level: usize) -> (usize, usize)
+    requires { IsNonDecreasingBy (λ file. file.0) files.now }
+    ensures { IsRangeOfLevel level files.now result.0 result.1 }
+{
     let start = files.partition_point(|file| file.0 < level);
     let end = files.partition_point(|file| file.0 <= level);
-    &files[start..end]
+    (start, end)
 }

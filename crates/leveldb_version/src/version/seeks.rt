@@ -1,14 +1,25 @@
 //! The seeks that a version's files may take.
-ghost use Rattle.std.specs.Prelude.{◌≡◌, ◌<◌, ◌^◌, IfErr, IfOk, map};
+ghost use Rattle.std.specs.Prelude.{◌≡◌, ◌<◌, ◌^◌, IfErr, IfOk, OnOk, map};
 ghost use Rattle.std.specs.List.{list_any};
+ghost use Rattle.std.specs.List.Sorted.{IsNonDecreasingBy};
 ghost use Rattle.leveldb_base.specs.Error.{IsOutOfMemory};
 ghost use Rattle.leveldb_version.specs.Version.{after_seek, has_last_seek, is_named, with_first_seeks};
 
+use super::order::{part_of_level, range_of_level};
 use leveldb_base::error::Result;
 use leveldb_base::types::{FileMetaData, FileNum};
 
-/// Whether there is a file of this level and number that may take one more seek at most.
+/// Whether there is a file of this level and number that may take one more seek at most, among
+/// files in the order of their levels.
 pub(super) fn has_last_seek(files: &[(usize, FileMetaData)], at: (usize, FileNum)) -> bool
+    requires { IsNonDecreasingBy (λ file. file.0) files.now }
+    ensures { result ≡ list_any (has_last_seek at) files.now }
+{
+    is_last_seek_among(part_of_level(files, at.0), at)
+}
+
+// The same, looked for in each of these files.
+fn is_last_seek_among(files: &[(usize, FileMetaData)], at: (usize, FileNum)) -> bool
     ensures { result ≡ list_any (has_last_seek at) files.now }
 {
     for file in files {
@@ -29,7 +40,7 @@ const LEAST_SEEKS: usize = 100;
 /// compacted, or one for each 16 KiB if that is more.
 pub(super) fn with_first_seeks(level: usize, file: &FileMetaData) -> Result<(usize, FileMetaData)>
     ensures ok { IfOk result (λ copy. copy ≡ with_first_seeks (level, file.now)) }
-    ensures size { file.now.size < 2 ^ 64 }
+    ensures fits { OnOk result ((file.now.num < 2 ^ 64) × (file.now.size < 2 ^ 64)) }
     ensures memory { IfErr result IsOutOfMemory }
 {
     let seeks = (file.size / BYTES_A_SEEK).max(LEAST_SEEKS);
@@ -38,8 +49,18 @@ pub(super) fn with_first_seeks(level: usize, file: &FileMetaData) -> Result<(usi
     Ok((level, copy))
 }
 
-/// Takes one off the seeks of the file of this level and number, if it has any.
+/// Takes one off the seeks of the file of this level and number, if it has any, among files in the
+/// order of their levels.
 pub(super) fn take_seek(files: &mut [(usize, FileMetaData)], at: (usize, FileNum))
+    requires { IsNonDecreasingBy (λ file. file.0) files.old }
+    ensures { files.new ≡ map (after_seek at) files.old }
+{
+    let (start, end) = range_of_level(files, at.0);
+    take_seek_among(&mut files[start..end], at);
+}
+
+// The same, of each of these files.
+fn take_seek_among(files: &mut [(usize, FileMetaData)], at: (usize, FileNum))
     ensures { files.new ≡ map (after_seek at) files.old }
 {
     for file in files.iter_mut() {

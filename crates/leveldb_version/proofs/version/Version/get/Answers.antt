@@ -12,7 +12,7 @@ use Rattle.leveldb_version.specs.TableCache.{table_options}
 use Rattle.leveldb_version.specs.Version.{AreInVersionOrder, VersionValue, new_files_of}
 use Rattle.leveldb_version.specs.VersionEdit.{NewFile, new_file_of}
 use Rattle.leveldb_version.proofs.GetLemmas.{ends_there, goes_on_without, not_begun, stops_unread, stops_with}
-use Rattle.leveldb_version.proofs.SearchLemmas.{fewer_left, sizes_are}
+use Rattle.leveldb_version.proofs.SearchLemmas.{each_fits, fewer_left}
 use Rattle.leveldb_version.proofs.VersionLemmas.{levels_rise}
 use Rattle.leveldb_version.proofs.version.Version.get.Goals as goal
 
@@ -44,7 +44,7 @@ returns-in_err-found g c =
     let takes = subst (λ (key : List ℕ). TakesNextFile (g.C.Cmp.cmp cmp) key left (Some file) after) c.user_key.ensures
     (subst (λ (order : List ℕ → List ℕ → Ordering). TakesNextFile order c.user_key.result.now left (Some file) after) same c.in-Some.ensures) in
     let sizes = subst (λ (v : VersionValue g.row.C.Denot). (one : NewFile) → Contains (new_files_of v) one → one.size < 2 ^ 64) c.self.view_is
-    (sizes_are (λ size. size < 2 ^ 64) c.self.inside.files.items c.self.invariant.1) in
+    (λ one there. (each_fits c.self.inside.files.items c.self.invariant.1 one there).1) in
     let fits : c.in-Some.file.now.1.num < 2 ^ 64 = omega arith in
     stops_unread _ g.E.Env by c.args.key.now c.args.env.now c.args.tables.now c.args.self.now c.loop-file.invariant takes fits exact refl c.requires.tagged sizes
     c.in_err-found.field-0.0 c.from_residual.result c.from_residual.ensures.1 c.in_err-found.ensures
@@ -62,7 +62,7 @@ returns-then-is_some g c =
     let takes = subst (λ (key : List ℕ). TakesNextFile (g.C.Cmp.cmp cmp) key left (Some file) after) c.user_key.ensures
     (subst (λ (order : List ℕ → List ℕ → Ordering). TakesNextFile order c.user_key.result.now left (Some file) after) same c.in-Some.ensures) in
     let sizes = subst (λ (v : VersionValue g.row.C.Denot). (one : NewFile) → Contains (new_files_of v) one → one.size < 2 ^ 64) c.self.view_is
-    (sizes_are (λ size. size < 2 ^ 64) c.self.inside.files.items c.self.invariant.1) in
+    (λ one there. (each_fits c.self.inside.files.items c.self.invariant.1 one there).1) in
     let fits : c.in-Some.file.now.1.num < 2 ^ 64 = omega arith in
     stops_with _ g.E.Env by c.args.key.now c.args.env.now c.args.tables.now c.args.self.now c.loop-file.invariant takes fits exact refl c.requires.tagged sizes
     c.in_ok-found.found (sym c.is_some.ensures ∙ c.if-is_some.true) (record { file = c.loop-file.first }) refl c.in_ok-found.ensures
@@ -97,5 +97,5 @@ returns g c =
     let takes = subst (λ (key : List ℕ). TakesNextFile (g.C.Cmp.cmp cmp) key left None after) c.user_key.ensures
     (subst (λ (order : List ℕ → List ℕ → Ordering). TakesNextFile order c.user_key.result.now left None after) same c.in_default.ensures) in
     let sizes = subst (λ (v : VersionValue g.row.C.Denot). (one : NewFile) → Contains (new_files_of v) one → one.size < 2 ^ 64) c.self.view_is
-    (sizes_are (λ size. size < 2 ^ 64) c.self.inside.files.items c.self.invariant.1) in
+    (λ one there. (each_fits c.self.inside.files.items c.self.invariant.1 one there).1) in
     ends_there _ g.E.Env by c.args.key.now c.args.env.now c.args.tables.now c.args.self.now c.loop-file.invariant exact refl c.requires.tagged sizes takes c.loop-file.stats refl
