@@ -8,10 +8,12 @@ use Rattle.std.proofs.lemmas.List.Sorted.{Contains-permutation, IsPermutation-ap
 use Rattle.std.specs.List.{list_any}
 use Rattle.std.specs.declared.cmp.Ordering.{Ordering}
 use Rattle.leveldb_base.specs.declared.types.FileMetaData.{FileMetaData}
-use Rattle.leveldb_version.proofs.SearchLemmas.{all_from_contains, sizes_are}
-use Rattle.leveldb_version.specs.FullEdit.{files_with, files_without}
+use Rattle.leveldb_version.proofs.SearchLemmas.{all_from_contains, each_fits, sizes_are}
+use Rattle.leveldb_version.proofs.ChangeLemmas.{versions_follow_edits}
+use Rattle.leveldb_version.specs.Change.{IsVersionAfter}
+use Rattle.leveldb_version.specs.FullEdit.{files_after, files_without}
 use Rattle.leveldb_version.specs.Overlap.{UserRange, output_level}
-use Rattle.leveldb_version.specs.Version.{AreInVersionOrder, IsVersionOf, VersionValue, after_seek, charged, has_last_seek, is_named, new_files_of, with_first_seeks}
+use Rattle.leveldb_version.specs.Version.{AreInVersionOrder, FilesFit, IsVersionOf, VersionValue, after_seek, charged, has_last_seek, is_named, new_files_of, with_first_seeks}
 use Rattle.leveldb_version.specs.VersionEdit.{Edit, LevelFile, NewFile, new_file_of}
 use Rattle.leveldb_version.specs.VersionSet.{is_same_file, level_file}
 use Rattle.leveldb_version.specs.VersionSetValue.{VersionSetValue}
@@ -110,7 +112,7 @@ charged_current {C} {order} cmp set version is (Some at) =
           (sym (same_after_seeks at version.files)) is.same_files;
     }
 
--- ---- one file more
+-- ---- files of lower numbers
 
 -- neither is true if the second isn't
 not_both : (a b : Bool) → b ≡ false → (a && b) ≡ false
@@ -135,35 +137,18 @@ lower_stay file (live ∷ files) below =
     (files_without files (level_file file))) (differs live file lower)
     ∙ ap (λ fs. live ∷ fs) (lower_stay file files rest)
 
--- a version with a file more is current for the set with it, if it has a greater number than all
-pub current_with : {C : Type 0} {order : List ℕ → List ℕ → Ordering} (cmp : C)
-    (set next : VersionSetValue) (old new : VersionValue C) (level : ℕ) (file : FileMetaData)
-    → (file.num < 2 ^ 64) × (file.size < 2 ^ 64) → IsCurrent order cmp set old
-    → All (λ (live : NewFile). live.number < file.num) set.full.added
-    → next.full.added ≡ files_with set.full.added (new_file_of (level, file))
-    → new.cmp ≡ old.cmp → IsPermutation (old.files ++ with_first_seeks (level, file) ∷ []) new.files
-    → AreInVersionOrder order (new_files_of new) → IsCurrent order cmp next new
-current_with cmp set next old new level file fits is below more same_cmp same in_order =
-    let it = new_file_of (level, file) in
-    let added : next.full.added ≡ set.full.added ++ it ∷ [] =
-    more ∙ ap (λ fs. fs ++ it ∷ []) (lower_stay it set.full.added below) in
-    let has : IsPermutation (new_files_of old ++ it ∷ []) (new_files_of new) =
-    subst (λ fs. IsPermutation fs (new_files_of new)) (map_push new_file_of old.files (with_first_seeks (level, file)))
-    (IsPermutation-map new_file_of (old.files ++ with_first_seeks (level, file) ∷ [])
-    new.files same) in
-    let Fits : NewFile → Type 0 = λ one. (one.number < 2 ^ 64) × (one.size < 2 ^ 64) in
-    record {
-      cmp_is = same_cmp ∙ is.cmp_is;
-      in_order = in_order;
-      fit = all_from_contains Fits (new_files_of new) (λ one c. ⊎_elim
-          (λ (there : Contains (new_files_of old) one).
-          All-contains Fits (new_files_of old) one is.fit there)
-          (λ (same_file : it ≡ one). subst Fits same_file fits)
-          (Contains-push_cases (new_files_of old) it one
-          (Contains-permutation (new_files_of new) (new_files_of old ++ it ∷ []) one
-          (IsPermutation-sym (new_files_of old ++ it ∷ []) (new_files_of new) has) c)));
-      same_files = subst (λ live. IsPermutation live (new_files_of new)) (sym added)
-          (IsPermutation-trans (set.full.added ++ it ∷ []) (new_files_of old ++ it ∷ [])
-          (new_files_of new) (IsPermutation-append_left (it ∷ []) set.full.added (new_files_of old)
-          is.same_files) has);
-    }
+-- ---- an edit
+
+-- the version after an edit is current for the set after it
+pub current_after : {C : Type 0} {order : List ℕ → List ℕ → Ordering} (cmp : C) (edit : Edit)
+    (set next : VersionSetValue) (old new : VersionValue C) → IsCurrent order cmp set old
+    → next.full.added ≡ files_after edit set.full.added → IsVersionAfter order edit old new
+    → FilesFit new.files → IsCurrent order cmp next new
+current_after {order = order} cmp edit set next old new is added after fit = record {
+  cmp_is = after.same_cmp ∙ is.cmp_is;
+  in_order = after.in_order;
+  fit = all_from_contains (λ (file : NewFile). (file.number < 2 ^ 64) × (file.size < 2 ^ 64))
+      (new_files_of new) (each_fits new.files fit);
+  same_files = subst (λ files. IsPermutation files (new_files_of new)) (sym added)
+      (versions_follow_edits order edit set.full.added old new is.same_files after);
+}

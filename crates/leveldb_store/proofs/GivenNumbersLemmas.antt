@@ -6,8 +6,8 @@ use Rattle.std.proofs.lemmas.List.Elements.{All-append, All-cons, All-filter, Al
 use Rattle.leveldb_base.specs.declared.types.FileMetaData.{FileMetaData}
 use Rattle.leveldb_env.specs.declared.env.Env.{Ghosts}
 use Rattle.leveldb_version.specs.Format.{Format}
-use Rattle.leveldb_version.specs.FullEdit.{files_with, files_without}
-use Rattle.leveldb_version.specs.VersionEdit.{Edit, NewFile, new_file_of}
+use Rattle.leveldb_version.specs.FullEdit.{files_after, files_with, files_without}
+use Rattle.leveldb_version.specs.VersionEdit.{Edit, LevelFile, NewFile, new_file_of}
 use Rattle.leveldb_version.specs.VersionSetValue.{VersionSetValue}
 use Rattle.leveldb_store.specs.OpenStore.{AreNumbersGiven}
 use Rattle.leveldb_store.specs.OpeningSteps.{made_files}
@@ -63,6 +63,13 @@ module _ (P : NewFile → Type 0) where
   all_with files file all is = All-push P (files_without files (file.level, file.number)) file
       (All-filter _ P files all) is
 
+  -- of files without some
+  pub all_without_each : (deleted : List LevelFile) (files : List NewFile) → All P files
+      → All P (fold files_without files deleted)
+  all_without_each [] files all = all
+  all_without_each (at ∷ deleted) files all =
+      all_without_each deleted (files_without files at) (All-filter _ P files all)
+
   -- and of several more
   pub all_with_each : (added files : List NewFile) → All P files → All P added
       → All P (fold files_with files added)
@@ -70,14 +77,17 @@ module _ (P : NewFile → Type 0) where
   all_with_each (file ∷ added) files all more = all_with_each added (files_with files file)
       (all_with files file all (All-head P file added more)) (All-tail P file added more)
 
--- with a file more, whose number was given, each live file's number was
-pub given_with : (old new : VersionSetValue) (file : NewFile)
-    → new.full.added ≡ files_with old.full.added file → new.next_file ≡ old.next_file
-    → AreNumbersGiven old old.full.added → file.number < old.next_file
+-- after an edit whose files' numbers were given, each live file's number was
+pub given_after : (old new : VersionSetValue) (edit : Edit)
+    → new.full.added ≡ files_after edit old.full.added → new.next_file ≡ old.next_file
+    → AreNumbersGiven old old.full.added → AreNumbersGiven old edit.added
     → AreNumbersGiven new new.full.added
-given_with old new file more next given is = subst (AreNumbersGiven new) (sym more)
-    (given_later old new (omega (arith, next)) (files_with old.full.added file)
-    (all_with (λ (one : NewFile). one.number < old.next_file) old.full.added file given is))
+given_after old new edit more next given added =
+    let Given : NewFile → Type 0 = λ one. one.number < old.next_file in
+    subst (AreNumbersGiven new) (sym more)
+    (given_later old new (omega (arith, next)) (files_after edit old.full.added)
+    (all_with_each Given edit.added (fold files_without old.full.added edit.deleted)
+    (all_without_each Given edit.deleted old.full.added given) added))
 
 -- the files of some tables and of others
 pub given_append : (set : VersionSetValue) (these those : List FileMetaData)

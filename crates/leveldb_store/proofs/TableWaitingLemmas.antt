@@ -39,7 +39,8 @@ use Rattle.leveldb_version.specs.Store.{HasTable, IsInternalPair}
 use Rattle.leveldb_version.specs.StoreSteps.{AppendedAreBytes, IsKept, KeepsHistory}
 use Rattle.leveldb_version.specs.VersionEdit.{Edit, LevelsFit, NewFile, edit_of, empty_edit, new_file_of}
 use Rattle.leveldb_version.specs.VersionSetValue.{AreFileNumbersUsedUp, ManifestState, OpenManifest, VersionSetValue, broken, in_use, unmade, with_number_given}
-use Rattle.leveldb_version.specs.Version.{HasOneFileMore, VersionValue}
+use Rattle.leveldb_version.specs.Change.{IsVersionAfter}
+use Rattle.leveldb_version.specs.Version.{VersionValue}
 use Rattle.leveldb_version.specs.Writing.{IsWrittenBy, table_edit}
 use Rattle.leveldb_version.specs.declared.version_edit.VersionEdit.{VersionEdit}
 use Rattle.leveldb_store.proofs.CurrentVersionLemmas.{lower_stay}
@@ -590,7 +591,7 @@ module _ {E F C D FP : Type 0} {order : CmpGhosts D} {filters : FilterGhosts FP}
 
       -- it was: `next` is the version then
       pub tables_logged : AreNumbersGiven old.set old.set.full.added → (next : VersionValue C)
-          → HasOneFileMore choices.format.order (level, file) old.current next → level ≡ output_level choices.format.order (file_range (new_file_of (level, file)))
+          → IsVersionAfter choices.format.order (table_edit old.log.number (new_file_of (level, file))) old.current next → level ≡ output_level choices.format.order (file_range (new_file_of (level, file)))
           old.set.full.added → Logged (Ok tt)
           → Tables (Ok tt) (record old { set = set; current = next; waiting = None }) to
       tables_logged given next gains picked l = record {
@@ -604,7 +605,7 @@ module _ {E F C D FP : Type 0} {order : CmpGhosts D} {filters : FilterGhosts FP}
         };
         none_waits = refl;
         waits = tt;
-        current = ((level, file), gains);
+        current = (new_file_of (level, file), gains);
         same_current = tt;
         tables = record { live = still_live; files = same_logged (Ok tt) l };
         err = tt;

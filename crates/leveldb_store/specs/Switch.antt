@@ -8,7 +8,6 @@ use Rattle.std.specs.declared.cmp.Ordering.{Ordering}
 use Rattle.leveldb_base.specs.declared.cmp.Cmp.{Ghosts as CmpGhosts}
 use Rattle.leveldb_base.specs.declared.error.Status.{Status}
 use Rattle.leveldb_base.specs.declared.error.StatusCode.TheVariants.{NotFound, NotSupported}
-use Rattle.leveldb_base.specs.declared.types.FileMetaData.{FileMetaData}
 use Rattle.leveldb_base.specs.declared.types.FileType.{FileType}
 use Rattle.leveldb_env.specs.Env.{BeforeOrAfter, ChangesFiles, Files, HasCause, IsEmptyFolder, IsMissing, Run, SameLocks, deleted, in_folder}
 use Rattle.leveldb_env.specs.WholeFiles.{IsLost}
@@ -18,7 +17,8 @@ use Rattle.leveldb_mem.specs.Log.{log_block_size}
 use Rattle.leveldb_mem.specs.Log.Writer.{IsWriterBroken, new_writer}
 use Rattle.leveldb_version.specs.LogEdit.{set_appended}
 use Rattle.leveldb_version.specs.Overlap.{file_range, output_level}
-use Rattle.leveldb_version.specs.Version.{HasOneFileMore, VersionValue}
+use Rattle.leveldb_version.specs.Change.{IsVersionAfter}
+use Rattle.leveldb_version.specs.Version.{VersionValue}
 use Rattle.leveldb_version.specs.VersionEdit.{NewFile}
 use Rattle.leveldb_version.specs.VersionSetValue.{AreFileNumbersUsedUp, OpenManifest, VersionSetValue, broken, in_use, with_number_given}
 use Rattle.leveldb_version.specs.Writing.{IsObsolete, table_edit}
@@ -47,10 +47,10 @@ pub record LogsTable (cmp : List ℕ → List ℕ → Ordering) (old : VersionSe
   pub number : file.number ≡ old.next_file
   pub set : new ≡ set_appended manifest (with_number_given old) (table_edit log file)
 
--- a version has one file more
-abbrev pub GainsFile : {C : Type 0} → (List ℕ → List ℕ → Ordering) → VersionValue C
+-- a version after the edit of a table in place of the logs below a number
+abbrev pub GainsTable : {C : Type 0} → (List ℕ → List ℕ → Ordering) → ℕ → VersionValue C
     → VersionValue C → Type 0
-GainsFile order old new = (file : ℕ × FileMetaData) × HasOneFileMore order file old new
+GainsTable order log old new = (file : NewFile) × IsVersionAfter order (table_edit log file) old new
 
 module _ {E F C : Type 0} (env : Ghosts E F) (old : OpenStoreValue C) (from : E) where
   -- ---- a switch of the log
@@ -108,9 +108,9 @@ module _ {E F C : Type 0} (env : Ghosts E F) (old : OpenStoreValue C) (from : E)
     pub logged : OnOk result (LogsTable choices.format.order old.set old.log.number new.set)
     pub none_waits : OnOk result (new.waiting ≡ None)
     pub waits : OnErr result (new.waiting ≡ old.waiting)
-    -- the version has the file more, and else stays as it was
+    -- the version has the table, and else stays as it was
     pub current : OnOk result
-        (GainsFile choices.format.order old.current new.current)
+        (GainsTable choices.format.order old.log.number old.current new.current)
     pub same_current : OnErr result (new.current ≡ old.current)
     pub tables : KeepsTables env.models_disk old.set (env.observed from) new.set (env.observed to)
     pub err : OnErr result (MayGiveNumber old.set new.set

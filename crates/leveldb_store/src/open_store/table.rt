@@ -1,21 +1,21 @@
 //! The table of the entries that wait, and its edit.
-ghost use Rattle.std.specs.Prelude.{◌≡◌, ◌≢◌, ◌<◌, ◌≤◌, All, None, IsTrue, OnErr, OnOk, map};
+ghost use Rattle.std.specs.Prelude.{◌≡◌, ◌≢◌, ◌<◌, ◌≤◌, None, IsTrue, OnErr, OnOk, map};
 ghost use Rattle.leveldb_base.specs.Entries.{internal_pair};
 ghost use Rattle.leveldb_base.specs.History.{AreRising};
 ghost use Rattle.leveldb_base.specs.KeyTypes.{internal_cmp};
 ghost use Rattle.leveldb_env.specs.Env.{SameLocks};
 ghost use Rattle.leveldb_version.specs.Batches.{Each};
-ghost use Rattle.leveldb_version.specs.FullEdit.{files_with};
+ghost use Rattle.leveldb_version.specs.Change.{IsVersionAfter};
+ghost use Rattle.leveldb_version.specs.FullEdit.{files_after, files_with};
 ghost use Rattle.leveldb_version.specs.LogEdit.{AppendsEdit};
 ghost use Rattle.leveldb_version.specs.Overlap.{file_range, output_level};
 ghost use Rattle.leveldb_version.specs.Store.{IsInternalPair};
-ghost use Rattle.leveldb_version.specs.Version.{HasOneFileMore};
-ghost use Rattle.leveldb_version.specs.VersionEdit.{edit_of, new_file_of};
+ghost use Rattle.leveldb_version.specs.VersionEdit.{LevelsFit, edit_of, new_file_of};
 ghost use Rattle.leveldb_version.specs.VersionSetValue.{OpenManifest, broken, in_use};
 ghost use Rattle.leveldb_version.specs.Writing.{table_edit};
 ghost use Rattle.leveldb_store.specs.BuildTable.{MakesTable, choices_of};
 ghost use Rattle.leveldb_version.specs.Format.{Agrees, Meaning, format_of};
-ghost use Rattle.leveldb_store.specs.OpenStore.{AreInLevels};
+ghost use Rattle.leveldb_store.specs.OpenStore.{AreInLevels, AreNumbersGiven};
 ghost use Rattle.leveldb_store.specs.SoundCall.{IsSoundCall};
 ghost use Rattle.leveldb_store.specs.Switch.{TablesWaiting};
 ghost use Rattle.leveldb_store.specs.Written.{KeepsWritten, waiting_entries};
@@ -105,13 +105,11 @@ impl<E: Env, C: UserCmp + Copy + Drop> OpenStore<E, C> {
     }
 
     // Logs the edit of a table in a level, which takes the place of the logs below the one to which
-    // batches are appended. Its number was given after those of all live files, and the levels are
-    // apart with it. After an Err the version is as it was.
+    // batches are appended.
     fn log_table(&mut self, env: &mut E, level: usize, file: FileMetaData) -> Result<()>
         requires level { level < 7 }
         requires usable { self.old.set.manifest ≢ broken }
         requires given { file.num < self.old.set.next_file }
-        requires newest { All (λ live. live.number < file.num) self.old.set.full.added }
         requires levels { AreInLevels E.models_disk (C.cmp self.old.cmp)
             (files_with self.old.set.full.added (new_file_of (level, file))) }
         ensures logs { (manifest : OpenManifest) → self.old.set.manifest ≡ in_use manifest
@@ -120,15 +118,38 @@ impl<E: Env, C: UserCmp + Copy + Drop> OpenStore<E, C> {
             (E.failures env.old) result self.new.set (E.observed env.new) (E.failures env.new) }
         ensures rest { self.new
             ≡ record self.old { set = self.new.set; current = self.new.current } }
-        ensures current { OnOk result (HasOneFileMore (C.cmp self.old.cmp) (level, file)
+        ensures current { OnOk result (IsVersionAfter (C.cmp self.old.cmp)
+            (table_edit self.old.log.number (new_file_of (level, file))) self.old.current
+            self.new.current) }
+        ensures err { OnErr result (self.new ≡ record self.old { set = self.new.set }) }
+        ensures locks { SameLocks E.models_disk (E.observed env.old) (E.observed env.new) }
+    {
+        let mut edit = VersionEdit::new(self.alloc);
+        edit.set_log_num(self.log.number);
+        edit.add_file(level, file)?;
+        self.log_tables(env, edit)
+    }
+
+    // Logs an edit, and has the version that it leaves from then on. The numbers of the files that
+    // it adds were given, and the levels are apart after it. After an Err the version is as it was.
+    // LevelDB: VersionSet::LogAndApply
+    fn log_tables(&mut self, env: &mut E, edit: VersionEdit) -> Result<()>
+        requires usable { self.old.set.manifest ≢ broken }
+        requires fits { LevelsFit (edit_of edit) }
+        requires given { AreNumbersGiven self.old.set (edit_of edit).added }
+        requires levels { AreInLevels E.models_disk (C.cmp self.old.cmp)
+            (files_after (edit_of edit) self.old.set.full.added) }
+        ensures logs { (manifest : OpenManifest) → self.old.set.manifest ≡ in_use manifest
+            → AppendsEdit E.models_disk manifest self.old.set (edit_of edit) (E.observed env.old)
+            (E.failures env.old) result self.new.set (E.observed env.new) (E.failures env.new) }
+        ensures rest { self.new
+            ≡ record self.old { set = self.new.set; current = self.new.current } }
+        ensures current { OnOk result (IsVersionAfter (C.cmp self.old.cmp) (edit_of edit)
             self.old.current self.new.current) }
         ensures err { OnErr result (self.new ≡ record self.old { set = self.new.set }) }
         ensures locks { SameLocks E.models_disk (E.observed env.old) (E.observed env.new) }
     {
-        let next = self.current.with_file(self.alloc, level, &file)?;
-        let mut edit = VersionEdit::new(self.alloc);
-        edit.set_log_num(self.log.number);
-        edit.add_file(level, file)?;
+        let next = self.current.with_edit(self.alloc, &edit)?;
         self.versions.log_and_apply(env, edit)?;
         self.current = next;
         Ok(())

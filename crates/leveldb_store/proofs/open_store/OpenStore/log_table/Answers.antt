@@ -1,86 +1,32 @@
-use Rattle.std.proofs.Common.{◌≡◌, ◌∙◌, ◌<◌, ◌^◌, Err, Ok, ap, arith, rules, subst, sym}
-use Rattle.std.proofs.lemmas.Result.{err_from_is_err_and}
-use Rattle.leveldb_base.specs.History.{AreUpTo}
-use Rattle.leveldb_version.specs.LogEdit.{LogEditResult}
-use Rattle.leveldb_version.specs.Version.{AreInVersionOrder, new_files_of}
-use Rattle.leveldb_version.specs.VersionEdit.{Edit, edit_of, new_file_of}
+use Rattle.std.proofs.Common.{◌≡◌, ◌<◌, [], rules, sym}
+use Rattle.std.proofs.lemmas.List.Elements.{All-cons, All-nil}
+use Rattle.leveldb_version.specs.VersionEdit.{NewFile, edit_of, new_file_of}
 use Rattle.leveldb_version.specs.Writing.{table_edit}
-use Rattle.leveldb_version.specs.VersionSetValue.{VersionSetValue}
-use Rattle.leveldb_store.specs.OpenStore.{AreInLevels}
-use Rattle.leveldb_store.proofs.CurrentVersionLemmas.{current_with, still_current}
-use Rattle.leveldb_store.proofs.GivenNumbersLemmas.{given_with, live_given}
-use Rattle.leveldb_store.proofs.TableWaitingLemmas.{KeepsManifest, files_left, in_use_of, keeps_manifest, own_again, table_edit_fits, table_edit_made}
+use Rattle.leveldb_store.proofs.TableWaitingLemmas.{table_edit_fits, table_edit_made}
 use Rattle.leveldb_store.proofs.open_store.OpenStore.log_table.Goals as goal
 
-pub invariant_of-self : goal.invariant_of-self
-invariant_of-self g c =
-    let old = c.self.inside.versions in
-    let new = c.log_and_apply.new.self in
-    let edit = table_edit c.self.inside.log.number (new_file_of (c.args.level, c.args.file)) in
-    let made : edit_of c.add_file.new.self ≡ edit = table_edit_made c.new-edit.result c.set_log_num.new.self c.add_file.new.self c.self.inside.log.number c.args.level c.args.file c.new-edit.ensures c.set_log_num.ensures c.in_ok-add_file.ensures.ok c.in_ok-add_file.ensures.others in
-    let fits = table_edit_fits c.self.inside.log.number c.args.level c.args.file c.requires.level in
-    let logged : LogEditResult g.E.Env.models_disk old edit (g.E.Env.observed c.args.env.now) (g.E.Env.failures c.args.env.now) (Err c.in_err-log_and_apply.field-0.0) new (g.E.Env.observed c.log_and_apply.new.env) (g.E.Env.failures c.log_and_apply.new.env) =
-    rw made at c.in_err-log_and_apply.ensures.log in
-    let used = in_use_of old.manifest c.self.invariant.5 (λ e. c.requires.usable (ap (λ v. v.set.manifest) (sym c.self.view_is) ∙ e)) in
-    let appends = logged.used fits used.0 used.1 in
-    let kept : KeepsManifest old new = keeps_manifest used.0 used.1 (Err c.in_err-log_and_apply.field-0.0) appends in
-    let left = files_left appends in (
-      kept.store ∙ c.self.invariant.0,
-      c.self.invariant.1,
-      c.self.invariant.2,
-      c.self.invariant.3,
-      λ modelled. own_again old new kept (c.self.invariant.4 modelled),
-      kept.made,
-      subst (λ n. AreUpTo n c.self.inside.recent.kept.entries) (sym kept.last) c.self.invariant.6,
-      c.self.invariant.7,
-      still_current c.self.inside.cmp old new c.self.inside.current left.0 c.self.invariant.8,
-      live_given old new left.0 (omega (arith, left.1)) c.self.invariant.9,
-      subst (λ (full : Edit). AreInLevels g.E.Env.models_disk (g.C.Cmp.cmp c.self.inside.cmp) full.added) (sym left.0) c.self.invariant.10,
-    )
+pub log_tables-requires-clause-fits : goal.log_tables-requires-clause-fits
+log_tables-requires-clause-fits g c =
+    let made : edit_of c.add_file.new.self ≡ table_edit c.self.inside.log.number (new_file_of (c.args.level, c.args.file)) = table_edit_made c.new-edit.result c.set_log_num.new.self c.add_file.new.self c.self.inside.log.number c.args.level c.args.file c.new-edit.ensures c.set_log_num.ensures c.in_ok-add_file.ensures.ok c.in_ok-add_file.ensures.others in
+    rw made (table_edit_fits c.self.inside.log.number c.args.level c.args.file c.requires.level)
 
-pub invariant_of-self-2 : goal.invariant_of-self-2
-invariant_of-self-2 g c =
-    let old = c.self.inside.versions in
-    let new = c.log_and_apply.new.self in
-    let edit = table_edit c.self.inside.log.number (new_file_of (c.args.level, c.args.file)) in
-    let made : edit_of c.add_file.new.self ≡ edit = table_edit_made c.new-edit.result c.set_log_num.new.self c.add_file.new.self c.self.inside.log.number c.args.level c.args.file c.new-edit.ensures c.set_log_num.ensures c.in_ok-add_file.ensures.ok c.in_ok-add_file.ensures.others in
-    let fits = table_edit_fits c.self.inside.log.number c.args.level c.args.file c.requires.level in
-    let logged : LogEditResult g.E.Env.models_disk old edit (g.E.Env.observed c.args.env.now) (g.E.Env.failures c.args.env.now) (Ok tt) new (g.E.Env.observed c.log_and_apply.new.env) (g.E.Env.failures c.log_and_apply.new.env) =
-    rw made at c.in_ok-log_and_apply.ensures.log in
-    let used = in_use_of old.manifest c.self.invariant.5 (λ e. c.requires.usable (ap (λ v. v.set.manifest) (sym c.self.view_is) ∙ e)) in
-    let appends = logged.used fits used.0 used.1 in
-    let kept : KeepsManifest old new = keeps_manifest used.0 used.1 (Ok tt) appends in
-    let file = new_file_of (c.args.level, c.args.file) in
-    let newest = rw (← c.self.view_is) at c.requires.newest in
-    let given = rw (← c.self.view_is) at c.requires.given in
-    let added = ap (λ (s : VersionSetValue). s.full.added) appends.ok in
-    let more = c.in_ok-next.ensures.ok in (
-      kept.store ∙ c.self.invariant.0,
-      c.self.invariant.1,
-      c.self.invariant.2,
-      c.self.invariant.3,
-      λ modelled. own_again old new kept (c.self.invariant.4 modelled),
-      kept.made,
-      subst (λ n. AreUpTo n c.self.inside.recent.kept.entries) (sym kept.last) c.self.invariant.6,
-      c.self.invariant.7,
-      current_with c.self.inside.cmp old new c.self.inside.current c.in_ok-next.next c.args.level c.args.file (let given_file : c.args.file.num < 2 ^ 64 = search rules in let size : c.args.file.size < 2 ^ 64 = search rules in (given_file, size)) c.self.invariant.8 newest added more.same_cmp more.files_are (subst (λ k. AreInVersionOrder (g.C.Cmp.cmp k) (new_files_of c.in_ok-next.next)) c.self.invariant.8.cmp_is more.in_order),
-      given_with old new file added (ap (λ (s : VersionSetValue). s.next_file) appends.ok) c.self.invariant.9 given,
-      subst (AreInLevels g.E.Env.models_disk (g.C.Cmp.cmp c.self.inside.cmp)) (sym added) (rw (← c.self.view_is) at c.requires.levels),
-    )
+pub log_tables-requires-clause-given : goal.log_tables-requires-clause-given
+log_tables-requires-clause-given g c =
+    let made : edit_of c.add_file.new.self ≡ table_edit c.self.inside.log.number (new_file_of (c.args.level, c.args.file)) = table_edit_made c.new-edit.result c.set_log_num.new.self c.add_file.new.self c.self.inside.log.number c.args.level c.args.file c.new-edit.ensures c.set_log_num.ensures c.in_ok-add_file.ensures.ok c.in_ok-add_file.ensures.others in
+    let Given : NewFile → Type 0 = λ file. file.number < c.args.self.now.set.next_file in
+    rw made (All-cons Given (new_file_of (c.args.level, c.args.file)) [] c.requires.given (All-nil Given))
 
-pub returns-in_err-log_and_apply-clause-logs : goal.returns-in_err-log_and_apply-clause-logs
-returns-in_err-log_and_apply-clause-logs g c =
-    let p = err_from_is_err_and c.from_residual-in_err-log_and_apply.result c.from_residual-in_err-log_and_apply.ensures.1 in
-    let edit = table_edit c.self.inside.log.number (new_file_of (c.args.level, c.args.file)) in
-    let made : edit_of c.add_file.new.self ≡ edit = table_edit_made c.new-edit.result c.set_log_num.new.self c.add_file.new.self c.self.inside.log.number c.args.level c.args.file c.new-edit.ensures c.set_log_num.ensures c.in_ok-add_file.ensures.ok c.in_ok-add_file.ensures.others in
-    let fits = table_edit_fits c.self.inside.log.number c.args.level c.args.file c.requires.level in
-    let logged = rw made at c.in_err-log_and_apply.ensures.log in
-    rw (← c.self.view_is, p.1, p.2) (logged.used fits)
+pub log_tables-requires-clause-levels : goal.log_tables-requires-clause-levels
+log_tables-requires-clause-levels g c =
+    let made : edit_of c.add_file.new.self ≡ table_edit c.self.inside.log.number (new_file_of (c.args.level, c.args.file)) = table_edit_made c.new-edit.result c.set_log_num.new.self c.add_file.new.self c.self.inside.log.number c.args.level c.args.file c.new-edit.ensures c.set_log_num.ensures c.in_ok-add_file.ensures.ok c.in_ok-add_file.ensures.others in
+    rw made c.requires.levels
 
 pub returns-clause-logs : goal.returns-clause-logs
 returns-clause-logs g c =
-    let edit = table_edit c.self.inside.log.number (new_file_of (c.args.level, c.args.file)) in
-    let made : edit_of c.add_file.new.self ≡ edit = table_edit_made c.new-edit.result c.set_log_num.new.self c.add_file.new.self c.self.inside.log.number c.args.level c.args.file c.new-edit.ensures c.set_log_num.ensures c.in_ok-add_file.ensures.ok c.in_ok-add_file.ensures.others in
-    let fits = table_edit_fits c.self.inside.log.number c.args.level c.args.file c.requires.level in
-    let logged = rw made at c.in_ok-log_and_apply.ensures.log in
-    rw (← c.self.view_is) (logged.used fits)
+    let made : edit_of c.add_file.new.self ≡ table_edit c.self.inside.log.number (new_file_of (c.args.level, c.args.file)) = table_edit_made c.new-edit.result c.set_log_num.new.self c.add_file.new.self c.self.inside.log.number c.args.level c.args.file c.new-edit.ensures c.set_log_num.ensures c.in_ok-add_file.ensures.ok c.in_ok-add_file.ensures.others in
+    rw (← c.self.view_is) (rw (made, ← c.self.view_is) at c.log_tables.ensures.logs)
+
+pub returns-clause-current : goal.returns-clause-current
+returns-clause-current g c =
+    let made : edit_of c.add_file.new.self ≡ table_edit c.self.inside.log.number (new_file_of (c.args.level, c.args.file)) = table_edit_made c.new-edit.result c.set_log_num.new.self c.add_file.new.self c.self.inside.log.number c.args.level c.args.file c.new-edit.ensures c.set_log_num.ensures c.in_ok-add_file.ensures.ok c.in_ok-add_file.ensures.others in
+    rw (← c.self.view_is) (rw (made, ← c.self.view_is) at c.log_tables.ensures.current)
