@@ -12,9 +12,10 @@ use leveldb_env::env::Env;
 use leveldb_env::filter::{BloomPolicy, InternalFilterPolicy};
 use leveldb_env::mem_env::MemEnv;
 use leveldb_env::options::{Options, in_memory};
+use leveldb_iter::walk::Walk;
 use leveldb_table::table_builder::TableBuilder;
-use leveldb_version::table_cache::{TableCache, table_file_name};
-use leveldb_version::version::{GetStats, Version};
+use leveldb_version::table_cache::{ReadTables, TableCache, table_file_name};
+use leveldb_version::version::{GetStats, Version, new_version_iter};
 use std::alloc::Global;
 use std::process::Abort;
 use support::failed_with;
@@ -272,5 +273,53 @@ fn missing_table(rt: HostRuntime) -> Result<()> {
     }
     let missing = opened.get(&rt, "e", 20);
     assert!(rt; failed_with(missing, StatusCode::Corruption)?);
+    Ok(())
+}
+
+// ---- walks over a level
+
+type Read<'a> = ReadTables<'a, MemEnv, DefaultCmp, BloomPolicy, CompressorList>;
+
+/// The key that a walk is at, or none.
+fn here<'a, 'b, W: Walk<MemEnv, Read<'b>>>(walk: &'a W) -> &'a [u8] {
+    match walk.current() {
+        Some((key, _)) => key,
+        None => &[],
+    }
+}
+
+/// The first bytes of the keys that a walk over a level's files comes to, in its order.
+fn level_keys(
+    rt: &(impl Abort + AllocGlobal),
+    opened: &mut Opened,
+    level: usize,
+) -> Result<Vec<u8>> {
+    assert!(rt; level < 7);
+    let mut tables = ReadTables {
+        cache: &mut opened.tables,
+        cmp: DefaultCmp,
+        policy: opened.options.filter_policy,
+        compressors: &opened.options.compressor_list,
+        below: 10,
+    };
+    let mut keys = Vec::new(rt.alloc());
+    let mut walk = new_version_iter(rt.alloc(), opened.version.files(level));
+    for _ in 0..9 {
+        if !walk.advance(&mut opened.env, &mut tables)? {
+            break;
+        }
+        let key = here(&walk);
+        keys.push(key.first().copied().unwrap_or(b'?'))?;
+    }
+    Ok(keys)
+}
+
+/// It goes from table to table, and a level without files has no pair.
+#[test]
+fn walked_levels(rt: HostRuntime) -> Result<()> {
+    let mut opened = Opened::new(&rt)?;
+    assert!(rt; level_keys(&rt, &mut opened, 1)?.as_slice() == b"abdf");
+    assert!(rt; level_keys(&rt, &mut opened, 2)?.as_slice() == b"aef");
+    assert!(rt; level_keys(&rt, &mut opened, 3)?.is_empty());
     Ok(())
 }

@@ -3,12 +3,10 @@
 use bytes::Bytes;
 use leveldb_base::cmp::DefaultCmp;
 use leveldb_base::error::{Result, StatusCode};
+use leveldb_base::names::{current_file_name, manifest_file_name, temp_file_name};
 use leveldb_base::types::{FileMetaData, FileNum};
 use leveldb_version::version_edit::VersionEdit;
-use leveldb_version::version_set::{
-    check_key_ranges, current_file_name, current_text, manifest_file_name, parse_current_text,
-    temp_file_name,
-};
+use leveldb_version::version_set::{check_key_ranges, current_text, parse_current_text};
 use std::alloc::Global;
 use std::process::Abort;
 use support::failed_with;

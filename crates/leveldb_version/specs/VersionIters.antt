@@ -62,6 +62,16 @@ module _ {C : Type 0} where
   AreWalksOf old files new = (more : List (VersionIter C)) × (new ≡ old ++ more)
       × (files_of_iters more ≡ files) × HaveNotBegun more
 
+-- a new walk over the tables of these files
+pub record IsNewVersionIter {C : Type 0} (files : List (ℕ × FileMetaData)) (it : VersionIter C)
+    : Type 0 where
+  -- it goes over these files
+  pub over : it.files.now ≡ files
+  -- from the first on
+  pub first : it.at ≡ 0
+  -- and has not begun in a table
+  pub not_begun : it.core ≡ None
+
 -- walks over a version's tables, which have not begun
 pub record AreVersionIters {C : Type 0} (version : VersionValue C) (iters : List (VersionIter C))
     : Type 0 where

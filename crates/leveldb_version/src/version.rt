@@ -26,6 +26,7 @@ mod overlap;
 mod search;
 mod seeks;
 
+pub use crate::version_iter::{VersionIter, new_version_iter};
 use find::file_with_key;
 use key_range::KeyRange;
 pub use order::total_size;

@@ -1,9 +1,10 @@
 //! Walks over the tables of files, one after the other.
-ghost use Rattle.std.specs.Prelude.{◌≡◌, ◌≤◌, None, false, is_some, length, true};
+ghost use Rattle.std.specs.Prelude.{◌≡◌, ◌≤◌, false, is_some, length, true};
 ghost use Rattle.std.specs.List.Sorted.{IsPartitionPoint, IsPartitionedBy};
 ghost use Rattle.leveldb_base.specs.Types.{next_position, pair_of, previous_position};
 ghost use Rattle.leveldb_version.specs.TableMoves.{IsToEnd, LeavesPairs, StepsInBlock, core_position};
 ghost use Rattle.leveldb_version.specs.VersionIter.{ends_before_key};
+ghost use Rattle.leveldb_version.specs.VersionIters.{IsNewVersionIter};
 ghost use Rattle.leveldb_base.specs.declared.types.FileMetaData.{FileMetaData};
 
 use crate::table_cache::{ReadTables, ReadsTables};
@@ -36,18 +37,18 @@ where
     core: Option<TableCore<InternalKeyCmp<C>>>,
 }
 
-impl<'a, C: UserCmp + Copy + Drop> VersionIter<'a, C> {
-    /// A walk over the tables of these files, at no position. It reads nothing.
-    pub fn new(alloc: Global, files: &'a [(usize, FileMetaData)]) -> VersionIter<'a, C>
-        ensures files { result.files.now ≡ files.now }
-        ensures core { result.core ≡ None }
-    {
-        VersionIter {
-            alloc,
-            files,
-            at: 0,
-            core: None,
-        }
+/// A walk over the tables of these files, at no position. It reads nothing.
+pub fn new_version_iter<'a, C: UserCmp + Copy + Drop>(
+    alloc: Global,
+    files: &'a [(usize, FileMetaData)],
+) -> VersionIter<'a, C>
+    ensures { IsNewVersionIter files.now result }
+{
+    VersionIter {
+        alloc,
+        files,
+        at: 0,
+        core: None,
     }
 }
 

@@ -23,10 +23,9 @@ mod set;
 mod summary;
 mod usable;
 
-pub use current::{
-    current_file_name, current_text, manifest_file_name, parse_current_text, temp_file_name,
-};
+pub use current::{current_text, parse_current_text};
 pub use current_file::{read_current_file, set_current_file};
+pub use leveldb_base::names::manifest_file_name;
 pub use new_store::make_store;
 pub use set::VersionSet;
 pub(crate) use summary::summary_of;

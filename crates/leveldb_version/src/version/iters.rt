@@ -6,7 +6,7 @@ ghost use Rattle.leveldb_version.specs.VersionIters.{AreVersionIters, AreWalksOf
 
 use super::Version;
 use super::order::part_of_level;
-use crate::version_iter::VersionIter;
+use crate::version_iter::{VersionIter, new_version_iter};
 use leveldb_base::cmp::UserCmp;
 use leveldb_base::error::Result;
 use leveldb_base::types::FileMetaData;
@@ -38,7 +38,7 @@ fn push_alone<'a, C: UserCmp + Copy + Drop>(
 {
     let mut left = files;
     while let Some((_, rest)) = left.split_last() {
-        iters.push(VersionIter::new(alloc, &left[rest.len()..]))?;
+        iters.push(new_version_iter(alloc, &left[rest.len()..]))?;
         left = rest;
     }
     Ok(())
@@ -58,7 +58,7 @@ fn push_levels<'a, C: UserCmp + Copy + Drop>(
     for level in 1..7 {
         let part = part_of_level(files, level);
         if !part.is_empty() {
-            iters.push(VersionIter::new(alloc, part))?;
+            iters.push(new_version_iter(alloc, part))?;
         }
     }
     Ok(())

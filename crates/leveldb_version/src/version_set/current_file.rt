@@ -7,8 +7,9 @@ ghost use Rattle.leveldb_version.specs.Current.{IsCurrentText};
 ghost use Rattle.leveldb_version.specs.CurrentFile.{IsCurrentUnread, IsNoCurrentText, SettingCurrent, temp_path, with_current};
 ghost use Rattle.leveldb_version.specs.Paths.{current_path};
 
-use super::current::{current_file_name, current_text, parse_current_text, temp_file_name};
+use super::current::{current_text, parse_current_text};
 use leveldb_base::error::Result;
+use leveldb_base::names::{current_file_name, temp_file_name};
 use leveldb_base::types::FileNum;
 use leveldb_env::env::Env;
 use leveldb_env::env::whole_files::{read_file, replace_file};

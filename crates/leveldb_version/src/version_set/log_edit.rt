@@ -9,13 +9,13 @@ ghost use Rattle.leveldb_version.specs.LogEdit.{AppendingAndSyncing, AppendsEdit
 ghost use Rattle.leveldb_version.specs.VersionEdit.{Edit, LevelsFit, edit_bytes, edit_of};
 ghost use Rattle.leveldb_version.specs.VersionSetValue.{OpenManifest, broken, in_use, unmade};
 
-use super::current::manifest_file_name;
 use super::full_edit::{apply_reserved, reserve};
 use super::manifest::Manifest;
 use super::new_manifest::{frame_records, make_manifest};
 use super::set::VersionSet;
 use crate::version_edit::VersionEdit;
 use leveldb_base::error::{Result, StatusCode, err};
+use leveldb_base::names::manifest_file_name;
 use leveldb_env::env::whole_files::found;
 use leveldb_env::env::{Env, EnvFile};
 use leveldb_mem::log::WriterCore;

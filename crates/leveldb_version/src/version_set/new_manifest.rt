@@ -9,10 +9,10 @@ ghost use Rattle.leveldb_version.specs.CurrentFile.{temp_path};
 ghost use Rattle.leveldb_version.specs.NewManifest.{MakingManifest, manifest_bytes, with_manifest};
 ghost use Rattle.leveldb_version.specs.Paths.{manifest_path};
 
-use super::current::manifest_file_name;
 use super::current_file::set_current_file;
 use super::manifest::Manifest;
 use leveldb_base::error::Result;
+use leveldb_base::names::manifest_file_name;
 use leveldb_base::types::FileNum;
 use leveldb_env::env::Env;
 use leveldb_env::env::whole_files::found;

@@ -4,11 +4,11 @@ ghost use Rattle.leveldb_base.specs.Error.{IsOutOfMemory};
 ghost use Rattle.leveldb_version.specs.NewStore.{MakeStoreResult, first_edit};
 ghost use Rattle.leveldb_version.specs.VersionEdit.{edit_bytes};
 
-use super::current::manifest_file_name;
 use super::new_manifest::{frame_records, make_manifest};
 use crate::version_edit::VersionEdit;
 use leveldb_base::cmp::Cmp;
 use leveldb_base::error::Result;
+use leveldb_base::names::manifest_file_name;
 use leveldb_env::env::Env;
 use std::alloc::Global;
 

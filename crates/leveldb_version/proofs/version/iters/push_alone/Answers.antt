@@ -12,6 +12,6 @@ loop-rest-preserved g c =
       file ∷ before.0,
       before.1 ∙ ap (λ fs. fs ++ before.0) parts ∙ append_assoc left (file ∷ []) before.0,
       subst (AreWalksOf c.args.iters.now.items (each_alone (file ∷ before.0))) (sym c.in_ok-push.ensures.items)
-          (walks_alone c.args.iters.now.items c.loop-rest.iters.items file before.0 c.new.result before.2
-          (c.new.ensures.files ∙ last_alone c.loop-rest.left.now left file parts) c.new.ensures.core),
+          (walks_alone c.args.iters.now.items c.loop-rest.iters.items file before.0 c.new_version_iter.result before.2
+          (c.new_version_iter.ensures.over ∙ last_alone c.loop-rest.left.now left file parts) c.new_version_iter.ensures.not_begun),
     )

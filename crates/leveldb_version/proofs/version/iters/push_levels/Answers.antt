@@ -19,8 +19,8 @@ loop-level-preserved g c =
     (elim c.if-not-is_empty.branch [
       | then-not-is_empty+in_ok-push w ↦
           subst (AreWalksOf old (levels_among (take level deep_levels) files)) (sym (ap (λ its. its.items) w.iters-is ∙ w.in_ok-push.ensures.items))
-          (walks_level old before level files w.new.result (omega arith) (omega arith) c.loop-level.invariant (w.new.ensures.files ∙ same)
-          (some_files part _ c.is_empty.result is w.if-not-is_empty.true same) w.new.ensures.core)
+          (walks_level old before level files w.new_version_iter.result (omega arith) (omega arith) c.loop-level.invariant (w.new_version_iter.ensures.over ∙ same)
+          (some_files part _ c.is_empty.result is w.if-not-is_empty.true same) w.new_version_iter.ensures.not_begun)
       | else-not-is_empty w ↦
           subst (AreWalksOf old (levels_among (take level deep_levels) files)) (sym (ap (λ its. its.items) w.iters-is))
           (walks_empty old before level files (omega arith) (omega arith) c.loop-level.invariant
