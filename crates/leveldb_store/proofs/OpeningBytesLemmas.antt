@@ -27,7 +27,7 @@ use Rattle.leveldb_version.specs.Format.{Agrees, Format, Meaning}
 use Rattle.leveldb_store.specs.OpeningSteps.{AreBeingKept, HasReplayedLogs, LogsIfWanted, OpensLog, RecoversSet, files_to_write, made_files, with_log_kept, with_logs_kept}
 use Rattle.leveldb_store.specs.SoundCall.{BytesAreAppended}
 use Rattle.leveldb_store.specs.declared.open_store.OpenLog.{OpenLog}
-use Rattle.leveldb_store.specs.declared.opening.logs.RecoveredSet.{RecoveredSet}
+use Rattle.leveldb_store.specs.declared.opening.recovered_set.RecoveredSet.{RecoveredSet}
 use Rattle.leveldb_store.specs.declared.opening.replay.Replay.{Replay}
 use Rattle.leveldb_store.specs.declared.opening.replay.UsedLog.{UsedLog}
 

@@ -154,8 +154,8 @@ first_is_encodable comparator text = record {
 -- ---- what an opening finds
 
 module _ {E F : Type 0} (env : Ghosts E F) (store comparator : List ℕ) (create_if_missing error_if_exists : Bool) (from mid : E) where
-  abbrev pub Found : Result (Unit {0}) Status → E → Type 0
-  Found = FindsStore env store comparator create_if_missing error_if_exists from
+  abbrev pub Found : {T : Type 0} → Result T Status → E → Type 0
+  Found result to = FindsStore env store comparator create_if_missing error_if_exists from result to
 
   -- what isn't opened
   abbrev Refused : Type 0
@@ -164,7 +164,7 @@ module _ {E F : Type 0} (env : Ghosts E F) (store comparator : List ℕ) (create
   module _ {T : Type 0} (listing : Result T Status) (does : ChangesFiles env.models_disk same FilesUnchanged (env.observed from) (env.observed mid) listing)
       (locks : SameLocks env.models_disk (env.observed from) (env.observed mid)) where
     -- no call but the listing was made
-    stayed : (result : Result (Unit {0}) Status) → OnOk result (IsTrue env.models_disk → ((env.observed from).disk.files (current_path store) ≢ None) × ((env.observed mid).disk.files ≡ (env.observed from).disk.files))
+    stayed : {U : Type 0} (result : Result U Status) → OnOk result (IsTrue env.models_disk → ((env.observed from).disk.files (current_path store) ≢ None) × ((env.observed mid).disk.files ≡ (env.observed from).disk.files))
         → (IsTrue env.models_disk → Refused → OnOk result ⊥)
         → HasCauseOr (WhyNotFound env store comparator create_if_missing error_if_exists from) (env.failures from) (env.failures mid) result → Found result mid
     stayed result there never cause = record {
@@ -176,7 +176,7 @@ module _ {E F : Type 0} (env : Ghosts E F) (store comparator : List ℕ) (create
       cause = cause;
     }
       where
-        found_there : (result : Result (Unit {0}) Status)
+        found_there : {U : Type 0} (result : Result U Status)
             → OnOk result (IsTrue env.models_disk → ((env.observed from).disk.files (current_path store) ≢ None) × ((env.observed mid).disk.files ≡ (env.observed from).disk.files))
             → OnOk result (IsTrue env.models_disk → (((env.observed from).disk.files (current_path store) ≢ None) × ((env.observed mid).disk.files ≡ (env.observed from).disk.files))
             ⊎ IsMade store comparator (env.observed from).disk.files (env.observed mid).disk.files)
@@ -184,12 +184,12 @@ module _ {E F : Type 0} (env : Ghosts E F) (store comparator : List ℕ) (create
         found_there (Err status) there = tt
 
     -- nothing is listed
-    pub unlisted : (status : Status) → IsFoundOr store listing (Err status) → HasCause (IsEmptyFolder env.models_disk store (env.observed from)) (env.failures from) (env.failures mid) listing → Found (Err status) mid
+    pub unlisted : {U : Type 0} (status : Status) → IsFoundOr store listing (Err status) → HasCause (IsEmptyFolder env.models_disk store (env.observed from)) (env.failures from) (env.failures mid) listing → Found {T = U} (Err status) mid
     unlisted status found cause = stayed (Err status) tt (λ modelled is. tt)
         (folder_bare env.models_disk store (env.observed from) (env.failures from) (env.failures mid) listing status (λ code bare. inl (code, bare)) found cause)
 
     module _ (uncounted : env.failures mid ≡ env.failures from) where
-      pub refused : (status : Status) → WhyNotFound env store comparator create_if_missing error_if_exists from status → Found (Err status) mid
+      pub refused : {U : Type 0} (status : Status) → WhyNotFound env store comparator create_if_missing error_if_exists from status → Found {T = U} (Err status) mid
       refused status why = stayed (Err status) tt (λ modelled is. tt)
           (record { later = omega (arith, uncounted); ok = tt; uncounted = λ excused. uncounted; cause = inl (inr (why, uncounted)) })
 
@@ -199,11 +199,11 @@ module _ {E F : Type 0} (env : Ghosts E F) (store comparator : List ℕ) (create
           current_there : IsTrue env.models_disk → (env.observed from).disk.files (current_path store) ≢ None
           current_there modelled = not_none ((env.observed from).disk.files (current_path store)) (((lists modelled).each (codes "CURRENT")).0 has).1
 
-          pub must_not_be : error_if_exists ≡ true → (status : Status) → status.code ≡ AlreadyExists → Found (Err status) mid
+          pub must_not_be : {U : Type 0} → error_if_exists ≡ true → (status : Status) → status.code ≡ AlreadyExists → Found {T = U} (Err status) mid
           must_not_be forbids status code = refused status (inr (inl (inl (code, forbids, current_there))))
 
-          pub is_found : error_if_exists ≡ false → Found (Ok tt) mid
-          is_found may = stayed (Ok tt) (λ modelled. (current_there modelled, does.now modelled))
+          pub is_found : {U : Type 0} (value : U) → error_if_exists ≡ false → Found (Ok value) mid
+          is_found value may = stayed (Ok value) (λ modelled. (current_there modelled, does.now modelled))
               may_find
               (record { later = omega (arith, uncounted); ok = uncounted; uncounted = tt; cause = tt })
             where
@@ -243,8 +243,8 @@ module _ {E F : Type 0} (env : Ghosts E F) (store comparator : List ℕ) (create
           lost_is_why status (inl memory) = inl memory
           lost_is_why status (inr lost) = inr (inr (inr (lost.0.code, λ modelled. absurd (lost.1 modelled))), lost.2 ∙ uncounted)
 
-          pub made : (result : Result (Unit {0}) Status) → MakeStoreResult env.models_disk store comparator (env.observed mid) (env.failures mid) result (env.observed to) (env.failures to) → Found result to
-          made (Ok done) makes = record {
+          pub made : {U : Type 0} (value : U) (done : Unit {0}) → MakeStoreResult env.models_disk store comparator (env.observed mid) (env.failures mid) (Ok done) (env.observed to) (env.failures to) → Found (Ok value) to
+          made value done makes = record {
             ok = λ modelled. inr (record {
               bare = bare modelled;
               encodable = first_is_encodable comparator text;
@@ -254,13 +254,15 @@ module _ {E F : Type 0} (env : Ghosts E F) (store comparator : List ℕ) (create
             run = λ modelled. run_made (Ok done) (makes.does modelled) modelled;
             bytes = λ modelled before. makes.bytes modelled (subst AppendedAreBytes (sym (does.now modelled)) before);
             locks = λ modelled. makes.locks modelled ∙ locks modelled;
-            cause = cause_or (Ok done) uncounted lost_is_why (λ e memory. inl memory) makes.cause;
+            cause = let cause = cause_or (Ok done) uncounted lost_is_why (λ e memory. inl memory) makes.cause in record { later = cause.later; ok = cause.ok; uncounted = tt; cause = tt };
           }
-          made (Err status) makes = record {
+
+          pub not_made : {U : Type 0} (status : Status) → MakeStoreResult env.models_disk store comparator (env.observed mid) (env.failures mid) (Err status) (env.observed to) (env.failures to) → Found {T = U} (Err status) to
+          not_made status makes = record {
             ok = tt;
             stays = λ modelled is. absurd (may_make modelled is);
             run = λ modelled. run_made (Err status) (makes.does modelled) modelled;
             bytes = λ modelled before. makes.bytes modelled (subst AppendedAreBytes (sym (does.now modelled)) before);
             locks = λ modelled. makes.locks modelled ∙ locks modelled;
-            cause = cause_or (Err status) uncounted lost_is_why (λ e memory. inl memory) makes.cause;
+            cause = let cause = cause_or (Err status) uncounted lost_is_why (λ e memory. inl memory) makes.cause in record { later = cause.later; ok = tt; uncounted = cause.uncounted; cause = cause.cause };
           }

@@ -20,7 +20,7 @@ use Rattle.leveldb_store.specs.OpeningState.{with_comparator}
 use Rattle.leveldb_store.specs.OpeningSteps.{BeginsWriting, RecoversStore, WasRecovered, WhyNotBegun}
 use Rattle.leveldb_store.specs.OpensStore.{FailsToOpen, IsOpenedAs, IsSound, KeepsFound, LacksNumbers, OpensStore, WhyNotOpened}
 use Rattle.leveldb_store.specs.SoundCall.{BytesAreAppended}
-use Rattle.leveldb_store.specs.declared.opening.logs.RecoveredSet.{RecoveredSet}
+use Rattle.leveldb_store.specs.declared.opening.recovered_set.RecoveredSet.{RecoveredSet}
 
 module _ {E F C : Type 0} (env : Ghosts E F) (format : Format) (store : List ℕ) (create_if_missing error_if_exists : Bool) (from : E) (limit : ℕ) where
   -- a store that isn't recovered isn't opened

@@ -25,7 +25,7 @@ use Rattle.leveldb_store.specs.OpeningSteps.{AreBeingKept, AreDamagedLogs, Comes
 use Rattle.leveldb_store.specs.OpensStore.{HasHugeManifest, HasSharedUserKey, IsDamaged, IsForbidden, IsSound, KeepsFound, LacksCurrent, LacksNumbers, LacksUsableEdits, SameBesideOwn, WhyNotOpenable}
 use Rattle.leveldb_store.specs.ReplayLog.{HasCauseOr}
 use Rattle.leveldb_store.specs.SoundCall.{BytesAreAppended}
-use Rattle.leveldb_store.specs.declared.opening.logs.RecoveredSet.{RecoveredSet}
+use Rattle.leveldb_store.specs.declared.opening.recovered_set.RecoveredSet.{RecoveredSet}
 
 -- ---- causes
 
@@ -63,8 +63,8 @@ module _ {E F : Type 0} (env : Ghosts E F) (format : Format) (store : List ℕ) 
   abbrev Why : Status → Type 0
   Why = WhyNotOpenable env store format create_if_missing error_if_exists from
 
-  abbrev Finds : Result (Unit {0}) Status → E → Type 0
-  Finds = FindsStore env store format.order_name create_if_missing error_if_exists from
+  abbrev Finds : {T : Type 0} → Result T Status → E → Type 0
+  Finds result to = FindsStore env store format.order_name create_if_missing error_if_exists from result to
 
   -- ---- the store is found or made
 
@@ -73,7 +73,7 @@ module _ {E F : Type 0} (env : Ghosts E F) (format : Format) (store : List ℕ) 
   why_not_found status (inr (inl forbidden)) = inr (inl forbidden)
   why_not_found status (inr (inr lacks)) = inr (inr (inr (inl (lacks.0, λ modelled. lacking_is_damaged store format first (lacks.1 modelled)))))
 
-  module _ (result : Result (Unit {0}) Status) (mid : E) (finds : Finds result mid) where
+  module _ {T : Type 0} (result : Result T Status) (mid : E) (finds : Finds result mid) where
     found_keeps : IsTrue env.models_disk → (meaning : Meaning) (contents : Contents) → IsSound format.order meaning store first contents
         → KeepsFound format.order meaning store format.order_name contents (env.observed from) (env.observed mid)
     found_keeps modelled meaning contents sound allowed there may bound reached =
@@ -94,7 +94,7 @@ module _ {E F : Type 0} (env : Ghosts E F) (format : Format) (store : List ℕ) 
         same now (inl is) = is
         same now (inr being) = absurd (there being.bare.no_current)
 
-  pub find_refused : (mid : E) (status : Status) → Finds (Err status) mid → Recovers (Err status) mid
+  pub find_refused : {T : Type 0} (mid : E) (status : Status) → Finds {T = T} (Err status) mid → Recovers (Err status) mid
   find_refused mid status finds = record {
     ok = tt;
     keeps = λ modelled meaning agrees contents sound. found_keeps (Err status) mid finds modelled meaning contents sound;
@@ -120,7 +120,7 @@ module _ {E F : Type 0} (env : Ghosts E F) (format : Format) (store : List ℕ) 
   unsupported files (inr (inl huge)) = inr (inl huge)
   unsupported files (inr (inr few)) = inr (inr (record { logs = []; rising = sorted_none; batches = []; begin = refl; few = few }))
 
-  module _ (done : Unit {0}) (mid : E) (finds : Finds (Ok done) mid) where
+  module _ {T : Type 0} (done : T) (mid : E) (finds : Finds (Ok done) mid) where
     found : IsTrue env.models_disk → IsFoundOrMade store format.order_name first (env.observed mid).disk.files
     found modelled = finds.ok modelled
 

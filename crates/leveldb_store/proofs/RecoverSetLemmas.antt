@@ -34,7 +34,7 @@ use Rattle.leveldb_store.specs.OpeningSteps.{AreReplayedLogs, ComesAfterFound, H
 use Rattle.leveldb_store.specs.OpensStore.{HasOtherComparator, IsDamaged, SameBesideOwn}
 use Rattle.leveldb_store.proofs.OpeningSameLemmas.{naming_spares}
 use Rattle.leveldb_store.specs.ReplayLog.{HasCauseOr}
-use Rattle.leveldb_store.specs.declared.opening.logs.RecoveredSet.{RecoveredSet}
+use Rattle.leveldb_store.specs.declared.opening.recovered_set.RecoveredSet.{RecoveredSet}
 use Rattle.leveldb_store.proofs.LevelsApartLemmas.{usable_levels}
 use Rattle.leveldb_store.proofs.LevelsReadLemmas.{read_levels}
 use Rattle.leveldb_store.proofs.OpeningCausesLemmas.{folder_bare}
@@ -239,10 +239,16 @@ module _ {E F : Type 0} (env : Ghosts E F) (format : Format) (exact : IsExactOrd
   }
 
   -- which failed
-  pub unlisted : {T : Type 0} (listing : Result T Status) (status : Status) → IsFoundOr store listing (Err status)
-      → HasCause (IsEmptyFolder env.models_disk store (env.observed from)) (env.failures from) (env.failures mid) listing → Recovered (Err status) mid
-  unlisted listing status found cause = not_begun status
-      (folder_bare env.models_disk store (env.observed from) (env.failures from) (env.failures mid) listing status (λ code bare. inl (code, λ modelled. bare modelled (codes "CURRENT"))) found cause)
+  pub unlisted : {T : Type 0} (status : Status)
+      → HasCauseOr {T = T} (λ e. (e.code ≡ Corruption) × (IsTrue env.models_disk → IsBareFolder store (env.observed from).disk.files)) (env.failures from) (env.failures mid) (Err status)
+      → Recovered (Err status) mid
+  unlisted status cause = not_begun status (cause_of_error status
+      (λ why. ⊎_elim
+      (λ (memory : IsOutOfMemory status). inl memory)
+      (λ (it : ((status.code ≡ Corruption) × (IsTrue env.models_disk → IsBareFolder store (env.observed from).disk.files)) × (env.failures mid ≡ env.failures from)).
+      inr (inl (it.0.0, λ modelled. it.0.1 modelled (codes "CURRENT")), it.1))
+      why)
+      (λ excused. ⊎_elim (λ memory. inl (inl memory)) (λ it. inr it.1) excused) cause)
 
   module _ (uncounted : env.failures mid ≡ env.failures from) where
     pub out_of_memory : (status : Status) → IsOutOfMemory status → Recovered (Err status) mid

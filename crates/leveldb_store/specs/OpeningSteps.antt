@@ -44,7 +44,7 @@ use Rattle.leveldb_store.specs.Room.{IsFull}
 use Rattle.leveldb_store.specs.SoundCall.{BytesAreAppended}
 use Rattle.leveldb_store.specs.Switch.{MayGiveNumber}
 use Rattle.leveldb_store.specs.declared.open_store.OpenLog.{OpenLog}
-use Rattle.leveldb_store.specs.declared.opening.logs.RecoveredSet.{RecoveredSet}
+use Rattle.leveldb_store.specs.declared.opening.recovered_set.RecoveredSet.{RecoveredSet}
 use Rattle.leveldb_store.specs.declared.opening.replay.Replay.{Replay}
 use Rattle.leveldb_store.specs.declared.opening.replay.UsedLog.{UsedLog}
 use Rattle.leveldb_store.specs.declared.opening.replay_log.ReplayedLog.{ReplayedLog}
@@ -80,7 +80,7 @@ module _ {E F : Type 0} (env : Ghosts E F) (store comparator : List ℕ)
       → LacksCurrent store (env.observed from).disk.files))
 
   -- A store was found, and nothing changed; or there was none, and a new one was made.
-  pub record FindsStore (result : Result (Unit {0}) Status) (to : E) : Type 0 where
+  pub record FindsStore {T : Type 0} (result : Result T Status) (to : E) : Type 0 where
     pub ok : OnOk result (IsTrue env.models_disk
         → (((env.observed from).disk.files (current_path store) ≢ None)
         × ((env.observed to).disk.files ≡ (env.observed from).disk.files))
@@ -100,6 +100,11 @@ module _ {E F : Type 0} (env : Ghosts E F) (store comparator : List ℕ)
     pub bytes : BytesAreAppended env from to
     pub locks : SameLocks env.models_disk (env.observed from) (env.observed to)
     pub cause : HasCauseOr WhyNotFound (env.failures from) (env.failures to) result
+
+-- these are the names of the files in the store's folder
+abbrev pub AreNamesIn : {E F : Type 0} → Ghosts E F → List ℕ → E → List (List ℕ) → Type 0
+AreNamesIn env store at names =
+    IsTrue env.models_disk → ListsChildren (env.observed at).disk.files store names
 
 -- ---- names and their numbers
 
@@ -457,8 +462,7 @@ module _ {E F : Type 0} (env : Ghosts E F) (format : Format) (reuse : Bool) (lim
     pub given : AreNumbersGiven set set.full.added
     pub levels : AreInLevels env.models_disk format.order set.full.added
     pub names : List (List ℕ)
-    pub lists : IsTrue env.models_disk
-        → ListsChildren (env.observed from).disk.files store names
+    pub lists : AreNamesIn env store from names
     pub logs_are : AreReplayedLogs names set.log_number set.previous_log logs
 
   -- Why no set is recovered, where nothing was counted, beside out of memory: `CURRENT` is missing,

@@ -12,6 +12,7 @@ mod find;
 mod log_to_write;
 mod logs;
 mod recover;
+mod recovered_set;
 mod replay;
 pub(crate) mod replay_log;
 mod sync;

@@ -24,7 +24,8 @@ use Rattle.leveldb_store.specs.WriteBatch.{SyncsBatches}
 use Rattle.rusty_leveldb.specs.Boxes.{EngineOf, InternalOrder}
 use Rattle.rusty_leveldb.specs.EngineValue.{FollowsStore}
 use Rattle.rusty_leveldb.specs.Calls.{BecomesOf, EngineServes, HasReason}
-use Rattle.rusty_leveldb.specs.Causes.{IsClosedRefusal, IsBrokenRefusal, IsLongKey, IsNotHeld, Setting}
+use Rattle.leveldb_base.specs.KeyTypes.{IsLongKey}
+use Rattle.rusty_leveldb.specs.Causes.{IsClosedRefusal, IsBrokenRefusal, IsNotHeld, Setting}
 use Rattle.rusty_leveldb.specs.Engine.{AnswersStill, GetExcused, GetFails, IsClosedOrBroken, RefusedAsBroken, RefusedAsClosed, RefusedByMode, SyncExcused, held_in, options_in, formats_of, tables_by, ReadsAt}
 use Rattle.rusty_leveldb.specs.Frame.{MayTouch}
 use Rattle.rusty_leveldb.specs.Machine.{Step}

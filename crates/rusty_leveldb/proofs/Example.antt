@@ -6,7 +6,8 @@ use Rattle.leveldb_base.proofs.HistoryLemmas.{in_front}
 use Rattle.leveldb_version.specs.Contents.{made}
 use Rattle.leveldb_version.specs.Format.{Meaning}
 use Rattle.rusty_leveldb.specs.State.{State, Opening, open_store, write, get, done, found, open_mode, closed}
-use Rattle.rusty_leveldb.specs.Causes.{Setting, Disagrees, Fits, IsLongKey, IsLongBatch}
+use Rattle.leveldb_base.specs.KeyTypes.{IsLongKey}
+use Rattle.rusty_leveldb.specs.Causes.{Setting, Disagrees, Fits, IsLongBatch}
 use Rattle.rusty_leveldb.specs.Machine.{Step}
 use Rattle.rusty_leveldb.specs.Runs.{Event, StopsAt, Lives, new_state}
 use Rattle.rusty_leveldb.specs.Laws.{SyncedCanBeFound, answered_at, written_and_found}

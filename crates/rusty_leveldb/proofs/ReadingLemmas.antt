@@ -24,7 +24,8 @@ use Rattle.leveldb_store.specs.Read.{GetsFromMemory, GetsFromTables, HasOpenTabl
 use Rattle.leveldb_store.specs.Room.{FailsFor, HasFailed}
 use Rattle.leveldb_store.specs.Written.{IsWritten, Shows}
 use Rattle.rusty_leveldb.specs.Boxes.{EngineOf, InternalOrder}
-use Rattle.rusty_leveldb.specs.Causes.{Cause, Comes, IsLongKey, IsNotHeld, Misfits, Setting, bad_operand, device_failed, lacks_compressor, out_of_memory}
+use Rattle.leveldb_base.specs.KeyTypes.{IsLongKey}
+use Rattle.rusty_leveldb.specs.Causes.{Cause, Comes, IsNotHeld, Misfits, Setting, bad_operand, device_failed, lacks_compressor, out_of_memory}
 use Rattle.rusty_leveldb.specs.Engine.{Answers, AnswersStill, GetExcused, GetFails, ReadsAt, Recalls, RefusedAsClosed, ShowsViews, held_in, options_in, scene, tables_by}
 use Rattle.rusty_leveldb.specs.Frame.{MayTouch}
 use Rattle.rusty_leveldb.specs.Machine.{IsSequenceOf, Responds, Step, risk_between}

@@ -3,7 +3,7 @@ use Rattle.std.specs.Prelude.{◌≡◌, ◌≢◌, ◌<◌, ◌≤◌, ◌+◌,
 use Rattle.leveldb_base.specs.declared.error.StatusCode.{StatusCode}
 use Rattle.leveldb_base.specs.declared.error.StatusCode.TheVariants.{OutOfMemory, LockError, InvalidArgument, AlreadyExists, NotSupported, IOError}
 use Rattle.leveldb_base.specs.History.{Item}
-use Rattle.leveldb_base.specs.KeyTypes.{greatest_sequence}
+use Rattle.leveldb_base.specs.KeyTypes.{IsLongKey, greatest_sequence}
 use Rattle.leveldb_mem.specs.WriteBatch.{batch_bytes, max_length}
 use Rattle.leveldb_version.specs.Contents.{Store, missing, made}
 use Rattle.leveldb_version.specs.Format.{Format, HasCompressorError, LacksCompressor, Meaning}
@@ -34,10 +34,6 @@ pub record Setting : Type 0 where
 -- the batch of these items would be too long
 abbrev pub IsLongBatch : List Item → Type 0
 IsLongBatch items = max_length < length (batch_bytes 0 items)
-
--- a key is longer than the greatest length
-abbrev pub IsLongKey : List ℕ → Type 0
-IsLongKey key = max_length < length key
 
 -- a snapshot is named that isn't one of those that are held
 abbrev pub IsNotHeld : List Snapshot → Option Snapshot → Type 0

@@ -30,7 +30,8 @@ use Rattle.leveldb_store.specs.WriteBatch.{next_batch}
 use Rattle.leveldb_store.specs.Written.{IsWritten, Shows}
 use Rattle.rusty_leveldb.specs.State as machine
 use Rattle.rusty_leveldb.specs.State.{State, Opening, Request, Answer, Snapshot}
-use Rattle.rusty_leveldb.specs.Causes.{AreSnapshotsUsedUp, AreUsedUp, IsLongBatch, IsLongKey, IsNotHeld}
+use Rattle.leveldb_base.specs.KeyTypes.{IsLongKey}
+use Rattle.rusty_leveldb.specs.Causes.{AreSnapshotsUsedUp, AreUsedUp, IsLongBatch, IsNotHeld}
 use Rattle.rusty_leveldb.specs.Serves.{Serves, Scene, snapshot_of}
 use Rattle.rusty_leveldb.specs.Boxes.{EngineOf, InternalOrder}
 

@@ -2,7 +2,6 @@
 
 mod close;
 mod engine;
-mod info_log;
 mod iterate;
 mod names;
 mod open;

@@ -3,10 +3,11 @@ ghost use Rattle.std.specs.Prelude.{◌≡◌, None, IfErr, IfOk, IsErrAnd, is_s
 ghost use Rattle.leveldb_base.specs.Error.{IsOutOfMemory};
 ghost use Rattle.leveldb_base.specs.Types.{copied_pair, last_position, next_position, pair_of, position_within, previous_position, seek_position};
 ghost use Rattle.leveldb_base.specs.declared.error.StatusCode.TheVariants.{InvalidArgument};
-ghost use Rattle.rusty_leveldb.specs.Causes.{IsLongKey};
+ghost use Rattle.leveldb_base.specs.KeyTypes.{IsLongKey};
 
 use leveldb_base::cmp::{Cmp, InternalKeyCmp, UserCmp};
-use leveldb_base::error::{Result, StatusCode, err};
+use leveldb_base::error::Result;
+use leveldb_base::key_types::check_key_size;
 use leveldb_env::compressor::{CompressorList, Compressors};
 use leveldb_env::env::Env;
 use leveldb_env::filter::FilterPolicy;
@@ -14,9 +15,6 @@ use leveldb_iter::walk::Walk;
 use leveldb_store::open_store::StoreView;
 use leveldb_version::table_cache::{ReadTables, ReadsTables};
 use std::alloc::Global;
-
-/// The greatest length of a key, in bytes.
-const MAX_KEY_SIZE: usize = 1 << 30;
 
 /// An iterator over the pairs of a store, in the order of their keys, as the store was when the
 /// iterator was made, or at a snapshot. It is at one of the pairs or at no position. A move that
@@ -81,13 +79,9 @@ impl<
             (λ order pairs _. seek_position order pairs key.now) self.old result self.new }
         ensures long { IsLongKey key.now → IsErrAnd result (λ e. e.code ≡ InvalidArgument) }
     {
-        if key.len() > MAX_KEY_SIZE {
+        if let Err(status) = check_key_size(self.alloc, key) {
             self.reset();
-            return err(
-                self.alloc,
-                StatusCode::InvalidArgument,
-                "a key has at most 2^30 bytes",
-            );
+            return Err(status);
         }
         self.view.seek(self.env, &mut self.tables, key)
     }

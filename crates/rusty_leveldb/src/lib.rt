@@ -21,11 +21,18 @@ pub use leveldb_env::{
 };
 pub use leveldb_iter::moves::{Move, Step};
 pub use leveldb_iter::snapshot::Snapshot;
+pub use leveldb_iter::{
+    db_iter as db_iter_core, laws as iter_laws, merging_iter, moves, snapshot, unlent, walk,
+    walk_iter,
+};
 pub use leveldb_mem::skipmap::SkipMap;
 pub use leveldb_mem::write_batch::WriteBatch;
 pub use leveldb_mem::{laws as log_laws, log, memtable, skipmap, write_batch};
+pub use leveldb_store::{build, open_store};
 pub use leveldb_table::{
     block, block_builder, block_cache, cache, laws as table_laws, table_block, table_builder,
     table_reader,
 };
-pub use leveldb_version::{laws as version_laws, version_edit, version_set};
+pub use leveldb_version::{
+    laws as version_laws, store_walk, table_cache, version, version_edit, version_iter, version_set,
+};

@@ -12,7 +12,7 @@ ghost use Rattle.leveldb_store.specs.Written.{KeepsWritten};
 use super::OpenStore;
 use leveldb_base::cmp::UserCmp;
 use leveldb_base::error::Result;
-use leveldb_base::names::parse_file_name;
+use leveldb_base::names::file_name_parts;
 use leveldb_base::types::{FileNum, FileType};
 use leveldb_env::env::Env;
 use leveldb_env::filter::FilterPolicy;
@@ -79,7 +79,7 @@ impl<E: Env, C: UserCmp + Copy + Drop> OpenStore<E, C> {
         ensures removes { RemovesName E.Env self.now.set env.old name.now result env.new }
         ensures closes { ClosesObsolete E.Env self.now.set env.old tables.old env.new tables.new }
     {
-        let Ok((number, kind)) = parse_file_name(self.alloc, name) else {
+        let Some((number, kind)) = file_name_parts(name) else {
             return Ok(());
         };
         if !self.is_obsolete(live, number, kind) {

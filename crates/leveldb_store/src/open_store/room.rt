@@ -1,6 +1,6 @@
 //! Room in the memtable: entries of one that is full become a table, and obsolete files are
 //! deleted.
-ghost use Rattle.std.specs.Prelude.{◌≡◌, ◌≢◌, ◌↔◌, ◌≤◌, ◌+◌, None, Contains, IsTrue, OnErr, OnOk};
+ghost use Rattle.std.specs.Prelude.{◌≡◌, ◌≢◌, ◌↔◌, ◌≤◌, ◌+◌, None, Contains, IsTrue, OnErr, OnOk, is_some};
 ghost use Rattle.leveldb_store.specs.BuildTable.{choices_of};
 ghost use Rattle.leveldb_version.specs.Format.{Agrees, format_of};
 ghost use Rattle.leveldb_version.specs.VersionEdit.{NewFile};
@@ -16,7 +16,8 @@ use leveldb_base::error::Result;
 use leveldb_env::compressor::{CompressorList, Compressors};
 use leveldb_env::env::Env;
 use leveldb_env::filter::{FilterPolicy, InternalFilterPolicy};
-use leveldb_env::infolog::InfoSink;
+use leveldb_env::infolog::Logger;
+use leveldb_env::log;
 use leveldb_env::options::Options;
 use leveldb_version::table_cache::TableCache;
 
@@ -32,22 +33,21 @@ impl<E: Env, C: UserCmp + Copy> OpenStore<E, C> {
 impl<E: Env, C: UserCmp + Copy + Drop> OpenStore<E, C> {
     /// Deletes obsolete files, and closes their tables. A failure is no error, but a line for
     /// `log`: nothing reads the files that are left, and the next call deletes them.
-    pub fn tidy_up<FP: FilterPolicy + Copy + Drop, S: InfoSink>(
+    pub fn tidy_up<FP: FilterPolicy + Copy + Drop>(
         &self,
         env: &mut E,
         tables: &mut TableCache<E, C, FP>,
-        log: &mut S,
+        log: &mut Option<Logger>,
     )
         requires usable { IsUnbroken self.now }
         ensures tidies { TidiesUp E.Env (C.cmp self.now.cmp) self.now env.old env.new }
         ensures closes { ClosesObsolete E.Env self.now.set env.old tables.old env.new tables.new }
         ensures time { TimeGoesOn E.Env env.old env.new }
         ensures bytes { BytesAreAppended E.Env env.old env.new }
+        ensures log { is_some log.new ≡ is_some log.old }
     {
         if let Err(e) = self.remove_obsolete(env, tables) {
-            if let Ok(line) = format!(in self.alloc; "obsolete files may be left: {e}\n") {
-                let _ = log.write(line.as_bytes());
-            }
+            log!(*log, self.alloc; "obsolete files may be left: {e}");
         }
     }
 
@@ -59,12 +59,12 @@ impl<E: Env, C: UserCmp + Copy + Drop> OpenStore<E, C> {
     ///
     /// After an Err no entry is lost: the memtable is full still, or its entries wait. The next
     /// call goes on from there, unless the store broke.
-    pub fn make_room<FP: FilterPolicy + Copy + Drop, S: InfoSink>(
+    pub fn make_room<FP: FilterPolicy + Copy + Drop>(
         &mut self,
         env: &mut E,
         options: &Options<C, FP>,
         tables: &mut TableCache<E, C, FP>,
-        log: &mut S,
+        log: &mut Option<Logger>,
     ) -> Result<()>
         requires usable { IsUnbroken self.old }
         requires order { C.cmp options.now.cmp ≡ C.cmp self.old.cmp }
@@ -76,6 +76,7 @@ impl<E: Env, C: UserCmp + Copy + Drop> OpenStore<E, C> {
             FP.FilterPolicy ⟦<CompressorList as Compressors>⟧.codings options.now)) self.old
             env.old result self.new env.new }
         ensures closes { ClosesObsolete E.Env self.old.set env.old tables.old env.new tables.new }
+        ensures log { is_some log.new ≡ is_some log.old }
     {
         if !self.is_full(options.write_buffer_size) {
             return Ok(());
@@ -87,12 +88,12 @@ impl<E: Env, C: UserCmp + Copy + Drop> OpenStore<E, C> {
 
     // Makes a table of the entries that wait, if some do, and deletes the files that are obsolete
     // then.
-    fn table_if_waiting<FP: FilterPolicy + Copy + Drop, S: InfoSink>(
+    fn table_if_waiting<FP: FilterPolicy + Copy + Drop>(
         &mut self,
         env: &mut E,
         options: &Options<C, FP>,
         tables: &mut TableCache<E, C, FP>,
-        log: &mut S,
+        log: &mut Option<Logger>,
     ) -> Result<()>
         requires usable { IsUnbroken self.old }
         requires order { C.cmp options.now.cmp ≡ C.cmp self.old.cmp }
@@ -109,6 +110,7 @@ impl<E: Env, C: UserCmp + Copy + Drop> OpenStore<E, C> {
         ensures live { (file : NewFile) → Contains self.old.set.full.added file
             → Contains self.new.set.full.added file }
         ensures closes { ClosesObsolete E.Env self.old.set env.old tables.old env.new tables.new }
+        ensures log { is_some log.new ≡ is_some log.old }
     {
         if self.has_waiting() {
             self.table_waiting(env, options)?;

@@ -7,7 +7,7 @@ ghost use Rattle.leveldb_store.specs.OpeningSteps.{BeginsWriting, LogsIfWanted, 
 
 use super::edit::log_edit;
 use super::log_to_write::open_log;
-use super::logs::RecoveredSet;
+use super::recovered_set::RecoveredSet;
 use super::replay::replay_logs;
 use crate::open_store::OpenStore;
 use leveldb_base::cmp::{Cmp, InternalKeyCmp, UserCmp};

@@ -3,7 +3,7 @@ ghost use Rattle.leveldb_version.specs.Format.{format_of};
 ghost use Rattle.leveldb_store.specs.OpeningSteps.{RecoversStore};
 
 use super::find::find_store;
-use super::logs::{RecoveredSet, recover_set};
+use super::recovered_set::{RecoveredSet, recover_set};
 use super::sync::sync_logs;
 use leveldb_base::cmp::UserCmp;
 use leveldb_base::error::Result;
@@ -25,8 +25,8 @@ pub(super) fn recover<E: Env, C: UserCmp, FP: FilterPolicy>(
         ⟦<CompressorList as Compressors>⟧.codings options.now) store.now
         options.now.create_if_missing options.now.error_if_exists env.old result env.new }
 {
-    find_store(alloc, env, store, options)?;
-    let set = recover_set(alloc, env, store, options)?;
+    let listed = find_store(alloc, env, store, options)?;
+    let set = recover_set(alloc, env, store, options, listed)?;
     sync_logs(alloc, env, store, &set.logs)?;
     Ok(set)
 }

@@ -1,7 +1,5 @@
-//! The names of a store and of its lock.
-ghost use Rattle.std.specs.Prelude.{◌≡◌, OnOk, IfOk, IfErr, string_bytes};
-ghost use Rattle.leveldb_base.specs.Error.{IsOutOfMemory};
-ghost use Rattle.leveldb_version.specs.Paths.{lock_path};
+//! The name of a store.
+ghost use Rattle.std.specs.Prelude.{◌≡◌, OnOk, IfErr};
 ghost use Rattle.rusty_leveldb.specs.Engine.{IsStoreName};
 
 use leveldb_base::error::{Result, StatusCode, err};
@@ -17,12 +15,4 @@ pub(crate) fn check_name(alloc: Global, name: &str) -> Result<()>
         [] | [.., b'/'] => err(alloc, StatusCode::InvalidArgument, "not a store's name"),
         _ => Ok(()),
     }
-}
-
-/// The name of a store's lock.
-pub(crate) fn lock_name(alloc: Global, store: &str) -> Result<String>
-    ensures ok { IfOk result (λ name. string_bytes name ≡ lock_path store.now) }
-    ensures memory { IfErr result IsOutOfMemory }
-{
-    Ok(format!(in alloc; "{store}/LOCK")?)
 }

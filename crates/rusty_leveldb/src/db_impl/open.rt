@@ -1,23 +1,17 @@
 //! Opening a store: its lock is taken, and its files are read.
-ghost use Rattle.std.specs.Prelude.{◌≡◌, is_some};
 ghost use Rattle.rusty_leveldb.specs.Engine.{opening_of};
 ghost use Rattle.leveldb_store.specs.BuildTable.{choices_of};
-ghost use Rattle.leveldb_store.specs.OpenStore.{IsUnbroken};
-ghost use Rattle.leveldb_store.specs.OpenTables.{ClosesObsolete};
-ghost use Rattle.leveldb_store.specs.Room.{TidiesUp};
-ghost use Rattle.leveldb_store.specs.SoundCall.{TimeGoesOn};
 ghost use Rattle.rusty_leveldb.specs.Calls.{EngineOpens};
 
 use super::close::give_back;
 use super::engine::{Engine, Mode};
-use super::info_log::{InfoLog, NoLog};
-use super::names::{check_name, lock_name};
+use super::names::check_name;
 use leveldb_base::cmp::{Cmp, InternalKeyCmp, UserCmp};
 use leveldb_base::error::Result;
+use leveldb_base::names::lock_file_name;
 use leveldb_env::compressor::{CompressorList, Compressors};
 use leveldb_env::env::Env;
 use leveldb_env::filter::{FilterPolicy, InternalFilterPolicy};
-use leveldb_env::infolog::Logger;
 use leveldb_env::options::Options;
 use leveldb_iter::snapshot::SnapshotList;
 use leveldb_store::open_store::OpenStore;
@@ -47,14 +41,14 @@ impl<E: Env, C: UserCmp + Copy, FP: FilterPolicy + Copy> Engine<E, C, FP> {
     {
         check_name(alloc, name)?;
         options.check(alloc)?;
-        let lock = lock_name(alloc, name)?;
+        let lock = lock_file_name(alloc, name)?;
         let mut tables = TableCache::new(alloc, name, &options)?;
         env.mkdir(name)?;
         env.lock(&lock)?;
         let mut options = options;
         match OpenStore::open(alloc, env, name, &options) {
             Ok(store) => {
-                tidy_up(&store, env, &mut tables, &mut options.log);
+                store.tidy_up(env, &mut tables, &mut options.log);
                 Ok(Engine {
                     alloc,
                     options,
@@ -71,29 +65,5 @@ impl<E: Env, C: UserCmp + Copy, FP: FilterPolicy + Copy> Engine<E, C, FP> {
                 Err(status)
             }
         }
-    }
-}
-
-// Deletes the obsolete files of a store, and closes their tables. What fails of that is a line for
-// `log`, if it is one.
-fn tidy_up<E: Env, C: UserCmp + Copy, FP: FilterPolicy + Copy>(
-    store: &OpenStore<E, C>,
-    env: &mut E,
-    tables: &mut TableCache<E, C, FP>,
-    log: &mut Option<Logger>,
-)
-    requires { IsUnbroken store.now }
-    ensures tidies { TidiesUp E.Env (C.cmp store.now.cmp) store.now env.old env.new }
-    ensures closes { ClosesObsolete E.Env store.now.set env.old tables.old env.new tables.new }
-    ensures time { TimeGoesOn E.Env env.old env.new }
-    ensures sink { is_some log.new ≡ is_some log.old }
-{
-    match log.take() {
-        Some(logger) => {
-            let mut sink = InfoLog(logger);
-            store.tidy_up(env, tables, &mut sink);
-            *log = Some(sink.0);
-        }
-        None => store.tidy_up(env, tables, &mut NoLog),
     }
 }

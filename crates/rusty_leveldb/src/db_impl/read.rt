@@ -1,8 +1,6 @@
 //! Reading from a store.
-ghost use Rattle.std.specs.Prelude.{◌≡◌, None, Some, OnOk, IfErr};
-ghost use Rattle.leveldb_base.specs.declared.error.StatusCode.TheVariants.{InvalidArgument};
+ghost use Rattle.std.specs.Prelude.{None, Some};
 ghost use Rattle.rusty_leveldb.specs.State.{get};
-ghost use Rattle.rusty_leveldb.specs.Causes.{IsLongKey};
 ghost use Rattle.rusty_leveldb.specs.Serves.{found_or, snapshot_of};
 ghost use Rattle.leveldb_store.specs.BuildTable.{choices_of};
 ghost use Rattle.rusty_leveldb.specs.Calls.{EngineServes};
@@ -10,14 +8,12 @@ ghost use Rattle.rusty_leveldb.specs.Calls.{EngineServes};
 use super::engine::Engine;
 use bytes::Bytes;
 use leveldb_base::cmp::{Cmp, InternalKeyCmp, UserCmp};
-use leveldb_base::error::{Result, StatusCode, err};
+use leveldb_base::error::Result;
+use leveldb_base::key_types::check_key_size;
 use leveldb_env::compressor::{CompressorList, Compressors};
 use leveldb_env::env::Env;
 use leveldb_env::filter::{FilterPolicy, InternalFilterPolicy};
 use leveldb_iter::snapshot::Snapshot;
-
-/// The greatest length of a key, in bytes.
-const MAX_KEY_SIZE: usize = 1 << 30;
 
 impl<E: Env, C: UserCmp + Copy, FP: FilterPolicy + Copy> Engine<E, C, FP> {
     /// The key's value, or none if it has none.
@@ -29,7 +25,7 @@ impl<E: Env, C: UserCmp + Copy, FP: FilterPolicy + Copy> Engine<E, C, FP> {
             self.new env.new }
     {
         self.check_not_closed()?;
-        self.check_key(key)?;
+        check_key_size(self.alloc, key)?;
         let last = self.store.last_sequence();
         self.options.cmp = self.store.cmp();
         self.store
@@ -47,26 +43,10 @@ impl<E: Env, C: UserCmp + Copy, FP: FilterPolicy + Copy> Engine<E, C, FP> {
     {
         self.check_not_closed()?;
         self.check_held(snapshot)?;
-        self.check_key(key)?;
+        check_key_size(self.alloc, key)?;
         self.options.cmp = self.store.cmp();
         let sequence = snapshot.sequence();
         self.store
             .get(env, &self.options, &mut self.tables, sequence, key)
-    }
-
-    // A key that is too long is refused.
-    fn check_key(&self, key: &[u8]) -> Result<()>
-        ensures ok { OnOk result (IsLongKey key.now → ⊥) }
-        ensures cause { IfErr result
-            (λ status. (status.code ≡ InvalidArgument) × IsLongKey key.now) }
-    {
-        if key.len() > MAX_KEY_SIZE {
-            return err(
-                self.alloc,
-                StatusCode::InvalidArgument,
-                "a key has at most 2^30 bytes",
-            );
-        }
-        Ok(())
     }
 }

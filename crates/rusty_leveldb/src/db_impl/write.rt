@@ -13,7 +13,6 @@ ghost use Rattle.rusty_leveldb.specs.EngineValue.{FollowsStore};
 ghost use Rattle.rusty_leveldb.specs.Calls.{EngineServes};
 
 use super::engine::{Engine, mode_by};
-use super::info_log::{InfoLog, NoLog};
 use leveldb_base::cmp::{Cmp, InternalKeyCmp, UserCmp};
 use leveldb_base::error::Result;
 use leveldb_env::compressor::{CompressorList, Compressors};
@@ -91,24 +90,13 @@ impl<E: Env, C: UserCmp + Copy, FP: FilterPolicy + Copy> Engine<E, C, FP> {
         ensures mode { FollowsStore self.new.mode self.new.store }
     {
         self.options.cmp = self.store.cmp();
-        match self.options.log.take() {
-            Some(logger) => {
-                let mut log = InfoLog(logger);
-                let made = self
-                    .store
-                    .make_room(env, &self.options, &mut self.tables, &mut log);
-                self.options.log = Some(log.0);
-                self.mode = mode_by(&self.store);
-                made
-            }
-            None => {
-                let made = self
-                    .store
-                    .make_room(env, &self.options, &mut self.tables, &mut NoLog);
-                self.mode = mode_by(&self.store);
-                made
-            }
-        }
+        let mut log = self.options.log.take();
+        let made = self
+            .store
+            .make_room(env, &self.options, &mut self.tables, &mut log);
+        self.options.log = log;
+        self.mode = mode_by(&self.store);
+        made
     }
 
     /// Makes a crash keep all batches.

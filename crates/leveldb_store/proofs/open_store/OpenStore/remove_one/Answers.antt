@@ -11,7 +11,7 @@ use Rattle.leveldb_store.proofs.open_store.OpenStore.remove_one.Goals as goal
 
 pub returns-then-not-is_obsolete-clause-removes : goal.returns-then-not-is_obsolete-clause-removes
 returns-then-not-is_obsolete-clause-removes g c = inr (
-  not_obsolete_name c.args.self.now.set c.args.name.now c.in-Ok.number c.in-Ok.kind c.in-Ok.ensures
+  not_obsolete_name c.args.self.now.set c.args.name.now c.in-Some.number c.in-Some.kind c.in-Some.ensures
       (λ obsolete. let never : false ≡ true = c.if-not-is_obsolete.ensures.1 obsolete in cc),
   refl,
   refl,
@@ -28,8 +28,8 @@ returns-clause-closes g c =
     let change : IsTrue g.E.Env.models_disk → SameBut (in_folder set.store name) (files_at g.E.Env from) (files_at g.E.Env to) = λ modelled.
     subst (λ p. SameBut p (files_at g.E.Env from) (files_at g.E.Env to)) path
     (SameBut-deleted c.deref.result.now (files_at g.E.Env from) (files_at g.E.Env to) (Run-call modelled c.delete.ensures.does).has) in
-    let obsolete : IsObsolete set c.in-Ok.kind c.in-Ok.number = c.if-not-is_obsolete.ensures.0 refl in
+    let obsolete : IsObsolete set c.in-Some.kind c.in-Some.number = c.if-not-is_obsolete.ensures.0 refl in
     elim c.if-is_table.branch [
-      | then-is_table w ↦ rw w.tables-is (table_removed g.E.Env set name c.in-Ok.number c.in-Ok.kind c.in-Ok.ensures obsolete from to change (c.is_table.ensures.0 w.if-is_table.true) w.evict.ensures)
-      | else-is_table w ↦ rw w.tables-is (other_removed g.E.Env set name c.in-Ok.number c.in-Ok.kind c.in-Ok.ensures obsolete from to change (λ table. let never : false ≡ true = sym w.if-is_table.false ∙ c.is_table.ensures.1 table in cc) c.args.tables.now)
+      | then-is_table w ↦ rw w.tables-is (table_removed g.E.Env set name c.in-Some.number c.in-Some.kind c.in-Some.ensures obsolete from to change (c.is_table.ensures.0 w.if-is_table.true) w.evict.ensures)
+      | else-is_table w ↦ rw w.tables-is (other_removed g.E.Env set name c.in-Some.number c.in-Some.kind c.in-Some.ensures obsolete from to change (λ table. let never : false ≡ true = sym w.if-is_table.false ∙ c.is_table.ensures.1 table in cc) c.args.tables.now)
     ]

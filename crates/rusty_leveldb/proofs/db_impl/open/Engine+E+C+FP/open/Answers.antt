@@ -138,7 +138,7 @@ returns-in-Ok g c = done_opens g.E.Env _ c.args.name.now c.args.options
     (subst (λ cmp. TidiesUp g.E.Env (g.C.Cmp.cmp cmp) c.in-Ok.store c.open.new.env c.tidy_up.new.env)
     c.in-Ok.ensures.cmp c.tidy_up.ensures.tidies)
     c.tidy_up.ensures.time refl c.new-in-Ok.ensures c.in_ok-lock.ensures.ok
-    (record { rest = refl; sink = c.tidy_up.ensures.sink }) c.in-Ok.ensures.cmp
+    (record { rest = refl; sink = c.tidy_up.ensures.log }) c.in-Ok.ensures.cmp
     (λ a b is. ap (format_of g.C.Cmp g.FP.FilterPolicy (compressors g.dyn-2).codings) is.rest) refl
     (c.in_ok-lock-2.ensures.cause.ok ∙ c.in_ok-mkdir.ensures.cause.ok)
     (opened_tables g.E.Env _ (g.C.Cmp.cmp c.in-Ok.store.cmp) c.in-Ok.store c.args.options

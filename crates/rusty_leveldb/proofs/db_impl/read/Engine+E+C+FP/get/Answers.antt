@@ -11,19 +11,19 @@ returns-in_err-check_not_closed g c =
     rw (p.1, p.2) (get_closed_serves g.E.Env _ c.args.self.now None c.args.key.now c.args.env.now
     c.in_err-check_not_closed.field-0.0 c.in_err-check_not_closed.ensures.cause)
 
-pub returns-in_err-check_key : goal.returns-in_err-check_key
-returns-in_err-check_key g c =
-    let p = err_from_is_err_and c.from_residual-in_err-check_key.result
-    c.from_residual-in_err-check_key.ensures.1 in
-    let long = c.in_err-check_key.ensures.cause in
+pub returns-in_err-check_key_size : goal.returns-in_err-check_key_size
+returns-in_err-check_key_size g c =
+    let p = err_from_is_err_and c.from_residual-in_err-check_key_size.result
+    c.from_residual-in_err-check_key_size.ensures.1 in
+    let long = c.in_err-check_key_size.ensures.long in
     rw (p.1, p.2) (get_misfit_serves g.E.Env _ c.args.self.now None c.args.key.now c.args.env.now
-    c.in_ok-check_not_closed.ensures.ok c.in_err-check_key.field-0.0 long.0 (inr long.1))
+    c.in_ok-check_not_closed.ensures.ok c.in_err-check_key_size.field-0.0 long.0 (inr long.1))
 
 pub returns : goal.returns
 returns g c = rw (← c.self.view_is) (get_serves_in g.E.Env _ _ None c.args.key.now c.args.env.now
     (λ closed. c.in_ok-check_not_closed.ensures.ok (sym (ap (λ v. v.mode) c.self.view_is) ∙ closed))
     c.cmp-self-inside.result c.cmp-self-inside.ensures c.last_sequence-last.result c.last_sequence-last.ensures
-    c.in_ok-check_key.ensures.ok c.get.new.env c.get.result c.get.new.self c.get.new.tables
+    c.in_ok-check_key_size.ensures.ok c.get.new.env c.get.result c.get.new.self c.get.new.tables
     c.get.ensures)
 
 pub invariant_of-self : goal.invariant_of-self

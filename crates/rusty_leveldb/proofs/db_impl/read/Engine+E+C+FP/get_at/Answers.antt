@@ -25,14 +25,14 @@ returns-in_err-check_held g c =
     c.args.key.now c.args.env.now c.in_ok-check_not_closed.ensures.ok
     c.in_err-check_held.field-0.0 unheld.0 (inl unheld.1))
 
-pub returns-in_err-check_key : goal.returns-in_err-check_key
-returns-in_err-check_key g c =
-    let p = err_from_is_err_and c.from_residual-in_err-check_key.result
-    c.from_residual-in_err-check_key.ensures.1 in
-    let long = c.in_err-check_key.ensures.cause in
+pub returns-in_err-check_key_size : goal.returns-in_err-check_key_size
+returns-in_err-check_key_size g c =
+    let p = err_from_is_err_and c.from_residual-in_err-check_key_size.result
+    c.from_residual-in_err-check_key_size.ensures.1 in
+    let long = c.in_err-check_key_size.ensures.long in
     rw (p.1, p.2) (get_misfit_serves g.E.Env _ c.args.self.now (Some (snapshot_of c.args.snapshot))
     c.args.key.now c.args.env.now c.in_ok-check_not_closed.ensures.ok
-    c.in_err-check_key.field-0.0 long.0 (inr long.1))
+    c.in_err-check_key_size.field-0.0 long.0 (inr long.1))
 
 pub returns : goal.returns
 returns g c = rw (← c.self.view_is) (get_serves_in g.E.Env _ _ (Some (snapshot_of c.args.snapshot))
@@ -43,7 +43,7 @@ returns g c = rw (← c.self.view_is) (get_serves_in g.E.Env _ _ (Some (snapshot
           c.in_ok-check_held.ensures.ok,
       c.sequence-sequence.ensures,
     )
-    c.in_ok-check_key.ensures.ok c.get.new.env c.get.result c.get.new.self c.get.new.tables
+    c.in_ok-check_key_size.ensures.ok c.get.new.env c.get.result c.get.new.self c.get.new.tables
     c.get.ensures)
 
 pub invariant_of-self : goal.invariant_of-self

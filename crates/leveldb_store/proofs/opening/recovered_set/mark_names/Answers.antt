@@ -3,7 +3,7 @@ use Rattle.std.proofs.lemmas.Result.{err_from_is_err_and}
 use Rattle.leveldb_base.specs.Names.{IsFileName}
 use Rattle.leveldb_base.specs.declared.types.FileType.{FileType}
 use Rattle.leveldb_store.proofs.OpeningNamesLemmas.{marks_more, marks_none, name_is_one}
-use Rattle.leveldb_store.proofs.opening.logs.mark_names.Goals as goal
+use Rattle.leveldb_store.proofs.opening.recovered_set.mark_names.Goals as goal
 
 pub loop-name-init : goal.loop-name-init
 loop-name-init g c = marks_none c.args.versions.now c.args.names.now

@@ -1,7 +1,7 @@
 use Rattle.std.proofs.Common.{◌≡◌}
 use Rattle.std.specs.Prelude.{IsTrue}
 use Rattle.leveldb_env.specs.Env.{FilesUnchanged, Run, SameLocks}
-use Rattle.leveldb_store.proofs.opening.logs.check_tables.Given as goal
+use Rattle.leveldb_store.proofs.opening.recovered_set.check_tables.Given as goal
 
 abbrev pub invariant-loop-file : goal.invariant-loop-file
 invariant-loop-file g l = record {

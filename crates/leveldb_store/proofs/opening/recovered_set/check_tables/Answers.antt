@@ -5,7 +5,7 @@ use Rattle.leveldb_version.proofs.UsableLemmas.{file_is_one}
 use Rattle.leveldb_version.specs.Paths.{table_path}
 use Rattle.leveldb_version.specs.VersionEdit.{new_file_of}
 use Rattle.leveldb_store.proofs.OpeningCausesLemmas.{table_lost}
-use Rattle.leveldb_store.proofs.opening.logs.check_tables.Goals as goal
+use Rattle.leveldb_store.proofs.opening.recovered_set.check_tables.Goals as goal
 
 pub returns-in_err-found-clause-cause : goal.returns-in_err-found-clause-cause
 returns-in_err-found-clause-cause g c =
