@@ -49,6 +49,7 @@ module _ {E F C : Type 0} (env : Ghosts E F) (cmp : List ℕ → List ℕ → Or
     others = λ modelled. SameBut-refl (open_log_path old) (env.observed from).disk.files;
     locks = λ modelled. refl;
     usable = tt;
+    breaks = inl refl;
     cause = record {
       later = omega arith;
       ok = tt;
@@ -106,6 +107,7 @@ module _ {E F C : Type 0} (env : Ghosts E F) (cmp : List ℕ → List ℕ → Or
             others = others_stay (Err status) then to logs;
             locks = logs.locks;
             usable = tt;
+            breaks = inr is;
             cause = record {
               later = logs.cause.later;
               ok = tt;
@@ -132,6 +134,7 @@ module _ {E F C : Type 0} (env : Ghosts E F) (cmp : List ℕ → List ℕ → Or
         others = others_stay (Ok tt) then to logs;
         locks = logs.locks;
         usable = record { manifest = unbroken.manifest; log = unbroken.log };
+        breaks = tt;
         cause = record {
           later = logs.cause.later;
           ok = logs.cause.ok;

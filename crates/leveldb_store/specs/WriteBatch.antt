@@ -1,5 +1,5 @@
 -- What writing a batch to an open store returns and leaves of memory and files, and why it fails.
-use Rattle.std.specs.Prelude.{◌≡◌, ◌+◌, ◌⊎◌, ℕ, Bool, List, [], ◌∷◌, ◌++◌, length, Option, None, Some, Result, OnErr, OnOk, IsTrue}
+use Rattle.std.specs.Prelude.{true, ◌≡◌, ◌+◌, ◌⊎◌, ℕ, Bool, List, [], ◌∷◌, ◌++◌, length, Option, None, Some, Result, OnErr, OnOk, IsTrue}
 use Rattle.std.specs.declared.cmp.Ordering.{Ordering}
 use Rattle.leveldb_base.specs.History.{Entry, History, Item, count_of, placed, with_batch}
 use Rattle.leveldb_base.specs.declared.error.Status.{Status}
@@ -135,4 +135,6 @@ module _ {E F C : Type 0} (env : Ghosts E F) (cmp : List ℕ → List ℕ → Or
           (env.observed from).disk.files (env.observed to).disk.files
       pub locks : SameLocks env.models_disk (env.observed from) (env.observed to)
       pub usable : OnOk result (IsUnbroken new)
+      -- after an Err either no call was made, or the log is broken
+      pub breaks : OnErr result ((to ≡ from) ⊎ (new.log.writer.broken ≡ true))
       pub cause : HasCause (FailsToWrite to) (env.failures from) (env.failures to) result
