@@ -10,6 +10,12 @@ TOP = pathlib.Path(__file__).resolve().parent.parent
 FLAGS = ["--jobs", "1"]
 # a check's line on a function: its name, its state, and more of it
 STATE = re.compile(r"^fn (\S+): (proved|not proved|no proof)(.*)$", re.MULTILINE)
+# what a proof file says where it names what an edit took away, which tells nothing of a goal
+NAMES = re.compile(r"has no field|is not in scope|has no `|was not admitted")
+# what a check says of a function for which it has no goals, since it covers no such code or lacks a measure
+UNJUDGED = re.compile(r"has no proof|does not cover|expected a measure|expected `\w+` in")
+# what a check may say of a function that an edit changes
+PROVED, BY_CALL, BY_GOAL, BY_NAME, NOTHING = "proved", "by a call", "by a goal", "by a name alone", "nothing"
 
 
 def load_rt():
@@ -45,3 +51,17 @@ def read_edits(file):
         elif name and line and not line.startswith("#"):
             edits[name] += line + "\n"
     return edits
+
+
+def verdict(name, state, why, lines):
+    """Returns what a check that said these lines says of a function: proved; refused since it calls a refused one, by a goal of its own,
+    or only by a name that its proof file lacks; or nothing, since it has no goals."""
+    if state == "proved":
+        return PROVED
+    if "it calls" in why:
+        return BY_CALL
+    if UNJUDGED.search(why) or state == "no proof" and "did not prove" not in why:
+        return NOTHING
+    folder = "proofs/" + "/".join(name.split("::")[1:]) + "/"
+    errors = [it for it in lines if it.removeprefix("./").startswith(folder) and ": error" in it]
+    return BY_NAME if errors and all(map(NAMES.search, errors)) else BY_GOAL
