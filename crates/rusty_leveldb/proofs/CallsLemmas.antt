@@ -1,8 +1,9 @@
 -- What each call on an engine does, put together: its step, what becomes of the engine, and why it
 -- fails.
-use Rattle.std.specs.Prelude.{IfErr, Result, codes, IfSome, string_bytes, String}
+use Rattle.std.specs.Prelude.{IfErr, OnOk, Result, codes, IfSome, string_bytes, String}
 use Rattle.std.specs.declared.alloc.Global.{Global}
-use Rattle.std.proofs.Common.{◌≡◌, ◌⊎◌, ◌∙◌, ⊎_elim, inl, inr, ℕ, false, List, [], refl, sym, ap, subst, arith, Option, Some, None, Ok, Err}
+use Rattle.std.proofs.Common.{◌≡◌, ◌⊎◌, ◌∙◌, ⊎_elim, inl, inr, ℕ, Bool, false, List, [], refl, sym, ap, subst, arith, Option, Some, None, Ok, Err}
+use Rattle.leveldb_base.specs.History.{Item}
 use Rattle.leveldb_base.specs.Error.{IsOutOfMemory, text_of}
 use Rattle.leveldb_base.specs.declared.error.Status.{Status}
 use Rattle.leveldb_base.specs.declared.error.StatusCode.TheVariants.{InvalidArgument, NotSupported}
@@ -16,20 +17,20 @@ use Rattle.leveldb_version.specs.Format.{Format, IsTableFault, LacksCompressor}
 use Rattle.leveldb_version.specs.TableCache.{table_options}
 use Rattle.leveldb_version.specs.declared.table_cache.TableCache.{TableCache}
 use Rattle.leveldb_store.specs.OpenStore.{IsUnbroken, OpenStoreValue}
-use Rattle.leveldb_store.specs.Read.{LooksUpKey}
+use Rattle.leveldb_store.specs.Read.{GetsFromMemory, GetsFromTables, LooksUpKey}
 use Rattle.leveldb_store.specs.Room.{FailsFor, HasFailed, TellsOnly}
 use Rattle.leveldb_store.specs.SoundCall.{IsSoundCall, any_meaning}
 use Rattle.leveldb_store.specs.Write.{IsLogLost, SyncsLog, with_writer}
 use Rattle.leveldb_store.specs.WriteBatch.{SyncsBatches}
 use Rattle.rusty_leveldb.specs.Boxes.{EngineOf, InternalOrder}
 use Rattle.rusty_leveldb.specs.EngineValue.{FollowsStore}
-use Rattle.rusty_leveldb.specs.Calls.{BecomesOf, EngineServes, HasReason}
 use Rattle.leveldb_base.specs.KeyTypes.{IsLongKey}
+use Rattle.rusty_leveldb.specs.Calls.{EngineCloses, EngineFlushes, EngineGets, EngineWrites, IsRefusedByMode, KeepsModeOrBreaks}
 use Rattle.rusty_leveldb.specs.Causes.{IsClosedRefusal, IsBrokenRefusal, IsNotHeld, Setting}
 use Rattle.rusty_leveldb.specs.Engine.{AnswersStill, GetExcused, GetFails, IsClosedOrBroken, RefusedAsBroken, RefusedAsClosed, RefusedByMode, SyncExcused, held_in, options_in, formats_of, tables_by, ReadsAt}
 use Rattle.rusty_leveldb.specs.Frame.{MayTouch}
 use Rattle.rusty_leveldb.specs.Machine.{Step}
-use Rattle.rusty_leveldb.specs.Serves.{done_or, found_or, refusal_of, setting_between}
+use Rattle.rusty_leveldb.specs.Serves.{refusal_of, setting_between}
 use Rattle.rusty_leveldb.specs.State as machine
 use Rattle.rusty_leveldb.specs.State.{Refusal, Request, Snapshot, State, close, flush, get, refused, write}
 use Rattle.rusty_leveldb.proofs.ClosingLemmas.{close_locked, close_unsynced, closed_now, counted_error, flush_goes}
@@ -37,7 +38,8 @@ use Rattle.rusty_leveldb.proofs.EngineLemmas.{follows_broken, follows_open}
 use Rattle.rusty_leveldb.proofs.Moments.{moments_none}
 use Rattle.rusty_leveldb.proofs.Others.{spares_still}
 use Rattle.rusty_leveldb.proofs.ReadingLemmas.{get_cause, get_closed, get_goes, get_misfit, read_store}
-use Rattle.rusty_leveldb.proofs.RestLemmas.{rest_given, rest_read, rest_still, rest_synced}
+use Rattle.rusty_leveldb.proofs.RestLemmas.{rest_given, rest_read, rest_still, rest_synced, sync_only}
+use Rattle.rusty_leveldb.proofs.RowLemmas.{close_row, flush_row, get_row, write_row}
 use Rattle.rusty_leveldb.proofs.SyncLemmas.{log_is_data}
 
 -- ---- the mode
@@ -125,41 +127,80 @@ module _ {E C FP F P : Type 0} {B : Boxed} {keys : InternalOrder C} {key_filters
       setting : Setting
       setting = setting_between meaning (env.failures at) (env.failures at)
 
-  halted_becomes : (request : Request) → Writes request → (status : Status)
-      → IsClosedOrBroken before.mode
-      → BecomesOf {T = Unit {0}} before request (Err status) before
-  halted_becomes (write items sync) writes status halted = (tt, inr refl)
-  halted_becomes flush writes status halted = (tt, (inr refl, inl halted))
-  halted_becomes close writes status halted = (
-    tt,
-    ⊎_elim (λ (out : before.mode ≡ machine.closed). inr (out, out))
-        (λ (broke : before.mode ≡ machine.broken). inl broke) halted,
-  )
-  halted_becomes request writes status halted = absurd writes
+  module _ (status : Status) (at : E) (why : RefusedByMode before.mode status) where
+    by_mode : IsRefusedByMode {T = Unit {0}} before at (Err status) before at
+    by_mode = (refl, refl, why)
 
-  halted_reason : (request : Request) → Writes request → (status : Status) (at : E)
-      → RefusedByMode before.mode status
-      → HasReason env choices {T = Unit {0}} before at request (Err status) at
-  halted_reason (write items sync) writes status at why =
-      record { later = omega arith; cause = inl (inl why) }
-  halted_reason flush writes status at why =
-      record { later = omega arith; ok = tt; uncounted = λ e. refl; cause = inl (inl why) }
-  halted_reason close writes status at why =
-      record { later = omega arith; ok = tt; uncounted = λ e. refl; cause = inl (inl why, refl) }
-  halted_reason request writes status at why = absurd writes
+    pub halted_writes : (items : List Item) (sync : Bool)
+        → EngineWrites env choices before at items sync (Err status) before at
+    halted_writes items sync =
+        let step = halted_still (write items sync) tt status why at in
+        let row = write_row keys env formats before at before at items sync (Err status) step in
+        record {
+          ok = row.0;
+          err = row.1;
+          step = step;
+          halted = λ halted. by_mode;
+          written = tt;
+          waits = tt;
+          failed = (inr refl, (refl, λ room. (refl, refl)));
+          breaks = λ room. inr refl;
+          snapshots = refl;
+          options = record { rest = refl; sink = refl };
+          rest = rest_still env before at (write items sync) (Err status) (inr (status, refl));
+          time = λ modelled. omega arith;
+          cause = record { later = omega arith; cause = inl (inl why) };
+        }
 
-  pub halted_serves : (request : Request) → Writes request → (status : Status) (at : E)
-      → RefusedByMode before.mode status
-      → EngineServes env choices {T = Unit {0}} done_or before at request (Err status) before at
-  halted_serves request writes status at why = record {
-    options = record { rest = refl; sink = refl };
-    halted = λ halted. (refl, refl, why);
-    becomes = halted_becomes request writes status (halted_by before.mode status why);
-    step = halted_still request writes status why at;
-    rest = rest_still env before at request (Err status) (inr (status, refl));
-    time = λ modelled. omega arith;
-    cause = halted_reason request writes status at why;
-  }
+    pub halted_flushes : EngineFlushes env choices before at (Err status) before at
+    halted_flushes =
+        let step = halted_still flush tt status why at in
+        let row = flush_row keys env formats before at before at (Err status) step in
+        record {
+          ok = row.0;
+          err = row.1;
+          step = step;
+          halted = λ halted. by_mode;
+          mode = tt;
+          failed = (inr refl, inl (halted_by before.mode status why));
+          memory = refl;
+          snapshots = refl;
+          options = record { rest = refl; sink = refl };
+          rest = rest_still env before at flush (Err status) (inr (status, refl));
+          time = λ modelled. omega arith;
+          cause = record {
+            later = omega arith;
+            ok = tt;
+            uncounted = λ e. refl;
+            cause = inl (inl why);
+          };
+        }
+
+    pub halted_closes : EngineCloses env choices before at (Err status) before at
+    halted_closes =
+        let step = halted_still close tt status why at in
+        let row = close_row keys env formats before at before at (Err status) step in
+        record {
+          ok = row.0;
+          err = row.1;
+          step = step;
+          halted = λ halted. by_mode;
+          mode = tt;
+          failed = ⊎_elim (λ (out : before.mode ≡ machine.closed). inr (out, out))
+              (λ (broke : before.mode ≡ machine.broken). inl broke)
+              (halted_by before.mode status why);
+          memory = refl;
+          snapshots = refl;
+          options = record { rest = refl; sink = refl };
+          rest = rest_still env before at close (Err status) (inr (status, refl));
+          time = λ modelled. omega arith;
+          cause = record {
+            later = omega arith;
+            ok = tt;
+            uncounted = λ e. refl;
+            cause = inl (inl why, refl);
+          };
+        }
 
   -- ---- syncs
 
@@ -184,27 +225,28 @@ module _ {E C FP F P : Type 0} {B : Boxed} {keys : InternalOrder C} {key_filters
       sink = refl;
     }
 
-    flush_becomes : (m : machine.Mode) → FollowsStore m value → IsUnbroken before.store
+    flush_mode : (m : machine.Mode) → FollowsStore m value → IsUnbroken before.store
+        → (result : Result (Unit {0}) Status)
+        → SyncsLog env before.store from result value mid → OnOk result (m ≡ before.mode)
+    flush_mode m follows unbroken (Ok nothing) syncs = follows_open m value follows
+        (subst (λ (v : OpenStoreValue C). IsUnbroken v) (sym syncs.ok) unbroken) ∙ sym opened
+    flush_mode m follows unbroken (Err status) syncs = tt
+
+    flush_failed : (m : machine.Mode) → FollowsStore m value
         → (result : Result (Unit {0}) Status)
         → SyncsLog env before.store from result value mid
-        → BecomesOf before flush result (record before { store = value; mode = m })
-    flush_becomes m follows unbroken (Ok nothing) syncs = (
-      follows_open m value follows
-          (subst (λ (v : OpenStoreValue C). IsUnbroken v) (sym syncs.ok) unbroken) ∙ sym opened,
-      tt,
-    )
-    flush_becomes m follows unbroken (Err status) syncs = (
-      tt,
-      (
-        ⊎_elim
-            (λ (opens : (m ≡ machine.open_mode) × IsUnbroken value). inr (opens.0 ∙ sym opened))
-            (λ (broke : (m ≡ machine.broken) × (IsUnbroken value → ⊥)). inl broke.0) follows,
-        ⊎_elim
-            (λ (still : IsOutOfMemory status × (value ≡ before.store) × (mid ≡ from)). inr still.0)
-            (λ (broke : value ≡ with_writer before.store (broken_writer before.store.log.writer)).
-            inl (inr (follows_broken m value follows
-            (ap (λ (v : OpenStoreValue C). v.log.writer.broken) broke)))) syncs.err,
-      ),
+        → IfErr result (λ e. KeepsModeOrBreaks before (record before { store = value; mode = m })
+        × (IsClosedOrBroken m ⊎ IsOutOfMemory e))
+    flush_failed m follows (Ok nothing) syncs = tt
+    flush_failed m follows (Err status) syncs = (
+      ⊎_elim
+          (λ (opens : (m ≡ machine.open_mode) × IsUnbroken value). inr (opens.0 ∙ sym opened))
+          (λ (broke : (m ≡ machine.broken) × (IsUnbroken value → ⊥)). inl broke.0) follows,
+      ⊎_elim
+          (λ (still : IsOutOfMemory status × (value ≡ before.store) × (mid ≡ from)). inr still.0)
+          (λ (broke : value ≡ with_writer before.store (broken_writer before.store.log.writer)).
+          inl (inr (follows_broken m value follows
+          (ap (λ (v : OpenStoreValue C). v.log.writer.broken) broke)))) syncs.err,
     )
 
     flush_cause : (result : Result (Unit {0}) Status)
@@ -234,43 +276,62 @@ module _ {E C FP F P : Type 0} {B : Boxed} {keys : InternalOrder C} {key_filters
         → SyncsBatches env (formats (options_in before)).order before.store from result value mid
         → IsSoundCall {T = Unit {0}} env (formats (options_in before)).order any_meaning before.store
         from result value mid
-        → EngineServes env choices done_or before from flush result
+        → EngineFlushes env choices before from result
         (record before { store = value; mode = m }) mid
-    flush_serves unbroken m follows result syncs batches sound = record {
-      options = sync_tells result m syncs;
-      halted = λ halted. absurd (not_halted before.mode opened halted);
-      becomes = flush_becomes m follows unbroken result syncs;
-      step = flush_goes env formats before from opened value mid unbroken m follows result syncs
-          batches sound;
-      rest = rest_synced env before from opened value mid result syncs flush log_is_data tt
-          (inl (λ held. refl)) m;
-      time = sound.time;
-      cause = flush_cause result syncs;
-    }
+    flush_serves unbroken m follows result syncs batches sound =
+        let step = flush_goes env formats before from opened value mid unbroken m follows result syncs
+        batches sound in
+        let row = flush_row keys env formats before from (record before { store = value; mode = m })
+        mid result step in
+        record {
+          ok = row.0;
+          err = row.1;
+          step = step;
+          halted = λ halted. absurd (not_halted before.mode opened halted);
+          mode = flush_mode m follows unbroken result syncs;
+          failed = flush_failed m follows result syncs;
+          memory = sync_only env before from opened value mid result syncs;
+          snapshots = refl;
+          options = sync_tells result m syncs;
+          rest = rest_synced env before from opened value mid result syncs flush log_is_data tt
+              (inl (λ held. refl)) m;
+          time = sound.time;
+          cause = flush_cause result syncs;
+        }
 
     pub close_unsynced_serves : (status : Status)
         → SyncsLog env before.store from (Err status) value mid
         → SyncsBatches env (formats (options_in before)).order before.store from (Err status) value mid
         → IsSoundCall {T = Unit {0}} env (formats (options_in before)).order any_meaning before.store
         from (Err status) value mid
-        → EngineServes env choices {T = Unit {0}} done_or before from close (Err status)
+        → EngineCloses env choices before from (Err status)
         (record before { store = value; mode = machine.broken }) mid
-    close_unsynced_serves status syncs batches sound = record {
-      options = sync_tells (Err status) machine.broken syncs;
-      halted = λ halted. absurd (not_halted before.mode opened halted);
-      becomes = (tt, inl refl);
-      step = close_unsynced env formats before from opened value mid status syncs batches sound;
-      rest = rest_synced env before from opened value mid (Err status) syncs close log_is_data tt
-          (inr (status, refl)) machine.broken;
-      time = sound.time;
-      cause = record {
-        later = syncs.cause.later;
-        ok = tt;
-        uncounted = λ excused. excused.1;
-        cause = ⊎_elim (λ (lost : IsLogLost env before.store from mid status).
-            inl (inr lost, syncs.cause.uncounted lost)) (λ counted. inr counted) syncs.cause.cause;
-      };
-    }
+    close_unsynced_serves status syncs batches sound =
+        let step = close_unsynced env formats before from opened value mid status syncs batches sound in
+        let row = close_row keys env formats before from
+        (record before { store = value; mode = machine.broken }) mid (Err status) step in
+        record {
+          ok = row.0;
+          err = row.1;
+          step = step;
+          halted = λ halted. absurd (not_halted before.mode opened halted);
+          mode = tt;
+          failed = inl refl;
+          memory = sync_only env before from opened value mid (Err status) syncs;
+          snapshots = refl;
+          options = sync_tells (Err status) machine.broken syncs;
+          rest = rest_synced env before from opened value mid (Err status) syncs close log_is_data tt
+              (inr (status, refl)) machine.broken;
+          time = sound.time;
+          cause = record {
+            later = syncs.cause.later;
+            ok = tt;
+            uncounted = λ excused. excused.1;
+            cause = ⊎_elim (λ (lost : IsLogLost env before.store from mid status).
+                inl (inr lost, syncs.cause.uncounted lost)) (λ counted. inr counted)
+                syncs.cause.cause;
+          };
+        }
 
     module _ (syncs : SyncsLog env before.store from (Ok tt) value mid)
         (batches : SyncsBatches env (formats (options_in before)).order before.store from (Ok tt) value
@@ -284,38 +345,55 @@ module _ {E C FP F P : Type 0} {B : Boxed} {keys : InternalOrder C} {key_filters
           → ChangesLocks {T = Unit {0}} env.models_disk (lock_set lock false) (env.observed mid)
           (env.observed to) (Err status)
           → HasCause {T = Unit {0}} (λ _. ⊥) (env.failures mid) (env.failures to) (Err status)
-          → EngineServes env choices {T = Unit {0}} done_or before from close (Err status)
+          → EngineCloses env choices before from (Err status)
           (record before { store = value; mode = machine.broken }) to
-      close_locked_serves status does locks cause = record {
-        options = sync_tells (Ok tt) machine.broken syncs;
-        halted = λ halted. absurd (not_halted before.mode opened halted);
-        becomes = (tt, inl refl);
-        step = close_locked env formats before from opened value mid syncs batches sound to lock lock_is
-            status does locks cause;
-        rest = rest_given env before from opened value mid (Ok tt) syncs to lock lock_is (Err status)
-            does locks machine.broken;
-        time = λ modelled.
-            let first = sound.time modelled in
-            let second = does.time.later in omega (arith, first, second);
-        cause = counted_error (env.failures from) (env.failures mid) (env.failures to) status
-            syncs.cause.ok cause;
-      }
+      close_locked_serves status does locks cause =
+          let step = close_locked env formats before from opened value mid syncs batches sound to lock
+          lock_is status does locks cause in
+          let row = close_row keys env formats before from
+          (record before { store = value; mode = machine.broken }) to (Err status) step in
+          record {
+            ok = row.0;
+            err = row.1;
+            step = step;
+            halted = λ halted. absurd (not_halted before.mode opened halted);
+            mode = tt;
+            failed = inl refl;
+            memory = sync_only env before from opened value mid (Ok tt) syncs;
+            snapshots = refl;
+            options = sync_tells (Ok tt) machine.broken syncs;
+            rest = rest_given env before from opened value mid (Ok tt) syncs to lock lock_is
+                (Err status) does locks machine.broken;
+            time = λ modelled.
+                let first = sound.time modelled in
+                let second = does.time.later in omega (arith, first, second);
+            cause = counted_error (env.failures from) (env.failures mid) (env.failures to) status
+                syncs.cause.ok cause;
+          }
 
       pub closed_serves : ChangesFiles {T = Unit {0}} env.models_disk same FilesUnchanged
           (env.observed mid) (env.observed to) (Ok tt)
           → ChangesLocks {T = Unit {0}} env.models_disk (lock_set lock false) (env.observed mid)
           (env.observed to) (Ok tt)
           → HasCause {T = Unit {0}} (λ _. ⊥) (env.failures mid) (env.failures to) (Ok tt)
-          → EngineServes env choices {T = Unit {0}} done_or before from close (Ok tt)
+          → EngineCloses env choices before from (Ok tt)
           (record before { store = value; mode = machine.closed }) to
       closed_serves does locks cause =
           let counted = cause.ok ∙ syncs.cause.ok in
+          let step = closed_now env formats before from opened value mid syncs batches sound to lock
+          lock_is does locks cause in
+          let row = close_row keys env formats before from
+          (record before { store = value; mode = machine.closed }) to (Ok tt) step in
           record {
-            options = sync_tells (Ok tt) machine.closed syncs;
+            ok = row.0;
+            err = row.1;
+            step = step;
             halted = λ halted. absurd (not_halted before.mode opened halted);
-            becomes = (refl, tt);
-            step = closed_now env formats before from opened value mid syncs batches sound to lock
-                lock_is does locks cause;
+            mode = refl;
+            failed = tt;
+            memory = sync_only env before from opened value mid (Ok tt) syncs;
+            snapshots = refl;
+            options = sync_tells (Ok tt) machine.closed syncs;
             rest = rest_given env before from opened value mid (Ok tt) syncs to lock lock_is (Ok tt)
                 does locks machine.closed;
             time = λ modelled.
@@ -355,51 +433,86 @@ module _ {E C FP F P : Type 0} {B : Boxed} {keys : InternalOrder C} {key_filters
             by (Err status) excused = inl excused
 
     pub get_closed_serves : (status : Status) → RefusedAsClosed before.mode status
-        → EngineServes env choices found_or before from (get snapshot key) (Err status) before from
-    get_closed_serves status why = record {
-      options = record { rest = refl; sink = refl };
-      halted = λ halted. (refl, refl, inl why);
-      becomes = (refl, refl);
-      step = get_closed env formats before snapshot key status why from;
-      rest = rest_still env before from (get snapshot key) (Err status) (inr (status, refl));
-      time = λ modelled. omega arith;
-      cause = unread_fails (Err status) (λ Why. inl why);
-    }
+        → EngineGets env choices before from snapshot key (Err status) before from
+    get_closed_serves status why =
+        let step = get_closed env formats before snapshot key status why from in
+        let row = get_row keys env formats before from before from snapshot key (Err status) step in
+        record {
+          ok = row.0;
+          err = row.1;
+          step = step;
+          halted = λ halted. (refl, refl, inl why);
+          way = tt;
+          reads = (refl, refl);
+          snapshots = refl;
+          options = record { rest = refl; sink = refl };
+          rest = rest_still env before from (get snapshot key) (Err status) (inr (status, refl));
+          time = λ modelled. omega arith;
+          cause = unread_fails (Err status) (λ Why. inl why);
+        }
 
     module _ (usable : before.mode ≡ machine.closed → ⊥) where
       pub get_misfit_serves : (status : Status) → status.code ≡ InvalidArgument
           → IsNotHeld (held_in before) snapshot ⊎ IsLongKey key
-          → EngineServes env choices found_or before from (get snapshot key) (Err status) before
-          from
-      get_misfit_serves status code misfits = record {
-        options = record { rest = refl; sink = refl };
-        halted = λ halted. absurd (usable halted);
-        becomes = (refl, refl);
-        step = get_misfit env formats before snapshot key usable status code misfits from;
-        rest = rest_still env before from (get snapshot key) (Err status) (inr (status, refl));
-        time = λ modelled. omega arith;
-        cause = unread_fails (Err status) (λ Why. inr (inl (code, misfits)));
-      }
+          → EngineGets env choices before from snapshot key (Err status) before from
+      get_misfit_serves status code misfits =
+          let step = get_misfit env formats before snapshot key usable status code misfits from in
+          let row = get_row keys env formats before from before from snapshot key (Err status) step in
+          record {
+            ok = row.0;
+            err = row.1;
+            step = step;
+            halted = λ halted. absurd (usable halted);
+            way = tt;
+            reads = (refl, refl);
+            snapshots = refl;
+            options = record { rest = refl; sink = refl };
+            rest = rest_still env before from (get snapshot key) (Err status) (inr (status, refl));
+            time = λ modelled. omega arith;
+            cause = unread_fails (Err status) (λ Why. inr (inl (code, misfits)));
+          }
+
+      -- a value that was found is that of the way on which it was looked for
+      on_way : (sequence : ℕ) → ReadsAt before snapshot sequence → (to : E)
+          (result : Result (Option (List ℕ)) Status) (value : OpenStoreValue C)
+          (cache : TableCache E C FP F)
+          → LooksUpKey keys env (tables_by formats before) before.store from before.tables sequence key
+          result value to cache
+          → OnOk result ((n : ℕ) × ReadsAt before snapshot n
+          × (GetsFromMemory keys env (tables_by formats before) before.store from before.tables n key
+          result value to cache
+          ⊎ GetsFromTables keys env (tables_by formats before) before.store from before.tables n key
+          result value to cache))
+      on_way sequence reads to (Ok found) value cache looks = (sequence, reads, looks.way)
+      on_way sequence reads to (Err status) value cache looks = tt
 
       pub get_serves : (sequence : ℕ) → ReadsAt before snapshot sequence → (IsLongKey key → ⊥)
           → (to : E) (result : Result (Option (List ℕ)) Status)
           (value : OpenStoreValue C) (cache : TableCache E C FP F)
           → LooksUpKey keys env (tables_by formats before) before.store from before.tables sequence key
           result value to cache
-          → EngineServes env choices found_or before from (get snapshot key) result
+          → EngineGets env choices before from snapshot key result
           (record before { options = options_in before; store = value; tables = cache }) to
       get_serves sequence reads short to result value cache looks =
           let same = read_store env formats before snapshot key usable sequence reads short from to
           result value cache looks in
+          let step = get_goes env formats before snapshot key usable sequence reads short from to result
+          value cache looks in
+          let row = get_row keys env formats before from
+          (record before { options = options_in before; store = value; tables = cache }) to snapshot
+          key result step in
           record {
+            ok = row.0;
+            err = row.1;
+            step = step;
+            halted = λ halted. absurd (usable halted);
+            way = on_way sequence reads to result value cache looks;
+            reads = (refl, same);
+            snapshots = refl;
             options = record {
               rest = ap (λ (v : OpenStoreValue C). record before.options { cmp = v.cmp }) same;
               sink = refl;
             };
-            halted = λ halted. absurd (usable halted);
-            becomes = (refl, same);
-            step = get_goes env formats before snapshot key usable sequence reads short from to result
-                value cache looks;
             rest = rest_read env before from snapshot key result to (options_in before) value cache same
                 looks.reads.kept_disk;
             time = λ modelled. (looks.reads.kept_disk.disk modelled).time.later;
@@ -415,14 +528,14 @@ module _ {E C FP F P : Type 0} {B : Boxed} {keys : InternalOrder C} {key_filters
           → (let options : OptionsOf C FP B = record before.options { cmp = cmp } in
           LooksUpKey keys env (table_options (formats options) options) before.store from before.tables
           sequence key result value to cache)
-          → EngineServes env choices found_or before from (get snapshot key) result
+          → EngineGets env choices before from snapshot key result
           (record before {
             options = record before.options { cmp = cmp };
             store = value;
             tables = cache;
           }) to
       get_serves_in cmp same sequence reads short to result value cache looks =
-          subst (λ (c : C). EngineServes env choices found_or before from (get snapshot key) result
+          subst (λ (c : C). EngineGets env choices before from snapshot key result
           (record before {
             options = record before.options { cmp = c };
             store = value;

@@ -28,7 +28,7 @@ use Rattle.leveldb_store.specs.Switch.{IsObsoletePath, RemovesNoOther}
 use Rattle.leveldb_store.specs.Written.{IsData, KeepsWritten}
 use Rattle.rusty_leveldb.specs.Boxes.{EngineOf, InternalOrder}
 use Rattle.rusty_leveldb.specs.Calls.{EngineOpens}
-use Rattle.rusty_leveldb.specs.Engine.{formats_of, HasOwnTables, IsOpening, IsStoreName, Recalls, no_engine, options_in, scene}
+use Rattle.rusty_leveldb.specs.Engine.{AnswersAs, formats_of, HasOwnTables, IsOpening, IsStoreName, Recalls, no_engine, options_in, scene}
 use Rattle.rusty_leveldb.specs.Frame.{IsOwn, Spares}
 use Rattle.rusty_leveldb.specs.Serves.{Goes, IsSpared, Represents}
 use Rattle.rusty_leveldb.specs.State.{Opening, State, done, open_mode, open_store}
@@ -36,6 +36,7 @@ use Rattle.rusty_leveldb.proofs.LateOpeningLemmas.{made_bytes}
 use Rattle.rusty_leveldb.proofs.MachineLemmas.{risk_opening}
 use Rattle.rusty_leveldb.proofs.OpeningLemmas.{contents, fits_or_not, is_sound, lock_spares, opened_goes, other_lacks}
 use Rattle.rusty_leveldb.proofs.ReadsLemmas.{IsNamed}
+use Rattle.rusty_leveldb.proofs.RowLemmas.{open_row}
 use Rattle.rusty_leveldb.proofs.UnderLockLemmas.{IsTaken, LooksNoFurther, but, late_spares, never_here}
 
 -- ---- what is deleted
@@ -225,8 +226,18 @@ module _ {E C FP F P : Type 0} {B : Boxed} {keys : InternalOrder C} {key_filters
         (but env store asked from taken took modelled) differs.0 differs.1 differs.2))))))
         (fits_or_not store meaning opening agrees (env.observed from) old was.disk_is)
 
+  -- the step, if the options say of names and ids what they mean
+  stepped : (opening : Opening) → IsOpening store asked opening → (meaning : Meaning)
+      → Agrees opening.format meaning
+      → AnswersAs keys env formats store meaning None from (open_store opening) done (Some engine) to
+  stepped opening is meaning agrees modelled old was =
+      done_goes modelled opening is meaning agrees old was
+
   pub done_opens : EngineOpens env choices store options asked from (Ok engine) to
   done_opens = record {
+    ok = λ opening is meaning agrees. open_row keys env formats store opening meaning from to engine
+        (stepped opening is meaning agrees);
+    err = tt;
     opened = record {
       mode = mode;
       options = tells_in;
@@ -238,8 +249,7 @@ module _ {E C FP F P : Type 0} {B : Boxed} {keys : InternalOrder C} {key_filters
       lock_held modelled,
     );
     others = spares;
-    step = λ opening is meaning agrees modelled old was.
-        done_goes modelled opening is meaning agrees old was;
+    step = stepped;
     time = λ modelled.
         let first = (took modelled).run.time.later in
         let second = (opens.others modelled).time.later in

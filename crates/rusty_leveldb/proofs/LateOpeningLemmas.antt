@@ -27,7 +27,7 @@ use Rattle.leveldb_store.specs.SoundCall.{BytesAreAppended}
 use Rattle.rusty_leveldb.specs.Boxes.{InternalOrder}
 use Rattle.rusty_leveldb.specs.Calls.{EngineOpens}
 use Rattle.rusty_leveldb.specs.Causes.{Cause, Comes, Setting, bad_operand, compressor_failed, device_failed, out_of_memory, store_exists, too_large}
-use Rattle.rusty_leveldb.specs.Engine.{formats_of, IsOpening, IsStoreName, Recalls, scene}
+use Rattle.rusty_leveldb.specs.Engine.{AnswersAs, formats_of, IsOpening, IsStoreName, Recalls, scene}
 use Rattle.rusty_leveldb.specs.Frame.{IsOwn, Spares}
 use Rattle.rusty_leveldb.specs.Machine.{IsEarly}
 use Rattle.rusty_leveldb.specs.Serves.{Goes, IsSpared, Reads, Represents, refusal_of, setting_between}
@@ -37,6 +37,7 @@ use Rattle.rusty_leveldb.proofs.LockLemmas.{lock_edits, lock_reads}
 use Rattle.rusty_leveldb.proofs.MachineLemmas.{risk_opening}
 use Rattle.rusty_leveldb.proofs.OpeningLemmas.{contents, fits_or_not, is_sound, lock_spares, opening_holds, opening_run, other_lacks, taken_holds}
 use Rattle.rusty_leveldb.proofs.ReadsLemmas.{IsNamed}
+use Rattle.rusty_leveldb.proofs.RowLemmas.{unopened_row}
 use Rattle.rusty_leveldb.proofs.UnderLockLemmas.{IsTaken, LooksNoFurther, but, excused_late, failed_beside, late_spares, never_here, same_current, set_other, set_same}
 use Rattle.rusty_leveldb.proofs.UnopenedLemmas.{comparator_there, found_in, in_order, lacking, not_kept_causes, other, unwanted}
 use Rattle.rusty_leveldb.proofs.UnopenedStepLemmas.{settles, unopened_goes}
@@ -363,15 +364,25 @@ module _ {E C FP F P : Type 0} {B : Boxed} {keys : InternalOrder C} {key_filters
           (fits_or_not store meaning opening agrees (env.observed from) old was.disk_is))
           (λ (barred : LooksNoFurther store asked here). stays_goes barred why_so.0 why_so.1) why_so.2
 
+  -- the step, if the options say of names and ids what they mean
+  stepped : (opening : Opening) → IsOpening store asked opening → (meaning : Meaning)
+      → Agrees opening.format meaning
+      → AnswersAs keys env formats store meaning None from (open_store opening)
+      (refused (refusal_of e)) None to
+  stepped opening is meaning agrees modelled old was =
+      late_goes modelled opening is meaning agrees old was
+
   pub late_opens : IsStoreName store × IsTrue asked.fits × IsTrue asked.compresses
       → env.failures to < 2 ^ 64
       → EngineOpens env choices store options asked from (Err e) to
   late_opens well counts = record {
+    ok = tt;
+    err = λ opening is meaning agrees. unopened_row keys env formats store opening meaning from to e
+        (stepped opening is meaning agrees);
     opened = tt;
     held = tt;
     others = spares;
-    step = λ opening is meaning agrees modelled old was.
-        late_goes modelled opening is meaning agrees old was;
+    step = stepped;
     time = λ modelled.
         let first = (took modelled).run.time.later in
         let second = (opens.others modelled).time.later in

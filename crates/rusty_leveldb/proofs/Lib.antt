@@ -48,3 +48,4 @@ mod IteratingLemmas
 mod ScanLemmas
 pub mod WriteCallLemmas
 pub mod UnknownLemmas
+mod RowLemmas

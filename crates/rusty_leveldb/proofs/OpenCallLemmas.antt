@@ -19,13 +19,14 @@ use Rattle.leveldb_store.specs.Room.{HasFailed}
 use Rattle.rusty_leveldb.specs.Boxes.{InternalOrder}
 use Rattle.rusty_leveldb.specs.Calls.{EngineOpens}
 use Rattle.rusty_leveldb.specs.Causes.{Cause, Comes, device_failed}
-use Rattle.rusty_leveldb.specs.Engine.{formats_of, IsOpening, IsStoreName, Recalls}
+use Rattle.rusty_leveldb.specs.Engine.{AnswersAs, formats_of, IsOpening, IsStoreName, Recalls}
 use Rattle.rusty_leveldb.specs.Frame.{IsOwn, Spares}
 use Rattle.rusty_leveldb.specs.Serves.{Represents, refusal_of, setting_between}
-use Rattle.rusty_leveldb.specs.State.{Opening, State, open_store}
+use Rattle.rusty_leveldb.specs.State.{Opening, State, open_store, refused}
 use Rattle.rusty_leveldb.specs.Unopened.{MakesLockAlone, OpenExcused}
 use Rattle.rusty_leveldb.proofs.OpeningLemmas.{lock_spares, taken_holds}
 use Rattle.rusty_leveldb.proofs.Others.{others_made}
+use Rattle.rusty_leveldb.proofs.RowLemmas.{unopened_row}
 use Rattle.rusty_leveldb.proofs.UnopenedLemmas.{open_cause}
 use Rattle.rusty_leveldb.proofs.UnopenedStepLemmas.{unopened_goes}
 
@@ -116,6 +117,29 @@ module _ {E C FP F P : Type 0} {B : Boxed} {keys : InternalOrder C} {key_filters
   cause_of opening is meaning agrees modelled old was mid (inr failed) =
       (device_failed, (tt, failed))
 
+  -- the step, if the options say of names and ids what they mean
+  stepped : (IsTrue env.models_disk → IsNear store (env.observed from) (env.observed to))
+      → env.failures from ≤ env.failures to
+      → OpenExcused env store (choices options) asked from e ⊎ HasFailed (env.failures from) (env.failures to)
+      → (opening : Opening) → IsOpening store asked opening → (meaning : Meaning)
+      → Agrees opening.format meaning
+      → AnswersAs keys env formats store meaning None from (open_store opening)
+      (refused (refusal_of e)) None to
+  stepped near later why opening is meaning agrees modelled old was =
+      let by = near modelled in
+      let cause = cause_of opening is meaning agrees modelled old was (env.failures to) why in
+      unopened_goes env formats store meaning opening from old was to e old.store (inl refl)
+      (taken_holds store meaning opening agrees (env.observed from) old was.disk_is
+      (env.observed to) (near_but by))
+      (made_bytes (env.observed from).disk.files (env.observed to).disk.files by.run.has
+      was.disk_is.bytes)
+      (Run-mono (λ files passes. lock_spares store meaning opening agrees (env.observed from) old
+      was.disk_is files (SameBut-created (lock_path store) (env.observed from).disk.files files
+      passes)) by.run)
+      (near_others by) (env.failures to) later (omega arith)
+      (inl (ap (λ (l : List ℕ → Bool). l (lock_path store)) by.locks)) cause.0 cause.1
+      (λ early. refl)
+
   pub early_opens : (IsTrue env.models_disk → IsNear store (env.observed from) (env.observed to))
       → env.failures from ≤ env.failures to
       → OpenExcused env store (choices options) asked from e ⊎ HasFailed (env.failures from) (env.failures to)
@@ -123,23 +147,13 @@ module _ {E C FP F P : Type 0} {B : Boxed} {keys : InternalOrder C} {key_filters
       → EngineOpens env choices store options asked from
       (Err e) to
   early_opens near later why misnamed = record {
+    ok = tt;
+    err = λ opening is meaning agrees. unopened_row keys env formats store opening meaning from to e
+        (stepped near later why opening is meaning agrees);
     opened = tt;
     held = tt;
     others = λ modelled. near_others (near modelled);
-    step = λ opening is meaning agrees modelled old was.
-        let by = near modelled in
-        let cause = cause_of opening is meaning agrees modelled old was (env.failures to) why in
-        unopened_goes env formats store meaning opening from old was to e old.store (inl refl)
-        (taken_holds store meaning opening agrees (env.observed from) old was.disk_is
-        (env.observed to) (near_but by))
-        (made_bytes (env.observed from).disk.files (env.observed to).disk.files by.run.has
-        was.disk_is.bytes)
-        (Run-mono (λ files passes. lock_spares store meaning opening agrees (env.observed from) old
-        was.disk_is files (SameBut-created (lock_path store) (env.observed from).disk.files files
-        passes)) by.run)
-        (near_others by) (env.failures to) later (omega arith)
-        (inl (ap (λ (l : List ℕ → Bool). l (lock_path store)) by.locks)) cause.0 cause.1
-        (λ early. refl);
+    step = stepped near later why;
     time = λ modelled. (near modelled).run.time.later;
     misnamed = λ no. (misnamed no, tt);
     never_opens = λ modelled never. (tt, (near modelled).run);

@@ -164,7 +164,7 @@ module _ {E C FP F : Type 0} {B : Boxed} (env : Ghosts E F)
 
     module _ (value : OpenStoreValue C) (mid : E) where
       -- a sync changes the state of the log's writer alone
-      sync_only : (result : Result (Unit {0}) Status)
+      pub sync_only : (result : Result (Unit {0}) Status)
           → SyncsLog env before.store from result value mid
           → value ≡ with_writer before.store value.log.writer
       sync_only (Ok nothing) syncs =

@@ -19,9 +19,9 @@ use Rattle.leveldb_iter.specs.declared.snapshot.Snapshot.{Snapshot as HeldSnapsh
 use Rattle.leveldb_store.specs.BuildTable.{TableChoices}
 use Rattle.leveldb_version.specs.Format.{Format, Meaning}
 use Rattle.rusty_leveldb.specs.Boxes.{EngineOf, InternalOrder}
-use Rattle.rusty_leveldb.specs.Calls.{EngineServes, LeavesRest}
+use Rattle.rusty_leveldb.specs.Calls.{EngineHolds, EngineReleases, LeavesRest}
 use Rattle.rusty_leveldb.specs.Causes.{IsNotHeld, Setting, bad_operand, out_of_memory, used_up}
-use Rattle.rusty_leveldb.specs.Engine.{AnswersStill, HasSnapshots, Recalls, RefusedAsClosed, formats_of, held_in, scene}
+use Rattle.rusty_leveldb.specs.Engine.{Answers, AnswersStill, HasSnapshots, Recalls, RefusedAsClosed, formats_of, held_in, scene}
 use Rattle.rusty_leveldb.specs.Frame.{IsSyncing, MayTouch}
 use Rattle.rusty_leveldb.specs.Machine.{Responds, Step, risk_between, risk_of}
 use Rattle.rusty_leveldb.specs.Serves.{Goes, IsSpared, Represents, done_or, refusal_of, setting_between, snapshot_of, snapshot_or}
@@ -31,6 +31,7 @@ use Rattle.rusty_leveldb.proofs.MachineLemmas.{step_fits}
 use Rattle.rusty_leveldb.proofs.Moments.{moments_none}
 use Rattle.rusty_leveldb.proofs.Others.{spares_still}
 use Rattle.rusty_leveldb.proofs.RestLemmas.{rest_still}
+use Rattle.rusty_leveldb.proofs.RowLemmas.{release_row, snapshot_row}
 
 -- ---- snapshots as the machine has them
 
@@ -260,111 +261,146 @@ module _ {E C FP F P : Type 0} {B : Boxed} {keys : InternalOrder C} {key_filters
       },
     )
 
-    pub gives_serves : (at : E) → EngineServes env choices snapshot_or before at get_snapshot (Ok one)
-        (record before { snapshots = snapshots }) at
-    gives_serves at = record {
-      options = record { rest = refl; sink = refl };
-      halted = λ halted. absurd (usable halted);
-      becomes = (refl, refl);
-      step = λ store meaning modelled old was.
-          let used = in_use get_snapshot tt (machine.snapshot (snapshot_of one)) snapshots usable at
-          store meaning old was in
-          let has = was.memory_is.snapshots used in
-          let views = was.memory_is.shows used in
-          let last = was.memory_is.last used in
-          goes_with get_snapshot tt (machine.snapshot (snapshot_of one)) snapshots usable at store
-          meaning old was (old.held ++ snapshot_of one ∷ []) (old.given ++ one.number ∷ [])
-          (given_has old has)
-          (λ other there. ⊎_elim (λ (c : Contains old.held other). views.held other c)
-          (λ (same : snapshot_of one ≡ other).
-          let least = views.now in let reached = was.disk_is.is_state.reached in
-          let its : one.sequence ≡ other.sequence = ap (λ (s : Snapshot). s.sequence) same in
-          omega (arith, least, reached, its, gives.sequence_is, last))
-          (Contains-push_cases old.held (snapshot_of one) other there))
-          (given_responds (setting_between meaning (env.failures at) (env.failures at)) old has last);
-      rest = rest_held get_snapshot tt (Ok one) snapshots at;
-      time = λ modelled. omega arith;
-      cause = tt;
-    }
+    given_step : (at : E) → Answers keys env formats (Some before) at get_snapshot
+        (snapshot_or (Ok one)) (Some (record before { snapshots = snapshots })) at
+    given_step at store meaning modelled old was =
+        let used = in_use get_snapshot tt (machine.snapshot (snapshot_of one)) snapshots usable at
+        store meaning old was in
+        let has = was.memory_is.snapshots used in
+        let views = was.memory_is.shows used in
+        let last = was.memory_is.last used in
+        goes_with get_snapshot tt (machine.snapshot (snapshot_of one)) snapshots usable at store
+        meaning old was (old.held ++ snapshot_of one ∷ []) (old.given ++ one.number ∷ [])
+        (given_has old has)
+        (λ other there. ⊎_elim (λ (c : Contains old.held other). views.held other c)
+        (λ (same : snapshot_of one ≡ other).
+        let least = views.now in let reached = was.disk_is.is_state.reached in
+        let its : one.sequence ≡ other.sequence = ap (λ (s : Snapshot). s.sequence) same in
+        omega (arith, least, reached, its, gives.sequence_is, last))
+        (Contains-push_cases old.held (snapshot_of one) other there))
+        (given_responds (setting_between meaning (env.failures at) (env.failures at)) old has last)
+
+    pub gives_serves : (at : E)
+        → EngineHolds env choices before at (Ok one) (record before { snapshots = snapshots }) at
+    gives_serves at =
+        let row = snapshot_row keys env formats before at (record before { snapshots = snapshots }) at
+        (Ok one) (given_step at) in
+        record {
+          ok = row.0;
+          err = row.1;
+          step = given_step at;
+          still = refl;
+          halted = λ halted. absurd (usable halted);
+          reads = (refl, refl);
+          snapshots = gives;
+          options = record { rest = refl; sink = refl };
+          rest = rest_held get_snapshot tt (Ok one) snapshots at;
+          cause = tt;
+        }
 
   -- ---- a call that fails
 
   -- a closed store gives out none
   pub closed_gives : (status : Status) (at : E) → RefusedAsClosed before.mode status
-      → EngineServes env choices snapshot_or before at get_snapshot (Err status) before at
-  closed_gives status at out = record {
-    options = record { rest = refl; sink = refl };
-    halted = λ halted. (refl, refl, inl out);
-    becomes = (refl, refl);
-    step = closed_still get_snapshot tt status out at;
-    rest = rest_still env before at get_snapshot (Err status) (inr (status, refl));
-    time = λ modelled. omega arith;
-    cause = inl out;
-  }
+      → EngineHolds env choices before at (Err status) before at
+  closed_gives status at out =
+      let step = closed_still get_snapshot tt status out at in
+      let row = snapshot_row keys env formats before at before at (Err status) step in
+      record {
+        ok = row.0;
+        err = row.1;
+        step = step;
+        still = refl;
+        halted = λ halted. (refl, refl, inl out);
+        reads = (refl, refl);
+        snapshots = refl;
+        options = record { rest = refl; sink = refl };
+        rest = rest_still env before at get_snapshot (Err status) (inr (status, refl));
+        cause = inl out;
+      }
 
   -- there is no memory, or no number
   pub gives_none : (before.mode ≡ machine.closed → ⊥) → (status : Status) (at : E)
       → IsOutOfMemory status
       ⊎ ((status.code ≡ NotSupported) × (before.snapshots.given ≡ 2 ^ 64 - 1))
-      → EngineServes env choices snapshot_or before at get_snapshot (Err status) before at
-  gives_none usable status at why = record {
-    options = record { rest = refl; sink = refl };
-    halted = λ halted. absurd (usable halted);
-    becomes = (refl, refl);
-    step = caused_still get_snapshot tt status usable (λ old has setting. ⊎_elim
-        (λ (memory : IsOutOfMemory status). record {
-          cause = out_of_memory;
-          comes = (tt, memory.0, ap text_of memory.1);
-          leaves = refl;
-        })
-        (λ (full : (status.code ≡ NotSupported) × (before.snapshots.given ≡ 2 ^ 64 - 1)). record {
-          cause = used_up;
-          comes = (full.0, let count = has.count in omega (arith, count, full.1));
-          leaves = refl;
-        }) why) at;
-    rest = rest_still env before at get_snapshot (Err status) (inr (status, refl));
-    time = λ modelled. omega arith;
-    cause = ⊎_elim (λ (memory : IsOutOfMemory status). inr (inl memory))
-        (λ (full : (status.code ≡ NotSupported) × (before.snapshots.given ≡ 2 ^ 64 - 1)).
-        inr (inr (full.0, omega (arith, full.1)))) why;
-  }
+      → EngineHolds env choices before at (Err status) before at
+  gives_none usable status at why =
+      let step = caused_still get_snapshot tt status usable (λ old has setting. ⊎_elim
+      (λ (memory : IsOutOfMemory status). record {
+        cause = out_of_memory;
+        comes = (tt, memory.0, ap text_of memory.1);
+        leaves = refl;
+      })
+      (λ (full : (status.code ≡ NotSupported) × (before.snapshots.given ≡ 2 ^ 64 - 1)). record {
+        cause = used_up;
+        comes = (full.0, let count = has.count in omega (arith, count, full.1));
+        leaves = refl;
+      }) why) at in
+      let row = snapshot_row keys env formats before at before at (Err status) step in
+      record {
+        ok = row.0;
+        err = row.1;
+        step = step;
+        still = refl;
+        halted = λ halted. absurd (usable halted);
+        reads = (refl, refl);
+        snapshots = refl;
+        options = record { rest = refl; sink = refl };
+        rest = rest_still env before at get_snapshot (Err status) (inr (status, refl));
+        cause = ⊎_elim (λ (memory : IsOutOfMemory status). inr (inl memory))
+            (λ (full : (status.code ≡ NotSupported) × (before.snapshots.given ≡ 2 ^ 64 - 1)).
+            inr (inr (full.0, omega (arith, full.1)))) why;
+      }
 
   -- a closed store releases none
-  pub closed_releases : (one : Snapshot) (status : Status) (at : E)
+  pub closed_releases : (one : HeldSnapshot) (status : Status) (at : E)
       → RefusedAsClosed before.mode status
-      → EngineServes env choices {T = Unit {0}} done_or before at (release_snapshot one) (Err status)
-      before at
-  closed_releases one status at out = record {
-    options = record { rest = refl; sink = refl };
-    halted = λ halted. (refl, refl, inl out);
-    becomes = (refl, refl);
-    step = closed_still (release_snapshot one) tt status out at;
-    rest = rest_still env before at (release_snapshot one) (Err status) (inr (status, refl));
-    time = λ modelled. omega arith;
-    cause = inl out;
-  }
+      → EngineReleases env choices before at one (Err status) before at
+  closed_releases one status at out =
+      let request = release_snapshot (snapshot_of one) in
+      let step = closed_still request tt status out at in
+      let row = release_row keys env formats before at before at (snapshot_of one) (Err status) step in
+      record {
+        ok = row.0;
+        err = row.1;
+        step = step;
+        still = refl;
+        halted = λ halted. (refl, refl, inl out);
+        reads = (refl, refl);
+        snapshots = refl;
+        options = record { rest = refl; sink = refl };
+        rest = rest_still env before at request (Err status) (inr (status, refl));
+        cause = inl out;
+      }
 
   -- the snapshot isn't held
-  pub releases_none : (before.mode ≡ machine.closed → ⊥) → (one : Snapshot) (status : Status)
-      (at : E) → (status.code ≡ InvalidArgument) × IsNotHeld (held_in before) (Some one)
-      → EngineServes env choices {T = Unit {0}} done_or before at (release_snapshot one) (Err status)
-      before at
-  releases_none usable one status at unheld = record {
-    options = record { rest = refl; sink = refl };
-    halted = λ halted. absurd (usable halted);
-    becomes = (refl, refl);
-    step = caused_still (release_snapshot one) tt status usable (λ old has setting. record {
-      cause = bad_operand;
-      comes = (
-        unheld.0,
-        subst (λ held. IsNotHeld held (Some one)) has.held unheld.1,
-      );
-      leaves = refl;
-    }) at;
-    rest = rest_still env before at (release_snapshot one) (Err status) (inr (status, refl));
-    time = λ modelled. omega arith;
-    cause = inr unheld;
-  }
+  pub releases_none : (before.mode ≡ machine.closed → ⊥) → (one : HeldSnapshot) (status : Status)
+      (at : E)
+      → (status.code ≡ InvalidArgument) × IsNotHeld (held_in before) (Some (snapshot_of one))
+      → EngineReleases env choices before at one (Err status) before at
+  releases_none usable one status at unheld =
+      let request = release_snapshot (snapshot_of one) in
+      let step = caused_still request tt status usable (λ old has setting. record {
+        cause = bad_operand;
+        comes = (
+          unheld.0,
+          subst (λ held. IsNotHeld held (Some (snapshot_of one))) has.held unheld.1,
+        );
+        leaves = refl;
+      }) at in
+      let row = release_row keys env formats before at before at (snapshot_of one) (Err status) step in
+      record {
+        ok = row.0;
+        err = row.1;
+        step = step;
+        still = refl;
+        halted = λ halted. absurd (usable halted);
+        reads = (refl, refl);
+        snapshots = refl;
+        options = record { rest = refl; sink = refl };
+        rest = rest_still env before at request (Err status) (inr (status, refl));
+        cause = inr unheld;
+      }
 
   -- ---- releasing
 
@@ -416,22 +452,33 @@ module _ {E C FP F P : Type 0} {B : Boxed} {keys : InternalOrder C} {key_filters
       record { before = front; after = back; was = was_held old has; state = refl },
     )
 
-    pub releases_serves : (at : E) → EngineServes env choices {T = Unit {0}} done_or before at
-        (release_snapshot (snapshot_of one)) (Ok tt) (record before { snapshots = snapshots }) at
+    left_step : (at : E) → Answers keys env formats (Some before) at
+        (release_snapshot (snapshot_of one)) (done_or {T = Unit {0}} (Ok tt))
+        (Some (record before { snapshots = snapshots })) at
+    left_step at store meaning modelled old was =
+        let request = release_snapshot (snapshot_of one) in
+        let used = in_use request tt done snapshots usable at store meaning old was in
+        let has = was.memory_is.snapshots used in
+        let views = was.memory_is.shows used in
+        goes_with request tt done snapshots usable at store meaning old was (front ++ back)
+        old.given (left_has old has)
+        (λ other there. views.held other (left_held old has other there))
+        (left_responds (setting_between meaning (env.failures at) (env.failures at)) old has)
+
+    pub releases_serves : (at : E) → EngineReleases env choices before at one (Ok tt)
+        (record before { snapshots = snapshots }) at
     releases_serves at =
-        let request = release_snapshot (snapshot_of one) in record {
-          options = record { rest = refl; sink = refl };
+        let row = release_row keys env formats before at (record before { snapshots = snapshots }) at
+        (snapshot_of one) (Ok tt) (left_step at) in
+        record {
+          ok = row.0;
+          err = row.1;
+          step = left_step at;
+          still = refl;
           halted = λ halted. absurd (usable halted);
-          becomes = (refl, refl);
-          step = λ store meaning modelled old was.
-              let used = in_use request tt done snapshots usable at store meaning old was in
-              let has = was.memory_is.snapshots used in
-              let views = was.memory_is.shows used in
-              goes_with request tt done snapshots usable at store meaning old was (front ++ back)
-              old.given (left_has old has)
-              (λ other there. views.held other (left_held old has other there))
-              (left_responds (setting_between meaning (env.failures at) (env.failures at)) old has);
-          rest = rest_held request tt (Ok tt) snapshots at;
-          time = λ modelled. omega arith;
+          reads = (refl, refl);
+          snapshots = releases;
+          options = record { rest = refl; sink = refl };
+          rest = rest_held (release_snapshot (snapshot_of one)) tt (Ok tt) snapshots at;
           cause = tt;
         }

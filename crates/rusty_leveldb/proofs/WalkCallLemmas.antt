@@ -14,72 +14,67 @@ use Rattle.leveldb_version.specs.declared.table_cache.TableCache.{TableCache}
 use Rattle.leveldb_store.specs.BuildTable.{TableChoices}
 use Rattle.leveldb_store.specs.View.{WalksStore}
 use Rattle.rusty_leveldb.specs.Boxes.{EngineOf, InternalOrder}
-use Rattle.rusty_leveldb.specs.Calls.{IsLockLeft}
+use Rattle.rusty_leveldb.specs.Calls.{EngineWalks, IsLockLeft, IsRefusedByMode}
 use Rattle.rusty_leveldb.specs.Causes.{IsNotHeld}
-use Rattle.rusty_leveldb.specs.Engine.{RefusedAsClosed, WalkExcused, formats_of, held_in, holds_lock, options_in, tables_by, ReadsAt}
+use Rattle.rusty_leveldb.specs.Engine.{AnswersStill, IsClosed, RefusedAsClosed, WalkExcused, formats_of, held_in, holds_lock, options_in, tables_by, ReadsAt}
 use Rattle.rusty_leveldb.specs.State as machine
-use Rattle.rusty_leveldb.specs.State.{Request, Snapshot}
-use Rattle.rusty_leveldb.specs.Walks.{EngineWalks, walk_of}
+use Rattle.rusty_leveldb.specs.State.{Request, Snapshot, refused}
+use Rattle.rusty_leveldb.specs.Serves.{refusal_of}
+use Rattle.rusty_leveldb.specs.Walks.{walk_of}
 use Rattle.rusty_leveldb.proofs.Others.{spares_same}
 use Rattle.rusty_leveldb.proofs.RestLemmas.{rest_still}
+use Rattle.rusty_leveldb.proofs.RowLemmas.{walk_row}
 use Rattle.rusty_leveldb.proofs.WalkingLemmas.{walk_closed, walk_goes, walk_starved, walk_unheld}
 
 module _ {E C FP F P : Type 0} {B : Boxed} {keys : InternalOrder C} {key_filters : FilterGhosts P}
     (env : Ghosts E F) (choices : OptionsOf C FP B → TableChoices keys key_filters)
     (before : EngineOf E C FP F B) (at : Option Snapshot) (moves : List Move) (from : E) where
-  -- a call that makes no walk fails for this
-  unmade : (status : Status) → WalkExcused before at status
-      → (env.failures from ≤ env.failures from) × WalkExcused before at status
-  unmade status why = (omega arith, why)
+  -- no walk is made, and nothing changes
+  unmade : (status : Status)
+      → AnswersStill keys env (formats_of choices) before (walk_of at moves) (refused (refusal_of status))
+      → (IsClosed before.mode
+      → IsRefusedByMode {T = Unit {0}} before from (Err status) before from)
+      → WalkExcused before at status
+      → EngineWalks env choices before from at moves [] (Err status) before from
+  unmade status still halted why =
+      let step = still from in
+      let row = walk_row keys env (formats_of choices) before from before from at moves [] (Err status)
+      step in
+      record {
+        ok = row.0;
+        err = row.1;
+        step = step;
+        halted = halted;
+        reads = (refl, refl);
+        snapshots = refl;
+        options = record { rest = refl; sink = refl };
+        rest = rest_still env before from (walk_of at moves) (Err status) (inr (status, refl));
+        time = λ modelled. omega arith;
+        later = omega arith;
+        cause = why;
+        refused = tt;
+        none = refl;
+      }
 
   pub walk_closed_serves : (status : Status) → RefusedAsClosed before.mode status
       → EngineWalks env choices before from at moves [] (Err status) before from
-  walk_closed_serves status why = record {
-    serves = record {
-      options = record { rest = refl; sink = refl };
-      halted = λ halted. (refl, refl, inl why);
-      becomes = (refl, refl);
-      step = walk_closed keys env (formats_of choices) before at moves status why from;
-      rest = rest_still env before from (walk_of at moves) (Err status) (inr (status, refl));
-      time = λ modelled. omega arith;
-      cause = unmade status (inl why);
-    };
-    refused = tt;
-    none = refl;
-  }
+  walk_closed_serves status why = unmade status
+      (walk_closed keys env (formats_of choices) before at moves status why)
+      (λ halted. (refl, refl, inl why)) (inl why)
 
   module _ (usable : before.mode ≡ machine.closed → ⊥) where
-    pub walk_unheld_serves : (status : Status) → status.code ≡ InvalidArgument → IsNotHeld (held_in before) at
+    pub walk_unheld_serves : (status : Status) → status.code ≡ InvalidArgument
+        → IsNotHeld (held_in before) at
         → EngineWalks env choices before from at moves [] (Err status) before from
-    walk_unheld_serves status code unheld = record {
-      serves = record {
-        options = record { rest = refl; sink = refl };
-        halted = λ halted. absurd (usable halted);
-        becomes = (refl, refl);
-        step = walk_unheld keys env (formats_of choices) before at moves usable status code unheld from;
-        rest = rest_still env before from (walk_of at moves) (Err status) (inr (status, refl));
-        time = λ modelled. omega arith;
-        cause = unmade status (inr (inl (code, unheld)));
-      };
-      refused = tt;
-      none = refl;
-    }
+    walk_unheld_serves status code unheld = unmade status
+        (walk_unheld keys env (formats_of choices) before at moves usable status code unheld)
+        (λ halted. absurd (usable halted)) (inr (inl (code, unheld)))
 
     pub walk_starved_serves : (status : Status) → IsOutOfMemory status
         → EngineWalks env choices before from at moves [] (Err status) before from
-    walk_starved_serves status out = record {
-      serves = record {
-        options = record { rest = refl; sink = refl };
-        halted = λ halted. absurd (usable halted);
-        becomes = (refl, refl);
-        step = walk_starved keys env (formats_of choices) before at moves usable status out from;
-        rest = rest_still env before from (walk_of at moves) (Err status) (inr (status, refl));
-        time = λ modelled. omega arith;
-        cause = unmade status (inr (inr out));
-      };
-      refused = tt;
-      none = refl;
-    }
+    walk_starved_serves status out = unmade status
+        (walk_starved keys env (formats_of choices) before at moves usable status out)
+        (λ halted. absurd (usable halted)) (inr (inr out))
 
     module _ (sequence : ℕ) (reads_at : ReadsAt before at sequence) (to : E) (left : TableCache E C FP F) (given : List Step)
         (result : Result (Unit {0}) Status)
@@ -103,25 +98,32 @@ module _ {E C FP F P : Type 0} {B : Boxed} {keys : InternalOrder C} {key_filters
       steps_none (Err status) none = none.1
 
       walk_serves : EngineWalks env choices before from at moves given result walked_engine to
-      walk_serves = record {
-        serves = record {
-          options = record { rest = refl; sink = refl };
-          halted = λ halted. absurd (usable halted);
-          becomes = (refl, refl);
-          step = walk_goes keys env (formats_of choices) before at moves usable sequence reads_at from to left given result walks;
-          rest = record {
-            place = (refl, refl);
-            others = λ modelled own. spares_same before.store.set.store (env.observed from).disk (env.observed to).disk _ (walks.kept.disk modelled).has
-                (λ path differs. ap (λ (l : List ℕ → Bool). l path) (walks.kept.locks modelled));
-            lock = λ modelled. locks_stay result (holds_lock env before to) (holds_lock env before from)
-                (ap (λ (l : List ℕ → Bool). l before.lock) (walks.kept.locks modelled));
-          };
-          time = λ modelled. (walks.kept.disk modelled).time.later;
-          cause = (walks.later, caused result walks.none);
-        };
-        refused = walks.refused;
-        none = steps_none result walks.none;
-      }
+      walk_serves =
+          let step = walk_goes keys env (formats_of choices) before at moves usable sequence reads_at
+          from to left given result walks in
+          let row = walk_row keys env (formats_of choices) before from walked_engine to at moves given
+          result step in
+          record {
+            ok = row.0;
+            err = row.1;
+            step = step;
+            halted = λ halted. absurd (usable halted);
+            reads = (refl, refl);
+            snapshots = refl;
+            options = record { rest = refl; sink = refl };
+            rest = record {
+              place = (refl, refl);
+              others = λ modelled own. spares_same before.store.set.store (env.observed from).disk (env.observed to).disk _ (walks.kept.disk modelled).has
+                  (λ path differs. ap (λ (l : List ℕ → Bool). l path) (walks.kept.locks modelled));
+              lock = λ modelled. locks_stay result (holds_lock env before to) (holds_lock env before from)
+                  (ap (λ (l : List ℕ → Bool). l before.lock) (walks.kept.locks modelled));
+            };
+            time = λ modelled. (walks.kept.disk modelled).time.later;
+            later = walks.later;
+            cause = caused result walks.none;
+            refused = walks.refused;
+            none = steps_none result walks.none;
+          }
 
     -- the same where the options were given the store's order before the walk
     pub walk_serves_in : (cmp : C) → cmp ≡ before.store.cmp → (sequence : ℕ) → ReadsAt before at sequence → (to : E) (left : TableCache E C FP F) (given : List Step)

@@ -1,6 +1,6 @@
 -- What a write to an engine does, put together: its step, what becomes of the engine, and why it
 -- fails.
-use Rattle.std.specs.Prelude.{OnOk, Result}
+use Rattle.std.specs.Prelude.{OnErr, OnOk, Result}
 use Rattle.std.proofs.Common.{◌≡◌, ◌<◌, ◌≤◌, ◌+◌, ◌⊎◌, ◌∙◌, ⊎_elim, inl, inr, ℕ, zero, suc, Bool, true, false, List, [], ◌∷◌, ◌++◌, length, refl, sym, ap, subst, arith, Some, Ok, Err}
 use Rattle.leveldb_base.specs.Error.{IsOutOfMemory}
 use Rattle.leveldb_base.specs.History.{Entry, Item, placed}
@@ -19,16 +19,17 @@ use Rattle.leveldb_store.specs.SoundCall.{IsSoundCall, any_meaning}
 use Rattle.leveldb_store.specs.WriteBatch.{FailsToWrite, WritesBatch}
 use Rattle.rusty_leveldb.specs.Boxes.{EngineOf, InternalOrder}
 use Rattle.rusty_leveldb.specs.EngineValue.{FollowsStore}
-use Rattle.rusty_leveldb.specs.Calls.{BecomesOf, EngineServes, KeepsModeOrBreaks}
+use Rattle.rusty_leveldb.specs.Calls.{EngineWrites, IsMemtableFull, KeepsMemory, KeepsModeOrBreaks, OneWaitsAtMost}
 use Rattle.rusty_leveldb.specs.Causes.{AreUsedUp}
-use Rattle.rusty_leveldb.specs.Engine.{empty_memtable, Answers, WriteExcused, options_in, formats_of}
+use Rattle.rusty_leveldb.specs.Engine.{empty_memtable, Answers, IsBroken, WriteExcused, WritesIntoRoom, options_in, formats_of}
 use Rattle.rusty_leveldb.specs.Serves.{done_or}
 use Rattle.rusty_leveldb.specs.State as machine
 use Rattle.rusty_leveldb.specs.State.{write}
 use Rattle.rusty_leveldb.proofs.Batching.{IsUnmade, not_written}
-use Rattle.rusty_leveldb.proofs.EngineLemmas.{follows_open}
+use Rattle.rusty_leveldb.proofs.EngineLemmas.{follows_broken, follows_open}
 use Rattle.rusty_leveldb.proofs.CallsLemmas.{not_halted}
 use Rattle.rusty_leveldb.proofs.RestLemmas.{rest_roomless, rest_still, rest_written}
+use Rattle.rusty_leveldb.proofs.RowLemmas.{write_row}
 use Rattle.rusty_leveldb.proofs.SyncLemmas.{log_is_there}
 use Rattle.rusty_leveldb.proofs.WritingLemmas.{EngineMakesRoom, batch_tells, failed_later, room_fails, room_tells, write_done, write_fails}
 
@@ -86,21 +87,29 @@ module _ {E C FP F P : Type 0} {B : Boxed} {keys : InternalOrder C} {key_filters
 
   -- the batch isn't made
   pub unmade_serves : (status : Status) → IsUnmade items status
-      → EngineServes env choices {T = Unit {0}} done_or before from (write items sync) (Err status)
-      before from
-  unmade_serves status why = record {
-    options = record { rest = refl; sink = refl };
-    halted = λ halted. absurd (not_halted before.mode opened halted);
-    becomes = (tt, inr refl);
-    step = not_written env formats before opened items sync status why from;
-    rest = rest_still env before from (write items sync) (Err status) (inr (status, refl));
-    time = λ modelled. omega arith;
-    cause = record {
-      later = omega arith;
-      cause = inl (⊎_elim (λ (memory : IsOutOfMemory status). inr (inr (inl memory)))
-          (λ long. inr (inl long)) why);
-    };
-  }
+      → EngineWrites env choices before from items sync (Err status) before from
+  unmade_serves status why =
+      let step = not_written env formats before opened items sync status why from in
+      let row = write_row keys env formats before from before from items sync (Err status) step in
+      record {
+        ok = row.0;
+        err = row.1;
+        step = step;
+        halted = λ halted. absurd (not_halted before.mode opened halted);
+        written = tt;
+        waits = tt;
+        failed = (inr refl, (refl, λ room. (refl, refl)));
+        breaks = λ room. inr refl;
+        snapshots = refl;
+        options = record { rest = refl; sink = refl };
+        rest = rest_still env before from (write items sync) (Err status) (inr (status, refl));
+        time = λ modelled. omega arith;
+        cause = record {
+          later = omega arith;
+          cause = inl (⊎_elim (λ (memory : IsOutOfMemory status). inr (inr (inl memory)))
+              (λ long. inr (inl long)) why);
+        };
+      }
 
   -- the mode in the end
   becomes : (after : EngineOf E C FP F B) → FollowsStore after.mode after.store
@@ -115,19 +124,40 @@ module _ {E C FP F P : Type 0} {B : Boxed} {keys : InternalOrder C} {key_filters
     -- no room is made
     pub room_fails_serves : (after : EngineOf E C FP F B) (to : E) (status : Status)
         → EngineMakesRoom env choices before from (Err status) after to
-        → EngineServes env choices {T = Unit {0}} done_or before from (write items sync) (Err status)
-        after to
-    room_fails_serves after to status made = record {
-      options = room_tells env choices before from (Err status) after to made;
-      halted = λ halted. absurd (not_halted before.mode opened halted);
-      becomes = (tt, becomes after made.mode);
-      step = λ store meaning modelled old was. room_fails env choices store meaning before from old was
-          opened modelled ignores after to items sync status made;
-      rest = rest_roomless env before from opened choices items sync after to status made;
-      time = made.sound.time;
-      cause = record { later = made.makes.cause.later; cause = excused made.makes.cause.cause };
-    }
+        → EngineWrites env choices before from items sync (Err status) after to
+    room_fails_serves after to status made =
+        let row = write_row keys env formats before from after to items sync (Err status) step in
+        record {
+          ok = row.0;
+          err = row.1;
+          step = step;
+          halted = λ halted. absurd (not_halted before.mode opened halted);
+          written = tt;
+          waits = tt;
+          failed = (
+            becomes after made.mode,
+            (
+              made.makes.rest.last,
+              λ room.
+                  let same = (made.makes.not_full room).0 in (
+                    ap (λ (v : OpenStoreValue C). v.recent.entries) same,
+                    ap (λ (v : OpenStoreValue C). v.waiting) same,
+                  ),
+            ),
+          );
+          breaks = λ room. absurd (made.makes.not_full room).2;
+          snapshots = ap (λ (e : EngineOf E C FP F B). e.snapshots) made.rest;
+          options = room_tells env choices before from (Err status) after to made;
+          rest = rest_roomless env before from opened choices items sync after to status made;
+          time = made.sound.time;
+          cause = record { later = made.makes.cause.later; cause = excused made.makes.cause.cause };
+        }
       where
+        step : Answers keys env formats (Some before) from (write items sync)
+            (done_or {T = Unit {0}} (Err status)) (Some after) to
+        step store meaning modelled old was = room_fails env choices store meaning before from old was
+            opened modelled ignores after to items sync status made
+
         -- where it isn't full, nothing fails
         full : IsFull before.options.write_buffer_size before.store.recent
         full = ⊎_elim (λ is. is)
@@ -152,25 +182,64 @@ module _ {E C FP F P : Type 0} {B : Boxed} {keys : InternalOrder C} {key_filters
         (made : EngineMakesRoom env choices before from (Ok tt) roomy mid)
         (value : OpenStoreValue C) (mode : machine.Mode) (follows : FollowsStore mode value)
         (to : E) where
+      -- the engine in the end
+      abbrev ended : EngineOf E C FP F B
+      ended = record roomy { store = value; mode = mode }
+
       -- a batch is written into a memtable with room
-      batch_becomes : (result : Result (Unit {0}) Status)
+      batch_written : (result : Result (Unit {0}) Status)
           → WritesBatch env (formats (options_in roomy)).order roomy.store mid items sync result value
-          to → BecomesOf before (write items sync) result
-          (record roomy { store = value; mode = mode })
-      batch_becomes (Ok nothing) writes = (
+          to → OnOk result ((mode ≡ before.mode) × WritesIntoRoom before items ended)
+      batch_written (Ok nothing) writes = (
+        follows_open mode value follows writes.usable ∙ sym opened,
         (
-          follows_open mode value follows writes.usable ∙ sym opened,
-          (
-            roomy.store.recent,
-            made.makes.room,
-            subst (λ n. IsUnion roomy.store.recent.entries (placed (n + 1) items)
-                value.recent.entries) made.makes.rest.last writes.gains,
+          roomy.store.recent,
+          made.makes.room,
+          subst (λ n. IsUnion roomy.store.recent.entries (placed (n + 1) items)
+              value.recent.entries) made.makes.rest.last writes.gains,
+        ),
+      )
+      batch_written (Err status) writes = tt
+
+      -- and none waits, but for one that waited before
+      batch_waits : (result : Result (Unit {0}) Status)
+          → WritesBatch env (formats (options_in roomy)).order roomy.store mid items sync result value
+          to → OnOk result (OneWaitsAtMost before ended)
+      batch_waits (Ok nothing) writes =
+          let waits = ap (λ (v : OpenStoreValue C). v.waiting) writes.rest in ⊎_elim
+          (λ (full : IsFull before.options.write_buffer_size before.store.recent).
+          inl (waits ∙ (made.makes.none_waits full).1))
+          (λ (room : IsFull before.options.write_buffer_size before.store.recent → ⊥).
+          inr (room, waits ∙ ap (λ (v : OpenStoreValue C). v.waiting) (made.makes.not_full room).0))
+          (full_or_not before.options.write_buffer_size before.store.recent)
+      batch_waits (Err status) writes = tt
+
+      -- or it isn't written, and no answer changes
+      batch_failed : (result : Result (Unit {0}) Status)
+          → WritesBatch env (formats (options_in roomy)).order roomy.store mid items sync result value
+          to → OnErr result (KeepsModeOrBreaks before ended × KeepsMemory before ended)
+      batch_failed (Ok nothing) writes = tt
+      batch_failed (Err status) writes = (
+        becomes ended follows,
+        (
+          writes.err.1 ∙ made.makes.rest.last,
+          λ room. let same = (made.makes.not_full room).0 in (
+            writes.err.0 ∙ ap (λ (v : OpenStoreValue C). v.recent.entries) same,
+            ap (λ (v : OpenStoreValue C). v.waiting) writes.rest
+                ∙ ap (λ (v : OpenStoreValue C). v.waiting) same,
           ),
         ),
-        tt,
       )
-      batch_becomes (Err status) writes =
-          (tt, becomes (record roomy { store = value; mode = mode }) follows)
+
+      -- then no call was made, or the log is broken
+      batch_breaks : (result : Result (Unit {0}) Status)
+          → WritesBatch env (formats (options_in roomy)).order roomy.store mid items sync result value
+          to → OnErr result ((IsMemtableFull before → ⊥) → IsBroken mode ⊎ (to ≡ from))
+      batch_breaks (Ok nothing) writes = tt
+      batch_breaks (Err status) writes = λ room. ⊎_elim
+          (λ (still : to ≡ mid). inr (still ∙ (made.makes.not_full room).1))
+          (λ (broke : value.log.writer.broken ≡ true). inl (follows_broken mode value follows broke))
+          writes.breaks
 
       -- the memtable that room was made in is empty
       in_empty : IsFull before.options.write_buffer_size before.store.recent → {status : Status}
@@ -254,19 +323,26 @@ module _ {E C FP F P : Type 0} {B : Boxed} {keys : InternalOrder C} {key_filters
           → WritesBatch env (formats (options_in roomy)).order roomy.store mid items sync result value
           to → IsSoundCall {T = Unit {0}} env (formats (options_in roomy)).order any_meaning
           roomy.store mid result value to
-          → EngineServes env choices done_or before from (write items sync) result
-          (record roomy { store = value; mode = mode }) to
+          → EngineWrites env choices before from items sync result ended to
       batch_serves result short writes_in sound_in =
           let writes = subst (λ (f : Format).
           WritesBatch env f.order roomy.store mid items sync result value to) same_format writes_in in
           let sound = subst (λ (f : Format). IsSoundCall {T = Unit {0}} env f.order any_meaning
           roomy.store mid result value to) same_format sound_in in
+          let stepped = step result short writes sound in
+          let row = write_row keys env formats before from ended to items sync result stepped in
           record {
+            ok = row.0;
+            err = row.1;
+            step = stepped;
+            halted = λ halted. absurd (not_halted before.mode opened halted);
+            written = batch_written result writes_in;
+            waits = batch_waits result writes_in;
+            failed = batch_failed result writes_in;
+            breaks = batch_breaks result writes_in;
+            snapshots = ap (λ (e : EngineOf E C FP F B). e.snapshots) made.rest;
             options = batch_tells env choices before from roomy mid made value
                 (ap (λ (v : OpenStoreValue C). v.cmp) writes.rest);
-            halted = λ halted. absurd (not_halted before.mode opened halted);
-            becomes = batch_becomes result writes_in;
-            step = step result short writes sound;
             rest = rest_written env before from opened choices items sync roomy mid made value mode
                 to result writes_in;
             time = λ modelled.

@@ -1,51 +1,36 @@
 -- What each call on an engine does: one record a call, the same of an engine and of a store that
--- holds its environment.
-use Rattle.std.specs.Prelude.{◌≡◌, ◌≤◌, ◌⊎◌, ℕ, Bool, false, List, Some, None, Result, Ok, Err, OnOk, OnErr, IfOk, IfErr, IsErrAnd, IsTrue}
+-- holds its environment. Each names the row of the machine that the call takes, Ok and Err.
+use Rattle.std.specs.Prelude.{◌≡◌, ◌≤◌, ◌⊎◌, ℕ, Bool, false, List, [], Option, Some, None, Result, Ok, Err, OnOk, OnErr, IfOk, IfErr, IsErrAnd, IsTrue, MatchResult}
+use Rattle.leveldb_base.specs.History.{Item}
 use Rattle.leveldb_base.specs.declared.error.Status.{Status}
 use Rattle.leveldb_base.specs.Error.{IsOutOfMemory}
 use Rattle.leveldb_env.specs.declared.env.Env.{Ghosts}
 use Rattle.leveldb_env.specs.declared.filter.FilterPolicy.{Ghosts as FilterGhosts}
 use Rattle.leveldb_env.specs.Env.{HasCause}
 use Rattle.leveldb_env.specs.Options.{Boxed, OptionsOf}
+use Rattle.leveldb_iter.specs.Moves.{IsRefusedFor}
+use Rattle.leveldb_iter.specs.Snapshot.{Gives as AddsHeld, Releases as DropsHeld}
+use Rattle.leveldb_iter.specs.declared.moves.Move.{Move}
+use Rattle.leveldb_iter.specs.declared.moves.Step.{Step}
+use Rattle.leveldb_iter.specs.declared.snapshot.Snapshot.{Snapshot as HeldSnapshot}
 use Rattle.leveldb_store.specs.BuildTable.{TableChoices}
 use Rattle.leveldb_store.specs.FoundLogs.{HasLogNotKept}
-use Rattle.leveldb_version.specs.Format.{Format, Meaning, Agrees}
-use Rattle.leveldb_store.specs.Room.{FailsFor, TellsOnly}
+use Rattle.leveldb_store.specs.Read.{GetsFromMemory, GetsFromTables}
+use Rattle.leveldb_store.specs.Room.{FailsFor, IsFull, TellsOnly}
 use Rattle.leveldb_store.specs.SoundCall.{TimeGoesOn}
-use Rattle.leveldb_store.specs.Write.{open_log_path}
-use Rattle.rusty_leveldb.specs.State.{Opening, Request, Answer, open_mode, open_store, write, get, walk, get_snapshot, release_snapshot, flush, close, abandon}
-use Rattle.rusty_leveldb.specs.Serves.{done_or, given_engine}
-use Rattle.rusty_leveldb.specs.Engine.{IsClosed, IsBroken, IsClosedOrBroken, RefusedByMode, AnswersAs, Answers, WriteExcused, SyncExcused, CloseExcused, GetFails, SnapshotExcused, ReleaseExcused, WalkExcused, IsStoreName, IsOpening, HasOwnLock, WritesIntoRoom, formats_of, holds_lock, options_in}
+use Rattle.leveldb_store.specs.View.{MoveFails}
+use Rattle.leveldb_store.specs.Write.{open_log_path, with_writer}
+use Rattle.leveldb_version.specs.Batches.{Each}
+use Rattle.leveldb_version.specs.Format.{Format, IsTableFault, Meaning, Agrees}
+use Rattle.rusty_leveldb.specs.State.{Opening, Request, Snapshot, open_mode, open_store, write, get, get_snapshot, release_snapshot, flush, close, abandon}
+use Rattle.rusty_leveldb.specs.Serves.{done_or, found_or, given_engine, snapshot_of, snapshot_or}
+use Rattle.rusty_leveldb.specs.Engine.{IsClosed, IsBroken, IsClosedOrBroken, ReadsAt, RefusedByMode, AnswersAs, Answers, WriteExcused, SyncExcused, CloseExcused, GetFails, SnapshotExcused, ReleaseExcused, WalkExcused, IsStoreName, IsOpening, HasOwnLock, WritesIntoRoom, formats_of, holds_lock, options_in, tables_by}
 use Rattle.rusty_leveldb.specs.Frame.{IsOwn, MayTouchOrLog, Spares}
+use Rattle.rusty_leveldb.specs.Machine.{AllDurable, Closes, Gives, Opens, Releases, Writes, risk_of}
+use Rattle.rusty_leveldb.specs.Rows.{FindsValue, FromEachState, FromStatesOf, IsAbandoned, NotClosed, NotFlushed, NotOpened, NotUnlocked, NotWritten, Row, StaysAsItWas, WalksView}
 use Rattle.rusty_leveldb.specs.Unopened.{IsLockGivenBack, IsLockHeld, MakesLockAlone, NeverOpens, OpenExcused}
 use Rattle.rusty_leveldb.specs.Boxes.{EngineOf, InternalOrder}
-
--- ---- why a call fails
-
-module _ {E C FP F P : Type 0} {B : Boxed} {keys : InternalOrder C} {key_filters : FilterGhosts P}
-    (env : Ghosts E F) (choices : OptionsOf C FP B → TableChoices keys key_filters) where
-  -- Why a call fails, by its request; each failed call of the device is the reason for which a
-  -- flush or a close fails. The calls for snapshots make none, and a walk fails as a whole for none:
-  -- its moves do.
-  abbrev pub HasReason : {T : Type 0} → EngineOf E C FP F B → E → Request → Result T Status → E
-      → Type 0
-  HasReason before from (get at key) result to =
-      GetFails keys env (formats_of choices) before from at key result to
-  HasReason before from (walk at moves) result to = (env.failures from ≤ env.failures to)
-      × IfErr result (WalkExcused before at)
-  HasReason before from get_snapshot result to = IfErr result (SnapshotExcused before)
-  HasReason before from (release_snapshot one) result to = IfErr result (ReleaseExcused before one)
-  HasReason before from (write items sync) result to =
-      FailsFor (WriteExcused env choices before from items) (env.failures from) (env.failures to)
-      result
-  HasReason before from flush result to =
-      HasCause (SyncExcused env (formats_of choices) before from to) (env.failures from)
-      (env.failures to) result
-  HasReason before from close result to =
-      HasCause (CloseExcused env (formats_of choices) before from to) (env.failures from)
-      (env.failures to) result
-  HasReason before from request result to =
-      HasCause (λ _. ⊥) (env.failures from) (env.failures to) result
+use Rattle.rusty_leveldb.specs.Walks.{walk_of, walked_or}
 
 -- ---- what a call leaves alone, whatever the files are
 
@@ -80,18 +65,10 @@ module _ {E C FP F : Type 0} {B : Boxed} (env : Ghosts E F) where
     pub lock : IsTrue env.models_disk
         → IsLockLeft request result (holds_lock env before from) (holds_lock env before to)
 
--- ---- calls on an engine
+-- ---- what becomes of an engine
 
 module _ {E C FP F : Type 0} {B : Boxed} where
-  -- the mode refuses the request: of a closed store any, of a broken one those that write
-  abbrev pub IsHalted : EngineOf E C FP F B → Request → Type 0
-  IsHalted engine (get at key) = IsClosed engine.mode
-  IsHalted engine (walk at moves) = IsClosed engine.mode
-  IsHalted engine get_snapshot = IsClosed engine.mode
-  IsHalted engine (release_snapshot one) = IsClosed engine.mode
-  IsHalted engine request = IsClosedOrBroken engine.mode
-
-  -- what a read leaves of an engine: its mode and its store, but for the seeks that its live files
+  -- what a read leaves of an engine: its mode, and its store but for the seeks that its live files
   -- may take, and which of them was chosen since it has none left
   abbrev pub IsReadOnly : EngineOf E C FP F B → EngineOf E C FP F B → Type 0
   IsReadOnly before after = (after.mode ≡ before.mode)
@@ -101,48 +78,215 @@ module _ {E C FP F : Type 0} {B : Boxed} where
   abbrev pub KeepsModeOrBreaks : EngineOf E C FP F B → EngineOf E C FP F B → Type 0
   KeepsModeOrBreaks before after = IsBroken after.mode ⊎ (after.mode ≡ before.mode)
 
-  -- What becomes of an engine. A read leaves its mode and its store. A write or a flush that is Ok
-  -- leaves its mode; a write that fails may break it, and a flush that fails does, but out of
-  -- memory. `close` closes it, or leaves it broken, or closed if it was.
-  abbrev pub BecomesOf : {T : Type 0} → EngineOf E C FP F B → Request → Result T Status
-      → EngineOf E C FP F B → Type 0
-  BecomesOf before (get at key) result after = IsReadOnly before after
-  BecomesOf before (walk at moves) result after = IsReadOnly before after
-  BecomesOf before get_snapshot result after = IsReadOnly before after
-  BecomesOf before (release_snapshot one) result after = IsReadOnly before after
-  BecomesOf before (write items sync) result after =
-      OnOk result ((after.mode ≡ before.mode) × WritesIntoRoom before items after)
-      × OnErr result (KeepsModeOrBreaks before after)
-  BecomesOf before flush result after = OnOk result (after.mode ≡ before.mode)
-      × IfErr result (λ e. KeepsModeOrBreaks before after
-      × (IsClosedOrBroken after.mode ⊎ IsOutOfMemory e))
-  BecomesOf before close result after = OnOk result (IsClosed after.mode)
-      × OnErr result (IsBroken after.mode
-      ⊎ (IsClosed before.mode × IsClosed after.mode))
-  BecomesOf before request result after = KeepsModeOrBreaks before after
+  -- the memtable of an engine is full
+  abbrev pub IsMemtableFull : EngineOf E C FP F B → Type 0
+  IsMemtableFull engine = IsFull engine.options.write_buffer_size engine.store.recent
+
+  -- no answer changes: the last number is as before, and where the memtable wasn't full so are the
+  -- entries in memory
+  abbrev pub KeepsMemory : EngineOf E C FP F B → EngineOf E C FP F B → Type 0
+  KeepsMemory before after =
+      (after.store.set.last_sequence ≡ before.store.set.last_sequence)
+      × ((IsMemtableFull before → ⊥)
+      → (after.store.recent.entries ≡ before.store.recent.entries)
+      × (after.store.waiting ≡ before.store.waiting))
+
+  -- no memtable waits to become a table, or the one that waited does, where the one that is written
+  -- to wasn't full
+  abbrev pub OneWaitsAtMost : EngineOf E C FP F B → EngineOf E C FP F B → Type 0
+  OneWaitsAtMost before after = (after.store.waiting ≡ None)
+      ⊎ ((IsMemtableFull before → ⊥) × (after.store.waiting ≡ before.store.waiting))
+
+  -- a sync leaves all that is in memory, but for whether the log's writer is broken
+  abbrev pub KeepsAllButWriter : EngineOf E C FP F B → EngineOf E C FP F B → Type 0
+  KeepsAllButWriter before after =
+      after.store ≡ with_writer before.store after.store.log.writer
+
+  -- the mode refuses a call, and nothing changes
+  abbrev pub IsRefusedByMode : {T : Type 0} → EngineOf E C FP F B → E → Result T Status
+      → EngineOf E C FP F B → E → Type 0
+  IsRefusedByMode before from result after to =
+      (to ≡ from) × (after ≡ before) × IsErrAnd result (RefusedByMode before.mode)
+
+-- ---- calls on an engine
 
 module _ {E C FP F P : Type 0} {B : Boxed} {keys : InternalOrder C} {key_filters : FilterGhosts P}
-    (env : Ghosts E F) (choices : OptionsOf C FP B → TableChoices keys key_filters) where
-  -- a call on an engine, with its answer
-  pub record EngineServes {T : Type 0} (answer_of : Result T Status → Answer)
-      (before : EngineOf E C FP F B) (from : E) (request : Request) (result : Result T Status)
+    (env : Ghosts E F) (choices : OptionsOf C FP B → TableChoices keys key_filters)
+    (before : EngineOf E C FP F B) (from : E) where
+  -- the row that the call takes, where the disk is modelled
+  abbrev Takes : Row → EngineOf E C FP F B → E → Type 0
+  Takes row after to =
+      FromEachState keys env (formats_of choices) (Some before) from (Some after) to row
+
+  -- A call that writes a batch of these items.
+  pub record EngineWrites (items : List Item) (sync : Bool) (result : Result (Unit {0}) Status)
       (after : EngineOf E C FP F B) (to : E) : Type 0 where
-    -- the options stay, but for the sink of their log
+    -- Ok: the batch is the history's last, and durable if that was asked for
+    pub ok : OnOk result (Takes (λ _ old new. Writes old items sync new) after to)
+    -- Err: no answer changes; the store may be broken, and then the batch may be found later
+    pub err : IfErr result (λ e. Takes (NotWritten items e) after to)
+    -- so it is a step of the machine, where an Err has a cause
+    pub step : Answers keys env (formats_of choices) (Some before) from (write items sync)
+        (done_or result) (Some after) to
+    -- over any environment: a closed or broken store refuses it, and nothing changes
+    pub halted : IsClosedOrBroken before.mode → IsRefusedByMode before from result after to
+    -- Ok leaves the mode, and the batch is in a memtable that had room
+    pub written : OnOk result ((after.mode ≡ before.mode) × WritesIntoRoom before items after)
+    pub waits : OnOk result (OneWaitsAtMost before after)
+    -- Err leaves what memory shows, and the mode, or a broken store
+    pub failed : OnErr result (KeepsModeOrBreaks before after × KeepsMemory before after)
+    -- where the memtable wasn't full, an Err came before any call of the device, or broke the store
+    pub breaks : OnErr result ((IsMemtableFull before → ⊥) → IsBroken after.mode ⊎ (to ≡ from))
+    -- the same snapshots are held, and the options stay, but for the sink of their log
+    pub snapshots : after.snapshots ≡ before.snapshots
     pub options : TellsOnly (options_in before) (options_in after)
-    -- where the mode refuses the request, nothing changes
-    pub halted : IsHalted before request → (to ≡ from) × (after ≡ before)
-        × IsErrAnd result (RefusedByMode before.mode)
-    -- what becomes of the engine, over any environment
-    pub becomes : BecomesOf before request result after
-    -- where the disk is observed, the call is a step of the machine
-    pub step : Answers keys env (formats_of choices) (Some before) from request (answer_of result)
-        (Some after) to
-    -- and in any state of the disk it leaves this alone
-    pub rest : LeavesRest env before from request result after to
-    -- no moment of the disk is taken back
+    -- in any state of the disk it leaves this alone, and no moment is taken back
+    pub rest : LeavesRest env before from (write items sync) result after to
     pub time : TimeGoesOn env from to
     -- why it fails
-    pub cause : HasReason env choices before from request result to
+    pub cause : FailsFor (WriteExcused env choices before from items) (env.failures from)
+        (env.failures to) result
+
+  -- A call that makes durable all that was written.
+  pub record EngineFlushes (result : Result (Unit {0}) Status) (after : EngineOf E C FP F B)
+      (to : E) : Type 0 where
+    -- Ok: all is durable
+    pub ok : OnOk result (Takes (λ _ old new. AllDurable old new) after to)
+    -- Err: no answer changes; the store may be broken
+    pub err : IfErr result (λ e. Takes (NotFlushed e) after to)
+    pub step : Answers keys env (formats_of choices) (Some before) from flush (done_or result)
+        (Some after) to
+    -- over any environment: a closed or broken store refuses it, and nothing changes
+    pub halted : IsClosedOrBroken before.mode → IsRefusedByMode before from result after to
+    -- Ok leaves the mode; Err breaks an open store, but out of memory
+    pub mode : OnOk result (after.mode ≡ before.mode)
+    pub failed : IfErr result (λ e. KeepsModeOrBreaks before after
+        × (IsClosedOrBroken after.mode ⊎ IsOutOfMemory e))
+    pub memory : KeepsAllButWriter before after
+    pub snapshots : after.snapshots ≡ before.snapshots
+    pub options : TellsOnly (options_in before) (options_in after)
+    pub rest : LeavesRest env before from flush result after to
+    pub time : TimeGoesOn env from to
+    -- an Ok counts no failure of the device; why it fails
+    pub cause : HasCause (SyncExcused env (formats_of choices) before from to) (env.failures from)
+        (env.failures to) result
+
+  -- A call that looks up a key, now or at a snapshot.
+  pub record EngineGets (at : Option Snapshot) (key : List ℕ)
+      (result : Result (Option (List ℕ)) Status) (after : EngineOf E C FP F B) (to : E)
+      : Type 0 where
+    -- Ok: the key's value in the history, or none
+    pub ok : IfOk result (λ value. Takes (FindsValue at key value) after to)
+    -- Err: nothing changes
+    pub err : OnErr result (Takes StaysAsItWas after to)
+    pub step : Answers keys env (formats_of choices) (Some before) from (get at key)
+        (found_or result) (Some after) to
+    -- over any environment: a closed store refuses it, and nothing changes
+    pub halted : IsClosed before.mode → IsRefusedByMode before from result after to
+    -- over any files: the value is that of memory, or else of the first table on the way that has
+    -- the key; none on this way is passed over that can't be read
+    pub way : OnOk result ((sequence : ℕ) × ReadsAt before at sequence
+        × (GetsFromMemory keys env (tables_by (formats_of choices) before) before.store from
+        before.tables sequence key result after.store to after.tables
+        ⊎ GetsFromTables keys env (tables_by (formats_of choices) before) before.store from
+        before.tables sequence key result after.store to after.tables))
+    pub reads : IsReadOnly before after
+    pub snapshots : after.snapshots ≡ before.snapshots
+    pub options : TellsOnly (options_in before) (options_in after)
+    pub rest : LeavesRest env before from (get at key) result after to
+    pub time : TimeGoesOn env from to
+    pub cause : GetFails keys env (formats_of choices) before from at key result to
+
+  -- A call that makes moves of a walk over the store's view, now or at a snapshot, with the steps
+  -- that say where they led.
+  pub record EngineWalks (at : Option Snapshot) (moves : List Move) (given : List Step)
+      (result : Result (Unit {0}) Status) (after : EngineOf E C FP F B) (to : E) : Type 0 where
+    -- Ok: each move led where a walk over the view leads, or failed for a cause
+    pub ok : OnOk result (Takes (WalksView at moves given) after to)
+    -- Err: no move was made, and nothing changes
+    pub err : OnErr result (Takes StaysAsItWas after to)
+    pub step : Answers keys env (formats_of choices) (Some before) from (walk_of at moves)
+        (walked_or given result) (Some after) to
+    -- over any environment: a closed store refuses it, and nothing changes
+    pub halted : IsClosed before.mode → IsRefusedByMode before from result after to
+    pub reads : IsReadOnly before after
+    pub snapshots : after.snapshots ≡ before.snapshots
+    pub options : TellsOnly (options_in before) (options_in after)
+    pub rest : LeavesRest env before from (walk_of at moves) result after to
+    pub time : TimeGoesOn env from to
+    -- no failure is forgotten; it fails as a whole for none of the device, but its moves may
+    pub later : env.failures from ≤ env.failures to
+    pub cause : IfErr result (WalkExcused before at)
+    -- over whatever files, each move has a step, and one that failed a cause
+    pub refused : OnOk result (Each (λ one step. IsRefusedFor step one
+        (MoveFails (λ e. IsTableFault (formats_of choices (options_in before)) e.code)
+        (env.failures from) (env.failures to) one)) moves given)
+    -- without a walk there are no steps
+    pub none : OnErr result (given ≡ [])
+
+  -- A call that gives out a snapshot.
+  pub record EngineHolds (result : Result HeldSnapshot Status) (after : EngineOf E C FP F B)
+      (to : E) : Type 0 where
+    -- Ok: one more is held, of the last number
+    pub ok : IfOk result (λ one. Takes (λ _ old new. Gives old (snapshot_of one) new) after to)
+    -- Err: nothing changes
+    pub err : OnErr result (Takes StaysAsItWas after to)
+    pub step : Answers keys env (formats_of choices) (Some before) from get_snapshot
+        (snapshot_or result) (Some after) to
+    -- over any environment: no call of it is made, and a closed store refuses this one
+    pub still : to ≡ from
+    pub halted : IsClosed before.mode → IsRefusedByMode before from result after to
+    pub reads : IsReadOnly before after
+    -- the list of those that are held has this one more, or is as it was
+    pub snapshots : MatchResult result
+        (λ one. AddsHeld before.store.set.last_sequence before.snapshots one after.snapshots)
+        (λ e. after.snapshots ≡ before.snapshots)
+    pub options : TellsOnly (options_in before) (options_in after)
+    pub rest : LeavesRest env before from get_snapshot result after to
+    pub cause : IfErr result (SnapshotExcused before)
+
+  -- A call that releases a snapshot.
+  pub record EngineReleases (one : HeldSnapshot) (result : Result (Unit {0}) Status)
+      (after : EngineOf E C FP F B) (to : E) : Type 0 where
+    -- Ok: it isn't held any more
+    pub ok : OnOk result (Takes (λ _ old new. Releases old (snapshot_of one) new) after to)
+    -- Err: nothing changes
+    pub err : OnErr result (Takes StaysAsItWas after to)
+    pub step : Answers keys env (formats_of choices) (Some before) from
+        (release_snapshot (snapshot_of one)) (done_or result) (Some after) to
+    -- over any environment: no call of it is made, and a closed store refuses this one
+    pub still : to ≡ from
+    pub halted : IsClosed before.mode → IsRefusedByMode before from result after to
+    pub reads : IsReadOnly before after
+    -- the list of those that are held lacks this one, or is as it was
+    pub snapshots : MatchResult result
+        (λ nothing. DropsHeld before.snapshots one after.snapshots)
+        (λ e. after.snapshots ≡ before.snapshots)
+    pub options : TellsOnly (options_in before) (options_in after)
+    pub rest : LeavesRest env before from (release_snapshot (snapshot_of one)) result after to
+    pub cause : IfErr result (ReleaseExcused before (snapshot_of one))
+
+  -- A call that makes all durable and gives back the lock.
+  pub record EngineCloses (result : Result (Unit {0}) Status) (after : EngineOf E C FP F B)
+      (to : E) : Type 0 where
+    -- Ok: all is durable, nothing is held, the lock is free, and the store is closed
+    pub ok : OnOk result (Takes (λ _ old new. Closes old new) after to)
+    -- Err: no answer changes, and a store that was open is broken
+    pub err : OnErr result (Takes NotClosed after to)
+    pub step : Answers keys env (formats_of choices) (Some before) from close (done_or result)
+        (Some after) to
+    -- over any environment: a closed or broken store refuses it, and nothing changes
+    pub halted : IsClosedOrBroken before.mode → IsRefusedByMode before from result after to
+    pub mode : OnOk result (IsClosed after.mode)
+    pub failed : OnErr result (IsBroken after.mode ⊎ (IsClosed before.mode × IsClosed after.mode))
+    pub memory : KeepsAllButWriter before after
+    pub snapshots : after.snapshots ≡ before.snapshots
+    pub options : TellsOnly (options_in before) (options_in after)
+    pub rest : LeavesRest env before from close result after to
+    pub time : TimeGoesOn env from to
+    -- an Ok counts no failure of the device; why it fails
+    pub cause : HasCause (CloseExcused env (formats_of choices) before from to)
+        (env.failures from) (env.failures to) result
 
 module _ {E C FP F : Type 0} {B : Boxed} (keys : InternalOrder C) (env : Ghosts E F)
     (formats : OptionsOf C FP B → Format) where
@@ -150,6 +294,10 @@ module _ {E C FP F : Type 0} {B : Boxed} (keys : InternalOrder C) (env : Ghosts 
   pub record EngineAbandons (engine : EngineOf E C FP F B) (from : E)
       (result : Result (Unit {0}) Status)
       (to : E) : Type 0 where
+    -- Ok: nothing is held and the lock is free; of a closed store nothing changes
+    pub ok : OnOk result (FromEachState keys env formats (Some engine) from None to IsAbandoned)
+    -- Err: nothing is held, and the lock is as it was
+    pub err : OnErr result (FromEachState keys env formats (Some engine) from None to NotUnlocked)
     -- one that is closed has given back its lock
     pub halted : IsClosed engine.mode → (to ≡ from) × OnErr result ⊥
     -- where the disk is observed, the call is a step of the machine
@@ -181,6 +329,16 @@ module _ {E C FP F P : Type 0} {B : Boxed} {keys : InternalOrder C} {key_filters
   -- a call that opens the store under a name, as it is asked to by these options
   pub record EngineOpens (name : List ℕ) (options : OptionsOf C FP B) (asked : Opening) (from : E)
       (result : Result (EngineOf E C FP F B) Status) (to : E) : Type 0 where
+    -- Ok: what was pending is in the history or forgotten, nothing is held, and the lock is
+    pub ok : IfOk result (λ engine. (opening : Opening) → IsOpening name asked opening
+        → (meaning : Meaning) → Agrees opening.format meaning
+        → FromStatesOf keys env (formats_of choices) (risk_of (open_store opening)) name meaning None
+        from (Some engine) to (λ _ old new. Opens old opening new))
+    -- Err: no store is open, and the history is as it was
+    pub err : IfErr result (λ e. (opening : Opening) → IsOpening name asked opening
+        → (meaning : Meaning) → Agrees opening.format meaning
+        → FromStatesOf keys env (formats_of choices) (risk_of (open_store opening)) name meaning None
+        from None to (NotOpened opening e))
     pub opened : IfOk result (IsOpened env (formats_of choices) name options)
     -- the lock was free, and is held
     pub held : OnOk result (IsTrue env.models_disk

@@ -12,6 +12,7 @@ pub mod Unopened
 pub mod Calls
 pub mod Views
 pub mod Walks
+pub mod Rows
 pub mod Iterator
 pub mod IteratorLaws
 pub mod Shell

@@ -1,11 +1,9 @@
 //! The end of a store's work: giving back its lock.
 ghost use Rattle.std.specs.Prelude.{false};
 ghost use Rattle.leveldb_env.specs.Env.{lock_set, same, ChangesFiles, FilesUnchanged, ChangesLocks, HasCause};
-ghost use Rattle.rusty_leveldb.specs.State.{close};
-ghost use Rattle.rusty_leveldb.specs.Serves.{done_or};
 ghost use Rattle.leveldb_store.specs.BuildTable.{choices_of};
 ghost use Rattle.leveldb_version.specs.Format.{format_of};
-ghost use Rattle.rusty_leveldb.specs.Calls.{EngineServes, EngineAbandons};
+ghost use Rattle.rusty_leveldb.specs.Calls.{EngineAbandons, EngineCloses};
 
 use super::engine::{Engine, Mode};
 use leveldb_base::cmp::{Cmp, InternalKeyCmp, UserCmp};
@@ -21,7 +19,7 @@ impl<E: Env, C: UserCmp + Copy, FP: FilterPolicy + Copy> Engine<E, C, FP> {
         ensures { let choices = choices_of C.Cmp FP.FilterPolicy
             ⟦<InternalKeyCmp<C> as Cmp>⟧ ⟦<InternalFilterPolicy<FP> as FilterPolicy>⟧
             ⟦<CompressorList as Compressors>⟧.codings in
-            EngineServes E.Env choices done_or self.old env.old close result self.new env.new }
+            EngineCloses E.Env choices self.old env.old result self.new env.new }
     {
         self.check_open()?;
         if let Err(status) = self.store.sync(env) {

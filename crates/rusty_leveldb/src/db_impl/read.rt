@@ -1,9 +1,10 @@
 //! Reading from a store.
-ghost use Rattle.std.specs.Prelude.{None, Some};
-ghost use Rattle.rusty_leveldb.specs.State.{get};
-ghost use Rattle.rusty_leveldb.specs.Serves.{found_or, snapshot_of};
+ghost use Rattle.std.specs.Prelude.{◌≡◌, None, Some, OnOk, IfErr};
+ghost use Rattle.leveldb_base.specs.KeyTypes.{IsLongKey};
+ghost use Rattle.leveldb_base.specs.declared.error.StatusCode.TheVariants.{InvalidArgument};
+ghost use Rattle.rusty_leveldb.specs.Serves.{snapshot_of};
 ghost use Rattle.leveldb_store.specs.BuildTable.{choices_of};
-ghost use Rattle.rusty_leveldb.specs.Calls.{EngineServes};
+ghost use Rattle.rusty_leveldb.specs.Calls.{EngineGets};
 
 use super::engine::Engine;
 use bytes::Bytes;
@@ -21,8 +22,7 @@ impl<E: Env, C: UserCmp + Copy, FP: FilterPolicy + Copy> Engine<E, C, FP> {
         ensures { let choices = choices_of C.Cmp FP.FilterPolicy
             ⟦<InternalKeyCmp<C> as Cmp>⟧ ⟦<InternalFilterPolicy<FP> as FilterPolicy>⟧
             ⟦<CompressorList as Compressors>⟧.codings in
-            EngineServes E.Env choices found_or self.old env.old (get None key.now) result
-            self.new env.new }
+            EngineGets E.Env choices self.old env.old None key.now result self.new env.new }
     {
         self.check_not_closed()?;
         check_key_size(self.alloc, key)?;
@@ -38,8 +38,8 @@ impl<E: Env, C: UserCmp + Copy, FP: FilterPolicy + Copy> Engine<E, C, FP> {
         ensures { let choices = choices_of C.Cmp FP.FilterPolicy
             ⟦<InternalKeyCmp<C> as Cmp>⟧ ⟦<InternalFilterPolicy<FP> as FilterPolicy>⟧
             ⟦<CompressorList as Compressors>⟧.codings in
-            EngineServes E.Env choices found_or self.old env.old
-            (get (Some (snapshot_of snapshot)) key.now) result self.new env.new }
+            EngineGets E.Env choices self.old env.old (Some (snapshot_of snapshot)) key.now result
+            self.new env.new }
     {
         self.check_not_closed()?;
         self.check_held(snapshot)?;

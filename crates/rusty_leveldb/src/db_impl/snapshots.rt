@@ -1,12 +1,11 @@
 //! Snapshots of a store: the numbers at which its readers hold it.
 ghost use Rattle.std.specs.Prelude.{◌≡◌, Some, Contains, OnOk, IfErr};
 ghost use Rattle.leveldb_base.specs.declared.error.StatusCode.TheVariants.{InvalidArgument};
-ghost use Rattle.rusty_leveldb.specs.State.{get_snapshot, release_snapshot};
 ghost use Rattle.rusty_leveldb.specs.Causes.{IsNotHeld};
-ghost use Rattle.rusty_leveldb.specs.Serves.{done_or, snapshot_or, snapshot_of};
+ghost use Rattle.rusty_leveldb.specs.Serves.{snapshot_of};
 ghost use Rattle.rusty_leveldb.specs.Engine.{held_in};
 ghost use Rattle.leveldb_store.specs.BuildTable.{choices_of};
-ghost use Rattle.rusty_leveldb.specs.Calls.{EngineServes};
+ghost use Rattle.rusty_leveldb.specs.Calls.{EngineHolds, EngineReleases};
 ghost use Rattle.rusty_leveldb.specs.Views.{RefusesUnknown};
 
 use super::engine::Engine;
@@ -24,8 +23,7 @@ impl<E: Env, C: UserCmp + Copy, FP: FilterPolicy + Copy> Engine<E, C, FP> {
         ensures { let choices = choices_of C.Cmp FP.FilterPolicy
             ⟦<InternalKeyCmp<C> as Cmp>⟧ ⟦<InternalFilterPolicy<FP> as FilterPolicy>⟧
             ⟦<CompressorList as Compressors>⟧.codings in
-            (at : E) → EngineServes E.Env choices snapshot_or self.old at get_snapshot result
-            self.new at }
+            (at : E) → EngineHolds E.Env choices self.old at result self.new at }
     {
         self.check_not_closed()?;
         let last = self.store.last_sequence();
@@ -39,8 +37,7 @@ impl<E: Env, C: UserCmp + Copy, FP: FilterPolicy + Copy> Engine<E, C, FP> {
         ensures { let choices = choices_of C.Cmp FP.FilterPolicy
             ⟦<InternalKeyCmp<C> as Cmp>⟧ ⟦<InternalFilterPolicy<FP> as FilterPolicy>⟧
             ⟦<CompressorList as Compressors>⟧.codings in
-            (at : E) → EngineServes E.Env choices done_or self.old at
-            (release_snapshot (snapshot_of snapshot)) result self.new at }
+            (at : E) → EngineReleases E.Env choices self.old at snapshot result self.new at }
     {
         self.check_not_closed()?;
         self.check_held(snapshot)?;

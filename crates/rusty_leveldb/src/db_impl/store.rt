@@ -2,14 +2,14 @@
 ghost use Rattle.std.specs.Prelude.{◌≡◌, ◌∷◌, ◌++◌, List, [], Some, None, false, IfOk};
 ghost use Rattle.std.specs.Option.{option_map};
 ghost use Rattle.leveldb_mem.specs.WriteBatch.{item_of};
-ghost use Rattle.rusty_leveldb.specs.State.{write, get, get_snapshot, release_snapshot, flush, close};
-ghost use Rattle.rusty_leveldb.specs.Serves.{done_or, found_or, snapshot_or, snapshot_of};
+ghost use Rattle.rusty_leveldb.specs.Serves.{snapshot_of};
 ghost use Rattle.rusty_leveldb.specs.Engine.{opening_of};
 ghost use Rattle.leveldb_store.specs.BuildTable.{choices_of};
 ghost use Rattle.leveldb_version.specs.Format.{format_of};
-ghost use Rattle.rusty_leveldb.specs.Calls.{EngineServes, EngineAbandons, EngineOpens, result_map};
+ghost use Rattle.rusty_leveldb.specs.Calls.{EngineAbandons, EngineCloses, EngineFlushes, EngineGets};
+ghost use Rattle.rusty_leveldb.specs.Calls.{EngineHolds, EngineOpens, EngineReleases, EngineWalks};
+ghost use Rattle.rusty_leveldb.specs.Calls.{EngineWrites, result_map};
 ghost use Rattle.rusty_leveldb.specs.Iterator.{EngineIterates};
-ghost use Rattle.rusty_leveldb.specs.Walks.{EngineWalks};
 
 use super::engine::Engine;
 use crate::db_iter::{DBIterator, StoreTables};
@@ -34,7 +34,29 @@ pub struct Store<'e, E: Env, S: Drop> {
     state: S,
 }
 
-/// A store that was opened. Its lock stays held until `close` or `abandon` gives it back.
+/// A store that was opened: an ordered map from keys to values, kept in an environment's files.
+///
+/// Whatever calls are made and wherever crashes come, opening it again finds exactly the map of some
+/// prefix of the batches that were handed to its log. Each batch is found whole or not at all, and
+/// each that a synced write, `flush` or `close` made durable is found. A look-up, and each move of
+/// an iterator, gives what the sorted map of that history gives, now or at a snapshot. A call that
+/// fails changes no answer and has a named cause; at worst it breaks the store, which may then be
+/// read and abandoned. The lock is held until `close` or `abandon` gives it back, also if the store
+/// is dropped.
+///
+/// | Code | Where a call may return it |
+/// |---|---|
+/// | `OutOfMemory` | any call but `release_snapshot` and `abandon`: memory ran out |
+/// | that of the environment | any call but those for snapshots: a call of the device failed |
+/// | `InvalidArgument` | any call but `abandon`, of a closed store; a key or a batch of more than 2^30 bytes; a snapshot that isn't held; in `open` a name, an option, a missing store or a comparator that doesn't fit |
+/// | `IOError`, "reopen the store" | `put`, `delete`, `write`, `flush`, `close`: the store broke earlier |
+/// | `NotSupported` | `put`, `delete`, `write`, `open`: entries count for 2 GiB or more, no table is made of them, or numbers of entries or files are used up; `open`, and reads of tables: a compressor isn't set; `get_snapshot`: numbers are used up; `open`: files of more than it reads |
+/// | that of a compressor | `put`, `delete`, `write`, `open`: it failed to encode a block |
+/// | `LockError`, `AlreadyExists` | `open`: the lock is held; a store is there that must not be |
+/// | `Corruption` | a file of the store is damaged or missing |
+///
+/// At each call `Ok`, `Err` and `Crash` say what it leaves, and name in brackets the row of the
+/// machine that its contract has for this (`specs/Calls`).
 pub type DB<'e, E, C, FP> = Store<'e, E, Engine<E, C, FP>>;
 
 impl<E: Env, S: Drop> Drop for Store<'_, E, S> {
@@ -60,17 +82,18 @@ impl<'e, E: Env, S: Drop> Store<'e, E, S> {
 }
 
 impl<'e, E: Env, C: UserCmp + Copy, FP: FilterPolicy + Copy> Store<'e, E, Engine<E, C, FP>> {
-    /// Opens the store under this name, which isn't empty and doesn't end in a slash.
-    /// A missing store is made, or `InvalidArgument` if the options say so; one that is there is
-    /// opened, or `AlreadyExists` if they say so; a locked one is `LockError`. Options that
-    /// `Options::check` refuses make no call. An opening that fails gives back the lock that it
-    /// took, unless the device failed once more. A store that is locked, or is missing and isn't to
-    /// be made, or is there and must not be, or that has tables or logs and no `CURRENT`, or a
-    /// manifest whose edits can't be used, is never opened.
+    /// Opens the store under this name, which isn't empty and doesn't end in a slash. A missing store
+    /// is made, or `InvalidArgument` if the options say so; one that is there is opened, or
+    /// `AlreadyExists` if they say so; a locked one is `LockError`. Options that `Options::check`
+    /// refuses make no call.
     ///
-    /// After an Err nothing is said of which environment is left: `left` is only some one, since
-    /// the borrow of the environment is gone with the store that wasn't opened. `Engine::open` says
-    /// it of the environment that you give it.
+    /// Ok: the history is as it was, with the batch or without it whose write had broken the store;
+    /// nothing is held, and the lock is (`Opens`).
+    /// Err: the history is as it was, and the lock, unless the device failed once more
+    /// (`NotOpened`). But no contract says which environment this is, since its borrow is gone with
+    /// the store that wasn't opened: use this where a failed opening ends the program, and else
+    /// `Engine::open`, which says it of the environment that you give it, with `Store::around`.
+    /// Crash: a prefix of the history, with all that was durable.
     pub fn open(
         alloc: Global,
         name: &str,
@@ -89,105 +112,138 @@ impl<'e, E: Env, C: UserCmp + Copy, FP: FilterPolicy + Copy> Store<'e, E, Engine
         Ok(Store::around(env, engine))
     }
 
-    /// Gives the key this value, without a sync.
+    /// Sets the key to this value, without a sync.
+    ///
+    /// Ok: the history ends with this one change (`Writes`), which each look-up finds from now on.
+    /// Err: no answer changes; out of memory or by the device the store may be broken, and then the
+    /// change may be found when it is opened again (`NotWritten`).
+    /// Crash: the latest changes may be lost, up to those that are durable.
     pub fn put(&mut self, key: &[u8], value: &[u8]) -> Result<()>
         ensures same_reference { self.new.env.ghost_name ≡ self.old.env.ghost_name }
         ensures serves { let choices = choices_of C.Cmp FP.FilterPolicy
             ⟦<InternalKeyCmp<C> as Cmp>⟧ ⟦<InternalFilterPolicy<FP> as FilterPolicy>⟧
             ⟦<CompressorList as Compressors>⟧.codings in
-            EngineServes E.Env choices done_or self.old.state self.old.env.now
-            (write (item_of key.now (Some value.now) ∷ []) false) result self.new.state
-            self.new.env.now }
+            EngineWrites E.Env choices self.old.state self.old.env.now
+            (item_of key.now (Some value.now) ∷ []) false result self.new.state self.new.env.now }
     {
         self.state.put(&mut *self.env, key, value)
     }
 
-    /// Deletes the key, without a sync.
+    /// Deletes the key, which may be missing, without a sync.
+    ///
+    /// Ok: the history ends with this one change (`Writes`), and no look-up finds the key.
+    /// Err: no answer changes; out of memory or by the device the store may be broken, and then the
+    /// change may be found when it is opened again (`NotWritten`).
+    /// Crash: the latest changes may be lost, up to those that are durable.
     pub fn delete(&mut self, key: &[u8]) -> Result<()>
         ensures same_reference { self.new.env.ghost_name ≡ self.old.env.ghost_name }
         ensures serves { let choices = choices_of C.Cmp FP.FilterPolicy
             ⟦<InternalKeyCmp<C> as Cmp>⟧ ⟦<InternalFilterPolicy<FP> as FilterPolicy>⟧
             ⟦<CompressorList as Compressors>⟧.codings in
-            EngineServes E.Env choices done_or self.old.state self.old.env.now
-            (write (item_of key.now None ∷ []) false) result self.new.state self.new.env.now }
+            EngineWrites E.Env choices self.old.state self.old.env.now
+            (item_of key.now None ∷ []) false result self.new.state self.new.env.now }
     {
         self.state.delete(&mut *self.env, key)
     }
 
-    /// Makes the batch's changes together, after all others; with `sync` a crash keeps them from
-    /// then on. A memtable that is full becomes a table first. A failed append or sync breaks the
-    /// store: the batch isn't seen, and may be there when the store is opened again.
+    /// Makes the batch's changes together, in their order and after all others. A memtable that is
+    /// full becomes a table first.
+    ///
+    /// Ok: the history ends with the batch (`Writes`); with `sync` all of it is durable.
+    /// Err: no answer changes. An append or a sync of the log that fails breaks the store, and then
+    /// the batch may be found, whole and last, when it is opened again (`NotWritten`).
+    /// Crash: the latest batches may be lost, each whole, up to those that are durable.
     pub fn write(&mut self, batch: WriteBatch, sync: bool) -> Result<()>
         ensures same_reference { self.new.env.ghost_name ≡ self.old.env.ghost_name }
         ensures serves { let choices = choices_of C.Cmp FP.FilterPolicy
             ⟦<InternalKeyCmp<C> as Cmp>⟧ ⟦<InternalFilterPolicy<FP> as FilterPolicy>⟧
             ⟦<CompressorList as Compressors>⟧.codings in
-            EngineServes E.Env choices done_or self.old.state self.old.env.now
-            (write batch.items sync) result self.new.state self.new.env.now }
+            EngineWrites E.Env choices self.old.state self.old.env.now batch.items sync result
+            self.new.state self.new.env.now }
     {
         self.state.write(&mut *self.env, batch, sync)
     }
 
-    /// Makes a crash keep all batches.
+    /// Makes all batches durable.
+    ///
+    /// Ok: all are (`AllDurable`).
+    /// Err: no answer changes; an open store is broken, or, out of memory, may be as it was
+    /// (`NotFlushed`).
+    /// Crash: the latest batches may be lost, up to those that were durable before.
     pub fn flush(&mut self) -> Result<()>
         ensures same_reference { self.new.env.ghost_name ≡ self.old.env.ghost_name }
         ensures serves { let choices = choices_of C.Cmp FP.FilterPolicy
             ⟦<InternalKeyCmp<C> as Cmp>⟧ ⟦<InternalFilterPolicy<FP> as FilterPolicy>⟧
             ⟦<CompressorList as Compressors>⟧.codings in
-            EngineServes E.Env choices done_or self.old.state self.old.env.now
-            flush result self.new.state self.new.env.now }
+            EngineFlushes E.Env choices self.old.state self.old.env.now result self.new.state
+            self.new.env.now }
     {
         self.state.flush(&mut *self.env)
     }
 
-    /// The key's value, or none if it has none.
+    /// Returns the key's value, or none if it has none. A broken store is read, too.
+    ///
+    /// Ok: the value that the history's map has (`FindsValue`).
+    /// Err: nothing changes (`StaysAsItWas`).
+    /// Crash: as without this call.
     pub fn get(&mut self, key: &[u8]) -> Result<Option<Bytes>>
         ensures same_reference { self.new.env.ghost_name ≡ self.old.env.ghost_name }
         ensures serves { let choices = choices_of C.Cmp FP.FilterPolicy
             ⟦<InternalKeyCmp<C> as Cmp>⟧ ⟦<InternalFilterPolicy<FP> as FilterPolicy>⟧
             ⟦<CompressorList as Compressors>⟧.codings in
-            EngineServes E.Env choices found_or self.old.state self.old.env.now
-            (get None key.now) result self.new.state self.new.env.now }
+            EngineGets E.Env choices self.old.state self.old.env.now None key.now result
+            self.new.state self.new.env.now }
     {
         self.state.get(&mut *self.env, key)
     }
 
-    /// The key's value at a snapshot, or none if it had none. A snapshot that isn't held is
-    /// `InvalidArgument`.
+    /// Returns the value that the key had when the snapshot was given out, or none if it had none. A
+    /// snapshot that isn't held is `InvalidArgument`.
+    ///
+    /// Ok: the value that the history's map had (`FindsValue`).
+    /// Err: nothing changes (`StaysAsItWas`).
+    /// Crash: as without this call.
     pub fn get_at(&mut self, snapshot: &Snapshot, key: &[u8]) -> Result<Option<Bytes>>
         ensures same_reference { self.new.env.ghost_name ≡ self.old.env.ghost_name }
         ensures serves { let choices = choices_of C.Cmp FP.FilterPolicy
             ⟦<InternalKeyCmp<C> as Cmp>⟧ ⟦<InternalFilterPolicy<FP> as FilterPolicy>⟧
             ⟦<CompressorList as Compressors>⟧.codings in
-            EngineServes E.Env choices found_or self.old.state self.old.env.now
-            (get (Some (snapshot_of snapshot.now)) key.now) result self.new.state
-            self.new.env.now }
+            EngineGets E.Env choices self.old.state self.old.env.now
+            (Some (snapshot_of snapshot.now)) key.now result self.new.state self.new.env.now }
     {
         self.state.get_at(&mut *self.env, *snapshot, key)
     }
 
     /// Holds the store as it is now: look-ups at the snapshot find what look-ups find now, until it
-    /// is released or the store is closed.
+    /// is released or the store is closed. It makes no call of the device.
+    ///
+    /// Ok: one more snapshot is held, under a new number (`Gives`).
+    /// Err: nothing changes (`StaysAsItWas`).
+    /// Crash: as without this call; no snapshot is held after it.
     pub fn get_snapshot(&mut self) -> Result<Snapshot>
         ensures same_reference { self.new.env.ghost_name ≡ self.old.env.ghost_name }
         ensures serves { let choices = choices_of C.Cmp FP.FilterPolicy
             ⟦<InternalKeyCmp<C> as Cmp>⟧ ⟦<InternalFilterPolicy<FP> as FilterPolicy>⟧
             ⟦<CompressorList as Compressors>⟧.codings in
-            EngineServes E.Env choices snapshot_or self.old.state self.old.env.now
-            get_snapshot result self.new.state self.new.env.now }
+            EngineHolds E.Env choices self.old.state self.old.env.now result self.new.state
+            self.new.env.now }
     {
         self.state.get_snapshot()
     }
 
-    /// Releases a snapshot. One that isn't held is `InvalidArgument`; one that is held is released,
-    /// whatever memory there is.
+    /// Releases a snapshot, whatever memory there is. One that isn't held is `InvalidArgument`. It
+    /// makes no call of the device.
+    ///
+    /// Ok: the snapshot isn't held any more (`Releases`).
+    /// Err: nothing changes (`StaysAsItWas`).
+    /// Crash: as without this call; no snapshot is held after it.
     pub fn release_snapshot(&mut self, snapshot: Snapshot) -> Result<()>
         ensures same_reference { self.new.env.ghost_name ≡ self.old.env.ghost_name }
         ensures serves { let choices = choices_of C.Cmp FP.FilterPolicy
             ⟦<InternalKeyCmp<C> as Cmp>⟧ ⟦<InternalFilterPolicy<FP> as FilterPolicy>⟧
             ⟦<CompressorList as Compressors>⟧.codings in
-            EngineServes E.Env choices done_or self.old.state self.old.env.now
-            (release_snapshot (snapshot_of snapshot)) result self.new.state self.new.env.now }
+            EngineReleases E.Env choices self.old.state self.old.env.now snapshot result
+            self.new.state self.new.env.now }
     {
         self.state.release_snapshot(snapshot)
     }
@@ -195,6 +251,10 @@ impl<'e, E: Env, C: UserCmp + Copy, FP: FilterPolicy + Copy> Store<'e, E, Engine
     /// Makes moves of a walk over the store as it is now, or over a snapshot, from no position on.
     /// `steps` gains where each led. A move that fails leaves no position, and the next one goes on
     /// from there. A snapshot that isn't held is `InvalidArgument`.
+    ///
+    /// Ok: each move led where a walk over the history's sorted map leads (`WalksView`).
+    /// Err: no move was made, and nothing changes (`StaysAsItWas`).
+    /// Crash: as without this call.
     pub fn walk(
         &mut self,
         at: Option<Snapshot>,
@@ -212,8 +272,14 @@ impl<'e, E: Env, C: UserCmp + Copy, FP: FilterPolicy + Copy> Store<'e, E, Engine
         self.state.walk(&mut *self.env, at, moves, steps)
     }
 
-    /// An iterator over the store as it is now, at no position. It borrows the store: until it ends
-    /// nothing else is done with that.
+    /// Returns an iterator over the store as it is now, at no position. It borrows the store: until
+    /// it ends nothing else is done with that.
+    ///
+    /// Ok: the iterator is over the history's sorted map, and so is each move (`EngineIterates`,
+    /// `MovesIterator`); no move changes a file or a lock.
+    /// Err: there is no iterator, for a named cause.
+    /// After it: once this was called, also in vain, no contract says what the store is or holds,
+    /// nor what later calls on it do. Use `walk` where you need the store after an iterator.
     pub fn new_iter<'a>(&'a mut self) -> Result<DBIterator<'a, E, C, FP>>
         ensures { let codings = ⟦<CompressorList as Compressors>⟧.codings in
             let walk = ⟦<StoreView<'a, C> as Walk<E, StoreTables<'a, E, C, FP>>>⟧ in
@@ -224,8 +290,9 @@ impl<'e, E: Env, C: UserCmp + Copy, FP: FilterPolicy + Copy> Store<'e, E, Engine
         state.new_iter(&mut **env)
     }
 
-    /// An iterator over the store as it was when a snapshot was given out, at no position. A
-    /// snapshot that isn't held is `InvalidArgument`.
+    /// Returns an iterator over the store as it was when a snapshot was given out, at no position. A
+    /// snapshot that isn't held is `InvalidArgument`. Its moves, and what is known of the store
+    /// after it, are as of `new_iter`.
     pub fn new_iter_at<'a>(&'a mut self, snapshot: &Snapshot) -> Result<DBIterator<'a, E, C, FP>>
         ensures { let codings = ⟦<CompressorList as Compressors>⟧.codings in
             let walk = ⟦<StoreView<'a, C> as Walk<E, StoreTables<'a, E, C, FP>>>⟧ in
@@ -237,20 +304,29 @@ impl<'e, E: Env, C: UserCmp + Copy, FP: FilterPolicy + Copy> Store<'e, E, Engine
         state.new_iter_at(&mut **env, snapshot)
     }
 
-    /// Makes a crash keep all batches and gives back the lock. An open store that fails to do so is
-    /// broken, and keeps its lock.
+    /// Makes all batches durable and gives back the lock. From then on each call but `abandon` is
+    /// `InvalidArgument`.
+    ///
+    /// Ok: all are durable, nothing is held, and the lock is free (`Closes`).
+    /// Err: no answer changes; an open store is broken and keeps its lock, which `abandon` gives
+    /// back (`NotClosed`).
+    /// Crash: the latest batches may be lost, up to those that were durable before.
     pub fn close(&mut self) -> Result<()>
         ensures same_reference { self.new.env.ghost_name ≡ self.old.env.ghost_name }
         ensures serves { let choices = choices_of C.Cmp FP.FilterPolicy
             ⟦<InternalKeyCmp<C> as Cmp>⟧ ⟦<InternalFilterPolicy<FP> as FilterPolicy>⟧
             ⟦<CompressorList as Compressors>⟧.codings in
-            EngineServes E.Env choices done_or self.old.state self.old.env.now
-            close result self.new.state self.new.env.now }
+            EngineCloses E.Env choices self.old.state self.old.env.now result self.new.state
+            self.new.env.now }
     {
         self.state.close(&mut *self.env)
     }
 
-    /// Gives back the lock, where `close` hasn't. Nothing is synced; a closed store does nothing.
+    /// Gives back the lock, where `close` hasn't. Nothing is synced; of a closed store nothing is done.
+    ///
+    /// Ok: nothing is held, and the lock is free (`IsAbandoned`).
+    /// Err: the device failed; nothing is held, and the lock is as it was (`NotUnlocked`).
+    /// Crash: the latest batches may be lost, up to those that are durable.
     pub fn abandon(self) -> Result<()>
         ensures { let formats = format_of C.Cmp FP.FilterPolicy
             ⟦<CompressorList as Compressors>⟧.codings in

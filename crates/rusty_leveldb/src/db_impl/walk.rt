@@ -3,10 +3,10 @@ ghost use Rattle.std.specs.Prelude.{◌≡◌, ◌++◌, List, IfOk, IfErr};
 ghost use Rattle.std.specs.Option.{option_map};
 ghost use Rattle.leveldb_base.specs.declared.error.StatusCode.TheVariants.{InvalidArgument};
 ghost use Rattle.leveldb_store.specs.BuildTable.{choices_of};
+ghost use Rattle.rusty_leveldb.specs.Calls.{EngineWalks};
 ghost use Rattle.rusty_leveldb.specs.Causes.{IsNotHeld};
 ghost use Rattle.rusty_leveldb.specs.Engine.{ReadsAt, held_in};
 ghost use Rattle.rusty_leveldb.specs.Serves.{snapshot_of};
-ghost use Rattle.rusty_leveldb.specs.Walks.{EngineWalks};
 
 use super::engine::Engine;
 use leveldb_base::cmp::{Cmp, InternalKeyCmp, UserCmp};

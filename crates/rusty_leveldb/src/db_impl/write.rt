@@ -1,8 +1,7 @@
 //! Writing to a store: batches, and syncs of its log.
 ghost use Rattle.std.specs.Prelude.{◌≡◌, ◌∷◌, [], Some, None, false, is_some};
 ghost use Rattle.leveldb_mem.specs.WriteBatch.{item_of};
-ghost use Rattle.rusty_leveldb.specs.State.{open_mode, write, flush};
-ghost use Rattle.rusty_leveldb.specs.Serves.{done_or};
+ghost use Rattle.rusty_leveldb.specs.State.{open_mode};
 ghost use Rattle.leveldb_store.specs.BuildTable.{choices_of};
 ghost use Rattle.leveldb_version.specs.Format.{Agrees, format_of};
 ghost use Rattle.leveldb_store.specs.OpenTables.{ClosesObsolete};
@@ -10,7 +9,7 @@ ghost use Rattle.leveldb_store.specs.Room.{MakesRoom};
 ghost use Rattle.leveldb_store.specs.SoundCall.{IsSoundCall};
 ghost use Rattle.rusty_leveldb.specs.Engine.{options_in};
 ghost use Rattle.rusty_leveldb.specs.EngineValue.{FollowsStore};
-ghost use Rattle.rusty_leveldb.specs.Calls.{EngineServes};
+ghost use Rattle.rusty_leveldb.specs.Calls.{EngineFlushes, EngineWrites};
 
 use super::engine::{Engine, mode_by};
 use leveldb_base::cmp::{Cmp, InternalKeyCmp, UserCmp};
@@ -21,13 +20,13 @@ use leveldb_env::filter::{FilterPolicy, InternalFilterPolicy};
 use leveldb_mem::write_batch::WriteBatch;
 
 impl<E: Env, C: UserCmp + Copy, FP: FilterPolicy + Copy> Engine<E, C, FP> {
-    /// Gives the key this value, without a sync.
+    /// Sets the key to this value, without a sync. `DB::put` says what each result means.
     pub fn put(&mut self, env: &mut E, key: &[u8], value: &[u8]) -> Result<()>
         ensures { let choices = choices_of C.Cmp FP.FilterPolicy
             ⟦<InternalKeyCmp<C> as Cmp>⟧ ⟦<InternalFilterPolicy<FP> as FilterPolicy>⟧
             ⟦<CompressorList as Compressors>⟧.codings in
-            EngineServes E.Env choices done_or self.old env.old
-            (write (item_of key.now (Some value.now) ∷ []) false) result self.new env.new }
+            EngineWrites E.Env choices self.old env.old (item_of key.now (Some value.now) ∷ []) false
+            result self.new env.new }
     {
         self.check_open()?;
         let mut batch = WriteBatch::new(self.alloc)?;
@@ -35,13 +34,13 @@ impl<E: Env, C: UserCmp + Copy, FP: FilterPolicy + Copy> Engine<E, C, FP> {
         self.write(env, batch, false)
     }
 
-    /// Deletes the key, without a sync.
+    /// Deletes the key, without a sync. `DB::delete` says what each result means.
     pub fn delete(&mut self, env: &mut E, key: &[u8]) -> Result<()>
         ensures { let choices = choices_of C.Cmp FP.FilterPolicy
             ⟦<InternalKeyCmp<C> as Cmp>⟧ ⟦<InternalFilterPolicy<FP> as FilterPolicy>⟧
             ⟦<CompressorList as Compressors>⟧.codings in
-            EngineServes E.Env choices done_or self.old env.old
-            (write (item_of key.now None ∷ []) false) result self.new env.new }
+            EngineWrites E.Env choices self.old env.old (item_of key.now None ∷ []) false result
+            self.new env.new }
     {
         self.check_open()?;
         let mut batch = WriteBatch::new(self.alloc)?;
@@ -49,15 +48,14 @@ impl<E: Env, C: UserCmp + Copy, FP: FilterPolicy + Copy> Engine<E, C, FP> {
         self.write(env, batch, false)
     }
 
-    /// Makes the batch's changes together, after all others; with `sync` a crash keeps them from
-    /// then on. A memtable that is full becomes a table first. A failed append or sync breaks the
-    /// store: the batch isn't seen, and may be there when the store is opened again.
+    /// Makes the batch's changes together, after all others; with `sync` they are durable once this
+    /// is Ok. A memtable that is full becomes a table first. An append or a sync of the log that
+    /// fails breaks the engine. `DB::write` says what each result means.
     pub fn write(&mut self, env: &mut E, batch: WriteBatch, sync: bool) -> Result<()>
         ensures { let choices = choices_of C.Cmp FP.FilterPolicy
             ⟦<InternalKeyCmp<C> as Cmp>⟧ ⟦<InternalFilterPolicy<FP> as FilterPolicy>⟧
             ⟦<CompressorList as Compressors>⟧.codings in
-            EngineServes E.Env choices done_or self.old env.old (write batch.items sync) result
-            self.new env.new }
+            EngineWrites E.Env choices self.old env.old batch.items sync result self.new env.new }
     {
         self.check_open()?;
         self.make_room(env)?;
@@ -99,12 +97,12 @@ impl<E: Env, C: UserCmp + Copy, FP: FilterPolicy + Copy> Engine<E, C, FP> {
         made
     }
 
-    /// Makes a crash keep all batches.
+    /// Makes all batches durable. `DB::flush` says what each result means.
     pub fn flush(&mut self, env: &mut E) -> Result<()>
         ensures { let choices = choices_of C.Cmp FP.FilterPolicy
             ⟦<InternalKeyCmp<C> as Cmp>⟧ ⟦<InternalFilterPolicy<FP> as FilterPolicy>⟧
             ⟦<CompressorList as Compressors>⟧.codings in
-            EngineServes E.Env choices done_or self.old env.old flush result self.new env.new }
+            EngineFlushes E.Env choices self.old env.old result self.new env.new }
     {
         self.check_open()?;
         let synced = self.store.sync(env);

@@ -6,10 +6,10 @@ use Rattle.rusty_leveldb.proofs.shell.views.walk_over.Goals as goal
 pub returns-in_err-walk-clause-step : goal.returns-in_err-walk-clause-step
 returns-in_err-walk-clause-step g c =
     let p = err_from_is_err_and c.from_residual.result c.from_residual.ensures.1 in
-    rw (p.1, p.2) c.in_err-walk.ensures.2.serves.step
+    rw (p.1, p.2) c.in_err-walk.ensures.2.step
 
 pub returns-clause-step : goal.returns-clause-step
 returns-clause-step g c =
     let made = c.in_ok-walk.ensures in
     let same : c.walk.new.steps.items ≡ made.0 = made.1 ∙ ap (λ steps. steps ++ made.0) c.new-steps.ensures.items in
-    rw same made.2.serves.step
+    rw same made.2.step

@@ -1,5 +1,5 @@
 -- Closed before, or what giving back the lock returned.
-use Rattle.std.proofs.Common.{◌≡◌, ◌∙◌, refl, sym, ap, arith}
+use Rattle.std.proofs.Common.{◌≡◌, ◌∙◌, refl, sym, ap, arith, Ok}
 use Rattle.rusty_leveldb.specs.declared.db_impl.engine.Mode.{Mode}
 use Rattle.rusty_leveldb.specs.declared.db_impl.engine.Mode.TheVariants.{Open, Broken, Closed}
 use Rattle.rusty_leveldb.specs.EngineValue.{mode_of}
@@ -8,6 +8,7 @@ use Rattle.rusty_leveldb.specs.State.{closed}
 use Rattle.rusty_leveldb.proofs.ClosingLemmas.{abandon_answers, abandoned_closed}
 use Rattle.rusty_leveldb.proofs.Others.{spares_still}
 use Rattle.rusty_leveldb.proofs.RestLemmas.{abandon_lock, abandon_others}
+use Rattle.rusty_leveldb.proofs.RowLemmas.{abandon_row}
 use Rattle.rusty_leveldb.proofs.db_impl.close.Engine+E+C+FP.abandon.Goals as goal
 
 -- only a closed engine has this mode
@@ -21,9 +22,13 @@ returns-then-eq g c =
     let is : c.self.inside.mode ≡ Closed = grind arith in
     let closed_is : c.args.self.mode ≡ closed =
     sym (ap (λ v. v.mode) c.self.view_is) ∙ ap mode_of is in
+    let step = abandoned_closed g.E.Env _ c.args.self c.args.env.now closed_is in
+    let row = abandon_row _ g.E.Env _ c.args.self c.args.env.now (Ok tt) c.args.env.now step in
     record {
+      ok = row.0;
+      err = row.1;
       halted = λ closed. (refl, tt);
-      step = abandoned_closed g.E.Env _ c.args.self c.args.env.now closed_is;
+      step = step;
       others = λ modelled own. spares_still c.args.self.store.set.store (λ path. ⊥)
           (g.E.Env.observed c.args.env.now).disk;
       lock = λ modelled usable. absurd (usable closed_is);
@@ -38,11 +43,16 @@ returns g c =
     λ is. differs (when_closed c.self.inside.mode (ap (λ v. v.mode) c.self.view_is ∙ is)) in
     let lock : c.deref.result.now ≡ c.args.self.lock =
     c.deref.ensures ∙ ap (λ v. v.lock) c.self.view_is in
+    let step = abandon_answers g.E.Env _ c.args.self c.args.env.now c.give_back.new.env open_still
+    c.deref.result.now lock c.give_back.result c.give_back.ensures.does
+    c.give_back.ensures.locks c.give_back.ensures.cause in
+    let row = abandon_row _ g.E.Env _ c.args.self c.args.env.now c.give_back.result
+    c.give_back.new.env step in
     record {
+      ok = row.0;
+      err = row.1;
       halted = λ closed. absurd (open_still closed);
-      step = abandon_answers g.E.Env _ c.args.self c.args.env.now c.give_back.new.env open_still
-          c.deref.result.now lock c.give_back.result c.give_back.ensures.does
-          c.give_back.ensures.locks c.give_back.ensures.cause;
+      step = step;
       others = abandon_others g.E.Env c.args.self c.args.env.now c.give_back.new.env
           c.give_back.result c.give_back.ensures.does c.deref.result.now lock
           c.give_back.ensures.locks;

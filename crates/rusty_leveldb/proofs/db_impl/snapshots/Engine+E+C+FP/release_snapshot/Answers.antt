@@ -10,7 +10,7 @@ use Rattle.rusty_leveldb.proofs.db_impl.snapshots.Engine+E+C+FP.release_snapshot
 pub returns-in_err-check_not_closed : goal.returns-in_err-check_not_closed
 returns-in_err-check_not_closed g c = λ at.
     let p = err_from_is_err_and c.from_residual.result c.from_residual.ensures.1 in
-    rw (p.1, p.2) (closed_releases g.E.Env _ c.args.self.now (snapshot_of c.args.snapshot)
+    rw (p.1, p.2) (closed_releases g.E.Env _ c.args.self.now c.args.snapshot
     c.in_err-check_not_closed.field-0.0 at c.in_err-check_not_closed.ensures.cause)
 
 pub returns-in_err-check_held : goal.returns-in_err-check_held
@@ -18,7 +18,7 @@ returns-in_err-check_held g c = λ at.
     let p = err_from_is_err_and c.from_residual-in_err-check_held.result
     c.from_residual-in_err-check_held.ensures.1 in
     rw (p.1, p.2) (releases_none g.E.Env _ c.args.self.now c.in_ok-check_not_closed.ensures.ok
-    (snapshot_of c.args.snapshot) c.in_err-check_held.field-0.0 at
+    c.args.snapshot c.in_err-check_held.field-0.0 at
     c.in_err-check_held.ensures.cause)
 
 pub returns : goal.returns

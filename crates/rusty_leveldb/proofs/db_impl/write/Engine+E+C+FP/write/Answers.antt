@@ -6,18 +6,17 @@ use Rattle.leveldb_env.specs.contracts.compressor.CompressorListCompressors.TheI
 use Rattle.leveldb_env.specs.contracts.filter.internal.InternalFilterPolicyFilterPolicy.TheImpl.{ghosts as key_policy}
 use Rattle.leveldb_store.specs.BuildTable.{choices_of}
 use Rattle.leveldb_version.specs.Format.{format_of}
-use Rattle.rusty_leveldb.specs.State.{write}
 use Rattle.rusty_leveldb.proofs.WriteCallLemmas.{batch_serves, room_fails_serves}
 use Rattle.rusty_leveldb.proofs.EngineLemmas.{follows_unbroken}
 use Rattle.rusty_leveldb.proofs.WritingLemmas.{EngineMakesRoom}
-use Rattle.rusty_leveldb.proofs.CallsLemmas.{halted_serves}
+use Rattle.rusty_leveldb.proofs.CallsLemmas.{halted_writes}
 use Rattle.rusty_leveldb.proofs.db_impl.write.Engine+E+C+FP.write.Goals as goal
 
 pub returns-in_err-check_open : goal.returns-in_err-check_open
 returns-in_err-check_open g c =
     let p = err_from_is_err_and c.from_residual.result c.from_residual.ensures.1 in
-    rw (p.1, p.2) (halted_serves g.E.Env _ c.args.self.now (write c.args.batch.items c.args.sync) tt
-    c.in_err-check_open.field-0.0 c.args.env.now c.in_err-check_open.ensures.cause)
+    rw (p.1, p.2) (halted_writes g.E.Env _ c.args.self.now c.in_err-check_open.field-0.0
+    c.args.env.now c.in_err-check_open.ensures.cause c.args.batch.items c.args.sync)
 
 pub returns-in_err-make_room : goal.returns-in_err-make_room
 returns-in_err-make_room g c =

@@ -1,0 +1,309 @@
+-- From the step of the machine that a call is to its row.
+use Rattle.std.specs.Prelude.{OnOk, OnErr, IfOk, IfErr, Result, map}
+use Rattle.std.proofs.Common.{◌≡◌, ◌⊎◌, inl, inr, ℕ, Bool, List, Option, Some, None, refl, sym, subst, Ok, Err}
+use Rattle.leveldb_base.specs.History.{Item}
+use Rattle.leveldb_base.specs.declared.error.Status.{Status}
+use Rattle.leveldb_env.specs.Env as calls
+use Rattle.leveldb_env.specs.declared.env.Env.{Ghosts}
+use Rattle.leveldb_env.specs.Options.{Boxed, OptionsOf}
+use Rattle.leveldb_iter.specs.declared.moves.Move.{Move}
+use Rattle.leveldb_iter.specs.declared.moves.Step.{Step as WalkStep}
+use Rattle.leveldb_iter.specs.declared.snapshot.Snapshot.{Snapshot as HeldSnapshot}
+use Rattle.leveldb_version.specs.Format.{Format, Meaning}
+use Rattle.rusty_leveldb.specs.Boxes.{EngineOf, InternalOrder}
+use Rattle.rusty_leveldb.specs.Causes.{Cause, out_of_memory, device_failed, Comes, Setting}
+use Rattle.rusty_leveldb.specs.Engine.{Answers, AnswersAs}
+use Rattle.rusty_leveldb.specs.Machine.{Abandons, AllDurable, Breaks, Closes, Gives, Keeps, KeepsOrBreaks, LeavesRefused, MayBreak, Opens, Releases, Risk, Step, Writes, added_batch, risk_between, risk_of}
+use Rattle.rusty_leveldb.specs.Rows.{FindsValue, FromEachState, FromStatesOf, IsAbandoned, NotClosed, NotFlushed, NotOpened, NotUnlocked, NotWritten, Row, StaysAsItWas, WalksView}
+use Rattle.rusty_leveldb.specs.Serves.{IsSpared, done_or, found_or, given_engine, refusal_of, setting_between, snapshot_of, snapshot_or}
+use Rattle.rusty_leveldb.specs.State.{Answer, Mode, Opening, open_mode, open_store, broken, closed, Refusal, Request, Snapshot, State, abandon, close, done, flush, found, get, get_snapshot, refused, release_snapshot, snapshot, walk, walked, write}
+use Rattle.rusty_leveldb.specs.Walks.{landing_of, walk_of, walked_or}
+
+-- ---- from a step to a row
+
+-- nothing has changed
+kept : (old new : State) → new ≡ old → Keeps old new
+kept old new same = subst (λ s. Keeps old s) (sym same) (record { state = refl; durable = inl refl })
+
+-- a step of any mode, with this answer, is one of this row
+abbrev IsRowOf : Request → Answer → Row → Type 0
+IsRowOf request answer row = (setting : Setting) (old new : State) (mode : Mode)
+    → Step mode setting old request answer new → row setting old new
+
+writes : (items : List Item) (sync : Bool)
+    → IsRowOf (write items sync) done (λ _ old new. Writes old items sync new)
+writes items sync setting old new closed step = absurd step
+writes items sync setting old new broken step = absurd step
+writes items sync setting old new open_mode step = step.1
+
+module _ (items : List Item) (sync : Bool) (e : Status) (setting : Setting) (old new : State) where
+  left : (cause : Cause) → Comes setting old (write items sync) (refusal_of e) cause
+      → KeepsOrBreaks old cause (added_batch old items) new → NotWritten items e setting old new
+  left out_of_memory comes (inl keeps) = inl keeps
+  left out_of_memory comes (inr breaks) = inr (inl comes.1, breaks.1)
+  left device_failed comes (inl keeps) = inl keeps
+  left device_failed comes (inr breaks) = inr (inr comes.1, breaks.1)
+  left cause comes (inl keeps) = inl keeps
+  left cause comes (inr breaks) = absurd breaks.0
+
+not_written : (items : List Item) (sync : Bool) (e : Status)
+    → IsRowOf (write items sync) (refused (refusal_of e)) (NotWritten items e)
+not_written items sync e setting old new closed step = inl (kept old new step.1)
+not_written items sync e setting old new broken step = inl (kept old new step.1)
+not_written items sync e setting old new open_mode step =
+    left items sync e setting old new step.cause step.comes step.leaves
+
+flushes : IsRowOf flush done (λ _ old new. AllDurable old new)
+flushes setting old new closed step = absurd step
+flushes setting old new broken step = absurd step
+flushes setting old new open_mode step = step.1
+
+module _ (e : Status) (setting : Setting) (old new : State) where
+  left_unsynced : (cause : Cause) → Comes setting old flush (refusal_of e) cause
+      → LeavesRefused setting old flush (refusal_of e) cause new → NotFlushed e setting old new
+  left_unsynced device_failed comes breaks = inr (inr comes.1, breaks)
+  left_unsynced out_of_memory comes (inl keeps) = inl keeps
+  left_unsynced out_of_memory comes (inr breaks) = inr (inl comes.1, breaks.1)
+  left_unsynced cause comes (inl keeps) = inl keeps
+  left_unsynced cause comes (inr breaks) = absurd breaks.0
+
+not_flushed : (e : Status) → IsRowOf flush (refused (refusal_of e)) (NotFlushed e)
+not_flushed e setting old new closed step = inl (kept old new step.1)
+not_flushed e setting old new broken step = inl (kept old new step.1)
+not_flushed e setting old new open_mode step =
+    left_unsynced e setting old new step.cause step.comes step.leaves
+
+finds : (at : Option Snapshot) (key : List ℕ) (value : Option (List ℕ))
+    → IsRowOf (get at key) (found value) (FindsValue at key value)
+finds at key value setting old new closed step = absurd step
+finds at key value setting old new broken step = step.1
+finds at key value setting old new open_mode step = step.1
+
+not_found : (at : Option Snapshot) (key : List ℕ) (e : Status)
+    → IsRowOf (get at key) (refused (refusal_of e)) StaysAsItWas
+not_found at key e setting old new closed step = step.1
+not_found at key e setting old new broken step = step.leaves
+not_found at key e setting old new open_mode step = step.leaves
+
+goes : (at : Option Snapshot) (moves : List Move) (given : List WalkStep)
+    → IsRowOf (walk_of at moves) (walked (map landing_of given)) (WalksView at moves given)
+goes at moves given setting old new closed step = absurd step
+goes at moves given setting old new broken step = step.1
+goes at moves given setting old new open_mode step = step.1
+
+not_gone : (at : Option Snapshot) (moves : List Move) (e : Status)
+    → IsRowOf (walk_of at moves) (refused (refusal_of e)) StaysAsItWas
+not_gone at moves e setting old new closed step = step.1
+not_gone at moves e setting old new broken step = step.leaves
+not_gone at moves e setting old new open_mode step = step.leaves
+
+gives : (one : Snapshot) → IsRowOf get_snapshot (snapshot one) (λ _ old new. Gives old one new)
+gives one setting old new closed step = absurd step
+gives one setting old new broken step = step.1
+gives one setting old new open_mode step = step.1
+
+not_given : (e : Status) → IsRowOf get_snapshot (refused (refusal_of e)) StaysAsItWas
+not_given e setting old new closed step = step.1
+not_given e setting old new broken step = step.leaves
+not_given e setting old new open_mode step = step.leaves
+
+releases : (one : Snapshot)
+    → IsRowOf (release_snapshot one) done (λ _ old new. Releases old one new)
+releases one setting old new closed step = absurd step
+releases one setting old new broken step = step.1
+releases one setting old new open_mode step = step.1
+
+not_released : (one : Snapshot) (e : Status)
+    → IsRowOf (release_snapshot one) (refused (refusal_of e)) StaysAsItWas
+not_released one e setting old new closed step = step.1
+not_released one e setting old new broken step = step.leaves
+not_released one e setting old new open_mode step = step.leaves
+
+closes : IsRowOf close done (λ _ old new. Closes old new)
+closes setting old new closed step = absurd step
+closes setting old new broken step = absurd step
+closes setting old new open_mode step = step.1
+
+not_closed : (e : Status) → IsRowOf close (refused (refusal_of e)) NotClosed
+not_closed e setting old new closed step = inl step.1
+not_closed e setting old new broken step = inl step.1
+not_closed e setting old new open_mode step = inr step.leaves
+
+opens : (opening : Opening)
+    → IsRowOf (open_store opening) done (λ _ old new. Opens old opening new)
+opens opening setting old new closed step = step.1
+opens opening setting old new broken step = absurd step
+opens opening setting old new open_mode step = absurd step
+
+not_opened : (opening : Opening) (e : Status)
+    → IsRowOf (open_store opening) (refused (refusal_of e)) (NotOpened opening e)
+not_opened opening e setting old new closed step = (step.cause, step.comes, step.leaves)
+not_opened opening e setting old new broken step = absurd step
+not_opened opening e setting old new open_mode step = absurd step
+
+abandons : (setting : Setting) (old new : State) (mode : Mode) → old.mode ≡ mode
+    → Step mode setting old abandon done new → IsAbandoned setting old new
+abandons setting old new closed is step = inr (is, step.1)
+abandons setting old new broken is step = inl step.1
+abandons setting old new open_mode is step = inl step.1
+
+not_unlocked : (e : Status) → IsRowOf abandon (refused (refusal_of e)) NotUnlocked
+not_unlocked e setting old new closed step = absurd (cc step.0)
+not_unlocked e setting old new broken step = step.leaves
+not_unlocked e setting old new open_mode step = step.leaves
+
+-- ---- the calls
+
+module _ {E C FP F : Type 0} {B : Boxed} (keys : InternalOrder C) (env : Ghosts E F)
+    (formats : OptionsOf C FP B → Format) where
+  -- a step of the machine, for a store of this name and meaning, is one of its row
+  takes : (risk : State → State → Risk) (store : List ℕ) (meaning : Meaning)
+      (before : Option (EngineOf E C FP F B)) (from : E) (request : Request) (answer : Answer)
+      (after : Option (EngineOf E C FP F B)) (to : E) (row : Row)
+      → ((setting : Setting) (old new : State) → Step old.mode setting old request answer new
+      → row setting old new)
+      → ((old new : State) → risk_of request old new ≡ risk old new)
+      → AnswersAs keys env formats store meaning before from request answer after to
+      → FromStatesOf keys env formats risk store meaning before from after to row
+  takes risk store meaning before from request answer after to row leads same step modelled old was =
+      let goes = step modelled old was in (
+        goes.new,
+        goes.represents,
+        leads (setting_between meaning (env.failures from) (env.failures to)) old goes.new goes.step,
+        subst (λ r. calls.Run (IsSpared store meaning old r) (env.observed from) (env.observed to))
+            (same old goes.new) goes.moments,
+      )
+
+  -- an opening
+  module _ (name : List ℕ) (opening : Opening) (meaning : Meaning) (from to : E) where
+    pub open_row : (engine : EngineOf E C FP F B)
+        → AnswersAs keys env formats name meaning None from (open_store opening) done (Some engine) to
+        → FromStatesOf keys env formats (risk_of (open_store opening)) name meaning None from
+        (Some engine) to (λ _ old new. Opens old opening new)
+    open_row engine step = takes (risk_of (open_store opening)) name meaning None from
+        (open_store opening) done (Some engine) to _
+        (λ setting old new. opens opening setting old new old.mode) (λ old new. refl) step
+
+    pub unopened_row : (e : Status)
+        → AnswersAs keys env formats name meaning None from (open_store opening)
+        (refused (refusal_of e)) None to
+        → FromStatesOf keys env formats (risk_of (open_store opening)) name meaning None from None to
+        (NotOpened opening e)
+    unopened_row e step = takes (risk_of (open_store opening)) name meaning None from
+        (open_store opening) (refused (refusal_of e)) None to _
+        (λ setting old new. not_opened opening e setting old new old.mode) (λ old new. refl) step
+
+  -- an engine that is given up
+  pub abandon_row : (engine : EngineOf E C FP F B) (from : E) (result : Result (Unit {0}) Status)
+      (to : E) → Answers keys env formats (Some engine) from abandon (done_or result) None to
+      → OnOk result (FromEachState keys env formats (Some engine) from None to IsAbandoned)
+      × OnErr result (FromEachState keys env formats (Some engine) from None to NotUnlocked)
+  abandon_row engine from (Ok nothing) to step = (
+    λ store meaning. takes (λ old new. risk_between new) store meaning (Some engine) from abandon
+        done None to _ (λ setting old new. abandons setting old new old.mode refl)
+        (λ old new. refl) (step store meaning),
+    tt,
+  )
+  abandon_row engine from (Err e) to step = (
+    tt,
+    λ store meaning. takes (λ old new. risk_between new) store meaning (Some engine) from abandon
+        (refused (refusal_of e)) None to _ (λ setting old new. not_unlocked e setting old new old.mode)
+        (λ old new. refl) (step store meaning),
+  )
+
+  module _ (before : EngineOf E C FP F B) (from : E) (after : EngineOf E C FP F B) (to : E) where
+    -- what a call is that keeps its engine, by its row
+    abbrev Takes : Row → Type 0
+    Takes row = FromEachState keys env formats (Some before) from (Some after) to row
+
+    -- what it is to the machine
+    abbrev Steps : Request → Answer → Type 0
+    Steps request answer = Answers keys env formats (Some before) from request answer (Some after) to
+
+    is_row : (request : Request) (answer : Answer) (row : Row) → IsRowOf request answer row
+        → ((old new : State) → risk_of request old new ≡ risk_between new)
+        → Steps request answer → Takes row
+    is_row request answer row is same step store meaning =
+        takes (λ old new. risk_between new) store meaning (Some before) from request answer
+        (Some after) to row (λ setting old new. is setting old new old.mode) same
+        (step store meaning)
+
+    -- a write
+    pub write_row : (items : List Item) (sync : Bool) (result : Result (Unit {0}) Status)
+        → Steps (write items sync) (done_or result)
+        → OnOk result (Takes (λ _ old new. Writes old items sync new))
+        × IfErr result (λ e. Takes (NotWritten items e))
+    write_row items sync (Ok nothing) step =
+        (is_row (write items sync) done _ (writes items sync) (λ old new. refl) step, tt)
+    write_row items sync (Err e) step = (
+      tt,
+      is_row (write items sync) (refused (refusal_of e)) _
+          (not_written items sync e) (λ old new. refl) step,
+    )
+
+    -- a flush
+    pub flush_row : (result : Result (Unit {0}) Status) → Steps flush (done_or result)
+        → OnOk result (Takes (λ _ old new. AllDurable old new))
+        × IfErr result (λ e. Takes (NotFlushed e))
+    flush_row (Ok nothing) step = (is_row flush done _ flushes (λ old new. refl) step, tt)
+    flush_row (Err e) step =
+        (tt, is_row flush (refused (refusal_of e)) _ (not_flushed e) (λ old new. refl) step)
+
+    -- a look-up
+    pub get_row : (at : Option Snapshot) (key : List ℕ) (result : Result (Option (List ℕ)) Status)
+        → Steps (get at key) (found_or result)
+        → IfOk result (λ value. Takes (FindsValue at key value))
+        × OnErr result (Takes StaysAsItWas)
+    get_row at key (Ok value) step =
+        (is_row (get at key) (found value) _ (finds at key value) (λ old new. refl) step, tt)
+    get_row at key (Err e) step = (
+      tt,
+      is_row (get at key) (refused (refusal_of e)) _
+          (not_found at key e) (λ old new. refl) step,
+    )
+
+    -- a walk
+    pub walk_row : (at : Option Snapshot) (moves : List Move) (given : List WalkStep)
+        (result : Result (Unit {0}) Status) → Steps (walk_of at moves) (walked_or given result)
+        → OnOk result (Takes (WalksView at moves given)) × OnErr result (Takes StaysAsItWas)
+    walk_row at moves given (Ok nothing) step = (
+      is_row (walk_of at moves)
+          (walked (map landing_of given)) _ (goes at moves given) (λ old new. refl) step,
+      tt,
+    )
+    walk_row at moves given (Err e) step = (
+      tt,
+      is_row (walk_of at moves) (refused (refusal_of e)) _
+          (not_gone at moves e) (λ old new. refl) step,
+    )
+
+    -- a snapshot that is asked for
+    pub snapshot_row : (result : Result HeldSnapshot Status) → Steps get_snapshot (snapshot_or result)
+        → IfOk result (λ one. Takes (λ _ old new. Gives old (snapshot_of one) new))
+        × OnErr result (Takes StaysAsItWas)
+    snapshot_row (Ok one) step = (
+      is_row get_snapshot (snapshot (snapshot_of one)) _
+          (gives (snapshot_of one)) (λ old new. refl) step,
+      tt,
+    )
+    snapshot_row (Err e) step =
+        (tt, is_row get_snapshot (refused (refusal_of e)) _ (not_given e) (λ old new. refl) step)
+
+    -- one that is released
+    pub release_row : (one : Snapshot) (result : Result (Unit {0}) Status)
+        → Steps (release_snapshot one) (done_or result)
+        → OnOk result (Takes (λ _ old new. Releases old one new)) × OnErr result (Takes StaysAsItWas)
+    release_row one (Ok nothing) step =
+        (is_row (release_snapshot one) done _ (releases one) (λ old new. refl) step, tt)
+    release_row one (Err e) step = (
+      tt,
+      is_row (release_snapshot one) (refused (refusal_of e)) _
+          (not_released one e) (λ old new. refl) step,
+    )
+
+    -- a close
+    pub close_row : (result : Result (Unit {0}) Status) → Steps close (done_or result)
+        → OnOk result (Takes (λ _ old new. Closes old new)) × OnErr result (Takes NotClosed)
+    close_row (Ok nothing) step = (is_row close done _ closes (λ old new. refl) step, tt)
+    close_row (Err e) step =
+        (tt, is_row close (refused (refusal_of e)) _ (not_closed e) (λ old new. refl) step)
