@@ -168,3 +168,51 @@ fn refused_iterator_leaves_the_store(rt: HostRuntime) -> Result<()> {
     assert!(rt; is_pair(it.current(), b"a", b"2"));
     Ok(())
 }
+
+/// What an iterator finds from begin to end. It is gone when this returns.
+fn walked(alloc: Global, db: &mut Store) -> Result<Vec<u8>> {
+    let mut it = db.new_iter()?;
+    pairs_after(alloc, &mut it)
+}
+
+/// Whether the key has this value.
+fn has_value(db: &mut Store, key: &[u8], value: &[u8]) -> Result<bool> {
+    match db.get(key)? {
+        None => Ok(false),
+        Some(found) => Ok(found.as_slice() == value),
+    }
+}
+
+/// Writes after an iterator, looks up what it and the writes before had put, and walks again.
+fn uses_on(alloc: Global, db: &mut Store) -> Result<bool> {
+    let snapshot = db.get_snapshot()?;
+    let first = walked(alloc, db)?;
+    db.put(b"h", b"1")?;
+    let found = has_value(db, b"h", b"1")? && has_value(db, b"a", b"9")?;
+    let before = db.get_at(&snapshot, b"h")?.is_none();
+    db.release_snapshot(snapshot)?;
+    let second = walked(alloc, db)?;
+    Ok(
+        found
+            && before
+            && first.as_slice() == b"a9b4c7d6e3f8g0".as_slice()
+            && second.as_slice() == b"a9b4c7d6e3f8g0h1".as_slice(),
+    )
+}
+
+#[test]
+fn store_is_used_on_after_an_iterator(rt: HostRuntime) -> Result<()> {
+    let alloc = rt.alloc();
+    let mut env = MemEnv::new(alloc);
+    let mut options = Options::default();
+    options.write_buffer_size = WRITE_BUFFER_SIZE;
+    let mut db = opened_db(alloc, &mut env, options)?;
+    put_all(&mut db)?;
+    assert!(rt; uses_on(alloc, &mut db)?);
+    db.close()?;
+    drop(db);
+    let mut db = opened_db(alloc, &mut env, Options::default())?;
+    assert!(rt; has_value(&mut db, b"h", b"1")?);
+    assert!(rt; walked(alloc, &mut db)?.as_slice() == b"a9b4c7d6e3f8g0h1".as_slice());
+    Ok(())
+}

@@ -108,3 +108,42 @@ fn opened_again(rt: HostRuntime) -> Result<()> {
     assert!(rt; db.get_at(&snapshot, b"k").is_err());
     db.close()
 }
+
+/// How many snapshots are held in the test of many.
+const MANY: usize = 17;
+
+/// Puts `k` 65 times for each of `MANY` snapshots, the last of which is before the last of these
+/// puts: past number 1000.
+fn hold_many(
+    alloc: Global,
+    engine: &mut DefaultEngine<MemEnv>,
+    env: &mut MemEnv,
+) -> Result<Vec<Snapshot>> {
+    let mut held = Vec::new(alloc);
+    for round in 0..MANY {
+        for _ in 0..64 {
+            engine.put(env, b"k", b"-")?;
+        }
+        engine.put(env, b"k", &[b'a' + round as u8])?;
+        held.push(engine.get_snapshot()?)?;
+    }
+    Ok(held)
+}
+
+/// Where there is memory, none of many snapshots is refused, nor a write past number 1000.
+#[test]
+fn many_snapshots_and_numbers(rt: HostRuntime) -> Result<()> {
+    let alloc = rt.alloc();
+    let mut env = MemEnv::new(alloc);
+    let mut engine = opened(alloc, &mut env, buffered(4096))?;
+    let held = hold_many(alloc, &mut engine, &mut env)?;
+    assert_eq!(rt; held.len(), MANY);
+    for (round, snapshot) in held.iter().enumerate() {
+        assert_eq!(rt;
+            seen_at(&mut engine, &mut env, *snapshot)?,
+            b'a' + round as u8
+        );
+        engine.release_snapshot(*snapshot)?;
+    }
+    engine.close(&mut env)
+}
