@@ -57,8 +57,8 @@ impl<E: Env, C: UserCmp + Copy + Drop> OpenStore<E, C> {
     /// waits at most. Obsolete files are deleted after each table, and their tables closed; what
     /// fails of that is a line for `log`.
     ///
-    /// After an Err no entry is lost: the memtable is full still, or its entries wait. The next
-    /// call goes on from there, unless the store broke.
+    /// After an Err the memtable is full still, or one waits; of a store that is written no entry is
+    /// lost. The next call goes on from there, unless the store broke.
     pub fn make_room<FP: FilterPolicy + Copy + Drop>(
         &mut self,
         env: &mut E,
