@@ -21,6 +21,7 @@ pub mod NotTabledLemmas
 pub mod SoundLemmas
 pub mod RoomLemmas
 mod ReadLemmas
+pub mod LookUpLemmas
 pub mod ViewLemmas
 pub mod ViewHistoryLemmas
 pub mod GivenNumbersLemmas

@@ -1,9 +1,10 @@
 -- A store that was recovered is opened: its logs are replayed, the log to write is opened, and an
 -- edit is logged where one is wanted.
-use Rattle.std.specs.Prelude.{◌≢◌, Contains, IfSome, IsTrue, Result, Ok, Err, max}
+use Rattle.std.specs.Prelude.{◌≢◌, All, Contains, IfSome, IsSome, IsTrue, Result, Ok, Err, max}
 use Rattle.std.proofs.Common.{◌||◌, ◌≡◌, ◌⊎◌, ◌∙◌, ◌<◌, ◌^◌, inl, inr, ⊎_elim, ℕ, Bool, true, false, List, Option, None, Some, ap, arith, refl, subst, sym}
+use Rattle.std.proofs.lemmas.List.Elements.{All-contains, All-contains_itself, All-weaker}
 use Rattle.std.specs.Cmp.Lexicographic.{bytes_decides}
-use Rattle.leveldb_base.proofs.NamesLemmas.{made_name}
+use Rattle.leveldb_base.proofs.NamesLemmas.{made_name, made_paths_apart}
 use Rattle.leveldb_base.specs.Error.{IsOutOfMemory}
 use Rattle.leveldb_base.specs.History.{AreUpTo, Entry}
 use Rattle.leveldb_base.specs.Names.{file_name}
@@ -29,7 +30,7 @@ use Rattle.leveldb_version.specs.VersionEdit.{Edit, NewFile}
 use Rattle.leveldb_version.specs.VersionSetValue.{AreFileNumbersUsedUp, ManifestState, OpenManifest, VersionSetValue, broken, in_use, unmade, with_number_given}
 use Rattle.leveldb_store.proofs.FoundLogsLemmas.{lacks_one_more}
 use Rattle.leveldb_store.proofs.GivenNumbersLemmas.{given_later}
-use Rattle.leveldb_store.proofs.OpeningBytesLemmas.{log_bytes, logging_bytes, made_keys_bytes}
+use Rattle.leveldb_store.proofs.OpeningBytesLemmas.{log_bytes, logging_bytes, made_keys_bytes, made_tables_there}
 use Rattle.leveldb_store.proofs.OpeningEndLemmas.{IsOpenValue, edit_logged, log_spared, logged_manifest, logging_keeps, logging_spares, made_levels_fit, went_on}
 use Rattle.leveldb_store.proofs.OpeningFrontLemmas.{keeps_found_then}
 use Rattle.leveldb_store.proofs.OpeningLogLemmas.{HasLogOpen, IsReplayedWith, log_opened, log_opening_keeps, replayed_recovered, replaying_keeps}
@@ -42,7 +43,7 @@ use Rattle.leveldb_store.specs.FoundLogs.{HasLogNotKept, LacksNumbersFor, LogsBe
 use Rattle.leveldb_store.specs.OpenStore.{AreInLevels, AreNumbersGiven, HasOwnManifest, OpenStoreValue}
 use Rattle.leveldb_store.specs.Opening.{SameButTables}
 use Rattle.leveldb_store.specs.OpeningSteps.{AreDamagedLogs, BeginsWriting, LogsIfWanted, MayBeWritten, OpensLog, ReplaysLogs, WasRecovered, WhyNotBegun, WhyNotReplayed, entries_to_write, files_to_write, made_files, number_to_write, set_to_write, size_to_write}
-use Rattle.leveldb_store.specs.OpensStore.{IsOpenedAs, KeepsFound, SameBesideOwn}
+use Rattle.leveldb_store.specs.OpensStore.{AreTablesThere, IsOpenedAs, KeepsFound, SameBesideOwn}
 use Rattle.leveldb_store.specs.ReplayLog.{HasCauseOr}
 use Rattle.leveldb_store.specs.Room.{IsFull}
 use Rattle.leveldb_store.specs.SoundCall.{BytesAreAppended}
@@ -116,6 +117,10 @@ module _ {E F D FP : Type 0} (env : Ghosts E F) {order : CmpGhosts D} {filters :
   abbrev first : Files
   first = (env.observed from).disk.files
 
+  -- the table of a file is there, whose number is one that a file can have
+  abbrev HasFile : Files → NewFile → Type 0
+  HasFile files file = (file.number < 2 ^ 64) × IsSome (files (table_path store file.number))
+
   abbrev Begins : (C : Type 0) → Result (OpenStoreValue C) Status → E → Type 0
   Begins C result to = BeginsWriting env choices store set logs from limit result to
 
@@ -135,6 +140,7 @@ module _ {E F D FP : Type 0} (env : Ghosts E F) {order : CmpGhosts D} {filters :
     path = tt;
     unbroken = tt;
     room = tt;
+    tables = tt;
     keeps = keeps;
     opens = λ modelled meaning agrees contents was. tt;
     others = spares;
@@ -168,6 +174,23 @@ module _ {E F D FP : Type 0} (env : Ghosts E F) {order : CmpGhosts D} {filters :
         let numbers = replays.spares.numbers in
         subst (λ (s : VersionSetValue). AreNumbersGiven s s.full.added) (sym numbers.set)
         (given_later set (record set { next_file = set1.next_file; given = set1.given }) numbers.rises set.full.added may.given)
+
+    -- live tables are there still
+    live_there : IsTrue env.models_disk → All (HasFile second) set.full.added
+    live_there modelled =
+        All-weaker (Contains set.full.added) (HasFile second) each set.full.added (All-contains_itself set.full.added)
+      where
+        each : (file : NewFile) → Contains set.full.added file → HasFile second file
+        each file c =
+            let given : file.number < set.next_file = All-contains (λ (f : NewFile). f.number < set.next_file) set.full.added file may.given c in
+            let next = may.fits in
+            let fits : file.number < 2 ^ 64 = omega (arith, given, next) in
+            let there : IsSome (first (table_path store file.number)) = All-contains (λ (f : NewFile). IsSome (first (table_path store f.number))) set.full.added file (may.tables modelled) c in (
+              fits,
+              subst IsSome (sym ((replays.spares.run modelled).has (table_path store file.number) (λ n least less n_fits is.
+                  let same : file.number ≡ n = (made_paths_apart store file.number n Table Table fits n_fits (is ∙ ap (λ s. table_path s n) may.path)).0 in
+                  omega (arith, same, least, given)))) there,
+            )
 
     -- a path is no table's that was made
     unmade_path : (path : List ℕ) → ((n : ℕ) → n < 2 ^ 64 → path ≢ table_path store n) → (now : Files) → SameButTables set set1 first now → now path ≡ first path
@@ -206,6 +229,22 @@ module _ {E F D FP : Type 0} (env : Ghosts E F) {order : CmpGhosts D} {filters :
           manifest = ap (λ (s : VersionSetValue). s.manifest) set2_is ∙ same.manifest;
           number = ap (λ (s : VersionSetValue). s.manifest_number) set2_is ∙ same.number;
         }
+
+    -- the tables that were made are there
+    made_there : IsTrue env.models_disk → All (HasFile replayed_files) (made_files replay.tables.items)
+    made_there modelled =
+        All-weaker (Contains files) (HasFile replayed_files) each files (All-contains_itself files)
+      where
+        files : List NewFile
+        files = made_files replay.tables.items
+
+        each : (file : NewFile) → Contains files file → HasFile replayed_files file
+        each file c =
+            let given : file.number < set1.next_file = All-contains (λ (f : NewFile). f.number < set1.next_file) files file replays.given c in
+            let next = replays.spares.fits may.fits in (
+              omega (arith, given, next),
+              subst (λ s. IsSome (replayed_files (table_path s file.number))) may.path (made_tables_there format set first logs replay set1 replayed_files (replays.ok modelled) file c),
+            )
 
     replayed : IsTrue env.models_disk → (meaning : Meaning) → Agrees format meaning → (contents : Contents) → WasRecovered env format store set logs from meaning contents
         → IsReplayedWith store format.order meaning contents replay.used replay.leaves_log replay.tables.items set2 replayed_files
@@ -251,6 +290,16 @@ module _ {E F D FP : Type 0} (env : Ghosts E F) {order : CmpGhosts D} {filters :
         where
           path_of_log : List ℕ
           path_of_log = log_path store (number_to_write replay.used set2.next_file)
+
+      -- so does a table's
+      tables_still : IsTrue env.models_disk → (files : List NewFile) → All (HasFile replayed_files) files → All (HasFile log_files) files
+      tables_still modelled files all = All-weaker (HasFile replayed_files) (HasFile log_files)
+          (λ file has. (
+            has.0,
+            subst IsSome (sym (log_alone replay.used store set2.next_file replayed_files log_files (run2 modelled).has (table_path store file.number)
+                (types_apart store (log_path store (number_to_write replay.used set2.next_file)) (table_path store file.number) Log Table
+                (is_log_path store (number_to_write replay.used set2.next_file) opens.number_fits) (is_table_path store file.number has.0) (λ e. cc)))) has.1,
+          )) files all
 
     -- there is no number for a new log
     no_number : (status : Status) → AreFileNumbersUsedUp set2.next_file status → Why status
@@ -321,9 +370,19 @@ module _ {E F D FP : Type 0} (env : Ghosts E F) {order : CmpGhosts D} {filters :
       live3 = subst (λ (s : VersionSetValue). AreNumbersGiven s s.full.added) (sym opens.set) (live_to_write replay.used set2
           (subst (λ (s : VersionSetValue). AreNumbersGiven s s.full.added) (sym set2_is) (given1 (Ok replay) set1 e1 replays)))
 
+      full3 : set3.full ≡ set.full
+      full3 = ap (λ (s : VersionSetValue). s.full) opens.set ∙ full_to_write replay.used set2 ∙ ap (λ (s : VersionSetValue). s.full) set2_is ∙ ap (λ (s : VersionSetValue). s.full) replays.spares.numbers.set
+
       levels3 : AreInLevels env.models_disk format.order set3.full.added
-      levels3 = subst (λ (e : Edit). AreInLevels env.models_disk format.order e.added)
-          (sym (ap (λ (s : VersionSetValue). s.full) opens.set ∙ full_to_write replay.used set2 ∙ ap (λ (s : VersionSetValue). s.full) set2_is ∙ ap (λ (s : VersionSetValue). s.full) replays.spares.numbers.set)) may.levels
+      levels3 = subst (λ (e : Edit). AreInLevels env.models_disk format.order e.added) (sym full3) may.levels
+
+      -- live tables are there, and those that were made
+      live_there3 : IsTrue env.models_disk → All (HasFile (log_files cmp (Ok pair) set3 e2 opens)) set3.full.added
+      live_there3 modelled = subst (λ (e : Edit). All (HasFile (log_files cmp (Ok pair) set3 e2 opens)) e.added) (sym full3)
+          (tables_still cmp (Ok pair) set3 e2 opens modelled set.full.added (live_there (Ok replay) set1 e1 replays modelled))
+
+      made_there3 : IsTrue env.models_disk → All (HasFile (log_files cmp (Ok pair) set3 e2 opens)) (made_files made)
+      made_there3 modelled = tables_still cmp (Ok pair) set3 e2 opens modelled (made_files made) (made_there modelled)
 
       made3 : AreNumbersGiven set3 (made_files made)
       made3 = subst (λ (s : VersionSetValue). AreNumbersGiven s (made_files made)) (sym opens.set) (given_to_write replay.used set2 (made_files made)
@@ -417,6 +476,7 @@ module _ {E F D FP : Type 0} (env : Ghosts E F) {order : CmpGhosts D} {filters :
             pub own : IsTrue env.models_disk → IsFilePath Descriptor store used.path
             pub given : AreNumbersGiven set4 set4.full.added
             pub levels : AreInLevels env.models_disk format.order set4.full.added
+            pub tables : IsTrue env.models_disk → All (HasFile (env.observed e3).disk.files) set4.full.added
 
           ended_by : (b : Bool) → wanted ≡ b → LogsIfWanted env b N made set3 e2 (Ok done) set4 e3 → IsEnded
           ended_by true is logs =
@@ -429,6 +489,17 @@ module _ {E F D FP : Type 0} (env : Ghosts E F) {order : CmpGhosts D} {filters :
                 own = λ modelled. subst (λ s. IsFilePath Descriptor s it.manifest.path) path3 (it.own (own3 modelled) fits3);
                 given = it.given live3 made3;
                 levels = it.levels format.order levels3;
+                tables = λ modelled. All-weaker (HasFile (env.observed e2).disk.files) (HasFile (env.observed e3).disk.files)
+                    (λ file has. (
+                      has.0,
+                      subst IsSome (sym (subst (λ s. (env.observed e3).disk.files (table_path s file.number) ≡ (env.observed e2).disk.files (table_path s file.number)) path3
+                          (it.tables modelled (own3 modelled) fits3 file.number has.0))) has.1,
+                    )) set4.full.added
+                    (All-weaker (λ (file : NewFile). Contains set3.full.added file ⊎ Contains (made_files made) file) (HasFile (env.observed e2).disk.files)
+                    (λ file which. ⊎_elim
+                    (λ (c : Contains set3.full.added file). All-contains (HasFile (env.observed e2).disk.files) set3.full.added file (live_there3 modelled) c)
+                    (λ (c : Contains (made_files made) file). All-contains (HasFile (env.observed e2).disk.files) (made_files made) file (made_there3 modelled) c) which)
+                    set4.full.added it.live);
               }
           ended_by false is same =
               let on = may.goes_on (unwanted is).0 in
@@ -440,6 +511,8 @@ module _ {E F D FP : Type 0} (env : Ghosts E F) {order : CmpGhosts D} {filters :
                 own = λ modelled. subst (λ s. IsFilePath Descriptor s on.0.path) may.path (may.own modelled on.0 on.1);
                 given = subst (λ (s : VersionSetValue). AreNumbersGiven s s.full.added) (sym same.0) live3;
                 levels = subst (λ (s : VersionSetValue). AreInLevels env.models_disk format.order s.full.added) (sym same.0) levels3;
+                tables = λ modelled. subst (λ e. All (HasFile (env.observed e).disk.files) set4.full.added) (sym same.1)
+                    (subst (λ (s : VersionSetValue). All (HasFile (env.observed e2).disk.files) s.full.added) (sym same.0) (live_there3 modelled));
               }
 
           is_ended : IsEnded
@@ -510,6 +583,9 @@ module _ {E F D FP : Type 0} (env : Ghosts E F) {order : CmpGhosts D} {filters :
                 log = ap (λ (w : WriterState). w.broken) is.writer;
               };
               room = not_full_to_write limit replay.used replays.room value.recent is.recent_is;
+              tables = λ modelled. subst (λ (s : VersionSetValue). AreTablesThere store (env.observed e3).disk.files s.full.added) (sym is.set_is)
+                  (All-weaker (HasFile (env.observed e3).disk.files) (λ (file : NewFile). IsSome ((env.observed e3).disk.files (table_path store file.number)))
+                  (λ file has. has.1) set4.full.added (is_ended.tables modelled));
               keeps = all_keep (Ok done) set4 e3 logged locks;
               opens = opened_by wanted refl logged;
               others = all_spare (Ok done) set4 e3 logged locks;

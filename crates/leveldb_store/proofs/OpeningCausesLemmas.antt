@@ -1,17 +1,20 @@
 -- Why steps of an opening fail.
-use Rattle.std.specs.Prelude.{Contains, IfOk, IsTrue}
-use Rattle.std.proofs.Common.{◌≡◌, ◌⊎◌, inl, inr, ⊎_elim, ℕ, Bool, List, None, Ok, Err, Result, sym, ◌∙◌, ap, subst}
+use Rattle.std.specs.Prelude.{Contains, IfOk, IsSome, IsTrue, OnOk}
+use Rattle.std.proofs.Common.{◌≡◌, ◌⊎◌, inl, inr, ⊎_elim, ◌+◌, ◌<◌, ℕ, Bool, List, [], ◌∷◌, ◌++◌, None, Ok, Err, Result, get_or, length, sym, take, ◌∙◌, ap, subst}
+use Rattle.std.proofs.lemmas.List.Elements.{All-push}
 use Rattle.leveldb_base.specs.Error.{IsOutOfMemory}
 use Rattle.leveldb_base.specs.declared.error.Status.{Status}
+use Rattle.leveldb_base.specs.declared.types.FileMetaData.{FileMetaData}
 use Rattle.leveldb_base.specs.declared.error.StatusCode.TheVariants.{Corruption}
 use Rattle.leveldb_env.specs.Env.{Files, HasCause, IsEmptyFolder, IsMissing, Observed}
 use Rattle.leveldb_env.specs.WholeFiles.{IsFoundOr, IsMissingFile}
 use Rattle.leveldb_env.proofs.WholeFilesLemmas.{found_cause, found_ok}
 use Rattle.leveldb_version.proofs.RecoverLemmas.{cause_of_error}
+use Rattle.leveldb_version.proofs.UsableLemmas.{as_new_files, files_more}
 use Rattle.leveldb_version.specs.Paths.{table_path}
-use Rattle.leveldb_version.specs.VersionEdit.{NewFile}
+use Rattle.leveldb_version.specs.VersionEdit.{NewFile, new_file_of}
 use Rattle.leveldb_store.specs.OpeningSteps.{LacksTable}
-use Rattle.leveldb_store.specs.OpensStore.{IsBareFolder}
+use Rattle.leveldb_store.specs.OpensStore.{AreTablesThere, IsBareFolder}
 use Rattle.leveldb_store.specs.ReplayLog.{HasCauseOr}
 
 -- a live table is missing
@@ -43,6 +46,17 @@ table_lost {V} {U} models_disk store live file is_live path named start at still
 
     P : ℕ → Type 0
     P n = HasCause {T = V} (λ e. IsOutOfMemory e ⊎ (IsMissingFile path e × Kept × (f2 ≡ n))) n f2 (Err status)
+
+-- the tables of the files up to one are there, and so is that of one more whose size was found
+pub tables_more : {V : Type 0} (models_disk : Bool) (store : List ℕ) (files : List (ℕ × FileMetaData)) (i : ℕ) (file : ℕ × FileMetaData) → i < length files → file ≡ get_or files i file
+    → (path : List ℕ) → path ≡ table_path store file.1.num → (start : Files) (at : Observed) → (IsTrue models_disk → at.disk.files ≡ start)
+    → (answer : Result V Status) (value : V) → IsFoundOr path answer (Ok value) → OnOk answer (IsTrue models_disk → IsSome (at.disk.files path))
+    → (IsTrue models_disk → AreTablesThere store start (as_new_files (take i files))) → IsTrue models_disk → AreTablesThere store start (as_new_files (take (i + 1) files))
+tables_more models_disk store files i file inside is path named start at still answer value found there before modelled =
+    let P : NewFile → Type 0 = λ one. IsSome (start (table_path store one.number)) in
+    let here : IsSome (at.disk.files path) = subst (λ r. OnOk r (IsTrue models_disk → IsSome (at.disk.files path))) (found_ok path answer value found) there modelled in
+    let it : P (new_file_of file) = subst (λ (f : Files). IsSome (f (table_path store file.1.num))) (still modelled) (subst (λ p. IsSome (at.disk.files p)) named here) in
+    subst (AreTablesThere store start) (sym (files_more files i file inside is)) (All-push P (as_new_files (take i files)) (new_file_of file) (before modelled) it)
 
 -- a folder has no names
 pub folder_bare : {V U : Type 0} {Why : Status → Type 0} (models_disk : Bool) (store : List ℕ) (at : Observed) (f0 f1 : ℕ) (answer : Result V Status) (status : Status)

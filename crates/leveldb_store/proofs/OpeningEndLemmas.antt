@@ -1,7 +1,7 @@
 -- The end of an opening: the edit that has tables in place of logs is logged, or none is, and the
 -- store is open.
-use Rattle.std.specs.Prelude.{All, Contains, IsTrue}
-use Rattle.std.proofs.Common.{◌≡◌, ◌∙◌, inl, inr, ◌≤◌, ◌<◌, ◌^◌, ◌%◌, ℕ, Bool, true, false, List, [], ◌∷◌, ◌++◌, length, None, Option, Some, Ok, Result, ap, arith, refl, subst, sym}
+use Rattle.std.specs.Prelude.{◌≢◌, All, Contains, IsTrue}
+use Rattle.std.proofs.Common.{◌≡◌, ◌∙◌, ◌⊎◌, inl, inr, ◌≤◌, ◌<◌, ◌^◌, ◌%◌, ℕ, Bool, true, false, List, [], ◌∷◌, ◌++◌, length, None, Option, Some, Ok, Result, ap, arith, refl, subst, sym}
 use Rattle.std.proofs.lemmas.List.Elements.{All-cons, All-contains_itself, All-nil, All-weaker}
 use Rattle.std.specs.Cmp.Lexicographic.{bytes_decides}
 use Rattle.std.specs.Str.{bytes_eq}
@@ -13,7 +13,8 @@ use Rattle.leveldb_base.specs.Names.{file_name}
 use Rattle.leveldb_base.specs.Types.{Pair}
 use Rattle.leveldb_base.specs.declared.error.Status.{Status}
 use Rattle.leveldb_base.specs.declared.types.FileMetaData.{FileMetaData}
-use Rattle.leveldb_base.specs.declared.types.FileType.TheVariants.{Current, Descriptor, Log, Temp}
+use Rattle.leveldb_base.specs.declared.types.FileType.{FileType}
+use Rattle.leveldb_base.specs.declared.types.FileType.TheVariants.{Current, Descriptor, Log, Table, Temp}
 use Rattle.leveldb_env.proofs.EnvLemmas.{Run-call, Run-mono, SameBut-created, SameBut-emptied, begun}
 use Rattle.leveldb_env.specs.Env.{BeforeOrAfter, Files, Run, SameBut, in_folder}
 use Rattle.leveldb_env.specs.declared.env.Env.{Ghosts}
@@ -28,7 +29,7 @@ use Rattle.leveldb_version.specs.LogEdit.{AppendingAndSyncing, AppendsEdit, Begi
 use Rattle.leveldb_version.specs.NewManifest.{MakingManifest, manifest_bytes, with_manifest}
 use Rattle.leveldb_version.specs.Opening.{opened_memory, tables_edit}
 use Rattle.leveldb_version.specs.OpeningLaws.{EndsOpening, IsOpened}
-use Rattle.leveldb_version.specs.Paths.{IsFilePath, current_path, log_path, manifest_path}
+use Rattle.leveldb_version.specs.Paths.{IsFilePath, current_path, log_path, manifest_path, table_path}
 use Rattle.leveldb_version.specs.Store.{IsStore}
 use Rattle.leveldb_version.specs.StoreSteps.{KeepsHistory}
 use Rattle.leveldb_version.specs.VersionEdit.{Edit, LevelsFit, NewFile, new_file_of}
@@ -45,7 +46,7 @@ use Rattle.leveldb_store.proofs.GivenNumbersLemmas.{all_with_each, given_later}
 use Rattle.leveldb_store.proofs.LevelsApartLemmas.{levels_with_zeros}
 use Rattle.leveldb_store.proofs.OpeningLogLemmas.{HasLogOpen}
 use Rattle.leveldb_store.proofs.SwitchLemmas.{keeps_same, written_as}
-use Rattle.leveldb_store.proofs.TableKeepsLemmas.{appending_and_syncing, is_log_path, one_reading_of, types_apart}
+use Rattle.leveldb_store.proofs.TableKeepsLemmas.{appending_and_syncing, is_log_path, is_table_path, one_reading_of, types_apart}
 
 -- ---- the edit
 
@@ -400,6 +401,13 @@ module _ {E F : Type 0} (env : Ghosts E F) (built : List FileMetaData) (set : Ve
     pub levels : (cmp : List ℕ → List ℕ → Ordering)
         → AreInLevels env.models_disk cmp set.full.added
         → AreInLevels env.models_disk cmp new.full.added
+    -- each live file was one before, or is added
+    pub live : All (λ (file : NewFile). Contains set.full.added file
+        ⊎ Contains (made_files built) file) new.full.added
+    -- no table changes
+    pub tables : IsTrue env.models_disk → HasOwnManifest set → set.manifest_number < 2 ^ 64
+        → (n : ℕ) → n < 2 ^ 64 → (env.observed to).disk.files (table_path set.store n)
+        ≡ (env.observed from).disk.files (table_path set.store n)
 
   -- the files that are added are in level 0
   levels_after : (next : VersionSetValue) → next.full ≡ full_after set.full tables
@@ -417,6 +425,26 @@ module _ {E F : Type 0} (env : Ghosts E F) (built : List FileMetaData) (set : Ve
       (subst (λ (e : Edit). AreNumbersGiven set e.added) (sym full)
       (all_with_each (λ (file : NewFile). file.number < set.next_file) (made_files built)
       set.full.added live added))
+
+  live_after_edit : (next : VersionSetValue) → next.full ≡ full_after set.full tables
+      → All (λ (file : NewFile). Contains set.full.added file ⊎ Contains (made_files built) file)
+      next.full.added
+  live_after_edit next full =
+      let IsOne : NewFile → Type 0 =
+      λ file. Contains set.full.added file ⊎ Contains (made_files built) file in
+      subst (λ (e : Edit). All IsOne e.added) (sym full)
+      (all_with_each IsOne (made_files built) set.full.added
+      (All-weaker (Contains set.full.added) IsOne (λ file c. inl c) set.full.added
+      (All-contains_itself set.full.added))
+      (All-weaker (Contains (made_files built)) IsOne (λ file c. inr c) (made_files built)
+      (All-contains_itself (made_files built))))
+
+  -- a table is none of the files of a new manifest, and no manifest
+  apart_from : (n : ℕ) → n < 2 ^ 64 → (path : List ℕ) (kind : FileType)
+      → IsFilePath kind set.store path → kind ≢ Table
+      → bytes_eq path (table_path set.store n) ≡ false
+  apart_from n fits path kind is other = types_apart set.store path (table_path set.store n) kind Table
+      is (is_table_path set.store n fits) other
 
   pub logged_manifest : (done : Unit {0}) → LogsTables env log built set from (Ok done) new to
       → HasLogged
@@ -440,6 +468,23 @@ module _ {E F : Type 0} (env : Ghosts E F) (built : List FileMetaData) (set : Ve
             given = given_after new (ap (λ (v : VersionSetValue). v.full) l.ok)
                 (ap (λ (v : VersionSetValue). v.next_file) l.ok);
             levels = levels_after new (ap (λ (v : VersionSetValue). v.full) l.ok);
+            live = live_after_edit new (ap (λ (v : VersionSetValue). v.full) l.ok);
+            tables = λ modelled own fits n number_fits.
+                ((l.does modelled).now modelled).others (table_path set.store n)
+                (apart_from n number_fits (manifest_path set.store set.manifest_number) Descriptor (
+                  file_name Descriptor set.manifest_number,
+                  set.manifest_number,
+                  made_name Descriptor set.manifest_number fits,
+                  refl,
+                ) (λ e. cc))
+                (apart_from n number_fits (temp_path set.store set.manifest_number) Temp (
+                  file_name Temp set.manifest_number,
+                  set.manifest_number,
+                  made_name Temp set.manifest_number fits,
+                  refl,
+                ) (λ e. cc))
+                (apart_from n number_fits (current_path set.store) Current
+                (file_name Current 0, 0, made_name Current 0 refl, refl) (λ e. cc));
           }
       by (in_use manifest) is =
           let l = logs.used (made_levels_fit log built) manifest is in
@@ -454,5 +499,11 @@ module _ {E F : Type 0} (env : Ghosts E F) (built : List FileMetaData) (set : Ve
             given = given_after new (ap (λ (v : VersionSetValue). v.full) l.ok)
                 (ap (λ (v : VersionSetValue). v.next_file) l.ok);
             levels = levels_after new (ap (λ (v : VersionSetValue). v.full) l.ok);
+            live = live_after_edit new (ap (λ (v : VersionSetValue). v.full) l.ok);
+            tables = λ modelled own fits n number_fits.
+                appending_and_syncing manifest.path (frame manifest.writer (edit_record set tables))
+                (env.observed from).disk.files (env.observed to).disk.files
+                ((l.does modelled).now modelled) (table_path set.store n)
+                (apart_from n number_fits manifest.path Descriptor (own manifest is) (λ e. cc));
           }
       by broken is = absurd (logs.broken_before is).0

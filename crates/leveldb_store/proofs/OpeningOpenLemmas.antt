@@ -29,6 +29,7 @@ module _ {E F C : Type 0} (env : Ghosts E F) (format : Format) (store : List ℕ
     path = tt;
     unbroken = tt;
     room = tt;
+    tables = tt;
     keeps = recovers.keeps;
     opens = λ modelled meaning agrees contents sound. tt;
     stays = recovers.stays;
@@ -113,6 +114,7 @@ module _ {E F D FP : Type 0} (env : Ghosts E F) {keys : CmpGhosts D} {filters : 
         path = begins.path;
         unbroken = begins.unbroken;
         room = begins.room;
+        tables = begins.tables;
         keeps = all_keep (Ok value) begins;
         opens = λ modelled meaning agrees contents sound. opened_as meaning contents value (env.observed to).disk.files
             (begins.opens modelled meaning agrees (with_comparator format.order_name contents) (was_recovered modelled meaning agrees contents sound));
@@ -124,6 +126,7 @@ module _ {E F D FP : Type 0} (env : Ghosts E F) {keys : CmpGhosts D} {filters : 
         path = tt;
         unbroken = tt;
         room = tt;
+        tables = tt;
         keeps = all_keep (Err status) begins;
         opens = λ modelled meaning agrees contents sound. tt;
         stays = λ modelled which. absurd (recovers.stays modelled which).0;

@@ -16,13 +16,13 @@ use Rattle.leveldb_store.proofs.OpeningBytesLemmas.{keeping_bytes, set_bytes}
 use Rattle.leveldb_store.proofs.OpeningFrontLemmas.{IsFoundOrMade, current_is_there, damaged_before, found_is_sound, keeps_found_then, lacking_is_damaged, other_before}
 use Rattle.leveldb_store.proofs.OpeningMadeLemmas.{making_keeps, making_spares}
 use Rattle.leveldb_store.proofs.OpeningNamesLemmas.{sorted_none}
-use Rattle.leveldb_store.proofs.OpeningRecoveredLemmas.{comparator_is, edits_read, have_numbers, in_use_is, is_read, is_recovered, leaving_keeps, log_was, logs_read, logs_there, manifest_below, manifest_there, numbers_after, own_is, path_is, then_bytes, unbroken_is}
+use Rattle.leveldb_store.proofs.OpeningRecoveredLemmas.{comparator_is, edits_read, have_numbers, in_use_is, is_read, is_recovered, leaving_keeps, log_was, logs_read, logs_there, manifest_below, manifest_there, numbers_after, own_is, path_is, tables_there, then_bytes, unbroken_is}
 use Rattle.leveldb_store.proofs.OpeningSameLemmas.{keeping_keeps, keeping_spares, spares_then}
 use Rattle.leveldb_store.specs.FoundLogs.{LogBeginsWith}
 use Rattle.leveldb_version.specs.Format.{Format, IsTableOf, Meaning}
 use Rattle.leveldb_store.specs.OpeningState.{IsRecoveredWith, with_comparator}
 use Rattle.leveldb_store.specs.OpeningSteps.{AreBeingKept, AreDamagedLogs, ComesAfterFound, FindsStore, IsBeingMade, IsUnsupported, RecoversSet, RecoversStore, WhyNotFound, WhyNotRecovered, with_logs_kept}
-use Rattle.leveldb_store.specs.OpensStore.{HasHugeManifest, HasSharedUserKey, IsDamaged, IsForbidden, IsSound, KeepsFound, LacksCurrent, LacksNumbers, LacksUsableEdits, SameBesideOwn, WhyNotOpenable}
+use Rattle.leveldb_store.specs.OpensStore.{AreTablesThere, HasHugeManifest, HasSharedUserKey, IsDamaged, IsForbidden, IsSound, KeepsFound, LacksCurrent, LacksNumbers, LacksUsableEdits, SameBesideOwn, WhyNotOpenable}
 use Rattle.leveldb_store.specs.ReplayLog.{HasCauseOr}
 use Rattle.leveldb_store.specs.SoundCall.{BytesAreAppended}
 use Rattle.leveldb_store.specs.declared.opening.recovered_set.RecoveredSet.{RecoveredSet}
@@ -292,6 +292,8 @@ module _ {E F : Type 0} (env : Ghosts E F) (format : Format) (store : List ℕ) 
                   fits = sets.ok.fits;
                   given = sets.ok.given;
                   levels = sets.ok.levels;
+                  tables = λ modelled. subst (λ (f : Files). AreTablesThere store f it.versions.full.added) (sym (kept modelled))
+                      (tables_there env format reuse limit store mid then it.is_anew it.versions logs sets.ok modelled);
                   manifest_fits = manifest_below env format reuse limit store mid then it.is_anew it.versions logs sets.ok;
                   unbroken = unbroken_is env format reuse limit store mid then it.is_anew it.versions logs sets.ok;
                   goes_on = in_use_is env format reuse limit store mid then it.is_anew it.versions logs sets.ok;

@@ -2,6 +2,7 @@
 use Rattle.std.specs.Prelude.{◌≢◌, Contains, IsSome, IsTrue}
 use Rattle.std.proofs.Common.{◌≡◌, ◌⊎◌, ◌∙◌, ◌+◌, ◌<◌, ◌≤◌, ◌^◌, inl, inr, ⊎_elim, ℕ, Bool, true, false, List, Option, None, Some, ap, arith, refl, subst, sym}
 use Rattle.std.proofs.lemmas.Bool.{cases_lt}
+use Rattle.std.proofs.lemmas.List.Elements.{All-weaker}
 use Rattle.std.specs.declared.cmp.Ordering.{Ordering}
 use Rattle.leveldb_base.proofs.NamesLemmas.{made_name}
 use Rattle.leveldb_base.specs.Names.{IsFileName, file_name}
@@ -21,11 +22,11 @@ use Rattle.leveldb_version.proofs.RecoveringLemmas.{recovered_sets_track, safe_s
 use Rattle.leveldb_version.specs.Contents.{Contents, Store, made}
 use Rattle.leveldb_version.specs.Opening.{IsRecoveredBut}
 use Rattle.leveldb_version.specs.OpeningLaws.{RecoveredIsTracked}
-use Rattle.leveldb_version.specs.Paths.{log_path}
+use Rattle.leveldb_version.specs.Paths.{log_path, table_path}
 use Rattle.leveldb_version.specs.Recover.{IsRead, IsReusable, LeavesFiles, ReadManifest, next_number_after, set_going_on, set_starting_anew}
 use Rattle.leveldb_version.specs.Store.{IsManagedBy, LogIsReplayed, ReplayedLog}
 use Rattle.leveldb_version.specs.StoreSteps.{AppendedAreBytes, KeepsHistory}
-use Rattle.leveldb_version.specs.VersionEdit.{Edit}
+use Rattle.leveldb_version.specs.VersionEdit.{Edit, NewFile}
 use Rattle.leveldb_version.specs.VersionSet.{live_after}
 use Rattle.leveldb_version.specs.VersionSetValue.{OpenManifest, VersionSetValue, broken, in_use, new_version_set, unmade}
 use Rattle.leveldb_version.specs.Writing.{IsTrackedBy}
@@ -39,7 +40,7 @@ use Rattle.leveldb_store.specs.OpenStore.{HasOwnManifest}
 use Rattle.leveldb_store.proofs.FoundNumbersLemmas.{edits_after}
 use Rattle.leveldb_store.specs.FoundLogs.{BeginsWithBatches, LogBeginsWith}
 use Rattle.leveldb_store.specs.OpeningSteps.{AreDamagedLogs, ComesAfterFound, IsRecoveredSet, with_logs_kept}
-use Rattle.leveldb_store.specs.OpensStore.{IsSound}
+use Rattle.leveldb_store.specs.OpensStore.{AreTablesThere, IsSound}
 
 not_none : {A : Type 0} (o : Option A) → IsSome o → o ≢ None
 not_none None is none = absurd (cc)
@@ -207,6 +208,11 @@ module _ {E F : Type 0} (env : Ghosts E F) (format : Format) (reuse : Bool) (lim
       -- all that is read is as it was
       pub last_text : SameText first last
       last_text = SameText-trans first then_files last same_text (logs_same_text store logs then_files logs_there)
+
+      -- its live tables are there
+      pub tables_there : AreTablesThere store last set.full.added
+      tables_there = All-weaker (λ (file : NewFile). IsSome (then_files (table_path store file.number))) (λ (file : NewFile). IsSome (last (table_path store file.number)))
+          (λ file there. still_there then_files last (logs_same_text store logs then_files logs_there) (table_path store file.number) there) set.full.added (r.tables modelled)
 
       -- a log began with the same batches
       pub log_was : (n : ℕ) (batches : List Batch) → LogBeginsWith store last n batches → LogBeginsWith store first n batches

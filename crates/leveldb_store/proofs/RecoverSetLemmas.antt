@@ -31,7 +31,7 @@ use Rattle.leveldb_store.specs.OpenStore.{AreNumbersGiven}
 use Rattle.leveldb_store.proofs.GivenNumbersLemmas.{below_later}
 use Rattle.leveldb_store.proofs.FoundNumbersLemmas.{edits_after, few_after_name, few_after_next, names_after}
 use Rattle.leveldb_store.specs.OpeningSteps.{AreReplayedLogs, ComesAfterFound, HasMisnamedLog, HasNumber, IsRecoveredSet, IsUnsupported, LacksTable, MarksNames, RecoversSet, WhyNotRecovered}
-use Rattle.leveldb_store.specs.OpensStore.{HasOtherComparator, IsDamaged, SameBesideOwn}
+use Rattle.leveldb_store.specs.OpensStore.{AreTablesThere, HasOtherComparator, IsDamaged, SameBesideOwn}
 use Rattle.leveldb_store.proofs.OpeningSameLemmas.{naming_spares}
 use Rattle.leveldb_store.specs.ReplayLog.{HasCauseOr}
 use Rattle.leveldb_store.specs.declared.opening.recovered_set.RecoveredSet.{RecoveredSet}
@@ -396,8 +396,10 @@ module _ {E F : Type 0} (env : Ghosts E F) (format : Format) (exact : IsExactOrd
           }
 
           -- the set is recovered, and its logs are found
-          pub is_recovered : (logs : BTreeSet ℕ) → AreReplayedLogs names set.log_number set.previous_log logs.keys → AreNumbersGiven set set.full.added → set.next_file < 2 ^ 64 → Recovered (Ok (record { versions = set; is_anew = anew; logs = logs })) to
-          is_recovered logs are given fits = done (Ok (record { versions = set; is_anew = anew; logs = logs })) (record {
+          pub is_recovered : (logs : BTreeSet ℕ) → AreReplayedLogs names set.log_number set.previous_log logs.keys → AreNumbersGiven set set.full.added → set.next_file < 2 ^ 64
+              → (live : List NewFile) → live ≡ set.full.added → (IsTrue env.models_disk → AreTablesThere store (env.observed then).disk.files live)
+              → Recovered (Ok (record { versions = set; is_anew = anew; logs = logs })) to
+          is_recovered logs are given fits live live_are there = done (Ok (record { versions = set; is_anew = anew; logs = logs })) (record {
             marked = marked;
             gives = marks.gives;
             below = below;
@@ -409,6 +411,8 @@ module _ {E F : Type 0} (env : Ghosts E F) (format : Format) (exact : IsExactOrd
                 (subst (λ (full : Edit). ListsFiles (live_after edits) full.added) (sym full_is) (full_of_all edits).added)
                 (λ modelled. let read = has_edits modelled in
                 subst (λ (full : Edit). All (λ (file : NewFile). file.level < 7) full.added) (sym full_is) (read_levels read.is.records edits read.is.each));
+            tables = λ modelled. subst (λ (f : Files). AreTablesThere store f set.full.added) (sym (later_still modelled).has)
+                (subst (AreTablesThere store (env.observed then).disk.files) live_are (there modelled));
             names = names;
             lists = lists;
             logs_are = are;

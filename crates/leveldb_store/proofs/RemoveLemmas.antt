@@ -1,12 +1,11 @@
 -- Which files are obsolete, and what their removal keeps of an open store.
 use Rattle.std.proofs.Common.{◌≡◌, ◌⊎◌, ◌∙◌, ◌++◌, ◌+◌, ◌-◌, ◌^◌, ◌<◌, ◌≤◌, inl, inr, ⊎_elim, ℕ, Bool, true, false, cond, drop, eqb, List, [], ◌∷◌, None, Option, Some, Ok, Err, Result, ap, arith, fold, get_or, length, map, refl, subst, suc, sym, take, zero}
-use Rattle.std.specs.Prelude.{◌↔◌, ◌≢◌, All, Contains, IsSome, IsTrue, OnOk, codes, not}
+use Rattle.std.specs.Prelude.{◌↔◌, ◌≢◌, All, Contains, IfErr, IsSome, IsTrue, OnOk, codes, not}
 use Rattle.std.specs.BTreeMap.{is_at}
 use Rattle.std.specs.BTreeSet.{BTreeSet, contains, insert_key}
 use Rattle.std.specs.Cmp.Lexicographic.{bytes_decides}
 use Rattle.std.specs.List.{IsDistinct}
 use Rattle.std.specs.Ordering.{match_ordering, nat_cmp}
-use Rattle.std.specs.Result.{result_and}
 use Rattle.std.specs.Str.{bytes_eq}
 use Rattle.std.specs.Str.Parse.{AllDigits, digits_value}
 use Rattle.std.specs.declared.cmp.Ordering.{Ordering}
@@ -29,13 +28,14 @@ use Rattle.leveldb_base.specs.declared.error.StatusCode.TheVariants.{NotFound}
 use Rattle.leveldb_base.specs.declared.types.FileType.{FileType}
 use Rattle.leveldb_base.specs.declared.types.FileType.TheVariants.{Current, DBLock, Descriptor, InfoLog, Log, Table, Temp}
 use Rattle.leveldb_env.proofs.EnvLemmas.{Run-mono, Run-trans, SameBut-deleted, at_other, at_same, begun, bytes_eq-apart, call, with_file-itself}
-use Rattle.leveldb_env.specs.Env.{BeforeOrAfter, ChangesFiles, File, Files, FilesUnchanged, HasCause, IsEmptyFolder, ListsChildren, Observed, Run, SameBut, SameLocks, deleted, in_folder, same, with_file}
+use Rattle.leveldb_env.specs.Env.{BeforeOrAfter, ChangesFiles, File, Files, FilesUnchanged, HasCause, IsEmptyFolder, IsMissing, ListsChildren, Observed, Run, SameBut, SameLocks, deleted, in_folder, same, with_file}
 use Rattle.leveldb_env.specs.declared.env.Env.{Ghosts}
 use Rattle.leveldb_version.proofs.BytesLemmas.{bytes_stay}
 use Rattle.leveldb_version.proofs.KeepsLemmas.{unread_keeps}
 use Rattle.leveldb_version.proofs.LogKeepsLemmas.{keeps_then}
 use Rattle.leveldb_version.proofs.ManagedLemmas.{same_name}
 use Rattle.leveldb_version.proofs.TrackedLemmas.{numbered_up_to, unread_unnamed}
+use Rattle.leveldb_version.proofs.UsableLemmas.{if_err_more, on_ok_more}
 use Rattle.leveldb_version.proofs.WrittenLemmas.{obsolete_is_unread, written_unread}
 use Rattle.leveldb_version.specs.Contents.{Store}
 use Rattle.leveldb_version.specs.Paths.{log_path, table_path}
@@ -46,7 +46,7 @@ use Rattle.leveldb_version.specs.VersionSetValue.{VersionSetValue, broken, numbe
 use Rattle.leveldb_version.specs.Writing.{IsObsolete}
 use Rattle.leveldb_version.specs.Format.{IsTableOf, Meaning}
 use Rattle.leveldb_store.specs.OpenStore.{OpenStoreValue}
-use Rattle.leveldb_store.specs.Switch.{AreRemoved, DeletesFile, HasFirstCause, IsObsoleteName, IsObsoletePath, RemovesName, RemovesNames, RemovesNoOther, RemovesObsolete, without_files}
+use Rattle.leveldb_store.specs.Switch.{AreRemoved, DeletesFile, HasFirstCause, IsFirstError, IsMemoryOut, IsObsoleteName, IsObsoletePath, LeavesFailed, RemovesName, RemovesNames, RemovesNoOther, RemovesObsolete, without_files}
 use Rattle.leveldb_store.specs.Written.{IsWritten, KeepsShown, KeepsStore, Shows, memory_of}
 use Rattle.leveldb_store.proofs.SwitchLemmas.{Keeps, keeps_same, shows_stay, written_as}
 
@@ -317,30 +317,35 @@ gone_stays gone other mid now (inr is) none = ap (λ (f : Files). f other) is �
 -- ---- why
 
 -- one more call
-first_cause : {Excused Missing : Status → Type 0} {before mid now : ℕ} (first result : Result (Unit {0}) Status) → ((e : Status) → Missing e → Excused e)
-    → HasFirstCause Excused before mid first → HasCause Missing mid now result → HasFirstCause Excused before now (result_and first result)
-first_cause (Ok x) (Ok y) excused so_far cause = record { later = omega (arith, so_far.later, cause.later); ok = cause.ok ∙ so_far.ok; cause = tt }
-first_cause {before = before} {mid = mid} {now = now} (Ok x) (Err e) excused so_far cause = record {
-  later = omega (arith, so_far.later, cause.later);
-  ok = tt;
-  cause = ⊎_elim (λ missing. inl (excused e missing))
-      (λ counted. ⊎_elim (λ (one : now ≡ mid + 1). let same = so_far.ok in inr (inl (omega (arith, one, same))))
-      (λ (most : (mid ≡ 2 ^ 64 - 1) × (now ≡ mid)). inr (inr (sym so_far.ok ∙ most.0, most.1 ∙ so_far.ok))) counted) cause.cause;
+first_cause : {Excused Missing : Status → Type 0} {before mid now : ℕ} (first next both : Result (Unit {0}) Status) → IsFirstError first next both → ((e : Status) → Missing e → Excused e)
+    → HasFirstCause Excused before mid first → HasCause Missing mid now next → HasFirstCause Excused before now both
+first_cause {Excused} {Missing} {before} {mid} {now} first next both joins excused so_far cause = record {
+  later = least;
+  ok = on_ok_more both joins.ok (λ oks. subst (λ r. OnOk r (now ≡ mid)) oks.1 cause.ok ∙ subst (λ r. OnOk r (mid ≡ before)) oks.0 so_far.ok);
+  cause = if_err_more both joins.err (λ e which. ⊎_elim
+      (λ is. ⊎_elim (λ it. inl it) (λ counted. inr (⊎_elim (λ (rose : before < mid). let later = cause.later in inl (omega (arith, rose, later)))
+      (λ (most : (before ≡ 2 ^ 64 - 1) × (mid ≡ before)). or_most most.0) counted))
+      (subst (λ r. IfErr r (λ status. Excused status ⊎ (before < mid) ⊎ ((before ≡ 2 ^ 64 - 1) × (mid ≡ before)))) is so_far.cause))
+      (λ is. ⊎_elim (λ missing. inl (excused e missing)) (λ counted. inr (⊎_elim (λ (one : now ≡ mid + 1). let later = so_far.later in inl (omega (arith, one, later)))
+      (λ (most : (mid ≡ 2 ^ 64 - 1) × (now ≡ mid)). after_most most.0 most.1) counted))
+      (subst (λ r. IfErr r (λ status. Missing status ⊎ (now ≡ mid + 1) ⊎ ((mid ≡ 2 ^ 64 - 1) × (now ≡ mid)))) is cause.cause))
+      which);
 }
-first_cause {before = before} {mid = mid} {now = now} (Err e) result excused so_far cause = record {
-  later = omega (arith, so_far.later, cause.later);
-  ok = tt;
-  cause = ⊎_elim (λ it. inl it)
-      (λ counted. ⊎_elim (λ (rose : before < mid). let later = cause.later in inr (inl (omega (arith, rose, later))))
-      (λ (most : (before ≡ 2 ^ 64 - 1) × (mid ≡ before)). ⊎_elim
-      (λ (rose : before < now). inr (inl rose))
-      (λ (stays : now ≤ before). let later = cause.later in let at_most = most.1 in inr (inr (most.0, omega (arith, stays, later, at_most))))
-      (cases_lt before now)) counted) so_far.cause;
-}
+  where
+    least : before ≤ now
+    least = omega (arith, so_far.later, cause.later)
 
-and_ok : (first result : Result (Unit {0}) Status) → result ≡ Ok tt → result_and first result ≡ first
-and_ok (Ok x) result is = is
-and_ok (Err e) result is = refl
+    or_most : before ≡ 2 ^ 64 - 1 → (before < now) ⊎ ((before ≡ 2 ^ 64 - 1) × (now ≡ before))
+    or_most most = ⊎_elim (λ (rose : before < now). inl rose) (λ (stays : now ≤ before). inr (most, omega (arith, stays, least))) (cases_lt before now)
+
+    after_most : mid ≡ 2 ^ 64 - 1 → now ≡ mid → (before < now) ⊎ ((before ≡ 2 ^ 64 - 1) × (now ≡ before))
+    after_most most same = ⊎_elim (λ (rose : before < now). inl rose)
+        (λ (stays : now ≤ before). let later = so_far.later in let none : now ≡ before = omega (arith, stays, least) in inr (omega (arith, most, same, none), none)) (cases_lt before now)
+
+-- where the later one is Ok, the first is what both return
+first_stays : (first both : Result (Unit {0}) Status) → IsFirstError first (Ok tt) both → both ≡ first
+first_stays first (Ok x) joins = sym joins.ok.0
+first_stays first (Err e) joins = ⊎_elim (λ is. sym is) (λ never. absurd (cc)) joins.err
 
 -- ---- one name after the other
 
@@ -349,56 +354,126 @@ module _ {E F : Type 0} (env : Ghosts E F) (set : VersionSetValue) (from : E) wh
   no_names = record {
     run = λ modelled. begun (env.observed from) (none_removed set (env.observed from).disk.files (env.observed from).disk.files refl);
     all = λ modelled name c. absurd (in_none name c);
+    left = inr (λ modelled. record { failed = []; left = λ name one some. absurd (in_none name one.0); counted = inl (omega arith) });
     locks = λ modelled. refl;
     cause = record { later = omega arith; ok = refl; cause = tt };
   }
 
   module _ (done : List (List ℕ)) (first : Result (Unit {0}) Status) (mid : E) (so_far : RemovesNames env set from done first mid) (name : List ℕ)
-      (there : IsTrue env.models_disk → (env.observed mid).disk.files (in_folder set.store name) ≢ None) (result : Result (Unit {0}) Status) (to : E) where
+      (there : IsTrue env.models_disk → (env.observed mid).disk.files (in_folder set.store name) ≢ None) (result : Result (Unit {0}) Status) (to : E)
+      (both : Result (Unit {0}) Status) (joins : IsFirstError first result both) where
     abbrev name_path : List ℕ
     name_path = in_folder set.store name
 
-    all_then : (first' result' : Result (Unit {0}) Status) → OnOk first' (IsTrue env.models_disk → (other : List ℕ) → Contains done other → IsObsoleteName set other → (env.observed mid).disk.files (in_folder set.store other) ≡ None)
-        → (IsTrue env.models_disk → ChangesFiles env.models_disk (deleted name_path) (BeforeOrAfter (deleted name_path)) (env.observed mid) (env.observed to) result')
-        → OnOk (result_and first' result') (IsTrue env.models_disk → (other : List ℕ) → Contains (done ++ name ∷ []) other → IsObsoleteName set other → (env.observed to).disk.files (in_folder set.store other) ≡ None)
-    all_then (Err e) result' before does = tt
-    all_then (Ok x) (Err e) before does = tt
-    all_then (Ok x) (Ok y) before does = λ modelled other c obsolete. ⊎_elim
-        (λ (earlier : Contains done other). gone_stays name_path (in_folder set.store other) (env.observed mid).disk.files (env.observed to).disk.files ((does modelled).now modelled) (before modelled other earlier obsolete))
-        (λ (same : name ≡ other). subst (λ z. (env.observed to).disk.files (in_folder set.store z) ≡ None) same
-        (ap (λ (f : Files). f name_path) ((does modelled).ok modelled) ∙ at_same name_path None (env.observed mid).disk.files))
-        (Contains-push_cases done name other c)
+    abbrev Gone : E → List (List ℕ) → Type 0
+    Gone at names = IsTrue env.models_disk → (other : List ℕ) → Contains names other → IsObsoleteName set other → (env.observed at).disk.files (in_folder set.store other) ≡ None
 
-    deleted_one : IsObsoleteName set name → DeletesFile env mid name_path result to → RemovesNames env set from (done ++ name ∷ []) (result_and first result) to
-    deleted_one obsolete it = record {
-      run = λ modelled. call modelled (so_far.run modelled)
-          (λ files passes. one_more_removed set (env.observed from).disk.files (env.observed mid).disk.files files name obsolete (so_far.run modelled).has passes) (it.does modelled);
-      all = all_then first result so_far.all it.does;
-      locks = λ modelled. it.locks modelled ∙ so_far.locks modelled;
-      cause = first_cause first result
-          (λ e missing. ⊎_elim (λ memory. inl memory) (λ (gone : (e.code ≡ NotFound) × (IsTrue env.models_disk → (env.observed mid).disk.files name_path ≡ None)). inr (gone.0, λ modelled. there modelled (gone.1 modelled))) missing)
-          so_far.cause it.cause;
-    }
+    abbrev Left : E → List (List ℕ) → Type 0
+    Left at names = LeavesFailed env set from (λ other. Contains names other × IsObsoleteName set other) at
 
-    skipped_one : (first' : Result (Unit {0}) Status) → (IsObsoleteName set name → ⊥) → RemovesNames env set from done first' mid → RemovesNames env set from (done ++ name ∷ []) first' mid
-    skipped_one (Err e) wanted before = record { run = before.run; all = tt; locks = before.locks; cause = before.cause }
-    skipped_one (Ok x) wanted before = record {
-      run = before.run;
-      all = λ modelled other c obsolete. ⊎_elim
-          (λ (earlier : Contains done other). before.all modelled other earlier obsolete)
+    module _ (obsolete : IsObsoleteName set name) (it : DeletesFile env mid name_path result to) where
+      -- what is gone stays so
+      stays_gone : IsTrue env.models_disk → (other : List ℕ) → (env.observed mid).disk.files (in_folder set.store other) ≡ None → (env.observed to).disk.files (in_folder set.store other) ≡ None
+      stays_gone modelled other none = gone_stays name_path (in_folder set.store other) (env.observed mid).disk.files (env.observed to).disk.files ((it.does modelled).now modelled) none
+
+      -- and what is there was so before
+      was_there : IsTrue env.models_disk → (other : List ℕ) → IsSome ((env.observed to).disk.files (in_folder set.store other)) → IsSome ((env.observed mid).disk.files (in_folder set.store other))
+      was_there modelled other some = by ((env.observed mid).disk.files (in_folder set.store other)) refl
+        where
+          by : (file : Option File) → (env.observed mid).disk.files (in_folder set.store other) ≡ file → IsSome ((env.observed mid).disk.files (in_folder set.store other))
+          by None none = absurd (let never : false ≡ true = subst IsSome (stays_gone modelled other none) some in cc)
+          by (Some file) is = subst IsSome (sym is) refl
+
+      -- one that was deleted is gone
+      name_gone : result ≡ Ok tt → IsTrue env.models_disk → (env.observed to).disk.files name_path ≡ None
+      name_gone is modelled = ap (λ (f : Files). f name_path) (subst (λ r. OnOk r ((env.observed to).disk.files ≡ deleted name_path (env.observed mid).disk.files)) is ((it.does modelled).ok modelled))
+          ∙ at_same name_path None (env.observed mid).disk.files
+
+      all_then : result ≡ Ok tt → Gone mid done → Gone to (done ++ name ∷ [])
+      all_then is before modelled other c wanted = ⊎_elim
+          (λ (earlier : Contains done other). stays_gone modelled other (before modelled other earlier wanted))
+          (λ (same : name ≡ other). subst (λ z. (env.observed to).disk.files (in_folder set.store z) ≡ None) same (name_gone is modelled))
+          (Contains-push_cases done name other c)
+
+      -- one more deletion that is Ok leaves no more
+      left_ok : result ≡ Ok tt → IsTrue env.models_disk → Left mid done → Left to (done ++ name ∷ [])
+      left_ok is modelled before = record {
+        failed = before.failed;
+        left = λ other one some. ⊎_elim
+            (λ (earlier : Contains done other). before.left other (earlier, one.1) (was_there modelled other some))
+            (λ (same : name ≡ other). absurd (let never : false ≡ true = subst IsSome (subst (λ z. (env.observed to).disk.files (in_folder set.store z) ≡ None) same (name_gone is modelled)) some in cc))
+            (Contains-push_cases done name other one.0);
+        counted =
+            let same : env.failures to ≡ env.failures mid = subst (λ r. OnOk r (env.failures to ≡ env.failures mid)) is it.cause.ok in
+            ⊎_elim (λ least. inl (omega (arith, least, same))) (λ most. inr (omega (arith, most, same))) before.counted;
+      }
+
+      -- one that fails leaves its file
+      left_err : (env.failures to ≡ env.failures mid + 1) ⊎ ((env.failures mid ≡ 2 ^ 64 - 1) × (env.failures to ≡ env.failures mid)) → IsTrue env.models_disk → Left mid done → Left to (done ++ name ∷ [])
+      left_err counted modelled before = record {
+        failed = name ∷ before.failed;
+        left = λ other one some. ⊎_elim
+            (λ (earlier : Contains done other). in_rest name other before.failed (before.left other (earlier, one.1) (was_there modelled other some)))
+            (λ (same : name ≡ other). subst (Contains (name ∷ before.failed)) same (in_front name before.failed))
+            (Contains-push_cases done name other one.0);
+        counted = ⊎_elim
+            (λ one. ⊎_elim (λ least. inl (one_more before.failed least one)) (λ most. inr (omega (arith, most, one))) before.counted)
+            (λ most. inr (omega (arith, most.0, most.1))) counted;
+      }
+        where
+          one_more : (failed : List (List ℕ)) → env.failures from + length failed ≤ env.failures mid → env.failures to ≡ env.failures mid + 1 → env.failures from + length (name ∷ failed) ≤ env.failures to
+          one_more failed least one = omega (arith, least, one)
+
+      left_then : (result' : Result (Unit {0}) Status) → result ≡ result' → IsMemoryOut first ⊎ (IsTrue env.models_disk → Left mid done) → IsMemoryOut both ⊎ (IsTrue env.models_disk → Left to (done ++ name ∷ []))
+      left_then result' is (inl memory) = inl (joins.memory (inl memory))
+      left_then (Ok x) is (inr before) = inr (λ modelled. left_ok is modelled (before modelled))
+      left_then (Err e) is (inr before) = ⊎_elim
+          (λ missing. ⊎_elim (λ (memory : IsOutOfMemory e). inl (joins.memory (inr (subst IsMemoryOut (sym is) memory.0))))
+          (λ gone. inr (λ modelled. absurd (there modelled (gone.1 modelled)))) missing)
+          (λ counted. inr (λ modelled. left_err counted modelled (before modelled)))
+          (subst (λ r. IfErr r (λ status. IsMissing env.models_disk name_path (env.observed mid) status ⊎ (env.failures to ≡ env.failures mid + 1)
+          ⊎ ((env.failures mid ≡ 2 ^ 64 - 1) × (env.failures to ≡ env.failures mid)))) is it.cause.cause)
+
+      deleted_one : RemovesNames env set from (done ++ name ∷ []) both to
+      deleted_one = record {
+        run = λ modelled. call modelled (so_far.run modelled)
+            (λ files passes. one_more_removed set (env.observed from).disk.files (env.observed mid).disk.files files name obsolete (so_far.run modelled).has passes) (it.does modelled);
+        all = on_ok_more both joins.ok (λ oks. all_then oks.1 (subst (λ r. OnOk r (Gone mid done)) oks.0 so_far.all));
+        left = left_then result refl so_far.left;
+        locks = λ modelled. it.locks modelled ∙ so_far.locks modelled;
+        cause = first_cause first result both joins
+            (λ e missing. ⊎_elim (λ memory. inl memory) (λ (gone : (e.code ≡ NotFound) × (IsTrue env.models_disk → (env.observed mid).disk.files name_path ≡ None)). inr (gone.0, λ modelled. there modelled (gone.1 modelled))) missing)
+            so_far.cause it.cause;
+      }
+
+    skipped_one : (IsObsoleteName set name → ⊥) → RemovesNames env set from (done ++ name ∷ []) first mid
+    skipped_one wanted = record {
+      run = so_far.run;
+      all = on_ok_more first so_far.all (λ before modelled other c obsolete. ⊎_elim
+          (λ (earlier : Contains done other). before modelled other earlier obsolete)
           (λ (same : name ≡ other). absurd (wanted (subst (IsObsoleteName set) (sym same) obsolete)))
-          (Contains-push_cases done name other c);
-      locks = before.locks;
-      cause = before.cause;
+          (Contains-push_cases done name other c));
+      left = ⊎_elim (λ memory. inl memory)
+          (λ before. inr (λ modelled. let it = before modelled in
+          record {
+            failed = it.failed;
+            left = λ other one some. ⊎_elim
+                (λ (earlier : Contains done other). it.left other (earlier, one.1) some)
+                (λ (same : name ≡ other). absurd (wanted (subst (IsObsoleteName set) (sym same) one.1)))
+                (Contains-push_cases done name other one.0);
+            counted = it.counted;
+          })) so_far.left;
+      locks = so_far.locks;
+      cause = so_far.cause;
     }
 
     -- one more name
-    pub one_more_name : RemovesName env set mid name result to → RemovesNames env set from (done ++ name ∷ []) (result_and first result) to
+    pub one_more_name : RemovesName env set mid name result to → RemovesNames env set from (done ++ name ∷ []) both to
     one_more_name removes = ⊎_elim
         (λ (it : IsObsoleteName set name × DeletesFile env mid name_path result to). deleted_one it.0 it.1)
         (λ (skip : (IsObsoleteName set name → ⊥) × (result ≡ Ok tt) × (to ≡ mid)).
-        subst (λ r. RemovesNames env set from (done ++ name ∷ []) r to) (sym (and_ok first result skip.1))
-        (subst (RemovesNames env set from (done ++ name ∷ []) first) (sym skip.2) (skipped_one first skip.0 so_far))) removes
+        subst (λ r. RemovesNames env set from (done ++ name ∷ []) r to) (sym (first_stays first both (subst (λ r. IsFirstError first r both) skip.1 joins)))
+        (subst (RemovesNames env set from (done ++ name ∷ []) first) (sym skip.2) (skipped_one skip.0))) removes
 
     -- which leaves the others alone
     pub others_left : RemovesName env set mid name result to → (other : List ℕ) → bytes_eq name other ≡ false → IsTrue env.models_disk
@@ -441,9 +516,9 @@ module _ {E F : Type 0} (env : Ghosts E F) (set : VersionSetValue) (from : E) wh
   pub names_step : {A : Type 0} (f : A → List ℕ) (items : List A) (i : ℕ) (item : A) → i < length items → item ≡ get_or items i item
       → (IsTrue env.models_disk → ListsChildren (env.observed from).disk.files set.store (map f items)) → (first : Result (Unit {0}) Status) (mid : E)
       → RemovesNames env set from (take i (map f items)) first mid → RestThere (map f items) i mid
-      → (name : List ℕ) → name ≡ f item → (result : Result (Unit {0}) Status) (to : E) → RemovesName env set mid name result to → (both : Result (Unit {0}) Status) → both ≡ result_and first result
+      → (name : List ℕ) → name ≡ f item → (result : Result (Unit {0}) Status) (to : E) → RemovesName env set mid name result to → (both : Result (Unit {0}) Status) → IsFirstError first result both
       → RemovesNames env set from (take (i + 1) (map f items)) both to × RestThere (map f items) (i + 1) to
-  names_step f items i item within is listed first mid so_far rest name named result to removes both both_is =
+  names_step f items i item within is listed first mid so_far rest name named result to removes both joins =
       let next = next_item f items i item within is in
       let names = map f items in
       let it : RemovesName env set mid (f item) result to = subst (λ z. RemovesName env set mid z result to) named removes in
@@ -454,11 +529,10 @@ module _ {E F : Type 0} (env : Ghosts E F) (set : VersionSetValue) (from : E) wh
       All-contains (λ y. bytes_eq (f item) y ≡ false) (drop (i + 1) names) other
       (All-from_recursion (λ y. bytes_eq (f item) y ≡ false) (drop (i + 1) names)
       (IsDistinct-head bytes_eq (f item) (drop (i + 1) names) (subst (IsDistinct bytes_eq) next.1 (distinct_rest i names (listed modelled).once)))) c in (
-        subst (λ r. RemovesNames env set from (take (i + 1) names) r to) (sym both_is)
-            (subst (λ xs. RemovesNames env set from xs (result_and first result) to) (sym next.0)
-            (one_more_name env set from (take i names) first mid so_far (f item) there result to it)),
+        subst (λ xs. RemovesNames env set from xs both to) (sym next.0)
+            (one_more_name env set from (take i names) first mid so_far (f item) there result to both joins it),
         λ modelled other c.
-            others_left env set from (take i names) first mid so_far (f item) there result to it other (apart modelled other c) modelled
+            others_left env set from (take i names) first mid so_far (f item) there result to both joins it other (apart modelled other c) modelled
             ∙ rest modelled other (subst (λ xs. Contains xs other) (sym next.1) (in_rest (f item) other (drop (i + 1) names) c)),
       )
 
@@ -470,6 +544,24 @@ removing_after set from mid to listing removing = Run-trans (Run-mono (λ files 
     (λ files removed. subst (λ f. AreRemoved set f files) listing.has removed) removing
 
 module _ {E F : Type 0} (env : Ghosts E F) (set : VersionSetValue) (from : E) where
+  -- the folder isn't listed
+  pub RemovesObsolete-unlisted : {T : Type 0} (usable : set.manifest ≢ broken) (mid : E) (status : Status) → (IsTrue env.models_disk → Run (FilesUnchanged (env.observed from).disk.files) (env.observed from) (env.observed mid))
+      → SameLocks env.models_disk (env.observed from) (env.observed mid) → HasCause {T = T} (IsEmptyFolder env.models_disk set.store (env.observed from)) (env.failures from) (env.failures mid) (Err status)
+      → RemovesObsolete env set from (Err status) mid
+  RemovesObsolete-unlisted usable mid status still locks cause = record {
+    run = λ modelled. Run-mono (λ files same path. inl (ap (λ (f : Files). f path) same)) (still modelled);
+    all = λ again. tt;
+    left = λ again. inr (inl (tt, λ modelled. (still modelled).has));
+    broken_keeps = λ is. absurd (usable is);
+    locks = locks;
+    cause = record {
+      later = cause.later;
+      ok = tt;
+      cause = ⊎_elim (λ excused. inl excused)
+          (λ counted. inr (⊎_elim (λ one. inl (omega (arith, one))) (λ most. inr most) counted)) cause.cause;
+    };
+  }
+
   module _ (usable : set.manifest ≢ broken) (mid : E) (listing : IsTrue env.models_disk → Run (FilesUnchanged (env.observed from).disk.files) (env.observed from) (env.observed mid)) (counted : env.failures mid ≡ env.failures from)
       (names : List (List ℕ)) (listed : IsTrue env.models_disk → ListsChildren (env.observed from).disk.files set.store names) (result : Result (Unit {0}) Status) (to : E)
       (removes : RemovesNames env set mid names result to) where
@@ -493,10 +585,28 @@ module _ {E F : Type 0} (env : Ghosts E F) (set : VersionSetValue) (from : E) wh
         by modelled name obsolete (Some file) some = each modelled name
             (((listed modelled).each name).1 (name_unslashed name obsolete.0 obsolete.1 obsolete.2, subst (λ o. IsSome o) (sym some) refl)) obsolete
 
+    left_here : IsTrue env.models_disk → LeavesFailed env set mid (λ name. Contains names name × IsObsoleteName set name) to → LeavesFailed env set from (IsObsoleteName set) to
+    left_here modelled it = record {
+      failed = it.failed;
+      left = λ name obsolete some. it.left name (
+        ((listed modelled).each name).1 (name_unslashed name obsolete.0 obsolete.1 obsolete.2, was name some),
+        obsolete,
+      ) some;
+      counted = subst (λ n. (n + length it.failed ≤ env.failures to) ⊎ (2 ^ 64 - 1 ≤ env.failures to)) counted it.counted;
+    }
+      where
+        was : (name : List ℕ) → IsSome ((env.observed to).disk.files (in_folder set.store name)) → IsSome (first_files (in_folder set.store name))
+        was name some = by (first_files (in_folder set.store name)) refl
+          where
+            by : (file : Option File) → first_files (in_folder set.store name) ≡ file → IsSome (first_files (in_folder set.store name))
+            by None none = absurd (let never : false ≡ true = subst IsSome (gone_at modelled (in_folder set.store name) none) some in cc)
+            by (Some file) is = subst IsSome (sym is) refl
+
     pub RemovesObsolete-after : SameLocks env.models_disk (env.observed from) (env.observed mid) → RemovesObsolete env set from result to
     RemovesObsolete-after locks = record {
       run = λ modelled. Run-mono (removes_no_other set first_files) (removing modelled);
       all = λ again. all_gone result removes.all;
+      left = λ again. ⊎_elim (λ memory. inl memory) (λ before. inr (inr (λ modelled. left_here modelled (before modelled)))) removes.left;
       broken_keeps = λ is. absurd (usable is);
       locks = λ modelled. removes.locks modelled ∙ locks modelled;
       cause = widened result (subst (λ n. HasFirstCause (λ status. IsOutOfMemory status ⊎ ((status.code ≡ NotFound) × (IsTrue env.models_disk → ⊥))) n (env.failures to) result) counted removes.cause);

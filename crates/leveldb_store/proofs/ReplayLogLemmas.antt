@@ -46,6 +46,7 @@ use Rattle.leveldb_version.specs.Format.{Agrees, Format, IsTableOf, Meaning}
 use Rattle.leveldb_store.specs.FoundLogs.{AreLastEntries, FailsToKeep, FailsToTable}
 use Rattle.leveldb_store.specs.Opening.{IsMadeTable, SameButTables}
 use Rattle.leveldb_store.specs.ReplayLog.{TakesBatch, FailsAtRecord, FailsToTableRest, Follows, HasReplayed, IsNoNextBatch, IsNotFull, MakesRestTable, MakesTablesOnly, TablesRest, TakesRecord, table_files}
+use Rattle.leveldb_store.specs.Room.{AreFull}
 use Rattle.leveldb_store.specs.declared.opening.replay_log.ReplayedLog.{ReplayedLog}
 use Rattle.leveldb_store.specs.OpenStore.{AreNumbersGiven}
 use Rattle.leveldb_store.proofs.GivenNumbersLemmas.{none_given, one_more_given}
@@ -234,6 +235,55 @@ last_more batches old new batch was gains grows = record {
             omega (arith, long, size, grows.memory, was.grows.memory);
       });
 }
+
+-- entries are full with others before or after them, if they are by themselves
+full_before : (limit : ℕ) (xs ys : List Entry) → AreFull limit xs → AreFull limit (xs ++ ys)
+full_before limit xs ys full = (λ none. full.0 (empty xs none), more)
+  where
+    empty : (zs : List Entry) → zs ++ ys ≡ [] → zs ≡ []
+    empty [] none = refl
+    empty (z ∷ zs) none = absurd (cc)
+
+    more : limit ≤ memory_of_entries (xs ++ ys)
+    more = let long = length-append xs ys in
+        let size = sum_by-append (λ entry. length (entry_key entry)) xs ys in
+        let least = full.1 in omega (arith, long, size, least)
+
+full_after : (limit : ℕ) (xs ys : List Entry) → AreFull limit ys → AreFull limit (xs ++ ys)
+full_after limit xs ys full = (λ none. full.0 (empty xs none), more)
+  where
+    empty : (zs : List Entry) → zs ++ ys ≡ [] → ys ≡ []
+    empty [] none = none
+    empty (z ∷ zs) none = absurd (cc)
+
+    more : limit ≤ memory_of_entries (xs ++ ys)
+    more = let long = length-append xs ys in
+        let size = sum_by-append (λ entry. length (entry_key entry)) xs ys in
+        let least = full.1 in omega (arith, long, size, least)
+
+-- so are those of batches, with one more
+pub full_more : (limit : ℕ) (batches : List Batch) (batch : Batch)
+    → AreFull limit (all_entries batches) → AreFull limit (all_entries (batches ++ batch ∷ []))
+full_more limit batches batch full = subst (AreFull limit) (sym (all_more batches batch))
+    (full_before limit (all_entries batches) (batch_entries batch) full)
+
+-- and if those of the last batches are
+full_of_last : (limit : ℕ) (batches : List Batch) (entries : List Entry)
+    → AreLastEntries batches entries → AreFull limit entries → AreFull limit (all_entries batches)
+full_of_last limit batches entries are full = subst (λ bs. AreFull limit (all_entries bs))
+    (sym are.parts) (subst (AreFull limit) (sym (all_append are.front are.last))
+    (full_after limit (all_entries are.front) (all_entries are.last) (some, more)))
+  where
+    empty : (es : List Entry) → length es ≡ 0 → es ≡ []
+    empty [] none = refl
+    empty (e ∷ es) none = absurd (omega (arith, none))
+
+    some : all_entries are.last ≡ [] → ⊥
+    some none = full.0 (empty entries
+        (let count = are.grows.count in let long = ap length none in omega (arith, count, long)))
+
+    more : limit ≤ memory_of_entries (all_entries are.last)
+    more = let grows = are.grows.memory in let least = full.1 in omega (arith, grows, least)
 
 -- the memory that counts for them
 last_memory : (batches : List Batch) (entries : List Entry) (are : AreLastEntries batches entries)
@@ -663,8 +713,12 @@ module _ {E F D FP C : Type 0} (env : Ghosts E F) {order : CmpGhosts D} {filters
         → TakesRecord env choices limit text old set at (Ok tt) mid set at
     TakesRecord-added at room = record {
       spares = MakesTablesOnly-none env set at;
-      ok = λ first last batches was.
-          (batch, is, HasReplayed-added env choices.format was batch follows adds);
+      ok = λ first last batches was. (
+        batch,
+        is,
+        HasReplayed-added env choices.format was batch follows adds,
+        inl (ap (λ (log : ReplayedLog C). log.tables.items) adds.rest),
+      );
       room = room;
       cmp = adds.cmp;
       size = ap (λ (log : ReplayedLog C). log.size) adds.rest;
@@ -685,17 +739,20 @@ module _ {E F D FP C : Type 0} (env : Ghosts E F) {order : CmpGhosts D} {filters
         )
 
     -- one is made, or an error comes of it
-    pub TakesRecord-tabled : mid.rest.kept.entries ≢ [] → {from to : E} {new : ReplayedLog C}
+    pub TakesRecord-tabled : mid.rest.kept.entries ≢ []
+        → limit ≤ memory_of_entries mid.rest.kept.entries → {from to : E} {new : ReplayedLog C}
         {now : VersionSetValue} (result : Result (Unit {0}) Status)
         → MakesRestTable env choices mid set from result new now to
         → TakesRecord env choices limit text old set from result new now to
-    TakesRecord-tabled some {new = new} (Ok done) makes = record {
+    TakesRecord-tabled some full {new = new} (Ok done) makes = record {
       spares = makes.spares;
       ok = λ first last batches was. (
         batch,
         is,
         HasReplayed-tabled env choices.format
             (HasReplayed-added env choices.format was batch follows adds) some makes.spares makes.ok,
+        inr (full_of_last limit (batches ++ batch ∷ []) mid.rest.kept.entries
+            (HasReplayed-added env choices.format was batch follows adds).in_memory (some, full)),
       );
       room = inl makes.ok.none_left;
       cmp = makes.ok.cmp ∙ adds.cmp;
@@ -710,7 +767,7 @@ module _ {E F D FP C : Type 0} (env : Ghosts E F) {order : CmpGhosts D} {filters
         cause = tt;
       };
     }
-    TakesRecord-tabled some {from = from} (Err status) makes = record {
+    TakesRecord-tabled some full {from = from} (Err status) makes = record {
       spares = makes.spares;
       ok = tt;
       room = tt;

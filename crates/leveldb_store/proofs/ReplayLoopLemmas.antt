@@ -24,9 +24,10 @@ use Rattle.leveldb_version.specs.Format.{Agrees, Format, Meaning}
 use Rattle.leveldb_store.specs.FoundLogs.{LogBeginsWith, LogsBeginWith}
 use Rattle.leveldb_store.specs.OpeningSteps.{AreDamagedLogs, AreTabledBut, DamagesLogs, HasReplayedLogs, MakeFewTables, ReplaysLogs, ReplaysNext, WhyNotReplayed, entries_to_write, made_files}
 use Rattle.leveldb_store.specs.OpenStore.{AreNumbersGiven}
-use Rattle.leveldb_store.specs.ReplayLog.{FailsAtLog, MakesTablesOnly}
+use Rattle.leveldb_store.specs.ReplayLog.{FailsAtLog, IsUnusable, MakesTablesOnly}
 use Rattle.leveldb_store.specs.Room.{IsFull}
 use Rattle.leveldb_store.specs.declared.opening.replay.Replay.{Replay}
+use Rattle.leveldb_store.specs.declared.opening.replay.UsedLog.{UsedLog}
 use Rattle.leveldb_store.specs.declared.opening.replay.UsedLog.{UsedLog}
 use Rattle.leveldb_store.proofs.FoundLogsLemmas.{log_same, logs_before, logs_then}
 use Rattle.leveldb_store.proofs.ReplayDamageLemmas.{log_stays}
@@ -42,6 +43,36 @@ meaning_of format = record {
 
 agrees_with : (format : Format) → Agrees format (meaning_of format)
 agrees_with format = record { order = refl; codings = λ id coding is. is; filters = refl }
+
+-- ---- the last one
+
+none_with_last : {X : Type 0} (xs : List X) (x : X) → [] ≡ xs ++ x ∷ [] → ⊥
+none_with_last [] x e = cc
+none_with_last (y ∷ xs) x e = cc
+
+rest_of_same : {X : Type 0} (x y : X) (xs ys : List X) → x ∷ xs ≡ y ∷ ys → xs ≡ ys
+rest_of_same x y xs ys e = cc
+
+-- a list has one last element
+pub one_last : {X : Type 0} (xs ys : List X) (x y : X) → xs ++ x ∷ [] ≡ ys ++ y ∷ [] → x ≡ y
+one_last [] [] x y e = cc
+one_last [] (b ∷ ys) x y e =
+    absurd (none_with_last ys y (rest_of_same x b [] (ys ++ y ∷ []) e))
+one_last (a ∷ xs) [] x y e =
+    absurd (none_with_last xs x (rest_of_same y a [] (xs ++ x ∷ []) (sym e)))
+one_last (a ∷ xs) (b ∷ ys) x y e =
+    one_last xs ys x y (rest_of_same a b (xs ++ x ∷ []) (ys ++ y ∷ []) e)
+
+-- of no numbers none is the last
+pub no_last : {P : Type 0} (numbers front : List ℕ) (number : ℕ) → numbers ≡ []
+    → numbers ≡ front ++ number ∷ [] → P
+no_last numbers front number none is = absurd (none_with_last front number (sym none ∙ is))
+
+-- what holds where a log is used on holds if one is
+pub used_so : {C P : Type 0} (used : Option (UsedLog C)) (n : ℕ)
+    → IfSome used (λ it. P × (it.number ≡ n)) → IsSome used → P
+used_so None n so some = absurd (let never : false ≡ true = some in cc)
+used_so (Some used) n so some = so.0
 
 module _ {E F D FP C : Type 0} (env : Ghosts E F) {order : CmpGhosts D} {filters : FilterGhosts FP}
     (choices : TableChoices order filters) (limit : ℕ) (set : VersionSetValue) (numbers : List ℕ)
@@ -116,18 +147,40 @@ module _ {E F D FP C : Type 0} (env : Ghosts E F) {order : CmpGhosts D} {filters
     so_far : IsReplaying replay (number ∷ rest) now at
     so_far = subst (λ ns. IsReplaying replay ns now at) first replaying
 
-    -- a log begins with the batches with which it began at first
+    -- a log is as it was at first
+    log_still : IsTrue env.models_disk → (n : ℕ)
+        → (env.observed from).disk.files (log_path set.store n)
+        ≡ (env.observed at).disk.files (log_path now.store n)
+    log_still modelled n =
+        sym (log_stays set now (env.observed from).disk.files (env.observed at).disk.files
+        (so_far.spares.run modelled).has n)
+        ∙ ap (λ s. (env.observed at).disk.files (log_path s n))
+        (sym (same_store so_far.spares.numbers))
+
+    -- it begins with the batches with which it began
     began : IsTrue env.models_disk → (n : ℕ) (batches : List Batch)
         → LogBeginsWith now.store (env.observed at).disk.files n batches
         → LogBeginsWith set.store (env.observed from).disk.files n batches
     began modelled n batches = log_same now.store set.store (env.observed at).disk.files
-        (env.observed from).disk.files n
-        (sym (log_stays set now (env.observed from).disk.files (env.observed at).disk.files
-        (so_far.spares.run modelled).has n)
-        ∙ ap (λ s. (env.observed at).disk.files (log_path s n))
-        (sym (same_store so_far.spares.numbers))) batches
+        (env.observed from).disk.files n (log_still modelled n) batches
 
-    log_number_still : now.log_number ≡ set.log_number
+    -- with none after it, this is the last one
+    pub last_is : rest ≡ [] → (front : List ℕ) (n : ℕ) → numbers ≡ front ++ n ∷ [] → number ≡ n
+    last_is none front n is = one_last so_far.front front number n
+        (ap (λ later. so_far.front ++ number ∷ later) (sym none) ∙ so_far.numbers_are ∙ is)
+
+    -- and if it can't be used on now, it couldn't at first
+    pub unusable_before : IsTrue env.models_disk
+        → IsUnusable limit now.store (env.observed at).disk.files number → (n : ℕ) → number ≡ n
+        → IsUnusable limit set.store (env.observed from).disk.files n
+    unusable_before modelled it n is = record {
+      log = it.log;
+      number_is = it.number_is ∙ is;
+      has_log = (it.has_log.0, log_still modelled it.log.number ∙ it.has_log.1, it.has_log.2);
+      why = it.why;
+    }
+
+    pub log_number_still : now.log_number ≡ set.log_number
     log_number_still = ap (λ (v : VersionSetValue). v.log_number) so_far.spares.numbers.set
 
     module _ (may_go_on : Bool) (new : Replay C) (made : VersionSetValue) (to : E) where

@@ -17,7 +17,7 @@ use Rattle.leveldb_mem.specs.WriteBatch.{Batch}
 use Rattle.leveldb_version.specs.Batches.{all_entries}
 use Rattle.leveldb_version.specs.Levels.{table_entries}
 use Rattle.leveldb_version.specs.Paths.{log_path}
-use Rattle.leveldb_version.specs.Store.{ReplayedLog as StoreLog}
+use Rattle.leveldb_version.specs.Store.{HasLog, ReplayedLog as StoreLog}
 use Rattle.leveldb_version.specs.VersionSetValue.{VersionSetValue}
 use Rattle.leveldb_store.specs.BuildTable.{TableChoices}
 use Rattle.leveldb_store.specs.FoundLogs.{BeginsWithBatches, FailsToTable, LogBeginsWith}
@@ -68,6 +68,7 @@ module _ {E F D FP : Type 0} (env : Ghosts E F) {order : CmpGhosts D} {filters :
     spares = MakesTablesOnly-none env set from;
     replays = λ modelled meaning agrees. tt;
     room = tt;
+    unusable = tt;
     given = tt;
     up_to = tt;
     batches = tt;
@@ -103,6 +104,7 @@ module _ {E F D FP : Type 0} (env : Ghosts E F) {order : CmpGhosts D} {filters :
           spares = still;
           replays = λ modelled meaning agrees. tt;
           room = tt;
+          unusable = tt;
           given = tt;
           up_to = tt;
           batches = tt;
@@ -143,6 +145,7 @@ module _ {E F D FP : Type 0} (env : Ghosts E F) {order : CmpGhosts D} {filters :
         spares = MakesTablesOnly-trans env still replays.spares;
         replays = λ modelled meaning agrees. tt;
         room = tt;
+        unusable = tt;
         given = tt;
         up_to = tt;
         batches = tt;
@@ -187,6 +190,31 @@ module _ {E F D FP : Type 0} (env : Ghosts E F) {order : CmpGhosts D} {filters :
           (Contains-append_right (table_entries h.replayed.tables) log.rest.kept.entries entry c) in
           omega (arith, up_to_greatest (all_entries h.batches) entry there, h.replayed.last_is)
 
+      -- the log that was read
+      module _ (file : IsReadFile ((env.observed from).disk.files (log_path set.store number)) text)
+          {C : Type 0} {now : VersionSetValue} {to : E} (log : ReplayedLog C)
+          (h : HasReplayedText env choices limit set last text log now to) where
+        abbrev whole : StoreLog
+        whole = record {
+          number = number;
+          batches = h.batches;
+          end = if log.is_clean then clean else bad;
+          size = length (bytes_of file.found);
+        }
+
+        whole_log : HasLog set.store (env.observed from).disk.files whole
+        whole_log = (
+          file.found,
+          file.there,
+          record {
+            records = h.records;
+            read = subst (λ b. IsLogFile b h.records (if log.is_clean then clean else bad))
+                file.bytes h.read;
+            each = h.each;
+            size = refl;
+          },
+        )
+
       done : {C : Type 0} {now : VersionSetValue} {to : E} (log : ReplayedLog C)
           → ReplaysText env choices limit set last text mid (Ok log) now to
           → ReplaysFile env choices limit set last number from (Ok log) now to
@@ -195,26 +223,10 @@ module _ {E F D FP : Type 0} (env : Ghosts E F) {order : CmpGhosts D} {filters :
         replays = λ modelled meaning agrees.
             let h = replays.ok in
             let file = file_read modelled in
-            let whole : StoreLog = record {
-              number = number;
-              batches = h.batches;
-              end = if log.is_clean then clean else bad;
-              size = length (bytes_of file.found);
-            } in
             record {
-              log = whole;
+              log = whole file log h;
               number_is = refl;
-              has_log = (
-                file.found,
-                file.there,
-                record {
-                  records = h.records;
-                  read = subst (λ b. IsLogFile b h.records (if log.is_clean then clean else bad))
-                      file.bytes h.read;
-                  each = h.each;
-                  size = refl;
-                },
-              );
+              has_log = whole_log file log h;
               end = refl;
               size = sym (h.size ∙ ap length file.bytes);
               in_order = h.replayed.in_order;
@@ -226,6 +238,13 @@ module _ {E F D FP : Type 0} (env : Ghosts E F) {order : CmpGhosts D} {filters :
               newer = h.replayed.newer;
             };
         room = replays.ok.room;
+        unusable = λ modelled which. record {
+          log = whole (file_read modelled) log replays.ok;
+          number_is = refl;
+          has_log = whole_log (file_read modelled) log replays.ok;
+          why = ⊎_elim (λ is. inl (ap (λ b. if b then clean else bad) is))
+              (λ some. ⊎_elim (λ none. absurd (some none)) (λ full. inr full) replays.ok.filled) which;
+        };
         given = replays.ok.replayed.given;
         up_to = rest_up_to log replays.ok;
         batches = record {

@@ -25,7 +25,8 @@ use Rattle.leveldb_store.specs.FoundLogs.{BeginsWithBatches}
 use Rattle.leveldb_store.specs.ReplayLog.{FailsAtRecord, FailsAtText, HasReplayed, IsDamagedText, IsNoNextBatch, IsNotFull, MakesTablesOnly, ReplaysText, TakesRecord}
 use Rattle.leveldb_store.specs.declared.opening.replay_log.ReplayedLog.{ReplayedLog}
 use Rattle.leveldb_store.proofs.ReplayFilesLemmas.{MakesTablesOnly-none, MakesTablesOnly-trans}
-use Rattle.leveldb_store.proofs.ReplayLogLemmas.{HasReplayed-none}
+use Rattle.leveldb_store.proofs.ReplayLogLemmas.{HasReplayed-none, full_more}
+use Rattle.leveldb_store.specs.Room.{AreFull}
 
 -- ---- a batch in the midst of others
 
@@ -186,6 +187,7 @@ module _ {E F D FP C S : Type 0} (env : Ghosts E F) {order : CmpGhosts D}
     pub each : Each IsRecordOf records batches
     pub replayed : HasReplayed env choices.format set last batches log now at
     pub room : IsNotFull limit log
+    pub filled : (log.tables.items ≡ []) ⊎ AreFull limit (all_entries batches)
     pub cmp_is : log.rest.cmp ≡ cmp
     pub size : log.size ≡ length (left begin)
     pub not_ended : log.is_clean ≡ false
@@ -205,6 +207,7 @@ module _ {E F D FP C S : Type 0} (env : Ghosts E F) {order : CmpGhosts D}
     each = tt;
     replayed = HasReplayed-none env choices.format set last log from tables rest places is;
     room = inl rest;
+    filled = inl tables;
     cmp_is = cmp_is;
     size = size;
     not_ended = ended;
@@ -244,6 +247,10 @@ module _ {E F D FP C S : Type 0} (env : Ghosts E F) {order : CmpGhosts D}
           each = each_more IsRecordOf so_far.records so_far.batches text more.0 so_far.each more.1;
           replayed = more.2;
           room = takes.room;
+          filled = ⊎_elim
+              (λ same. ⊎_elim (λ none. inl (same ∙ none))
+              (λ full. inr (full_more limit so_far.batches more.0 full)) so_far.filled)
+              (λ full. inr full) more.3;
           cmp_is = takes.cmp ∙ so_far.cmp_is;
           size = takes.size ∙ so_far.size;
           not_ended = takes.bad ∙ so_far.not_ended;
@@ -387,6 +394,7 @@ module _ {E F D FP C S : Type 0} (env : Ghosts E F) {order : CmpGhosts D}
         begins = begins;
         replayed = has_ended true;
         room = so_far.room;
+        filled = so_far.filled;
         size = so_far.size;
       };
       cause = record {
@@ -411,6 +419,7 @@ module _ {E F D FP C S : Type 0} (env : Ghosts E F) {order : CmpGhosts D}
         begins = begins;
         replayed = so_far.replayed;
         room = so_far.room;
+        filled = so_far.filled;
         size = so_far.size;
       };
       cause = record {

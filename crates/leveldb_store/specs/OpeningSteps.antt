@@ -37,9 +37,9 @@ use Rattle.leveldb_version.specs.Format.{Agrees, Format, Meaning}
 use Rattle.leveldb_store.specs.OpenStore.{AreInLevels, AreNumbersGiven, HasOwnManifest, IsUnbroken, OpenStoreValue}
 use Rattle.leveldb_store.specs.Opening.{AreMadeTables, GivesNumbers, SameButTables}
 use Rattle.leveldb_store.specs.OpeningState.{HasComparator, IsRecoveredWith, with_comparator}
-use Rattle.leveldb_store.specs.OpensStore.{HasHugeManifest, HasOtherComparator, HasSharedUserKey, IsBareFolder, IsDamaged, IsForbidden, IsForbiddenAs, IsNumberFound, IsOpenedAs, IsSound, IsTableOrLog, KeepsFound, LacksCurrent, LacksUsableEdits, LeavesFewNumbers, SameBesideOwn, WhyNotOpenable}
+use Rattle.leveldb_store.specs.OpensStore.{AreTablesThere, HasHugeManifest, HasOtherComparator, HasSharedUserKey, IsBareFolder, IsDamaged, IsForbidden, IsForbiddenAs, IsNumberFound, IsOpenedAs, IsSound, IsTableOrLog, KeepsFound, LacksCurrent, LacksUsableEdits, LeavesFewNumbers, SameBesideOwn, WhyNotOpenable}
 use Rattle.leveldb_store.specs.FoundLogs.{HasLogNotKept, LacksNumbersFor, LogBeginsWith, LogsBeginWith}
-use Rattle.leveldb_store.specs.ReplayLog.{FailsAtLog, HasCauseOr, MakesTablesOnly, table_files}
+use Rattle.leveldb_store.specs.ReplayLog.{FailsAtLog, HasCauseOr, IsUnusable, MakesTablesOnly, table_files}
 use Rattle.leveldb_store.specs.Room.{IsFull}
 use Rattle.leveldb_store.specs.SoundCall.{BytesAreAppended}
 use Rattle.leveldb_store.specs.Switch.{MayGiveNumber}
@@ -429,6 +429,17 @@ module _ {E F D FP : Type 0} (env : Ghosts E F) {order : CmpGhosts D} {filters :
     pub cause : HasCauseOr (WhyNotReplayed old.store (env.observed from).disk.files numbers
         old.next_file) (env.failures from) (env.failures to) result
 
+module _ {E F : Type 0} (env : Ghosts E F) where
+  -- Which log is used on: none unless that is wanted. Where it is, the last one is, unless it is below
+  -- the manifest's log number, ends badly or fills a memtable.
+  pub record UsesLastLog {C : Type 0} (wanted : Bool) (limit : ℕ) (old : VersionSetValue)
+      (numbers : List ℕ) (from : E) (result : Result (Replay C) Status) : Type 0 where
+    pub used : IfOk result (λ replay. IsSome replay.used → IsTrue wanted)
+    pub unused : IfOk result (λ replay. IsTrue wanted → replay.used ≡ None
+        → IsTrue env.models_disk → (front : List ℕ) (number : ℕ)
+        → numbers ≡ front ++ number ∷ [] → old.log_number ≤ number
+        → IsUnusable limit old.store (env.observed from).disk.files number)
+
 -- ---- the version set
 
 -- a number is found at or past the one before this
@@ -461,6 +472,9 @@ module _ {E F : Type 0} (env : Ghosts E F) (format : Format) (reuse : Bool) (lim
     -- the number of each live table was given, and they are in levels
     pub given : AreNumbersGiven set set.full.added
     pub levels : AreInLevels env.models_disk format.order set.full.added
+    -- each live table is there
+    pub tables : IsTrue env.models_disk
+        → AreTablesThere store (env.observed to).disk.files set.full.added
     pub names : List (List ℕ)
     pub lists : AreNamesIn env store from names
     pub logs_are : AreReplayedLogs names set.log_number set.previous_log logs
@@ -493,8 +507,8 @@ module _ {E F : Type 0} (env : Ghosts E F) (format : Format) (reuse : Bool) (lim
 -- ---- the store
 
 -- The set of a store that may be written once its logs are replayed: its numbers fit, those of live
--- tables were given, which are in levels in this order of user keys, and it may log edits. Its
--- manifest is in use, unless the next edit begins a new one.
+-- tables were given, which are there and in levels in this order of user keys, and it may log edits.
+-- Its manifest is in use, unless the next edit begins a new one.
 pub record MayBeWritten (models_disk : Bool) (order : List ℕ → List ℕ → Ordering)
     (store : List ℕ) (anew : Bool) (set : VersionSetValue) (files : Files) : Type 0 where
   pub path : set.store ≡ store
@@ -502,6 +516,7 @@ pub record MayBeWritten (models_disk : Bool) (order : List ℕ → List ℕ → 
   pub manifest_fits : set.manifest_number < set.next_file
   pub given : AreNumbersGiven set set.full.added
   pub levels : AreInLevels models_disk order set.full.added
+  pub tables : IsTrue models_disk → AreTablesThere store files set.full.added
   pub unbroken : set.manifest ≢ broken
   pub goes_on : anew ≡ false → (manifest : OpenManifest) × (set.manifest ≡ in_use manifest)
   -- a manifest in use is there, in the store's folder
@@ -593,6 +608,8 @@ module _ {E F D FP : Type 0} (env : Ghosts E F) {order : CmpGhosts D} {filters :
     pub path : IfOk result (λ value. value.set.store ≡ store)
     pub unbroken : IfOk result IsUnbroken
     pub room : IfOk result (λ value. IsFull limit value.recent → ⊥)
+    pub tables : IfOk result (λ value. IsTrue env.models_disk
+        → AreTablesThere store (env.observed to).disk.files value.set.full.added)
     pub keeps : IsTrue env.models_disk → (meaning : Meaning) → Agrees choices.format meaning
         → (contents : Contents)
         → WasRecovered env choices.format store set logs from meaning contents

@@ -1,5 +1,5 @@
 -- What opening a store returns and leaves of its files, and why it fails.
-use Rattle.std.specs.Prelude.{◌≡◌, ◌≢◌, ◌≤◌, ◌+◌, ◌^◌, ◌⊎◌, ℕ, Bool, false, List, None, Some, OnOk, IfOk, IsSomeAnd, IsTrue, Result, length}
+use Rattle.std.specs.Prelude.{◌≡◌, ◌≢◌, ◌≤◌, ◌+◌, ◌^◌, ◌⊎◌, ℕ, All, Bool, false, List, None, Some, OnOk, IfOk, IsSome, IsSomeAnd, IsTrue, Result, length}
 use Rattle.std.specs.List.Sorted.{IsStrictlySortedBy}
 use Rattle.std.specs.Ordering.{nat_cmp}
 use Rattle.std.specs.declared.cmp.Ordering.{Ordering}
@@ -18,7 +18,7 @@ use Rattle.leveldb_mem.specs.WriteBatch.{Batch}
 use Rattle.leveldb_version.specs.Contents.{Contents, Store, made}
 use Rattle.leveldb_version.specs.Holds.{Holds, IsSafe, MatchesHistory}
 use Rattle.leveldb_version.specs.NewStore.{first_manifest}
-use Rattle.leveldb_version.specs.Paths.{current_path}
+use Rattle.leveldb_version.specs.Paths.{current_path, table_path}
 use Rattle.leveldb_version.specs.Recover.{AreBeside, IsNamed, IsUsable, ShareUserKey}
 use Rattle.leveldb_version.specs.Store.{HasEdits, IsStore}
 use Rattle.leveldb_version.specs.StoreSteps.{AppendedAreBytes, KeepsHistory}
@@ -78,6 +78,11 @@ module _ (cmp : List ℕ → List ℕ → Ordering) (meaning : Meaning) (store :
         → MatchesHistory (λ any. Unit {0}) contents.last contents history
         → Holds store (IsStore store cmp (IsTableOf cmp meaning)) (λ it. IsTrue (allowed it)) files
         history contents.last (length history) None
+
+-- the table of each of these files is there
+abbrev pub AreTablesThere : List ℕ → Files → List NewFile → Type 0
+AreTablesThere store files =
+    All (λ (file : NewFile). IsSome (files (table_path store file.number)))
 
 -- ---- files that are no store
 
@@ -218,6 +223,9 @@ module _ {E F : Type 0} (env : Ghosts E F) (store : List ℕ) (format : Format)
     pub unbroken : IfOk result IsUnbroken
     -- the log's memtable isn't full
     pub room : IfOk result (λ value. IsFull limit value.recent → ⊥)
+    -- each live table is there, whatever the files were
+    pub tables : IfOk result (λ value. IsTrue env.models_disk
+        → AreTablesThere store (env.observed to).disk.files value.set.full.added)
     -- of files that are sound it keeps each history, and opens the store that they are or a new one
     pub keeps : IsTrue env.models_disk → (meaning : Meaning) → Agrees format meaning
         → (contents : Contents)

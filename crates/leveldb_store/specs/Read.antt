@@ -14,10 +14,10 @@ use Rattle.leveldb_env.specs.declared.env.Env.{Ghosts}
 use Rattle.leveldb_table.specs.TableBlock.{FailsFor, ReadsFile}
 use Rattle.leveldb_version.specs.Format.{Agrees, IsTableFault, LacksCompressor, Meaning}
 use Rattle.leveldb_version.specs.Levels.{LevelOrder, LiveTable}
-use Rattle.leveldb_version.specs.Search.{AreDisjointLevels, LooksUpNewest}
+use Rattle.leveldb_version.specs.Search.{AreAllTried, AreDisjointLevels, AreTriedFirst, FindsInLast, LooksUpNewest}
 use Rattle.leveldb_version.specs.TableCache.{TableOptions, files_at}
 use Rattle.leveldb_version.specs.Version.{charged, new_files_of}
-use Rattle.leveldb_version.specs.VersionEdit.{LevelFile}
+use Rattle.leveldb_version.specs.VersionEdit.{LevelFile, NewFile}
 use Rattle.leveldb_version.specs.declared.table_cache.TableCache.{TableCache}
 use Rattle.leveldb_version.specs.declared.version.GetStats.{GetStats}
 use Rattle.leveldb_store.specs.OpenStore.{OpenStoreValue}
@@ -76,6 +76,18 @@ module _ {E F C FP : Type 0} (order : CmpGhosts (InternalKeyCmp C)) (env : Ghost
     pub has_open : HasOpenTables
     pub has_live : HasLiveTables by.format.order meaning old (files_at env from) live
     pub levels : LevelOrder by.format.order live
+
+  -- A value of a key, or none, is found in tables and passes over none that can't be read: these are
+  -- the first of the version's files that may have the key, in order; of each the table was read, and
+  -- has nothing of the key unless it is the last.
+  pub record PassesOverNone (sequence : ℕ) (key : List ℕ) (value : Option (List ℕ)) : Type 0 where
+    pub looked : List NewFile
+    pub first : AreTriedFirst by.format.order key (new_files_of old.current) looked
+    pub found : Option (Option (List ℕ))
+    pub value_is : value ≡ unwrap_or found None
+    pub finds : HasOpenTables
+        → FindsInLast order env by (sought_key sequence key) from tables looked found
+    pub all : found ≡ None → AreAllTried by.format.order key (new_files_of old.current) looked
 
   module _ (sequence : ℕ) (key : List ℕ) (result : Result (Option (List ℕ)) Status)
       (new : OpenStoreValue C) (to : E) (now : TableCache E C FP F) where

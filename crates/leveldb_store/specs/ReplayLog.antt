@@ -1,5 +1,5 @@
 -- What each step of a replay of a log makes of memory and of the store's files, and why it fails.
-use Rattle.std.specs.Prelude.{◌≡◌, ◌≤◌, ◌<◌, ◌+◌, ◌^◌, ◌⊎◌, ℕ, List, [], ◌∷◌, ◌++◌, Contains, OnOk, IfOk, IsTrue, Result, if◌then◌else◌, length, map, max}
+use Rattle.std.specs.Prelude.{◌≡◌, ◌≤◌, ◌<◌, ◌+◌, ◌^◌, ◌⊎◌, ◌≢◌, ℕ, List, [], ◌∷◌, ◌++◌, Contains, false, OnOk, IfOk, IsTrue, Result, if◌then◌else◌, length, map, max}
 use Rattle.std.specs.declared.cmp.Ordering.{Ordering}
 use Rattle.leveldb_base.specs.Entries.{internal_pair}
 use Rattle.leveldb_base.specs.Error.{IsOutOfMemory}
@@ -26,6 +26,7 @@ use Rattle.leveldb_version.specs.Format.{Agrees, Format, Meaning}
 use Rattle.leveldb_store.specs.FoundLogs.{AreLastEntries, BeginsWithBatches, FailsToTable, LogBeginsWith}
 use Rattle.leveldb_store.specs.OpenStore.{AreNumbersGiven}
 use Rattle.leveldb_store.specs.Opening.{AreMadeTables, GivesNumbers, IsMadeTable, KeepsRecovered, LogInMemory, ReplaysLog, SameButTables}
+use Rattle.leveldb_store.specs.Room.{AreFull}
 use Rattle.leveldb_store.specs.SoundCall.{BytesAreAppended}
 use Rattle.leveldb_store.specs.declared.opening.replay_log.ReplayedLog.{ReplayedLog}
 
@@ -149,6 +150,13 @@ abbrev pub IsDamagedLog : List ℕ → Files → ℕ → ℕ → Type 0
 IsDamagedLog store files number last = (log : StoreLog) → log.number ≡ number
     → HasLog store files log → AreInOrder last log.batches → ⊥
 
+-- A log that isn't used on: it ends badly, or a memtable of this limit is full of its entries.
+pub record IsUnusable (limit : ℕ) (store : List ℕ) (files : Files) (number : ℕ) : Type 0 where
+  pub log : StoreLog
+  pub number_is : log.number ≡ number
+  pub has_log : HasLog store files log
+  pub why : (log.end ≡ bad) ⊎ AreFull limit (all_entries log.batches)
+
 -- ---- calls
 
 module _ {E F : Type 0} (env : Ghosts E F) where
@@ -196,14 +204,17 @@ module _ {E F D FP : Type 0} (env : Ghosts E F) {order : CmpGhosts D} {filters :
       → IsDamagedLog set.store (env.observed from).disk.files number last)))
       × (env.failures to ≡ env.failures from))
 
-  -- after what was replayed before, the batch of this record is replayed too
-  abbrev pub ReplaysBatch : {C : Type 0} → List ℕ → ReplayedLog C → VersionSetValue → E
+  -- After what was replayed before, the batch of this record is replayed too. A table comes of it
+  -- only if the entries fill a memtable of this limit.
+  abbrev pub ReplaysBatch : {C : Type 0} → ℕ → List ℕ → ReplayedLog C → VersionSetValue → E
       → ReplayedLog C → VersionSetValue → E → Type 0
-  ReplaysBatch text old set from new now to =
+  ReplaysBatch limit text old set from new now to =
       (first : VersionSetValue) (last : ℕ) (batches : List Batch)
       → HasReplayed env choices.format first last batches old set from
       → (batch : Batch) × IsRecordOf text batch
       × HasReplayed env choices.format first last (batches ++ batch ∷ []) new now to
+      × ((new.tables.items ≡ old.tables.items)
+      ⊎ AreFull limit (all_entries (batches ++ batch ∷ [])))
 
   -- after what was replayed before, the batch of this record doesn't come to memory and to tables
   abbrev pub FailsAtRecord : {C : Type 0} → List ℕ → ReplayedLog C → VersionSetValue → E → Status
@@ -228,7 +239,7 @@ module _ {E F D FP : Type 0} (env : Ghosts E F) {order : CmpGhosts D} {filters :
         (set : VersionSetValue) (from : E) (result : Result (Unit {0}) Status)
         (new : ReplayedLog C) (now : VersionSetValue) (to : E) : Type 0 where
       pub spares : MakesTablesOnly env set from now to
-      pub ok : OnOk result (ReplaysBatch text old set from new now to)
+      pub ok : OnOk result (ReplaysBatch limit text old set from new now to)
       pub room : OnOk result (IsNotFull limit new)
       pub cmp : OnOk result (new.rest.cmp ≡ old.rest.cmp)
       pub size : OnOk result (new.size ≡ old.size)
@@ -247,6 +258,8 @@ module _ {E F D FP : Type 0} (env : Ghosts E F) {order : CmpGhosts D} {filters :
       pub begins : BeginsWithBatches text batches
       pub replayed : HasReplayed env choices.format set last batches log now to
       pub room : IsNotFull limit log
+      -- a table comes of it only if its entries fill a memtable
+      pub filled : (log.tables.items ≡ []) ⊎ AreFull limit (all_entries batches)
       pub size : log.size ≡ length text
 
     -- what replaying bytes as a log returns and leaves
@@ -269,6 +282,10 @@ module _ {E F D FP : Type 0} (env : Ghosts E F) {order : CmpGhosts D} {filters :
       -- no entry in memory has a number past the last one
       pub up_to : IfOk result (λ log. AreUpTo log.last log.rest.kept.entries)
       pub room : IfOk result (IsNotFull limit)
+      -- one that ends badly, or of which a table was made, isn't used on
+      pub unusable : IfOk result (λ log. IsTrue env.models_disk
+          → (log.is_clean ≡ false) ⊎ (log.tables.items ≢ [])
+          → IsUnusable limit set.store (env.observed from).disk.files number)
       -- each table's number was given
       pub given : IfOk result (λ log. AreNumbersGiven now (table_files log))
       pub batches : IfOk result (λ log. KeepsBatches env set number from log now)

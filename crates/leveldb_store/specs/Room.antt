@@ -4,6 +4,7 @@ use Rattle.std.specs.Prelude.{◌≡◌, ◌≢◌, ◌≤◌, ◌<◌, ◌-◌,
 use Rattle.std.specs.declared.cmp.Ordering.{Ordering}
 use Rattle.leveldb_base.specs.Entries.{internal_pair}
 use Rattle.leveldb_base.specs.Error.{IsOutOfMemory}
+use Rattle.leveldb_base.specs.History.{Entry}
 use Rattle.leveldb_base.specs.declared.cmp.Cmp.{Ghosts as CmpGhosts}
 use Rattle.leveldb_base.specs.declared.error.Status.{Status}
 use Rattle.leveldb_base.specs.declared.error.StatusCode.TheVariants.{Corruption}
@@ -40,9 +41,13 @@ pub record TellsOnly {C FP : Type 0} {B : Boxed} (before after : OptionsOf C FP 
 
 -- ---- room
 
--- the memtable has entries, and they take this much memory or more
+-- there are entries, and they take this much memory or more
+abbrev pub AreFull : ℕ → List Entry → Type 0
+AreFull limit entries = (entries ≡ [] → ⊥) × (limit ≤ memory_of_entries entries)
+
+-- so it is with those of a memtable
 abbrev pub IsFull : ℕ → Kept → Type 0
-IsFull limit kept = (kept.entries ≡ [] → ⊥) × (limit ≤ memory_of_entries kept.entries)
+IsFull limit kept = AreFull limit kept.entries
 
 -- no table is built of the entries of a memtable that is there
 abbrev pub AreEntriesNotTabled : {D FP : Type 0} {order : CmpGhosts D} {filters : FilterGhosts FP}

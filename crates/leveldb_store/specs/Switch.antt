@@ -1,13 +1,13 @@
 -- What a switch of the log, the table of the entries that wait, and the removal of obsolete files
 -- change of an open store, and why each fails.
-use Rattle.std.specs.Prelude.{◌≡◌, ◌≢◌, ◌⊎◌, ◌≤◌, ◌<◌, ◌+◌, ◌-◌, ◌^◌, ℕ, List, [], ◌∷◌, All, Contains, None, Some, Result, Ok, IfErr, OnErr, OnOk, IsTrue}
+use Rattle.std.specs.Prelude.{◌≡◌, ◌≢◌, ◌⊎◌, ◌≤◌, ◌<◌, ◌+◌, ◌-◌, ◌^◌, ℕ, List, [], ◌∷◌, All, Contains, None, Some, Result, Ok, Err, IfErr, IsErrAnd, IsSome, OnErr, OnOk, IsTrue, length}
 use Rattle.leveldb_base.specs.Error.{IsOutOfMemory}
 use Rattle.leveldb_base.specs.Names.{IsFileName}
 use Rattle.leveldb_base.specs.Types.{Pair}
 use Rattle.std.specs.declared.cmp.Ordering.{Ordering}
 use Rattle.leveldb_base.specs.declared.cmp.Cmp.{Ghosts as CmpGhosts}
 use Rattle.leveldb_base.specs.declared.error.Status.{Status}
-use Rattle.leveldb_base.specs.declared.error.StatusCode.TheVariants.{NotFound, NotSupported}
+use Rattle.leveldb_base.specs.declared.error.StatusCode.TheVariants.{NotFound, NotSupported, OutOfMemory}
 use Rattle.leveldb_base.specs.declared.types.FileType.{FileType}
 use Rattle.leveldb_env.specs.Env.{BeforeOrAfter, ChangesFiles, Files, HasCause, IsEmptyFolder, IsMissing, Run, SameLocks, deleted, in_folder}
 use Rattle.leveldb_env.specs.WholeFiles.{IsLost}
@@ -134,6 +134,18 @@ pub record HasFirstCause {T : Type 0} (Excused : Status → Type 0) (before now 
   pub cause : IfErr result
       (λ e. Excused e ⊎ (before < now) ⊎ ((before ≡ 2 ^ 64 - 1) × (now ≡ before)))
 
+-- the error says that memory was out
+abbrev pub IsMemoryOut : Result (Unit {0}) Status → Type 0
+IsMemoryOut result = IsErrAnd result (λ status. status.code ≡ OutOfMemory)
+
+-- What two calls in a row return together: the first error, but one that says that memory was out
+-- before any other.
+pub record IsFirstError (first next both : Result (Unit {0}) Status) : Type 0 where
+  pub ok : OnOk both ((first ≡ Ok tt) × (next ≡ Ok tt))
+  pub err : IfErr both (λ e. (first ≡ Err e) ⊎ (next ≡ Err e))
+  pub earlier : OnErr first ((both ≡ first) ⊎ IsMemoryOut next)
+  pub memory : IsMemoryOut first ⊎ IsMemoryOut next → IsMemoryOut both
+
 -- the files without these
 abbrev pub without_files : List (List ℕ) → Files → Files
 without_files [] files = files
@@ -170,6 +182,20 @@ pub record DeletesFile {E F : Type 0} (env : Ghosts E F) (from : E) (path : List
       (env.failures from) (env.failures to) result
 
 module _ {E F : Type 0} (env : Ghosts E F) (set : VersionSetValue) (from : E) where
+  -- The files of these names that are there still are those whose own deletion failed: for each of
+  -- them a failure was counted, unless the count is at its greatest.
+  pub record LeavesFailed (IsOne : List ℕ → Type 0) (to : E) : Type 0 where
+    pub failed : List (List ℕ)
+    pub left : (name : List ℕ) → IsOne name
+        → IsSome ((env.observed to).disk.files (in_folder set.store name)) → Contains failed name
+    pub counted : (env.failures from + length failed ≤ env.failures to)
+        ⊎ (2 ^ 64 - 1 ≤ env.failures to)
+
+  -- the folder wasn't listed, and no file changed
+  abbrev pub IsUnlisted : Result (Unit {0}) Status → E → Type 0
+  IsUnlisted result to = OnOk result ⊥ × (IsTrue env.models_disk
+      → (env.observed to).disk.files ≡ (env.observed from).disk.files)
+
   -- Obsolete files were removed, and no others; after an Err some of them may be there still. A
   -- set that is broken removes none.
   pub record RemovesObsolete (result : Result (Unit {0}) Status) (to : E) : Type 0 where
@@ -178,6 +204,9 @@ module _ {E F : Type 0} (env : Ghosts E F) (set : VersionSetValue) (from : E) wh
         (env.observed from) (env.observed to)
     pub all : set.manifest ≢ broken → OnOk result (IsTrue env.models_disk
         → (path : List ℕ) → IsObsoletePath set path → (env.observed to).disk.files path ≡ None)
+    -- a deletion that fails stops no other, unless memory is out
+    pub left : set.manifest ≢ broken → IsMemoryOut result ⊎ IsUnlisted result to
+        ⊎ (IsTrue env.models_disk → LeavesFailed (IsObsoleteName set) to)
     pub broken_keeps : set.manifest ≡ broken → (result ≡ Ok tt) × (to ≡ from)
     pub locks : SameLocks env.models_disk (env.observed from) (env.observed to)
     -- out of memory, the folder has no file, or a call of the device failed; where no disk is
@@ -202,6 +231,8 @@ module _ {E F : Type 0} (env : Ghosts E F) (set : VersionSetValue) (from : E) wh
     pub all : OnOk result (IsTrue env.models_disk → (name : List ℕ) → Contains names name
         → IsObsoleteName set name
         → (env.observed to).disk.files (in_folder set.store name) ≡ None)
+    pub left : IsMemoryOut result ⊎ (IsTrue env.models_disk
+        → LeavesFailed (λ name. Contains names name × IsObsoleteName set name) to)
     pub locks : SameLocks env.models_disk (env.observed from) (env.observed to)
     pub cause : HasFirstCause (λ status. IsOutOfMemory status
         ⊎ ((status.code ≡ NotFound) × (IsTrue env.models_disk → ⊥)))

@@ -6,12 +6,12 @@ ghost use Rattle.leveldb_version.specs.VersionSetValue.{numbers_in_order};
 ghost use Rattle.leveldb_version.specs.Writing.{IsObsolete};
 ghost use Rattle.leveldb_version.specs.Format.{Meaning};
 ghost use Rattle.leveldb_store.specs.OpenTables.{ClosesObsolete};
-ghost use Rattle.leveldb_store.specs.Switch.{RemovesName, RemovesNames, RemovesObsolete};
+ghost use Rattle.leveldb_store.specs.Switch.{IsFirstError, RemovesName, RemovesNames, RemovesObsolete};
 ghost use Rattle.leveldb_store.specs.Written.{KeepsWritten};
 
 use super::OpenStore;
 use leveldb_base::cmp::UserCmp;
-use leveldb_base::error::Result;
+use leveldb_base::error::{Result, StatusCode};
 use leveldb_base::names::file_name_parts;
 use leveldb_base::types::{FileNum, FileType};
 use leveldb_env::env::Env;
@@ -23,8 +23,8 @@ impl<E: Env, C: UserCmp + Copy + Drop> OpenStore<E, C> {
     /// Deletes the files of the store's folder that are obsolete: logs below the log number,
     /// manifests below the one in use, tables that aren't live, and temporary files. A table is
     /// closed before its file is deleted. It goes on after a deletion that fails, and returns the
-    /// first error. Where a call on the manifest failed it deletes nothing, since the manifest may
-    /// know of more than the set does.
+    /// first error, or `OutOfMemory` if memory was out for one of them. Where a call on the manifest
+    /// failed it deletes nothing, since the manifest may know of more than the set does.
     pub fn remove_obsolete<FP: FilterPolicy + Copy + Drop>(
         &self,
         env: &mut E,
@@ -61,7 +61,7 @@ impl<E: Env, C: UserCmp + Copy + Drop> OpenStore<E, C> {
     {
         let mut first = Ok(());
         for name in names {
-            first = first.and(self.remove_one(env, tables, live, name));
+            first = first_error(first, self.remove_one(env, tables, live, name));
         }
         first
     }
@@ -107,6 +107,16 @@ impl<E: Env, C: UserCmp + Copy + Drop> OpenStore<E, C> {
             FileType::Temp => true,
             FileType::DBLock | FileType::Current | FileType::InfoLog => false,
         }
+    }
+}
+
+// The first error of two calls in a row, but `OutOfMemory` before any other.
+fn first_error(first: Result<()>, next: Result<()>) -> Result<()>
+    ensures { IsFirstError first next result }
+{
+    match next {
+        Err(status) if status.code == StatusCode::OutOfMemory => Err(status),
+        next => first.and(next),
     }
 }
 

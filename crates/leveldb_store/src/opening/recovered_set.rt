@@ -9,7 +9,7 @@ ghost use Rattle.leveldb_version.specs.Format.{format_of};
 ghost use Rattle.leveldb_store.specs.OpenStore.{AreNumbersGiven};
 ghost use Rattle.leveldb_store.specs.Opening.{GivesNumbers};
 ghost use Rattle.leveldb_store.specs.OpeningSteps.{AreNamesIn, HasNumber, LacksTable, MarksNames, RecoversSet};
-ghost use Rattle.leveldb_store.specs.OpensStore.{IsBareFolder};
+ghost use Rattle.leveldb_store.specs.OpensStore.{AreTablesThere, IsBareFolder};
 ghost use Rattle.leveldb_store.specs.ReplayLog.{HasCauseOr};
 
 use super::logs::find_logs;
@@ -139,6 +139,8 @@ fn check_tables<E: Env>(
         → Run (FilesUnchanged (E.observed env.old).disk.files) (E.observed env.old)
         (E.observed env.new) }
     ensures locks { SameLocks E.models_disk (E.observed env.old) (E.observed env.new) }
+    ensures there { OnOk result (IsTrue E.models_disk → AreTablesThere store.now
+        (E.observed env.old).disk.files (map new_file_of files.now)) }
     ensures cause { HasCauseOr (λ status. (status.code ≡ Corruption) × (IsTrue E.models_disk
         → LacksTable store.now (E.observed env.old).disk.files (map new_file_of files.now)))
         (E.failures env.old) (E.failures env.new) result }

@@ -1,11 +1,11 @@
 //! The replay of all logs: what comes to tables, and what stays in memory of the log that is used
 //! on.
-ghost use Rattle.std.specs.Prelude.{◌≡◌, ◌≢◌, [], None, IfOk, IfSome, OnOk, map};
+ghost use Rattle.std.specs.Prelude.{◌≡◌, ◌≢◌, [], None, IfOk, IfSome, IsTrue, OnOk, map};
 ghost use Rattle.leveldb_version.specs.VersionEdit.{new_file_of};
 ghost use Rattle.leveldb_store.specs.BuildTable.{choices_of};
 ghost use Rattle.leveldb_version.specs.Format.{format_of};
-ghost use Rattle.leveldb_store.specs.OpeningSteps.{ReplaysLogs, ReplaysNext, TablesAll};
-ghost use Rattle.leveldb_store.specs.ReplayLog.{FailsToTableRest, HasCauseOr, MakesTablesOnly};
+ghost use Rattle.leveldb_store.specs.OpeningSteps.{ReplaysLogs, ReplaysNext, TablesAll, UsesLastLog};
+ghost use Rattle.leveldb_store.specs.ReplayLog.{FailsToTableRest, HasCauseOr, IsUnusable, MakesTablesOnly};
 
 use super::replay_log::{ReplayedLog, replay_log};
 use leveldb_base::cmp::{Cmp, InternalKeyCmp, UserCmp};
@@ -58,6 +58,8 @@ pub(super) fn replay_logs<E: Env, C: UserCmp + Copy + Drop, FP: FilterPolicy + C
         ⟦<InternalKeyCmp<C> as Cmp>⟧ ⟦<InternalFilterPolicy<FP> as FilterPolicy>⟧
         ⟦<CompressorList as Compressors>⟧.codings options.now)
         options.now.write_buffer_size versions.old logs.keys env.old result versions.new env.new }
+    ensures uses { UsesLastLog E.Env options.now.reuse_logs options.now.write_buffer_size
+        versions.old logs.keys env.old result }
     ensures order { IfOk result (λ replay.
         IfSome replay.used (λ used. used.entries.cmp ≡ options.now.cmp)) }
 {
@@ -103,6 +105,9 @@ fn replay_next<E: Env, C: UserCmp + Copy + Drop, FP: FilterPolicy + Copy + Drop>
         ⟦<CompressorList as Compressors>⟧.codings options.now)
         options.now.write_buffer_size number may_go_on replay.old versions.old env.old result
         replay.new versions.new env.new }
+    ensures unused { OnOk result (IsTrue may_go_on → replay.new.used ≡ None
+        → IsTrue E.models_disk → IsUnusable options.now.write_buffer_size versions.old.store
+        (E.observed env.old).disk.files number) }
     ensures order { OnOk result
         (IfSome replay.new.used (λ used. used.entries.cmp ≡ options.now.cmp)) }
 {

@@ -16,7 +16,7 @@ pub loop-name-preserved : goal.loop-name-preserved
 loop-name-preserved g c = record {
   removed = names_step g.E.Env c.args.self.now.set c.args.env.now string_bytes c.args.names.now c.loop-name.name-index c.name-item.result (omega arith) c.name-item.is c.requires.listed
       c.loop-name.first c.loop-name.env c.loop-name.invariant.removed.0 c.loop-name.invariant.removed.1 c.deref.result.now c.deref.ensures c.remove_one.result c.remove_one.new.env c.remove_one.ensures.removes
-      c.and-first.result c.and-first.ensures;
+      c.first_error-first.result c.first_error-first.ensures;
   closes = removal_then g.E.Env c.args.self.now.set c.loop-name.invariant.closes c.remove_one.ensures.closes;
 }
 

@@ -1,10 +1,11 @@
 use Rattle.std.proofs.Common.{◌≡◌, ◌∙◌, ap, false, map, subst, sym, true}
 use Rattle.std.specs.Prelude.{◌≢◌, IsTrue, string_bytes}
+use Rattle.std.proofs.lemmas.Result.{err_from_is_err_and}
 use Rattle.leveldb_env.proofs.EnvLemmas.{Run-call, Run-mono}
 use Rattle.leveldb_env.specs.Env.{ListsChildren}
 use Rattle.leveldb_version.specs.VersionSetValue.{broken}
 use Rattle.leveldb_store.proofs.OpenTablesLemmas.{no_removal, removal_then}
-use Rattle.leveldb_store.proofs.RemoveLemmas.{RemovesObsolete-after, none_removed, removal_keeps, removing_after}
+use Rattle.leveldb_store.proofs.RemoveLemmas.{RemovesObsolete-after, RemovesObsolete-unlisted, none_removed, removal_keeps, removing_after}
 use Rattle.leveldb_store.proofs.open_store.OpenStore.remove_obsolete.Goals as goal
 
 pub returns-in_err-names-clause-keeps : goal.returns-in_err-names-clause-keeps
@@ -14,6 +15,16 @@ returns-in_err-names-clause-keeps g c = λ modelled meaning allowed w.
     let to = g.E.Env.observed c.children.new.self in
     removal_keeps (g.C.Cmp.cmp old.cmp) meaning (λ store. IsTrue (allowed store)) old from to
     (Run-mono (λ files same. none_removed old.set from.disk.files files same) (Run-call modelled c.in_err-names.ensures.does)) w
+
+pub returns-in_err-names-clause-removes : goal.returns-in_err-names-clause-removes
+returns-in_err-names-clause-removes g c =
+    let set = c.args.self.now.set in
+    let failed = err_from_is_err_and c.from_residual-in_err-names.result c.from_residual-in_err-names.ensures.1 in
+    let same_set : c.self.inside.versions ≡ set = ap (λ v. v.set) c.self.view_is in
+    let usable : set.manifest ≢ broken = λ is. let never : false ≡ true = c.if-is_broken.ensures.1 (ap (λ v. v.manifest) same_set ∙ is) in cc in
+    let folder : c.deref.result.now ≡ set.store = c.deref.ensures ∙ sym c.self.invariant.0 ∙ ap (λ v. v.store) same_set in
+    rw (failed.1, failed.2) (RemovesObsolete-unlisted g.E.Env set c.args.env.now usable c.children.new.self _ (λ modelled. Run-call modelled c.in_err-names.ensures.does) c.in_err-names.ensures.locks
+    (rw folder at c.in_err-names.ensures.cause))
 
 pub returns-clause-removes : goal.returns-clause-removes
 returns-clause-removes g c =

@@ -98,3 +98,4 @@ returns g c =
     is_recovered g.E.Env _ exact c.args.options.now.reuse_manifest c.args.options.now.max_file_size c.args.store.now c.args.env.now c.names_in.new.env
     c.names_in.ensures.still c.names_in.ensures.locks c.in_ok-names.ensures.cause.ok (map string_bytes c.in_ok-names.names.items) c.in_ok-names.ensures.lists c.mark_names.new.versions marks c.recover.new.env
     c.in_ok-is_anew.is_anew c.recover.new.self c.in_ok-is_anew.ensures c.check_tables.new.env c.check_tables.ensures.still c.check_tables.ensures.locks c.in_ok-check_tables.ensures.cause.ok c.in_ok-logs.logs are c.in_ok-check_numbers.ensures.ok (let fits : c.versions-2.inside.next_file < 2 ^ 64 = c.versions-2.ranges.1.1.1.0.1 in rw (ap (λ (s : VersionSetValue). s.next_file) (sym c.versions-2.view_is)) fits)
+    _ c.files.ensures c.in_ok-check_tables.ensures.there

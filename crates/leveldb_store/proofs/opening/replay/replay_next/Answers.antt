@@ -47,3 +47,6 @@ returns-clause-replays g c =
     let items : c.append.new.self.items ≡ c.args.replay.now.tables.items ++ c.in_ok-tables.tables.items = c.in_ok-append.ensures.items in
     ReplaysNext-tabled g.E.Env _ _ c.args.number c.args.may_go_on c.args.replay.now c.args.versions.now c.args.env.now log c.in_ok-log.ensures.replays c.requires.none
     (empty_after c.args.replay.now.is_clean log.size c.else-not-replay.either) c.in_ok-tables.ensures.spares c.in_ok-tables.ensures.cause.ok c.in_ok-tables.tables.items c.in_ok-tables.ensures.ok _ c.requires.none refl both items refl
+
+pub returns-clause-unused : goal.returns-clause-unused
+returns-clause-unused g c = λ may none modelled. c.in_ok-log.ensures.replays.unusable modelled ?

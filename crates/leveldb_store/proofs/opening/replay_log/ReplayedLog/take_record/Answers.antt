@@ -27,7 +27,8 @@ returns-in_err-make_table g c =
     record {
       takes = rw (failed.1, failed.2) (TakesRecord-tabled g.E.Env _ c.args.options.now.write_buffer_size c.args.text.now c.args.self.now c.args.versions.now c.read_batch.new.batch
           c.in_ok-read_batch.ensures.ok c.in_ok-check_follows.ensures.ok c.add_batch.new.self c.in_ok-add_batch.ensures.ok
-          (λ none. let some = c.if-len-gt0.true in absurd (omega (arith, some, c.len.ensures, ap length none))) (Err _) c.in_err-make_table.ensures.makes);
+          (λ none. let some = c.if-len-gt0.true in absurd (omega (arith, some, c.len.ensures, ap length none)))
+          (omega (arith, c.if-approx_mem_usage-options.true, c.approx_mem_usage.ensures)) (Err _) c.in_err-make_table.ensures.makes);
     }
 
 pub returns : goal.returns
@@ -36,7 +37,8 @@ returns g c =
       | then-len-gt0+then-approx_mem_usage-options+in_ok-make_table w ↦ record {
         takes = rw (w.self-is, w.env-is, w.versions-is) (TakesRecord-tabled g.E.Env _ c.args.options.now.write_buffer_size c.args.text.now c.args.self.now c.args.versions.now c.read_batch.new.batch
             c.in_ok-read_batch.ensures.ok c.in_ok-check_follows.ensures.ok c.add_batch.new.self c.in_ok-add_batch.ensures.ok
-            (λ none. let some = w.if-len-gt0 in absurd (omega (arith, some, c.len.ensures, ap length none))) (Ok _) w.in_ok-make_table.ensures.makes);
+            (λ none. let some = w.if-len-gt0 in absurd (omega (arith, some, c.len.ensures, ap length none)))
+            (omega (arith, w.if-approx_mem_usage-options, w.approx_mem_usage.ensures)) (Ok _) w.in_ok-make_table.ensures.makes);
       }
       | else-len-gt0 w ↦ record {
         takes = rw (w.self-is, w.env-is, w.versions-is) (TakesRecord-added g.E.Env _ c.args.options.now.write_buffer_size c.args.text.now c.args.self.now c.args.versions.now c.read_batch.new.batch
