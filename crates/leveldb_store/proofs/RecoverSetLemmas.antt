@@ -31,7 +31,7 @@ use Rattle.leveldb_store.specs.OpenStore.{AreNumbersGiven}
 use Rattle.leveldb_store.proofs.GivenNumbersLemmas.{below_later}
 use Rattle.leveldb_store.proofs.FoundNumbersLemmas.{edits_after, few_after_name, few_after_next, names_after}
 use Rattle.leveldb_store.specs.OpeningSteps.{AreReplayedLogs, ComesAfterFound, HasMisnamedLog, HasNumber, IsRecoveredSet, IsUnsupported, LacksTable, MarksNames, RecoversSet, WhyNotRecovered}
-use Rattle.leveldb_store.specs.OpensStore.{AreTablesThere, HasOtherComparator, IsDamaged, SameBesideOwn}
+use Rattle.leveldb_store.specs.OpensStore.{AreTablesThere, HasOtherComparator, IsBareFolder, IsDamaged, SameBesideOwn}
 use Rattle.leveldb_store.proofs.OpeningSameLemmas.{naming_spares}
 use Rattle.leveldb_store.specs.ReplayLog.{HasCauseOr}
 use Rattle.leveldb_store.specs.declared.opening.recovered_set.RecoveredSet.{RecoveredSet}

@@ -27,5 +27,5 @@ returns g c =
     c.find_store.new.env c.in_ok-listed.ensures.finds c.args.options.now.reuse_manifest c.args.options.now.max_file_size c.in_ok-set.set c.recover_set.new.env c.in_ok-set.ensures
     c.sync_logs.new.env c.sync_logs.ensures.run c.sync_logs.ensures.locks c.in_ok-sync_logs.ensures.ok c.in_ok-sync_logs.field-0 c.in_ok-sync_logs.ensures.cause
 
-pub recover_set-set-requires : goal.recover_set-set-requires
-recover_set-set-requires g c = c.in_ok-listed.ensures.listed
+pub recover_set-requires : goal.recover_set-requires
+recover_set-requires g c = c.in_ok-listed.ensures.listed
