@@ -2,6 +2,7 @@
 ghost use Rattle.std.specs.Prelude.{◌≡◌, ◌<◌, ◌+◌, ◌⊎◌, ◌↔◌, ℕ, All, IfErr, IfOk, IfSome, IsTrue, OnOk, map, string_bytes};
 ghost use Rattle.leveldb_base.specs.Names.{IsFileName};
 ghost use Rattle.leveldb_base.specs.declared.error.StatusCode.TheVariants.{Corruption};
+ghost use Rattle.leveldb_base.specs.declared.types.FileType.{FileType};
 ghost use Rattle.leveldb_env.specs.Env.{FilesUnchanged, Run, SameLocks};
 ghost use Rattle.leveldb_version.specs.VersionEdit.{new_file_of};
 ghost use Rattle.leveldb_version.specs.VersionSetValue.{AreFileNumbersUsedUp};
