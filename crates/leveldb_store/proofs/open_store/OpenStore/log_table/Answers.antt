@@ -1,7 +1,10 @@
-use Rattle.std.proofs.Common.{◌≡◌, ◌<◌, [], rules, sym}
+use Rattle.std.proofs.Common.{◌≡◌, ◌<◌, [], subst, sym}
+use Rattle.std.specs.Prelude.{All}
 use Rattle.std.proofs.lemmas.List.Elements.{All-cons, All-nil}
-use Rattle.leveldb_version.specs.VersionEdit.{NewFile, edit_of, new_file_of}
+use Rattle.leveldb_version.specs.FullEdit.{files_after}
+use Rattle.leveldb_version.specs.VersionEdit.{Edit, NewFile, edit_of, new_file_of}
 use Rattle.leveldb_version.specs.Writing.{table_edit}
+use Rattle.leveldb_store.specs.OpenStore.{AreInLevels}
 use Rattle.leveldb_store.proofs.TableWaitingLemmas.{table_edit_fits, table_edit_made}
 use Rattle.leveldb_store.proofs.open_store.OpenStore.log_table.Goals as goal
 
@@ -14,12 +17,14 @@ pub log_tables-requires-clause-given : goal.log_tables-requires-clause-given
 log_tables-requires-clause-given g c =
     let made : edit_of c.add_file.new.self ≡ table_edit c.self.inside.log.number (new_file_of (c.args.level, c.args.file)) = table_edit_made c.new-edit.result c.set_log_num.new.self c.add_file.new.self c.self.inside.log.number c.args.level c.args.file c.new-edit.ensures c.set_log_num.ensures c.in_ok-add_file.ensures.ok c.in_ok-add_file.ensures.others in
     let Given : NewFile → Type 0 = λ file. file.number < c.args.self.now.set.next_file in
-    rw made (All-cons Given (new_file_of (c.args.level, c.args.file)) [] c.requires.given (All-nil Given))
+    subst (λ (edit : Edit). All Given edit.added) (sym made)
+    (All-cons Given (new_file_of (c.args.level, c.args.file)) [] c.requires.given (All-nil Given))
 
 pub log_tables-requires-clause-levels : goal.log_tables-requires-clause-levels
 log_tables-requires-clause-levels g c =
     let made : edit_of c.add_file.new.self ≡ table_edit c.self.inside.log.number (new_file_of (c.args.level, c.args.file)) = table_edit_made c.new-edit.result c.set_log_num.new.self c.add_file.new.self c.self.inside.log.number c.args.level c.args.file c.new-edit.ensures c.set_log_num.ensures c.in_ok-add_file.ensures.ok c.in_ok-add_file.ensures.others in
-    rw made c.requires.levels
+    subst (λ (edit : Edit). AreInLevels g.E.Env.models_disk (g.C.Cmp.cmp c.args.self.now.cmp) (files_after edit c.args.self.now.set.full.added))
+    (sym made) c.requires.levels
 
 pub returns-clause-logs : goal.returns-clause-logs
 returns-clause-logs g c =

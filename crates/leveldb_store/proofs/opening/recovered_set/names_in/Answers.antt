@@ -11,25 +11,25 @@ pub returns-in-Some-clause-lists : goal.returns-in-Some-clause-lists
 returns-in-Some-clause-lists g c =
     subst (λ listed. IfSome listed (λ names. AreNamesIn g.E.Env c.args.store.now c.args.env.now (map string_bytes names.items))) c.in-Some.is c.requires
 
-pub returns-in_err-names-clause-still : goal.returns-in_err-names-clause-still
-returns-in_err-names-clause-still g c = λ modelled. Run-call modelled c.children.ensures.does
+pub returns-in_err-names-in-None-clause-still : goal.returns-in_err-names-in-None-clause-still
+returns-in_err-names-in-None-clause-still g c = λ modelled. Run-call modelled c.children.ensures.does
 
-pub returns-in_err-names-clause-cause : goal.returns-in_err-names-clause-cause
-returns-in_err-names-clause-cause g c =
+pub returns-in_err-names-in-None-clause-cause : goal.returns-in_err-names-in-None-clause-cause
+returns-in_err-names-in-None-clause-cause g c =
     let failed = err_from_is_err_and c.from_residual.result c.from_residual.ensures.1 in
     rw (failed.1, failed.2) (folder_bare g.E.Env.models_disk c.args.store.now (g.E.Env.observed c.args.env.now) (g.E.Env.failures c.args.env.now) (g.E.Env.failures c.children.new.self) c.children.result _
-    (λ code bare. (code, bare)) c.in_err-names.ensures c.children.ensures.cause)
+    (λ code bare. (code, bare)) c.in_err-names-in-None.ensures c.children.ensures.cause)
 
-pub returns-in-None-clause-still : goal.returns-in-None-clause-still
-returns-in-None-clause-still g c = λ modelled. Run-call modelled c.children.ensures.does
+pub returns-in_ok-names-in-None-clause-still : goal.returns-in_ok-names-in-None-clause-still
+returns-in_ok-names-in-None-clause-still g c = λ modelled. Run-call modelled c.children.ensures.does
 
-pub returns-in-None-clause-lists : goal.returns-in-None-clause-lists
-returns-in-None-clause-lists g c =
+pub returns-in_ok-names-in-None-clause-lists : goal.returns-in_ok-names-in-None-clause-lists
+returns-in_ok-names-in-None-clause-lists g c =
     (listing_found (λ names. IsTrue g.E.Env.models_disk → ListsChildren (g.E.Env.observed c.args.env.now).disk.files c.args.store.now (map string_bytes names.items)) c.args.store.now c.children.result
-    c.in_ok-names.names c.in_ok-names.ensures c.children.ensures.ok c.children.ensures.cause).0
+    c.in_ok-names-in-None.names c.in_ok-names-in-None.ensures c.children.ensures.ok c.children.ensures.cause).0
 
-pub returns-in-None-clause-cause : goal.returns-in-None-clause-cause
-returns-in-None-clause-cause g c =
+pub returns-in_ok-names-in-None-clause-cause : goal.returns-in_ok-names-in-None-clause-cause
+returns-in_ok-names-in-None-clause-cause g c =
     let listed = listing_found (λ names. IsTrue g.E.Env.models_disk → ListsChildren (g.E.Env.observed c.args.env.now).disk.files c.args.store.now (map string_bytes names.items)) c.args.store.now c.children.result
-    c.in_ok-names.names c.in_ok-names.ensures c.children.ensures.ok c.children.ensures.cause in
+    c.in_ok-names-in-None.names c.in_ok-names-in-None.ensures c.children.ensures.ok c.children.ensures.cause in
     let same = listed.1 in record { later = omega arith; ok = same; uncounted = tt; cause = tt }

@@ -34,9 +34,9 @@ loop-number-preserved g c =
     let wants : IsTrue c.if-is_empty.may_go_on → IsTrue c.args.options.now.reuse_logs = elim c.if-is_empty.branch [
       | then-is_empty w ↦ (λ e. elim c.if-options.branch [
         | then-options v ↦ v.if-options.true
-        | else-options v ↦ absurd (let never : false ≡ true = sym v.value-is ∙ w.if-is_empty.true in cc)
+        | else-options v ↦ absurd (let never : false ≡ true = sym v.if-options.false ∙ sym v.value-is ∙ w.if-is_empty.true in cc)
       ])
-      | else-is_empty w ↦ (λ e. absurd (let never : false ≡ true = sym w.may_go_on-is ∙ e in cc))
+      | else-is_empty w ↦ (λ e. absurd (let never : false ≡ true = sym w.if-is_empty.false ∙ sym w.may_go_on-is ∙ e in cc))
     ] in
     let goes_on : IsTrue c.args.options.now.reuse_logs → left ≡ [] → c.args.versions.now.log_number ≤ c.in-Some.number → IsTrue c.if-is_empty.may_go_on = λ wanted none least. elim c.if-is_empty.branch [
       | then-is_empty w ↦ w.may_go_on-is ∙ le-leb w.log_num.result c.in-Some.number (omega (arith, w.log_num.ensures, still, least))

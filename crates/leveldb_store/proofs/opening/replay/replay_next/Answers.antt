@@ -1,9 +1,9 @@
-use Rattle.std.proofs.Common.{◌≡◌, ◌==◌, ◌∙◌, inl, inr, true, [], ◌++◌, arith, refl, sym}
-use Rattle.std.proofs.lemmas.Bool.{eqb-true}
+use Rattle.std.proofs.Common.{◌≡◌, ◌==◌, ◌∙◌, inl, inr, false, true, [], ◌++◌, ap, arith, length, refl, sym}
+use Rattle.std.proofs.lemmas.Bool.{eq-eqb, eqb-true}
 use Rattle.std.proofs.lemmas.Result.{err_from_is_err_and}
 use Rattle.leveldb_store.proofs.ReplayLogLemmas.{none_of_length}
 use Rattle.leveldb_store.proofs.ReplayNextLemmas.{IsBoth, ReplaysNext-tabled, ReplaysNext-torn, ReplaysNext-unlisted, ReplaysNext-unread, ReplaysNext-untabled, ReplaysNext-used, empty_after}
-use Rattle.leveldb_store.proofs.opening.replay.replay_next.Goals.{then-replay, else-replay}
+use Rattle.leveldb_store.proofs.opening.replay.replay_next.Goals.{then-replay, else-replay, else-may_go_on-via-then-may_go_on+then-log+else-is_empty, else-may_go_on-via-then-may_go_on+else-log, else-may_go_on-via-else-may_go_on}
 use Rattle.leveldb_store.proofs.opening.replay.replay_next.Goals as goal
 
 pub returns-in_err-log-clause-replays : goal.returns-in_err-log-clause-replays
@@ -49,4 +49,11 @@ returns-clause-replays g c =
     (empty_after c.args.replay.now.is_clean log.size c.else-not-replay.either) c.in_ok-tables.ensures.spares c.in_ok-tables.ensures.cause.ok c.in_ok-tables.tables.items c.in_ok-tables.ensures.ok _ c.requires.none refl both items refl
 
 pub returns-clause-unused : goal.returns-clause-unused
-returns-clause-unused g c = λ may none modelled. c.in_ok-log.ensures.replays.unusable modelled ?
+returns-clause-unused g c = λ may none modelled. c.in_ok-log.ensures.replays.unusable modelled (elim c.else-may_go_on.branch [
+  | else-may_go_on-via-then-may_go_on+then-log+else-is_empty w ↦ inr (λ nothing.
+      let none : length c.in_ok-log.log.tables.items ≡ 0 = ap length nothing in
+      let zero : (c.in_ok-log.log.tables.len == 0) ≡ true = eq-eqb c.in_ok-log.log.tables.len 0 (omega (arith, none, c.in_ok-log.log.tables.ok.0)) in
+      absurd (let never : true ≡ false = sym zero ∙ sym w.is_empty.ensures ∙ w.if-is_empty.false in cc))
+  | else-may_go_on-via-then-may_go_on+else-log w ↦ inl w.if-log.false
+  | else-may_go_on-via-else-may_go_on w ↦ absurd (let never : true ≡ false = sym may ∙ w.if-may_go_on.false in cc)
+])
