@@ -318,8 +318,8 @@ fn level_keys(
 #[test]
 fn walked_levels(rt: HostRuntime) -> Result<()> {
     let mut opened = Opened::new(&rt)?;
-    assert!(rt; level_keys(&rt, &mut opened, 1)?.as_slice() == b"abdf");
-    assert!(rt; level_keys(&rt, &mut opened, 2)?.as_slice() == b"aef");
+    assert!(rt; level_keys(&rt, &mut opened, 1)?.as_slice() == b"abdf".as_slice());
+    assert!(rt; level_keys(&rt, &mut opened, 2)?.as_slice() == b"aef".as_slice());
     assert!(rt; level_keys(&rt, &mut opened, 3)?.is_empty());
     Ok(())
 }
