@@ -20,6 +20,10 @@ use Rattle.rusty_leveldb.proofs.ReadingLemmas.{get_closed, get_misfit}
 use Rattle.rusty_leveldb.proofs.SnapshotLemmas.{closed_releases, releases_none}
 use Rattle.rusty_leveldb.proofs.WalkingLemmas.{walk_closed, walk_unheld}
 
+-- that snapshot, as a list holds one
+never_held : HeldSnapshot
+never_held = record { number = 0; sequence = 2 ^ 64 }
+
 -- it is held by no list whose numbers are of 64 bits
 pub unknown_unheld : (held : List HeldSnapshot) (newest : ℕ) → IsNewest held newest → newest < 2 ^ 64
     → IsNotHeld (map snapshot_of held) (Some no_snapshot)
@@ -37,7 +41,7 @@ module _ {E C FP F P : Type 0} {B : Boxed} {keys : InternalOrder C} {key_filters
       → RefusesUnknown env choices engine status
   unknown_closed out = record {
     get_at = λ key. get_closed env (formats_of choices) engine (Some no_snapshot) key status out;
-    release = λ at. (closed_releases env choices engine no_snapshot status at out).step;
+    release = λ at. (closed_releases env choices engine never_held status at out).step;
     walk = λ moves. walk_closed keys env (formats_of choices) engine (Some no_snapshot) moves status out;
   }
 
@@ -47,7 +51,7 @@ module _ {E C FP F P : Type 0} {B : Boxed} {keys : InternalOrder C} {key_filters
   unknown_refused usable code unheld = record {
     get_at = λ key. get_misfit env (formats_of choices) engine (Some no_snapshot) key usable status
         code (inl unheld);
-    release = λ at. (releases_none env choices engine usable no_snapshot status at
+    release = λ at. (releases_none env choices engine usable never_held status at
         (code, unheld)).step;
     walk = λ moves. walk_unheld keys env (formats_of choices) engine (Some no_snapshot) moves usable
         status code unheld;

@@ -53,7 +53,7 @@ returns-in_err-lock g c =
     (opening_of g.C.Cmp g.FP.FilterPolicy (compressors g.dyn-2).codings c.args.options)
     c.args.env.now c.args.env.now c.in_err-lock.field-0.0 refl
     (λ modelled. near_still c.args.name.now (g.E.Env.observed c.args.env.now)) (omega arith)
-    (inl (inl c.in_err-lock.ensures.memory))
+    (inl (inl c.in_err-lock.ensures.cause))
     (λ no. absurd (no (
       c.in_ok-check_name.ensures.ok,
       within_is c.args.options c.in_ok-check.ensures.limits,
