@@ -4,9 +4,7 @@ use crate::table::{Pair, table_pairs};
 use leveldb_base::cmp::Cmp;
 use leveldb_base::error::{Result, StatusCode, err};
 use leveldb_base::key_types::{TAG_LEN, ValueType, parse_internal_key};
-use leveldb_base::names::{
-    current_file_name, log_file_name, parse_file_name, table_file_name,
-};
+use leveldb_base::names::{current_file_name, log_file_name, parse_file_name, table_file_name};
 use leveldb_base::types::{FileMetaData, FileNum, FileType, MAX_SEQUENCE_NUMBER, SequenceNumber};
 use leveldb_env::env::Env;
 use leveldb_env::env::whole_files::read_file;
