@@ -21,7 +21,7 @@ use Rattle.rusty_leveldb.proofs.SnapshotLemmas.{closed_releases, releases_none}
 use Rattle.rusty_leveldb.proofs.WalkingLemmas.{walk_closed, walk_unheld}
 
 -- that snapshot, as a list holds one
-never_held : HeldSnapshot
+abbrev never_held : HeldSnapshot
 never_held = record { number = 0; sequence = 2 ^ 64 }
 
 -- it is held by no list whose numbers are of 64 bits
