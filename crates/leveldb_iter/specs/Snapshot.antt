@@ -58,3 +58,11 @@ pub record IsNewest (held : List Snapshot) (sequence : ℕ) : Type 0 where
   pub there : held ≢ [] → HasSequence held sequence
   -- and none at a greater number
   pub greatest : (one : Snapshot) → Contains held one → one.sequence ≤ sequence
+
+-- The smallest number at which a store is read, where this is its last one: the oldest snapshot's
+-- or, where none is held, the last.
+pub record IsSmallestHeld (held : List Snapshot) (last sequence : ℕ) : Type 0 where
+  -- the last number if there are none
+  pub none : held ≡ [] → sequence ≡ last
+  -- else the oldest one's
+  pub some : held ≢ [] → IsOldest held sequence

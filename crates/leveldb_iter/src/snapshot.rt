@@ -3,7 +3,7 @@ ghost use Rattle.std.specs.Prelude.{◌≡◌, ◌↔◌, ◌⊎◌, ◌^◌, �
 ghost use Rattle.std.specs.Bool.{OnFalse, OnTrue};
 ghost use Rattle.leveldb_base.specs.Error.{IsOutOfMemory};
 ghost use Rattle.leveldb_base.specs.declared.error.StatusCode.TheVariants.{NotSupported};
-ghost use Rattle.leveldb_iter.specs.Snapshot.{Gives, IsNewest, IsOldest, Releases};
+ghost use Rattle.leveldb_iter.specs.Snapshot.{Gives, IsNewest, IsOldest, IsSmallestHeld, Releases};
 
 use leveldb_base::error::{Result, StatusCode, err};
 use leveldb_base::types::SequenceNumber;
@@ -126,6 +126,17 @@ impl SnapshotList {
             greatest = one.sequence.max(greatest);
         }
         greatest
+    }
+
+    /// The smallest sequence number at which a store is read whose last one is this: the least of a
+    /// snapshot that is held, or the last if none is.
+    pub fn smallest_held(&self, last: SequenceNumber) -> SequenceNumber
+        ensures { IsSmallestHeld self.now.held last result }
+    {
+        if self.held.is_empty() {
+            return last;
+        }
+        self.oldest()
     }
 
     /// Whether no snapshot is held.
