@@ -68,8 +68,8 @@ module _ {E C FP F : Type 0} {B : Boxed} (env : Ghosts E F) where
 -- ---- what becomes of an engine
 
 module _ {E C FP F : Type 0} {B : Boxed} where
-  -- what a read leaves of an engine: its mode, and its store but for the seeks that its live files
-  -- may take, and which of them was chosen since it has none left
+  -- what a read leaves of an engine: its mode, and its store but for the version (of which a look-up
+  -- charges a file with a seek, and may choose it)
   abbrev pub IsReadOnly : EngineOf E C FP F B → EngineOf E C FP F B → Type 0
   IsReadOnly before after = (after.mode ≡ before.mode)
       × (after.store ≡ record before.store { current = after.store.current })

@@ -86,7 +86,7 @@ abbrev pub NotFlushed : Status → Row
 NotFlushed e setting old new =
     Keeps old new ⊎ (IsMemoryOrDevice setting e × Breaks old None new)
 
--- a store that was open is broken, and any other is as it was
+-- the store is broken, or all is as it was (an open store is broken: `EngineCloses.failed`)
 abbrev pub NotClosed : Row
 NotClosed setting old new = (new ≡ old) ⊎ Breaks old None new
 

@@ -42,12 +42,12 @@ pub struct Store<'e, E: Env, S: Drop> {
 /// an iterator, gives what the sorted map of that history gives, now or at a snapshot. A call that
 /// fails changes no answer and has a named cause; at worst it breaks the store, which may then be
 /// read and abandoned. The lock is held until `close` or `abandon` gives it back, also if the store
-/// is dropped.
+/// is dropped. Of a store of which an iterator was asked for no contract says more: `new_iter`.
 ///
 /// | Code | Where a call may return it |
 /// |---|---|
 /// | `OutOfMemory` | any call but `release_snapshot` and `abandon`: memory ran out |
-/// | that of the environment | any call but those for snapshots: a call of the device failed |
+/// | that of the environment | any call but those for snapshots and iterators: a call of the device failed; of `walk` and iterators, moves |
 /// | `InvalidArgument` | any call but `abandon`, of a closed store; a key or a batch of more than 2^30 bytes; a snapshot that isn't held; in `open` a name, an option, a missing store or a comparator that doesn't fit |
 /// | `IOError`, "reopen the store" | `put`, `delete`, `write`, `flush`, `close`: the store broke earlier |
 /// | `NotSupported` | `put`, `delete`, `write`, `open`: entries count for 2 GiB or more, no table is made of them, or numbers of entries or files are used up; `open`, and reads of tables: a compressor isn't set; `get_snapshot`: numbers are used up; `open`: files of more than it reads |
@@ -150,8 +150,9 @@ impl<'e, E: Env, C: UserCmp + Copy, FP: FilterPolicy + Copy> Store<'e, E, Engine
     /// full becomes a table first.
     ///
     /// Ok: the history ends with the batch (`Writes`); with `sync` all of it is durable.
-    /// Err: no answer changes. An append or a sync of the log that fails breaks the store, and then
-    /// the batch may be found, whole and last, when it is opened again (`NotWritten`).
+    /// Err: no answer changes; out of memory or by the device the store may be broken, as it is by
+    /// an append or a sync of the log that fails, and then the batch may be found, whole and last,
+    /// when it is opened again (`NotWritten`).
     /// Crash: the latest batches may be lost, each whole, up to those that are durable.
     pub fn write(&mut self, batch: WriteBatch, sync: bool) -> Result<()>
         ensures same_reference { self.new.env.ghost_name ≡ self.old.env.ghost_name }
@@ -198,7 +199,8 @@ impl<'e, E: Env, C: UserCmp + Copy, FP: FilterPolicy + Copy> Store<'e, E, Engine
     }
 
     /// Returns the value that the key had when the snapshot was given out, or none if it had none. A
-    /// snapshot that isn't held is `InvalidArgument`.
+    /// snapshot that isn't held is `InvalidArgument`; it is known by its two numbers, so one that an
+    /// earlier opening gave out may be taken for one that is held.
     ///
     /// Ok: the value that the history's map had (`FindsValue`).
     /// Err: nothing changes (`StaysAsItWas`).
@@ -307,7 +309,7 @@ impl<'e, E: Env, C: UserCmp + Copy, FP: FilterPolicy + Copy> Store<'e, E, Engine
     /// Makes all batches durable and gives back the lock. From then on each call but `abandon` is
     /// `InvalidArgument`.
     ///
-    /// Ok: all are durable, nothing is held, and the lock is free (`Closes`).
+    /// Ok: all are durable, no snapshot can be read any more, and the lock is free (`Closes`).
     /// Err: no answer changes; an open store is broken and keeps its lock, which `abandon` gives
     /// back (`NotClosed`).
     /// Crash: the latest batches may be lost, up to those that were durable before.
