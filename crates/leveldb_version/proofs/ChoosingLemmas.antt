@@ -1,8 +1,7 @@
 -- Files that are chosen by the rules may be compacted, and what an edit leaves of a set's files.
-use Rattle.std.proofs.Common.{◌≡◌, ◌⊎◌, inl, inr, ⊎_elim, ℕ, ◌+◌, ◌==◌, Bool, true, false, not, ◌||◌, List, [], ◌∷◌, map, refl, rules, sym, ◌∙◌, ap, subst, arith, Option, Some, None}
+use Rattle.std.proofs.Common.{◌≡◌, ◌⊎◌, inl, inr, ⊎_elim, ℕ, ◌+◌, ◌==◌, Bool, true, false, not, ◌&&◌, ◌||◌, List, [], ◌∷◌, map, refl, rules, sym, ◌∙◌, ap, subst, arith, Option, Some, None}
 use Rattle.std.specs.Prelude.{Contains, fold}
 use Rattle.std.specs.Cmp.{IsTotalOrder}
-use Rattle.std.specs.List.{IsDistinct}
 use Rattle.std.specs.Option.{option_map_or}
 use Rattle.std.specs.Ordering.{is_lt}
 use Rattle.std.specs.declared.cmp.Ordering.{Ordering}
@@ -13,11 +12,11 @@ use Rattle.leveldb_base.proofs.HistoryLemmas.{in_cases, in_front, in_none, in_re
 use Rattle.leveldb_base.proofs.OrderLemmas.{le_le, not_less}
 use Rattle.leveldb_version.proofs.CompactedFilesLemmas.{compacted_files_stay_apart}
 use Rattle.leveldb_version.proofs.CompactionLemmas.{neither, not_so}
-use Rattle.leveldb_version.proofs.FullEditLemmas.{kept_was_there, once_then, still_once}
+use Rattle.leveldb_version.proofs.FullEditLemmas.{first_is_other, kept_was_there, once_rest, once_then, once_together, still_once}
 use Rattle.leveldb_version.proofs.SearchLemmas.{kept_passes, passes_kept}
-use Rattle.leveldb_version.proofs.VersionSetLemmas.{is_same_file-refl}
+use Rattle.leveldb_version.proofs.VersionSetLemmas.{is_same_file-refl, not_same}
 use Rattle.leveldb_version.specs.Choosing.{ChoicesGoBySets, ChosenMayBeCompacted, EditedFilesStayApart, FilesAreEdited, WidenedAreClosed}
-use Rattle.leveldb_version.specs.Compaction.{closed_range}
+use Rattle.leveldb_version.specs.Compaction.{AreOnce, closed_range}
 use Rattle.leveldb_version.specs.FullEdit.{files_after, files_with, files_without}
 use Rattle.leveldb_version.specs.Overlap.{UserRange, is_above, is_below, overlapping, overlaps, sticks_out}
 use Rattle.leveldb_version.specs.Summary.{files_of_level}
@@ -44,8 +43,18 @@ module _ (cmp : List ℕ → List ℕ → Ordering) where
       let at = kept_passes (λ (f : NewFile). f.level == level) files file meets.0 in
       (at.0, eqb-true file.level level at.1, meets.1)
 
+-- files of two levels aren't one
+other_level : (a b : NewFile) → (a.level ≡ b.level → ⊥)
+    → is_same_file (level_file a) (level_file b) ≡ false
+other_level a b never = by (a.level == b.level) refl
+  where
+    by : (k : Bool) → (a.level == b.level) ≡ k
+        → is_same_file (level_file a) (level_file b) ≡ false
+    by true e = absurd (never (eqb-true a.level b.level e))
+    by false e = ap (λ k. k && (a.number == b.number)) e
+
 pub chosen_may_be_compacted : ChosenMayBeCompacted
-chosen_may_be_compacted cmp files level chosen low high shallow of_level ends closed = record {
+chosen_may_be_compacted cmp files level chosen low high shallow of_level once ends closed = record {
   shallow = shallow;
   there = λ file c. ⊎_elim
       (λ (x : Contains chosen file). (of_level file x).0)
@@ -75,6 +84,11 @@ chosen_may_be_compacted cmp files level chosen low high shallow of_level ends cl
   );
   zero = λ zero_is file there at meets.
       Contains-append_left chosen others file (closed zero_is file there at meets);
+  once = λ of_files. once_together chosen others (once of_files)
+      (still_once (overlaps cmp (closed_range low high)) (files_of_level (level + 1) files)
+      (still_once (λ (f : NewFile). f.level == level + 1) files of_files))
+      (λ a b c d. other_level a b
+      (let e = (of_level a c).1 in let f = (of_others b d).1 in λ same. omega (arith, e, f, same)));
 }
   where
     others : List NewFile
@@ -95,7 +109,7 @@ chosen_may_be_compacted cmp files level chosen low high shallow of_level ends cl
         neither_is false b e f = f
 
 pub choices_go_by_sets : ChoicesGoBySets
-choices_go_by_sets cmp level files others inputs those same taken may = record {
+choices_go_by_sets cmp level files others inputs those same taken once may = record {
   shallow = may.shallow;
   there = λ file c. (same file).0 (may.there file ((taken file).1 c));
   some = let some = may.some in (some.0, (taken some.0).0 some.1, some.2);
@@ -110,6 +124,7 @@ choices_go_by_sets cmp level files others inputs those same taken may = record {
       );
   zero = λ zero_is file c at meets.
       (taken file).0 (may.zero zero_is file ((same file).1 c) at meets);
+  once = once;
 }
 
 -- ---- level 0
@@ -195,8 +210,44 @@ of_with (first ∷ added) files file c = ⊎_elim
     (Contains-push_cases (files_without files (level_file first)) first file b))
     (of_with added (files_with files first) file c)
 
-abbrev AreOnce : List NewFile → Type 0
-AreOnce files = IsDistinct is_same_file (map level_file files)
+-- a file stays that is neither deleted
+stays_without : (deleted : List LevelFile) (files : List NewFile) (file : NewFile)
+    → Contains files file
+    → ((at : LevelFile) → Contains deleted at → is_same_file at (level_file file) ≡ false)
+    → Contains (fold files_without files deleted) file
+stays_without [] files file there other = there
+stays_without (at ∷ deleted) files file there other =
+    stays_without deleted (files_without files at) file
+    (passes_kept (λ (f : NewFile). not (is_same_file (level_file f) at)) files file there
+    (ap not (not_same at (level_file file) (other at (in_front at deleted)))))
+    (λ one c. other one (in_rest at one deleted c))
+
+-- nor replaced
+stays_with : (added files : List NewFile) (file : NewFile) → Contains files file
+    → ((one : NewFile) → Contains added one
+    → is_same_file (level_file one) (level_file file) ≡ false)
+    → Contains (fold files_with files added) file
+stays_with [] files file there other = there
+stays_with (x ∷ added) files file there other = stays_with added (files_with files x) file
+    (Contains-append_left (files_without files (level_file x)) (x ∷ []) file
+    (passes_kept (λ (f : NewFile). not (is_same_file (level_file f) (level_file x))) files file there
+    (ap not (not_same (level_file x) (level_file file) (other x (in_front x added))))))
+    (λ one c. other one (in_rest x one added c))
+
+-- each that is added is there, where each level and number is added once
+added_with : (added files : List NewFile) (file : NewFile) → AreOnce added
+    → Contains added file → Contains (fold files_with files added) file
+added_with [] files file once c = absurd (in_none file c)
+added_with (x ∷ added) files file once c = ⊎_elim
+    (λ (e : x ≡ file). stays_with added (files_with files x) file
+    (subst (Contains (files_with files x)) e
+    (Contains-append_right (files_without files (level_file x)) (x ∷ []) x (in_front x [])))
+    (λ one d. not_same (level_file file) (level_file one)
+    (subst (λ (f : NewFile). is_same_file (level_file f) (level_file one) ≡ false) e
+    (first_is_other x added once one d))))
+    (λ (there : Contains added file).
+    added_with added (files_with files x) file (once_rest x added once) there)
+    (in_cases x file added c)
 
 once_without : (deleted : List LevelFile) (files : List NewFile) → AreOnce files
     → AreOnce (fold files_without files deleted)
@@ -219,6 +270,11 @@ files_are_edited edit files = record {
       (λ (b : Contains (fold files_without files edit.deleted) file).
       inr (of_without edit.deleted files file b))
       (of_with edit.added (fold files_without files edit.deleted) file c);
+  added = λ once file c.
+      added_with edit.added (fold files_without files edit.deleted) file once c;
+  stays = λ file there alone. stays_with edit.added (fold files_without files edit.deleted) file
+      (stays_without edit.deleted files file there (λ at d. alone.deleted at d))
+      (λ one d. alone.added one d);
   once = λ once. once_with edit.added (fold files_without files edit.deleted)
       (once_without edit.deleted files once);
 }

@@ -27,7 +27,7 @@ use Rattle.leveldb_version.proofs.VersionSetLemmas.{applies_in_order, is_same_fi
 use Rattle.leveldb_version.proofs.ViewsLemmas.{greatest_most, same_sets, view_trans}
 use Rattle.leveldb_version.proofs.WaitingLemmas.{front_is_in, in_front_of, only_one, same_number}
 use Rattle.leveldb_version.specs.Compaction.{AreKnownByNumber, Compacts, IsTight, ReplacesInputs, moved}
-use Rattle.leveldb_version.specs.CompactionEdit.{CompactionsAreLogged, EditIsLogged, HasMadeOutputs, IsCompactionEdit, MadeOutputsCompact, MovesCompact}
+use Rattle.leveldb_version.specs.CompactionEdit.{CompactionsAreLogged, EditIsLogged, HasMadeOutputs, IsCompactionEdit, LiveTablesAreKnown, MadeOutputsCompact, MovesCompact}
 use Rattle.leveldb_version.specs.CompactionLaws.{KeepsLevelsAndViews}
 use Rattle.leveldb_version.specs.Contents.{Contents, Store}
 use Rattle.leveldb_version.specs.Levels.{LevelOrder, LiveTable, table_entries}
@@ -87,6 +87,7 @@ module _ (store : List ℕ) (cmp : List ℕ → List ℕ → Ordering)
       levels = λ a c. (h.each a c).2;
       bounded = λ a c. ranges files a (h.each a c).0;
       tight = λ a c. tight_of files a (h.each a c).0;
+      known = h.known;
       apart = h.apart;
     };
     drops = h.drops;
@@ -127,6 +128,9 @@ module _ (store : List ℕ) (cmp : List ℕ → List ℕ → Ordering)
             let h = q.each table c in
             let u = p.all table.file h.1 in
             subst (Contains these) (one_live files u.0 table u.2 (p.each u.0 u.1).0 h.0) u.1
+
+  pub live_tables_are_known : LiveTablesAreKnown store cmp IsTableOf
+  live_tables_are_known one files set tables has = live_known one files set tables has
 
 -- ---- the edit of a compaction
 

@@ -19,7 +19,7 @@ use Rattle.leveldb_base.proofs.ScanLemmas.{sorted_across, sorted_back, sorted_fr
 use Rattle.leveldb_base.proofs.ThinningLemmas.{left_in_each, thinned_drops_all}
 use Rattle.leveldb_version.proofs.CompactionLemmas.{taken_or, test_tells_base_level}
 use Rattle.leveldb_version.specs.Compaction.{AreKnownByNumber, EndsBeforeTable, IsBaseLevelFor, IsTight, is_base_level_for}
-use Rattle.leveldb_version.specs.CompactionLaws.{CutsAreApart, CutsGrow, DropsGoBySets, InputsAreTables, KeysAreCut, OneMergeIsLeft, ReplacedTablesExist, ThinnedTablesDropAll}
+use Rattle.leveldb_version.specs.CompactionLaws.{CutsAreApart, CutsGrow, DropsGoBySets, FewerTablesFit, InputsAreTables, KeysAreCut, OneMergeIsLeft, ReplacedTablesExist, ThinnedTablesDropAll}
 use Rattle.leveldb_version.specs.Levels.{AreDisjoint, LiveTable, table_entries}
 use Rattle.leveldb_version.specs.Store.{SameEntries}
 
@@ -75,14 +75,6 @@ drops_all_of_sets smallest IsLast inputs others outputs those same left all = re
   };
 }
 
-pub drops_go_by_sets : DropsGoBySets
-drops_go_by_sets = record {
-  drops = λ cmp smallest level files.
-      drops_of_sets smallest (IsBaseLevelFor cmp level files);
-  all = λ cmp smallest level files.
-      drops_all_of_sets smallest (IsBaseLevelFor cmp level files);
-}
-
 -- the same keys have their last level by another test
 drops_all_by : (smallest : ℕ) (IsLast IsBase : List ℕ → Type 0)
     → ((key : List ℕ) → IsLast key → IsBase key) → ((key : List ℕ) → IsBase key → IsLast key)
@@ -103,6 +95,18 @@ drops_all_by smallest IsLast IsBase to from inputs outputs all = record {
     by entry (inl c) = inl c
     by entry (inr (inl shadow)) = inr (inl shadow)
     by entry (inr (inr spent)) = inr (inr (spent.0, to entry.key spent.1))
+
+pub drops_go_by_sets : DropsGoBySets
+drops_go_by_sets = record {
+  drops = λ cmp smallest level files.
+      drops_of_sets smallest (IsBaseLevelFor cmp level files);
+  all = λ cmp smallest level files.
+      drops_all_of_sets smallest (IsBaseLevelFor cmp level files);
+  files = λ cmp smallest level these those inputs outputs same all.
+      drops_all_by smallest (IsBaseLevelFor cmp level these) (IsBaseLevelFor cmp level those)
+      (λ key last file there. last file ((same file).1 there))
+      (λ key last file there. last file ((same file).0 there)) inputs outputs all;
+}
 
 pub thinned_tables_drop_all : ThinnedTablesDropAll
 thinned_tables_drop_all cmp smallest level files merged inputs outputs same left =
@@ -248,6 +252,16 @@ others_of before inputs (one ∷ some) known there among =
             (in_cases one a some c.0),
       ),
     )
+
+pub fewer_tables_fit : FewerTablesFit
+fewer_tables_fit cmp tables some among order bounded = (
+  record {
+    disjoint = λ a b c d. order.disjoint a b (among a c) (among b d);
+    deeper = λ a b c d. order.deeper a b (among a c) (among b d);
+    newer = λ a b c d. order.newer a b (among a c) (among b d);
+  },
+  λ table c. bounded table (among table c),
+)
 
 pub replaced_tables_exist : ReplacedTablesExist
 replaced_tables_exist before inputs outputs known there =

@@ -141,6 +141,58 @@ once_then [] x once apart = (tt, tt)
 once_then (y ∷ files) x once apart =
     (others_then (level_file y) files x once.0 (apart y (in_front y files)), once_then files x once.1 (λ file c. apart file (in_rest y file files c)))
 
+-- ---- two lists of files together
+
+others_from : (at : LevelFile) (files : List NewFile)
+    → ((file : NewFile) → Contains files file → is_same_file at (level_file file) ≡ false)
+    → AreOthers at files
+others_from at [] apart = tt
+others_from at (x ∷ files) apart =
+    (apart x (in_front x files), others_from at files (λ file c. apart file (in_rest x file files c)))
+
+others_together : (at : LevelFile) (these those : List NewFile) → AreOthers at these
+    → ((file : NewFile) → Contains those file → is_same_file at (level_file file) ≡ false)
+    → AreOthers at (these ++ those)
+others_together at [] those others apart = others_from at those apart
+others_together at (x ∷ these) those others apart =
+    (others.0, others_together at these those others.1 apart)
+
+-- each level and number is there once where it is so in both lists, and no file of one has those of
+-- a file of the other
+pub once_together : (these those : List NewFile) → IsDistinct is_same_file (map level_file these)
+    → IsDistinct is_same_file (map level_file those)
+    → ((a b : NewFile) → Contains these a → Contains those b
+    → is_same_file (level_file a) (level_file b) ≡ false)
+    → IsDistinct is_same_file (map level_file (these ++ those))
+unfolding IsDistinct
+once_together [] those once other apart = other
+once_together (x ∷ these) those once other apart = (
+  others_together (level_file x) these those once.0 (λ b d. apart x b (in_front x these) d),
+  once_together these those once.1 other (λ a b c d. apart a b (in_rest x a these c) d),
+)
+
+-- the first file has another level and number than each after it
+pub first_is_other : (x : NewFile) (files : List NewFile)
+    → IsDistinct is_same_file (map level_file (x ∷ files)) → (file : NewFile)
+    → Contains files file → is_same_file (level_file x) (level_file file) ≡ false
+unfolding IsDistinct
+first_is_other x files once file c = other files once.0 c
+  where
+    other : (them : List NewFile) → AreOthers (level_file x) them → Contains them file
+        → is_same_file (level_file x) (level_file file) ≡ false
+    other [] others c = absurd (in_none file c)
+    other (y ∷ them) others c = ⊎_elim
+        (λ (e : y ≡ file). subst (λ (f : NewFile).
+        is_same_file (level_file x) (level_file f) ≡ false) e others.0)
+        (λ (there : Contains them file). other them others.1 there) (in_cases y file them c)
+
+-- without the first they are so still
+pub once_rest : (x : NewFile) (files : List NewFile)
+    → IsDistinct is_same_file (map level_file (x ∷ files))
+    → IsDistinct is_same_file (map level_file files)
+unfolding IsDistinct
+once_rest x files once = once.1
+
 with_one : (set : LevelFile → Option NewFile) (files : List NewFile) (x : NewFile) → AreFilesOf set files
     → AreFilesOf (λ place. after_change (set place) (left_by place (adding x))) (files_with files x)
 with_one set files x are =

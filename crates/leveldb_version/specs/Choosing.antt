@@ -1,15 +1,15 @@
 -- Which choices of files a compaction may take, and what its edit leaves of a set's files.
 use Rattle.std.specs.Prelude.{◌≡◌, ◌≢◌, ◌<◌, ◌+◌, ◌⊎◌, ◌↔◌, true, false, ℕ, List, ◌++◌, map, Contains}
 use Rattle.std.specs.Cmp.{IsTotalOrder}
-use Rattle.std.specs.List.{IsDistinct}
 use Rattle.std.specs.declared.cmp.Ordering.{Ordering}
 use Rattle.std.specs.declared.cmp.Ordering.TheVariants.{Less}
 use Rattle.leveldb_base.specs.KeyTypes.{user_part}
-use Rattle.leveldb_version.specs.Compaction.{IsWithinInputs, MayCompact, closed_range}
+use Rattle.leveldb_version.specs.Compaction.{AreOnce, IsWithinInputs, MayCompact, closed_range}
 use Rattle.leveldb_version.specs.FullEdit.{files_after}
 use Rattle.leveldb_version.specs.Levels.{AreDisjoint}
 use Rattle.leveldb_version.specs.Overlap.{AreInputs, UserRange, overlapping, overlaps}
 use Rattle.leveldb_version.specs.Search.{AreDisjointLevels}
+use Rattle.leveldb_version.specs.StoreSteps.{LeavesAlone}
 use Rattle.leveldb_version.specs.VersionEdit.{Edit, LevelFile, NewFile}
 use Rattle.leveldb_version.specs.VersionSet.{is_same_file, level_file}
 
@@ -34,7 +34,7 @@ abbrev pub ChosenMayBeCompacted : Type 0
 ChosenMayBeCompacted = (cmp : List ℕ → List ℕ → Ordering) (files : List NewFile) (level : ℕ)
     (chosen : List NewFile) (low high : List ℕ) → level < 6
     → ((file : NewFile) → Contains chosen file → Contains files file × (file.level ≡ level))
-    → AreEnds cmp chosen low high → AreClosed cmp level files chosen low high
+    → (AreOnce files → AreOnce chosen) → AreEnds cmp chosen low high → AreClosed cmp level files chosen low high
     → MayCompact cmp files level
     (chosen ++ overlapping cmp (level + 1) (closed_range low high) files)
 
@@ -46,12 +46,14 @@ WidenedAreClosed = (cmp : List ℕ → List ℕ → Ordering) → IsTotalOrder c
     → AreInputs cmp level narrow files chosen → AreEnds cmp chosen low high
     → AreClosed cmp level files chosen low high
 
--- what may be taken depends on the sets of files alone, as a version has them or a set
+-- what may be taken depends on the sets of files alone, as a version has them or a set, where each
+-- is there once
 abbrev pub ChoicesGoBySets : Type 0
 ChoicesGoBySets = (cmp : List ℕ → List ℕ → Ordering) (level : ℕ)
     (files others inputs those : List NewFile)
     → ((file : NewFile) → Contains files file ↔ Contains others file)
     → ((file : NewFile) → Contains inputs file ↔ Contains those file)
+    → (AreOnce others → AreOnce those)
     → MayCompact cmp files level inputs → MayCompact cmp others level those
 
 -- ---- laws of a set's files, whatever is in them
@@ -62,9 +64,14 @@ pub record LeavesFiles (edit : Edit) (files : List NewFile) : Type 0 where
   pub among : (file : NewFile) → Contains (files_after edit files) file → Contains edit.added file
       ⊎ (Contains files file
       × ((at : LevelFile) → Contains edit.deleted at → is_same_file (level_file file) at ≡ false))
+  -- each that it adds is there, unless it adds two of one level and number; and each that was there
+  -- and that it leaves alone
+  pub added : AreOnce edit.added → (file : NewFile) → Contains edit.added file
+      → Contains (files_after edit files) file
+  pub stays : (file : NewFile) → Contains files file → LeavesAlone edit (level_file file)
+      → Contains (files_after edit files) file
   -- where each level and number was there once, it is so still
-  pub once : IsDistinct is_same_file (map level_file files)
-      → IsDistinct is_same_file (map level_file (files_after edit files))
+  pub once : AreOnce files → AreOnce (files_after edit files)
 
 -- each edit leaves that
 abbrev pub FilesAreEdited : Type 0

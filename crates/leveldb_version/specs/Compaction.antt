@@ -1,14 +1,16 @@
 -- Compactions: which files they may take, which tables they make of them, and what is live then.
-use Rattle.std.specs.Prelude.{◌≡◌, ◌≢◌, ◌<◌, ◌+◌, ◌⊎◌, ◌↔◌, ◌&&◌, true, false, not, nat_lt, Bool, ℕ, List, [], ◌∷◌, map, Some, AllPairs, Contains}
-use Rattle.std.specs.List.{list_any}
+use Rattle.std.specs.Prelude.{◌≡◌, ◌≢◌, ◌<◌, ◌+◌, ◌*◌, ◌⊎◌, ◌↔◌, ◌&&◌, true, false, not, nat_lt, Bool, ℕ, List, [], ◌∷◌, map, Some, AllPairs, Contains}
+use Rattle.std.specs.List.{IsDistinct, list_any}
 use Rattle.std.specs.declared.cmp.Ordering.{Ordering}
 use Rattle.std.specs.declared.cmp.Ordering.TheVariants.{Less}
 use Rattle.leveldb_base.specs.History.{Entry}
 use Rattle.leveldb_base.specs.KeyTypes.{user_part}
 use Rattle.leveldb_base.specs.Thinning.{Drops, HaveGone}
 use Rattle.leveldb_version.specs.Levels.{AreDisjoint, IsBounded, IsInRange, LiveTable, table_entries}
-use Rattle.leveldb_version.specs.Overlap.{UserRange, overlaps, sticks_out}
+use Rattle.leveldb_version.specs.Overlap.{UserRange, overlapping, overlaps, sticks_out}
+use Rattle.leveldb_version.specs.Summary.{total_size}
 use Rattle.leveldb_version.specs.VersionEdit.{NewFile}
+use Rattle.leveldb_version.specs.VersionSet.{is_same_file, level_file}
 
 -- ---- tables and their files
 
@@ -32,7 +34,7 @@ ReplacesInputs before inputs outputs after = (table : LiveTable) → Contains af
 abbrev pub moved : LiveTable → LiveTable
 moved table = record table { file = record table.file { level = table.file.level + 1 } }
 
--- the one input is moved
+-- the one input is moved: a table that is moved is its own output, with another level
 abbrev pub IsMoved : List LiveTable → List LiveTable → Type 0
 IsMoved inputs outputs =
     (table : LiveTable) × (inputs ≡ table ∷ []) × (outputs ≡ moved table ∷ [])
@@ -45,6 +47,10 @@ pub record IsTight (table : LiveTable) : Type 0 where
       × (entry.key ≡ user_part table.file.largest)
 
 -- ---- the files that a compaction takes
+
+-- each level and number is there once
+abbrev pub AreOnce : List NewFile → Type 0
+AreOnce files = IsDistinct is_same_file (map level_file files)
 
 -- the range from one user key to another, with both of them, whichever keys they are
 abbrev pub closed_range : List ℕ → List ℕ → UserRange
@@ -76,8 +82,22 @@ module _ (cmp : List ℕ → List ℕ → Ordering) where
         → Contains inputs file ↔ (overlaps cmp (closed_range low high) file ≡ true)
     pub zero : level ≡ 0 → (file : NewFile) → Contains files file → file.level ≡ 0
         → overlaps cmp (closed_range low high) file ≡ true → Contains inputs file
+    -- each file is taken once, where each is there once
+    pub once : AreOnce files → AreOnce inputs
 
-  -- ---- keys that no deeper level has
+  -- The one file that a compaction of a level takes may be moved to the next level as it is: nobody
+  -- asked for the compaction, and the files two levels down that it overlaps have less than ten file
+  -- sizes together.
+  pub record MayMove (file_size level : ℕ) (is_asked : Bool) (files inputs : List NewFile)
+      : Type 0 where
+    pub unasked : is_asked ≡ false
+    pub file : NewFile
+    pub alone : inputs ≡ file ∷ []
+    pub at : file.level ≡ level
+    pub light : total_size (overlapping cmp (level + 2)
+        (closed_range (user_part file.smallest) (user_part file.largest)) files) < 10 * file_size
+
+  -- ---- keys that are in the range of no deeper file
 
   -- no file deeper than this level has the key in its range
   abbrev pub IsBaseLevelFor : ℕ → List NewFile → List ℕ → Type 0
@@ -96,17 +116,19 @@ module _ (cmp : List ℕ → List ℕ → Ordering) where
 
   -- ---- the tables that it makes
 
-  -- Tables that a compaction makes for a level: their files are of that level and have the ranges
-  -- of their keys, and no user key is in two of them.
+  -- Tables that a compaction makes for a level: their files are of that level, each with a number of
+  -- its own, and have the ranges of their keys, and no user key is in two of them.
   pub record AreOutputs (level : ℕ) (outputs : List LiveTable) : Type 0 where
     pub levels : (table : LiveTable) → Contains outputs table → table.file.level ≡ level
     pub bounded : AreBounded outputs
     pub tight : (table : LiveTable) → Contains outputs table → IsTight table
+    pub known : AreKnownByNumber outputs
     pub apart : (a b : LiveTable) → Contains outputs a → Contains outputs b
         → a.file.number ≢ b.file.number → AreDisjoint cmp a.file b.file
 
   -- A compaction of a level makes outputs for the next one of its inputs, which are live tables,
-  -- and drops no more than may go. A table that is moved is its own output, with another level.
+  -- and drops no more than may go. (That no other live table has an output's number is said where
+  -- they are files.)
   pub record Compacts (smallest level : ℕ) (before inputs outputs after : List LiveTable)
       : Type 0 where
     pub may : MayCompact (files_of_tables before) level (files_of_tables inputs)
@@ -116,13 +138,20 @@ module _ (cmp : List ℕ → List ℕ → Ordering) where
         (table_entries inputs) (table_entries outputs)
     pub after_is : ReplacesInputs before inputs outputs after
 
-  -- A compaction in full: it merges its inputs, so that all that may go has gone, or it moves its
-  -- one input to the next level.
-  pub record IsCompaction (smallest level : ℕ) (before inputs outputs after : List LiveTable)
-      : Type 0 where
+  -- its inputs are merged, so that all that may go has gone, or the one input is moved that may be
+  abbrev pub MergesOrMoves : ℕ → ℕ → ℕ → Bool → List LiveTable → List LiveTable → List LiveTable
+      → Type 0
+  MergesOrMoves smallest level file_size is_asked before inputs outputs =
+      HaveGone smallest (IsBaseLevelFor (level + 1) (files_of_tables before))
+      (table_entries inputs) (table_entries outputs)
+      ⊎ (MayMove file_size level is_asked (files_of_tables before) (files_of_tables inputs)
+      × IsMoved inputs outputs)
+
+  -- a compaction in full, asked for by a user or not
+  pub record IsCompaction (smallest level file_size : ℕ) (is_asked : Bool)
+      (before inputs outputs after : List LiveTable) : Type 0 where
     pub compacts : Compacts smallest level before inputs outputs after
-    pub merges_or_moves : HaveGone smallest (IsBaseLevelFor (level + 1) (files_of_tables before))
-        (table_entries inputs) (table_entries outputs) ⊎ IsMoved inputs outputs
+    pub merges_or_moves : MergesOrMoves smallest level file_size is_asked before inputs outputs
 
   -- ---- what is known of outputs by their files alone
 

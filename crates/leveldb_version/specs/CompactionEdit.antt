@@ -1,5 +1,5 @@
 -- The edit of a compaction, and that it may be logged.
-use Rattle.std.specs.Prelude.{◌≡◌, ◌≢◌, ◌≤◌, ◌<◌, ◌+◌, ◌^◌, ◌↔◌, ℕ, List, [], ◌∷◌, ◌++◌, Some, None, Contains}
+use Rattle.std.specs.Prelude.{◌≡◌, ◌≢◌, ◌≤◌, ◌<◌, ◌+◌, ◌^◌, ◌↔◌, ℕ, Bool, List, [], ◌∷◌, ◌++◌, Some, None, Contains}
 use Rattle.std.specs.Cmp.{IsTotalOrder}
 use Rattle.std.specs.List.Sorted.{IsStrictlySortedBy}
 use Rattle.std.specs.declared.cmp.Ordering.{Ordering}
@@ -9,7 +9,7 @@ use Rattle.leveldb_base.specs.Thinning.{Drops}
 use Rattle.leveldb_base.specs.Types.{Pair}
 use Rattle.leveldb_env.specs.Env.{AreBytes, Files}
 use Rattle.leveldb_mem.specs.Log.Writer.{frame}
-use Rattle.leveldb_version.specs.Compaction.{AreKnownByNumber, Compacts, IsBaseLevelFor, MayCompact, ReplacesInputs, files_of_tables, moved}
+use Rattle.leveldb_version.specs.Compaction.{AreKnownByNumber, Compacts, IsBaseLevelFor, IsCompaction, MayCompact, ReplacesInputs, files_of_tables, moved}
 use Rattle.leveldb_version.specs.Contents.{Store}
 use Rattle.leveldb_version.specs.Levels.{AreDisjoint, LiveTable, table_entries}
 use Rattle.leveldb_version.specs.LogEdit.{AppendingAndSyncing, edit_record, set_appended, with_bytes_kept, written_edit}
@@ -54,6 +54,14 @@ pub record SetsPointer (cmp : List ℕ → List ℕ → Ordering) (level : ℕ) 
   pub greatest : (input : NewFile) → Contains inputs input → input.level ≡ level
       → internal_cmp cmp key input.largest ≢ Less
 
+-- a compaction in full, asked for by a user or not, with the edit that is logged of it
+pub record IsCompactionBy (cmp : List ℕ → List ℕ → Ordering) (smallest level file_size : ℕ)
+    (is_asked : Bool) (log : ℕ) (before inputs outputs after : List LiveTable) (edit : Edit)
+    : Type 0 where
+  pub compaction : IsCompaction cmp smallest level file_size is_asked before inputs outputs after
+  pub edit_is : IsCompactionEdit log inputs outputs edit
+  pub pointer : SetsPointer cmp level (files_of_tables inputs) edit
+
 -- ---- outputs in files
 
 module _ (store : List ℕ) (cmp : List ℕ → List ℕ → Ordering)
@@ -84,6 +92,12 @@ module _ (store : List ℕ) (cmp : List ℕ → List ℕ → Ordering)
       → HasMadeOutputs files smallest level before inputs outputs
       → ReplacesInputs before inputs outputs after
       → Compacts cmp smallest level before inputs outputs after
+
+  -- live tables are known by their levels and numbers
+  abbrev pub LiveTablesAreKnown : Type 0
+  LiveTablesAreKnown = OneTableReading IsTableOf → (files : Files) (set : FileSet)
+      (tables : List LiveTable) → HasTables store cmp IsTableOf files set tables
+      → AreKnownByNumber tables
 
   -- a table that is kept and moved to the next level is the output of a compaction of it alone
   abbrev pub MovesCompact : Type 0

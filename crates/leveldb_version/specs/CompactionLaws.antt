@@ -70,6 +70,12 @@ pub record DropsGoBySets : Type 0 where
       → SameEntries outputs those
       → DropsAll smallest (IsBaseLevelFor cmp level files) inputs outputs
       → DropsAll smallest (IsBaseLevelFor cmp level files) others those
+  -- and on the set of files, as a version has them or a set
+  pub files : (cmp : List ℕ → List ℕ → Ordering) (smallest level : ℕ) (these those : List NewFile)
+      (inputs outputs : List Entry)
+      → ((file : NewFile) → Contains these file ↔ Contains those file)
+      → DropsAll smallest (IsBaseLevelFor cmp level these) inputs outputs
+      → DropsAll smallest (IsBaseLevelFor cmp level those) inputs outputs
 
 -- Outputs that have what the rule leaves of the inputs' entries, merged or in any order, have
 -- dropped exactly what may go.
@@ -146,6 +152,12 @@ InputsAreTables = (tables : List LiveTable) (inputs : List NewFile)
     → ((file : NewFile) → Contains inputs file → Contains (files_of_tables tables) file)
     → (some : List LiveTable) × (files_of_tables some ≡ inputs)
     × ((table : LiveTable) → Contains some table → Contains tables table)
+
+-- tables that are among others have their levels in order and their keys in their ranges, too
+abbrev pub FewerTablesFit : Type 0
+FewerTablesFit = (cmp : List ℕ → List ℕ → Ordering) (tables some : List LiveTable)
+    → ((table : LiveTable) → Contains some table → Contains tables table)
+    → LevelOrder cmp tables → AreBounded cmp tables → LevelOrder cmp some × AreBounded cmp some
 
 -- there are the tables that are live after a compaction
 abbrev pub ReplacedTablesExist : Type 0

@@ -1,10 +1,11 @@
 -- Inputs of a compaction that contradict the edits which added them: their tables, read pair by
--- pair in one order, have a key that no such table has. A compaction fails with `Corruption` then,
--- and its inputs stay.
+-- pair in one order, have a key that no such tables have. A compaction fails with `Corruption` then.
 use Rattle.std.specs.Prelude.{◌≡◌, ◌≢◌, ◌≤◌, ◌<◌, ◌⊎◌, ℕ, List, ◌∷◌, ◌++◌, length, Contains}
 use Rattle.std.specs.Cmp.{IsTotalOrder}
 use Rattle.std.specs.declared.cmp.Ordering.{Ordering}
 use Rattle.std.specs.declared.cmp.Ordering.TheVariants.{Less}
+use Rattle.leveldb_base.specs.declared.error.Status.{Status}
+use Rattle.leveldb_base.specs.declared.error.StatusCode.TheVariants.{Corruption}
 use Rattle.leveldb_base.specs.History.{AreRising, Entry}
 use Rattle.leveldb_base.specs.KeyTypes.{internal_cmp, user_part}
 use Rattle.leveldb_base.specs.Types.{Pair}
@@ -15,14 +16,14 @@ use Rattle.leveldb_version.specs.Store.{IsFirstKey, IsInternalPair, IsLastKey}
 use Rattle.leveldb_version.specs.VersionEdit.{NewFile}
 
 module _ (cmp : List ℕ → List ℕ → Ordering) where
-  -- a user key lies within the inputs' ranges: from the first key of one to the last of one
+  -- a user key lies within the hull of the inputs: from the first key of one to the last of one
   pub record IsAmongInputs (inputs : List NewFile) (key : List ℕ) : Type 0 where
     pub from : (input : NewFile) × Contains inputs input
         × (cmp key (user_part input.smallest) ≢ Less)
     pub to : (input : NewFile) × Contains inputs input × (cmp (user_part input.largest) key ≢ Less)
 
   -- Pairs that are read from the inputs' tables, in this order, agree with the inputs' edits:
-  -- their keys have tags, rise, and lie within the inputs' ranges.
+  -- their keys have tags, rise, and lie within the inputs' hull.
   pub record AgreeWithEdits (inputs : List NewFile) (pairs : List Pair) : Type 0 where
     pub tagged : (pair : Pair) → Contains pairs pair → 8 ≤ length pair.0
     pub rising : AreRising (internal_cmp cmp) pairs
@@ -50,6 +51,12 @@ module _ (cmp : List ℕ → List ℕ → Ordering) where
     pub pairs_are : pairs ≡ front ++ pair ∷ rest
     pub agreed : AgreeWithEdits inputs front
     pub contradicts : ContradictsEdits inputs front pair
+
+  -- a merge of such pairs fails: its code is `Corruption`, and there is a contradiction
+  pub record FailsAtContradiction (inputs : List NewFile) (pairs : List Pair) (status : Status)
+      : Type 0 where
+    pub code : status.code ≡ Corruption
+    pub why : HasContradiction inputs pairs
 
   -- a file's first and last key are those of some of these pairs, whose keys rise
   pub record IsMadeOf (pairs kept : List Pair) (file : NewFile) : Type 0 where

@@ -13,12 +13,12 @@ abbrev pub IsFrom : ℕ → History → ℕ → Type 0
 IsFrom smallest history since = (smallest ≤ since) ⊎ (greatest (entries_of history) ≤ since)
 
 -- What a call that may drop entries keeps, where `Was since` and `Is since` say that a history was
--- shown before it, and is after it, at each number from `since` on. It is shown from the same
--- number on, or at least from the smallest held one on and from its own greatest on. The smallest
--- held number is the caller's.
+-- shown before it, and is after it, at each number from `since` on: from each number on from which
+-- it was shown it is shown, if that is the smallest held one or later, or the history's greatest or
+-- later. The smallest held number is the caller's.
 abbrev pub KeepsFrom : ℕ → History → (ℕ → Type 0) → (ℕ → Type 0) → Type 0
-KeepsFrom smallest history Was Is = (since : ℕ) → Was since → (then : ℕ) × Is then
-    × ((then ≤ since) ⊎ ((then ≤ smallest) × (then ≤ greatest (entries_of history))))
+KeepsFrom smallest history Was Is = (since from : ℕ) → Was since → since ≤ from
+    → IsFrom smallest history from → Is from
 
 module _ (cmp : List ℕ → List ℕ → Ordering) where
   -- so for memory and tables before a call, and memory and tables after it
@@ -29,16 +29,7 @@ module _ (cmp : List ℕ → List ℕ → Ordering) where
 
   -- ---- laws
 
-  -- what was shown is shown after a compaction at each of those numbers
-  abbrev pub CompactedIsShown : Type 0
-  CompactedIsShown = (memory : EngineMemory) (smallest level : ℕ)
-      (before inputs outputs after : List LiveTable) (history : History) (since from : ℕ)
-      → IsTotalOrder cmp → AreBounded cmp before → AreKnownByNumber before
-      → Compacts cmp smallest level before inputs outputs after
-      → since ≤ from → IsFrom smallest history from
-      → ShowsHistory cmp memory before history since → ShowsHistory cmp memory after history from
-
-  -- so a compaction keeps what is shown from the smallest held number on
+  -- a compaction keeps what is shown from the smallest held number on
   abbrev pub CompactionsKeepShown : Type 0
   CompactionsKeepShown = (memory : EngineMemory) (smallest level : ℕ)
       (before inputs outputs after : List LiveTable) (history : History)
@@ -48,13 +39,6 @@ module _ (cmp : List ℕ → List ℕ → Ordering) where
 
   -- what follows where a call keeps what is shown so
   pub record ShownIsKept : Type 0 where
-    -- at each number from the smallest held one on, and from the history's greatest on, it is
-    -- shown
-    pub from : (smallest : ℕ) (memory other : EngineMemory) (before after : List LiveTable)
-        (history : History) (since : ℕ)
-        → KeepsShownFrom smallest memory before other after history
-        → IsFrom smallest history since → ShowsHistory cmp memory before history since
-        → ShowsHistory cmp other after history since
     -- two such calls in a row keep it
     pub both : (smallest : ℕ) (a b c : EngineMemory) (these those others : List LiveTable)
         (history : History) → KeepsShownFrom smallest a these b those history

@@ -3,12 +3,12 @@
 ghost use Rattle.std.specs.Prelude.{ℕ, List};
 ghost use Rattle.leveldb_env.specs.Compressor.{Codings};
 ghost use Rattle.leveldb_version.specs.Choosing.{ChoicesGoBySets, ChosenMayBeCompacted, EditedFilesStayApart, FilesAreEdited, WidenedAreClosed};
-ghost use Rattle.leveldb_version.specs.CompactionEdit.{CompactionEditsFit, CompactionsAreLogged, EditsAreLogged, MadeOutputsCompact, MovesCompact};
-ghost use Rattle.leveldb_version.specs.CompactionLaws.{CompactedFilesStayApart, CompactionsKeepViews, CutsAreApart, CutsGrow, DropsGoBySets, InputsAreTables, KeysAreCut, OneMergeIsLeft, OutputsLieWithin, RangesTellBaseLevel, ReplacedTablesExist, TestTellsBaseLevel, ThinnedTablesDropAll};
+ghost use Rattle.leveldb_version.specs.CompactionEdit.{CompactionEditsFit, CompactionsAreLogged, EditsAreLogged, LiveTablesAreKnown, MadeOutputsCompact, MovesCompact};
+ghost use Rattle.leveldb_version.specs.CompactionLaws.{CompactedFilesStayApart, CompactionsKeepViews, CutsAreApart, CutsGrow, DropsGoBySets, FewerTablesFit, InputsAreTables, KeysAreCut, OneMergeIsLeft, OutputsLieWithin, RangesTellBaseLevel, ReplacedTablesExist, TestTellsBaseLevel, ThinnedTablesDropAll};
 ghost use Rattle.leveldb_version.specs.Contradictions.{AgreeOrContradict, AgreedFilesLieWithin, CutFilesAreApart, TablesAgreeWithEdits};
 ghost use Rattle.leveldb_version.specs.Replacing.{ReplacingRefines, SwapsReplace, SwitchesReplace};
 ghost use Rattle.leveldb_version.specs.Scores.{ScoresTellLevel};
-ghost use Rattle.leveldb_version.specs.ShownFrom.{CompactedIsShown, CompactionsKeepShown, ShownIsKept};
+ghost use Rattle.leveldb_version.specs.ShownFrom.{CompactionsKeepShown, ShownIsKept};
 ghost use Rattle.leveldb_version.specs.WalksBeside.{WalksStayBeside};
 
 use crate::laws::stores::StoreFormat;
@@ -52,10 +52,11 @@ pub fn outputs_are_cut_between_keys()
     ensures keys { KeysAreCut }
 {}
 
-/// The tables of which the laws of compactions speak exist.
+/// The tables of which the laws of compactions speak exist, and some of them fit as all do.
 pub fn compacted_tables_exist()
     ensures inputs { InputsAreTables }
     ensures after { ReplacedTablesExist }
+    ensures fewer { FewerTablesFit }
 {}
 
 /// An edit that has tables in the place of tables and logs changes nothing that is shown. One that
@@ -74,6 +75,7 @@ pub fn compactions_are_logged<F: StoreFormat>()
     ensures outputs { (store : List ℕ) → MadeOutputsCompact store F.cmp F.is_table }
     ensures moved { (store : List ℕ) → MovesCompact store F.cmp F.is_table }
     ensures logged { (store : List ℕ) → CompactionsAreLogged store F.cmp F.is_table F.allowed }
+    ensures known { (store : List ℕ) → LiveTablesAreKnown store F.cmp F.is_table }
 {}
 
 /// A compaction's edit can be written where its numbers and levels fit.
@@ -84,12 +86,12 @@ pub fn compaction_edits_fit()
 /// What is shown before a compaction is shown after it, from the smallest held number on; and calls
 /// that keep that can follow one another.
 pub fn compacted_tables_show_the_same<F: StoreFormat>()
-    ensures shown { CompactedIsShown F.cmp }
     ensures keeps { CompactionsKeepShown F.cmp }
     ensures kept { ShownIsKept F.cmp }
 {}
 
-/// Files that the rules choose may be compacted.
+/// Files may be compacted that are chosen so: of one level, closed if it is level 0, with those that
+/// overlap them in the next.
 pub fn chosen_files_may_be_compacted()
     ensures chosen { ChosenMayBeCompacted }
     ensures widened { WidenedAreClosed }

@@ -1,8 +1,5 @@
-use Rattle.leveldb_version.proofs.ShownFromLemmas.{compacted_is_shown, compactions_keep_shown, shown_is_kept}
+use Rattle.leveldb_version.proofs.ShownFromLemmas.{compactions_keep_shown, shown_is_kept}
 use Rattle.leveldb_version.proofs.laws.compactions.compacted_tables_show_the_same.Goals as goal
-
-pub returns-clause-shown : goal.returns-clause-shown
-returns-clause-shown g c = compacted_is_shown g.F.StoreFormat.cmp
 
 pub returns-clause-keeps : goal.returns-clause-keeps
 returns-clause-keeps g c = compactions_keep_shown g.F.StoreFormat.cmp

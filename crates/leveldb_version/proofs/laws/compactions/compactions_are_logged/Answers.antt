@@ -1,4 +1,4 @@
-use Rattle.leveldb_version.proofs.CompactionEditLemmas.{compactions_are_logged, made_outputs_compact, moves_compact}
+use Rattle.leveldb_version.proofs.CompactionEditLemmas.{compactions_are_logged, live_tables_are_known, made_outputs_compact, moves_compact}
 use Rattle.leveldb_version.proofs.EditLoggedLemmas.{edits_are_logged}
 use Rattle.leveldb_version.proofs.laws.compactions.compactions_are_logged.Goals as goal
 
@@ -15,3 +15,6 @@ returns-clause-moved g c = λ store. moves_compact store g.F.StoreFormat.cmp g.F
 pub returns-clause-logged : goal.returns-clause-logged
 returns-clause-logged g c = λ store. compactions_are_logged store g.F.StoreFormat.cmp g.F.StoreFormat.is_table
     g.F.StoreFormat.allowed
+
+pub returns-clause-known : goal.returns-clause-known
+returns-clause-known g c = λ store. live_tables_are_known store g.F.StoreFormat.cmp g.F.StoreFormat.is_table
