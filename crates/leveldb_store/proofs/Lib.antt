@@ -20,6 +20,7 @@ pub mod TableWaitingLemmas
 pub mod NotTabledLemmas
 pub mod SoundLemmas
 pub mod RoomLemmas
+pub mod WrittenFromLemmas
 mod ReadLemmas
 pub mod LookUpLemmas
 pub mod ViewLemmas

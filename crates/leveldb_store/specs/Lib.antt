@@ -5,6 +5,7 @@ pub mod OpenStore
 pub mod OpenTables
 pub mod Write
 pub mod Written
+pub mod WrittenFrom
 pub mod Switch
 pub mod Read
 pub mod View
