@@ -9,8 +9,6 @@ mod build_table;
 #[cfg(test)]
 mod engines;
 #[cfg(test)]
-mod example;
-#[cfg(test)]
 mod iterators;
 #[cfg(test)]
 mod memory;

@@ -1,0 +1,31 @@
+//! The calls of a store.
+use leveldb_base::error::Result;
+use rusty_leveldb::{DB, MemEnv, Options};
+
+#[test]
+fn snapshots(rt: HostRuntime) -> Result<()> {
+    let alloc = rt.alloc();
+    let mut env = MemEnv::new(alloc);
+    let mut db = DB::open(alloc, "db", &mut env, Options::default())?;
+    db.put(b"a", b"1")?;
+    let snapshot = db.get_snapshot()?;
+    db.delete(b"a")?;
+    assert!(rt; db.get(b"a")?.is_none() && db.get_at(&snapshot, b"a")?.is_some());
+    db.release_snapshot(snapshot)?;
+    db.flush()?;
+    db.abandon()
+}
+
+#[test]
+fn iterators(rt: HostRuntime) -> Result<()> {
+    let alloc = rt.alloc();
+    let mut env = MemEnv::new(alloc);
+    let mut db = DB::open(alloc, "db", &mut env, Options::default())?;
+    db.put(b"a", b"1")?;
+    let snapshot = db.get_snapshot()?;
+    db.put(b"b", b"2")?;
+    let mut it = db.new_iter_at(&snapshot)?;
+    it.seek_to_first()?;
+    assert!(rt; it.valid() && !it.advance()?);
+    Ok(())
+}
