@@ -21,3 +21,18 @@ fn oldest_and_newest(rt: HostRuntime) -> Result<()> {
     assert!(rt; holds(&list, 0, 0) && list.empty());
     Ok(())
 }
+
+/// A store of the last number 9 is read from there on, or from its oldest snapshot on; one that is
+/// held of a store without entries has the number 0, which is as old as can be.
+#[test]
+fn smallest_number_that_is_read(rt: HostRuntime) -> Result<()> {
+    let mut list = SnapshotList::new(rt.alloc());
+    assert!(rt; list.smallest_held(9) == 9);
+    let late = list.new_snapshot(7)?;
+    let early = list.new_snapshot(4)?;
+    assert!(rt; list.smallest_held(9) == 4);
+    assert!(rt; list.release(early) && list.smallest_held(9) == 7);
+    list.new_snapshot(0)?;
+    assert!(rt; list.smallest_held(9) == 0 && list.release(late));
+    Ok(())
+}
