@@ -1,6 +1,7 @@
 -- Which entries a compaction drops, and what those that it leaves show. A list represents the set
 -- of its elements. The smallest held number is the oldest snapshot's, or, where none is held, the
--- last number: each number that a store is still read at is at or above it.
+-- last number: each number that a store is still read at is at or above it. A store tells it by its
+-- snapshots (`IsSmallestHeld` of leveldb_iter), and hands it to the call that compacts.
 use Rattle.std.specs.Prelude.{◌≡◌, ◌≤◌, ◌<◌, ◌⊎◌, ◌↔◌, ◌&&◌, ◌||◌, ◌++◌, ℕ, Bool, true, not, nat_le, nat_lt, is_none, List, [], ◌∷◌, Option, Some, None, Contains}
 use Rattle.std.specs.List.{filter, list_any}
 use Rattle.std.specs.Str.{bytes_eq}
@@ -40,8 +41,9 @@ pub record Thins (smallest : ℕ) (old new : List Entry) : Type 0 where
 
 -- ---- what a compaction drops, where it sees its inputs alone
 
--- No more goes than may go: what an input shadows, and spent deletions of keys that no deeper level
--- has. A table that is moved keeps all.
+-- No more goes than may go: what an input shadows, and spent deletions of keys that pass the test
+-- `IsLast`: no deeper level has them, as the ranges of its files tell. A table that is moved keeps
+-- all.
 pub record Drops (smallest : ℕ) (IsLast : List ℕ → Type 0) (inputs outputs : List Entry)
     : Type 0 where
   pub made : (entry : Entry) → Contains outputs entry → Contains inputs entry
@@ -121,8 +123,8 @@ pub record EntryBeforeTells : Type 0 where
       → goes smallest is_last ((front ++ before ∷ []) ++ entry ∷ rest) entry
       ≡ goes_after smallest is_last (Some before) entry
 
--- Five versions of key 1, of which 4 and 7 are held: 7 and 9 are left, and 3, which 4 shows; and
--- nothing of key 2, which no deeper level has.
+-- Five versions of key 1, where the numbers 4 and 7 are held: 7 and 9 are left, and 3, which 4
+-- shows; and nothing of key 2, which no deeper level has.
 abbrev pub ThinnedExample : Type 0
 ThinnedExample = thinned 4 (bytes_eq (2 ∷ [])) (
     record { sequence = 9; key = 1 ∷ []; value = None }
