@@ -2,6 +2,8 @@
 //! runs it.
 #![tactic(auto)]
 
+mod stores;
+
 use leveldb_base::error::Result;
 use leveldb_env::disk_env::{PosixDiskEnv, reserve_descriptors};
 use leveldb_env::env::Env;
@@ -59,6 +61,8 @@ fn run<E: Env>(
         "lock" => lock(rt, env, name)?,
         "append" => append(rt, env, name)?,
         "change" => change(env, rt.alloc(), name)?,
+        "write" => stores::write_on(rt, env, name)?,
+        "store" => stores::open_six_times(rt, env, name)?,
         _ => return Ok(false),
     }
     Ok(true)
@@ -71,7 +75,7 @@ fn trial<E: Env>(
     words: &[String],
 ) -> io::Result<u8> {
     let [call, name] = words else {
-        rt.println("usage: disk_trials lock|append|change NAME")?;
+        rt.println("usage: disk_trials lock|append|change|write|store NAME")?;
         return Ok(2);
     };
     match run(rt, env, call.as_str(), name.as_str()) {
