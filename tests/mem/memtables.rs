@@ -5,7 +5,7 @@ use crate::checks::five_changes;
 use leveldb_base::cmp::DefaultCmp;
 use leveldb_base::error::{Result, StatusCode};
 use leveldb_base::key_types::{LookupKey, ValueType};
-use leveldb_base::types::{LdbIterator, MAX_SEQUENCE_NUMBER, SequenceNumber};
+use leveldb_base::types::{LdbIterator, Lookup, MAX_SEQUENCE_NUMBER, SequenceNumber};
 use leveldb_mem::memtable::{MemTable, MemtableIterator};
 use leveldb_mem::write_batch::WriteBatch;
 use std::alloc::Global;
@@ -23,21 +23,21 @@ fn versions(alloc: Global) -> Result<MemTable<DefaultCmp>> {
 }
 
 /// A key, a number, and what is found of the key at the number: nothing, a deletion or a value.
-type Newest = (&'static [u8], SequenceNumber, Option<Option<&'static [u8]>>);
+type Newest = (&'static [u8], SequenceNumber, Lookup<&'static [u8]>);
 
 const NEWEST: [Newest; 12] = [
-    (b"abc", 0, None),
-    (b"abc", 1, Some(Some(b"123"))),
-    (b"abc", 2, Some(None)),
-    (b"abc", 4, Some(None)),
-    (b"abc", 5, Some(Some(b"xyz"))),
-    (b"abc", 99, Some(Some(b"xyz"))),
-    (b"abd", 2, None),
-    (b"abd", 3, Some(Some(b""))),
-    (b"ab", 99, None),
-    (b"abcd", 99, None),
-    (b"abe", 99, None),
-    (b"", 99, None),
+    (b"abc", 0, Lookup::Absent),
+    (b"abc", 1, Lookup::Value(b"123")),
+    (b"abc", 2, Lookup::Deleted),
+    (b"abc", 4, Lookup::Deleted),
+    (b"abc", 5, Lookup::Value(b"xyz")),
+    (b"abc", 99, Lookup::Value(b"xyz")),
+    (b"abd", 2, Lookup::Absent),
+    (b"abd", 3, Lookup::Value(b"")),
+    (b"ab", 99, Lookup::Absent),
+    (b"abcd", 99, Lookup::Absent),
+    (b"abe", 99, Lookup::Absent),
+    (b"", 99, Lookup::Absent),
 ];
 
 // Asserts what is found of a row's key at its number.
@@ -81,7 +81,7 @@ fn present_entry_is_not_added(rt: HostRuntime) -> Result<()> {
     let answer = table.add(2, ValueType::TypeValue, b"abc", b"other");
     assert!(rt; sizes(&table) == (4, VERSIONS_SIZE));
     assert!(rt; failed_with(answer, StatusCode::AlreadyExists)?);
-    assert!(rt; table.newest(b"abc", 2) == Some(None));
+    assert!(rt; table.newest(b"abc", 2) == Lookup::Deleted);
     Ok(())
 }
 
@@ -155,20 +155,20 @@ fn insert_at_ten(batch: &WriteBatch, table: &mut MemTable<DefaultCmp>) -> Result
 }
 
 const NEWEST_OF_CHANGES: [Newest; 14] = [
-    (b"abc", 2, Some(None)),
-    (b"abc", 9, Some(Some(b"xyz"))),
-    (b"abc", 10, Some(Some(b"def"))),
-    (b"abc", 99, Some(Some(b"def"))),
-    (b"123", 10, None),
-    (b"123", 11, Some(Some(b"456"))),
-    (b"xxx", 11, None),
-    (b"xxx", 12, Some(Some(b"yyy"))),
-    (b"zzz", 12, None),
-    (b"zzz", 13, Some(None)),
-    (b"010", 13, None),
-    (b"010", 14, Some(None)),
-    (b"abd", 99, Some(Some(b""))),
-    (b"ab", 99, None),
+    (b"abc", 2, Lookup::Deleted),
+    (b"abc", 9, Lookup::Value(b"xyz")),
+    (b"abc", 10, Lookup::Value(b"def")),
+    (b"abc", 99, Lookup::Value(b"def")),
+    (b"123", 10, Lookup::Absent),
+    (b"123", 11, Lookup::Value(b"456")),
+    (b"xxx", 11, Lookup::Absent),
+    (b"xxx", 12, Lookup::Value(b"yyy")),
+    (b"zzz", 12, Lookup::Absent),
+    (b"zzz", 13, Lookup::Deleted),
+    (b"010", 13, Lookup::Absent),
+    (b"010", 14, Lookup::Deleted),
+    (b"abd", 99, Lookup::Value(b"")),
+    (b"ab", 99, Lookup::Absent),
 ];
 
 fn assert_newest(rt: &impl Abort, table: &MemTable<DefaultCmp>, rows: &[Newest]) {
@@ -186,7 +186,10 @@ fn assert_changes(rt: &impl Abort, table: &MemTable<DefaultCmp>) {
 }
 
 /// What is found where none of the five changes came.
-const NEWEST_BEFORE: [Newest; 2] = [(b"abc", 99, Some(Some(b"xyz"))), (b"123", 99, None)];
+const NEWEST_BEFORE: [Newest; 2] = [
+    (b"abc", 99, Lookup::Value(b"xyz")),
+    (b"123", 99, Lookup::Absent),
+];
 
 /// Puts the five changes after the versions: all of them, and where the call fails none, so that it
 /// can be made again.
@@ -227,7 +230,7 @@ fn greatest_number(rt: HostRuntime) -> Result<()> {
     let (table, answer) = placed_at(rt.alloc(), MAX_SEQUENCE_NUMBER - 4)?;
     answer?;
     assert!(rt; table.len() == 5);
-    assert!(rt; table.newest(b"010", MAX_SEQUENCE_NUMBER) == Some(None));
+    assert!(rt; table.newest(b"010", MAX_SEQUENCE_NUMBER) == Lookup::Deleted);
     Ok(())
 }
 
@@ -245,18 +248,18 @@ fn numbers_run_out(rt: HostRuntime) -> Result<()> {
 type Row = (SequenceNumber, &'static [u8], Option<&'static [u8]>);
 
 /// What is found of a key at a number, one row after another.
-fn slow_newest(
-    rows: &[Row],
-    key: &[u8],
-    sequence: SequenceNumber,
-) -> Option<Option<&'static [u8]>> {
+fn slow_newest(rows: &[Row], key: &[u8], sequence: SequenceNumber) -> Lookup<&'static [u8]> {
     let mut newest: Option<Row> = None;
     for row in rows {
         if row.1 == key && row.0 <= sequence && newest.is_none_or(|one| one.0 < row.0) {
             newest = Some(*row);
         }
     }
-    newest.map(|row| row.2)
+    match newest {
+        None => Lookup::Absent,
+        Some((_, _, None)) => Lookup::Deleted,
+        Some((_, _, Some(value))) => Lookup::Value(value),
+    }
 }
 
 // Newer versions before older ones, and keys of which some begin others.

@@ -3,7 +3,7 @@ use crate::stores::opened;
 use leveldb_base::cmp::DefaultCmp;
 use leveldb_base::error::{Result, StatusCode};
 use leveldb_base::key_types::ValueType;
-use leveldb_base::types::{MAX_SEQUENCE_NUMBER, SequenceNumber};
+use leveldb_base::types::{Lookup, MAX_SEQUENCE_NUMBER, SequenceNumber};
 use leveldb_env::env::Env;
 use leveldb_env::filter::BloomPolicy;
 use leveldb_env::mem_env::MemEnv;
@@ -177,19 +177,19 @@ fn entries(rt: &impl Abort, alloc: Global, env: &mut MemEnv) -> Result<MemTable<
     Ok(table)
 }
 
-/// A key, a number, and the newest value at or below it: none, or one that is deleted.
-type Look = (&'static [u8], SequenceNumber, Option<Option<&'static [u8]>>);
+/// A key, a number, and what its newest entry at or below it says.
+type Look = (&'static [u8], SequenceNumber, Lookup<&'static [u8]>);
 
 const NEWEST: [Look; 9] = [
-    (b"k", 0, None),
-    (b"k", 1, Some(Some(b"1"))),
-    (b"k", 2, Some(Some(b"1"))),
-    (b"k", 3, Some(Some(b"2"))),
-    (b"k", 5, Some(None)),
-    (b"a", 5, Some(None)),
-    (b"z", 5, Some(Some(b"3"))),
-    (b"z", 4, None),
-    (b"b", 5, None),
+    (b"k", 0, Lookup::Absent),
+    (b"k", 1, Lookup::Value(b"1")),
+    (b"k", 2, Lookup::Value(b"1")),
+    (b"k", 3, Lookup::Value(b"2")),
+    (b"k", 5, Lookup::Deleted),
+    (b"a", 5, Lookup::Deleted),
+    (b"z", 5, Lookup::Value(b"3")),
+    (b"z", 4, Lookup::Absent),
+    (b"b", 5, Lookup::Absent),
 ];
 
 fn assert_newest(rt: &impl Abort, table: &MemTable<DefaultCmp>) {

@@ -6,7 +6,7 @@ use bytes::Bytes;
 use leveldb_base::cmp::{Cmp, DefaultCmp, InternalKeyCmp};
 use leveldb_base::error::{Result, StatusCode};
 use leveldb_base::key_types::{LookupKey, ValueType};
-use leveldb_base::types::{FileMetaData, FileNum, MAX_SEQUENCE_NUMBER, SequenceNumber};
+use leveldb_base::types::{FileMetaData, FileNum, Lookup, MAX_SEQUENCE_NUMBER, SequenceNumber};
 use leveldb_env::compressor::CompressorList;
 use leveldb_env::env::Env;
 use leveldb_env::filter::{BloomPolicy, InternalFilterPolicy};
@@ -197,7 +197,7 @@ impl Opened {
         rt: &(impl Abort + AllocGlobal),
         key: &str,
         last: SequenceNumber,
-    ) -> Result<(Option<Option<Bytes>>, GetStats)> {
+    ) -> Result<(Lookup<Bytes>, GetStats)> {
         assert!(rt; last <= MAX_SEQUENCE_NUMBER);
         let key = LookupKey::new(rt.alloc(), key.as_bytes(), last)?;
         assert!(rt; key.internal_key().len() >= 8);
@@ -227,19 +227,23 @@ fn newest_of(
 }
 
 /// What all tables have of a key at or below a number, by trying each of their entries.
-fn tried(key: &str, last: SequenceNumber) -> Option<Option<&'static str>> {
+fn tried(key: &str, last: SequenceNumber) -> Lookup<&'static str> {
     let mut newest = None;
     for rows in &TABLES {
         newest = newest_of(rows.2, key, last, newest);
     }
-    newest.map(|entry| entry.2)
+    match newest {
+        None => Lookup::Absent,
+        Some((_, _, None)) => Lookup::Deleted,
+        Some((_, _, Some(value))) => Lookup::Value(value),
+    }
 }
 
-fn is_same(found: Option<Option<Bytes>>, wanted: Option<Option<&str>>) -> bool {
+fn is_same(found: Lookup<Bytes>, wanted: Lookup<&str>) -> bool {
     match (found, wanted) {
-        (Some(Some(value)), Some(Some(text))) => value.as_slice() == text.as_bytes(),
-        (Some(None), Some(None)) => true,
-        (None, None) => true,
+        (Lookup::Value(value), Lookup::Value(text)) => value.as_slice() == text.as_bytes(),
+        (Lookup::Deleted, Lookup::Deleted) => true,
+        (Lookup::Absent, Lookup::Absent) => true,
         _ => false,
     }
 }

@@ -7,6 +7,7 @@ use crate::rows::Job;
 use leveldb_base::cmp::DefaultCmp;
 use leveldb_base::error::Result;
 use leveldb_base::key_types::ValueType;
+use leveldb_base::types::Lookup;
 use leveldb_mem::memtable::MemTable;
 use std::alloc::Global;
 use std::time::Clock;
@@ -65,7 +66,7 @@ fn get_all(table: &MemTable<DefaultCmp>, numbers: &mut Numbers, ops: u64, checke
 {
     let mut tally = Tally::new(checked);
     for _ in 0..ops {
-        if let Some(Some(value)) = table.newest(&key_of(numbers.next_number()), ops) {
+        if let Lookup::Value(value) = table.newest(&key_of(numbers.next_number()), ops) {
             tally.see(value);
         }
     }

@@ -1,6 +1,7 @@
 //! Memtables, batches and logs.
 use leveldb_base::cmp::DefaultCmp;
 use leveldb_base::error::Result;
+use leveldb_base::types::Lookup;
 use leveldb_mem::log::{LogWriter, read_records};
 use leveldb_mem::memtable::MemTable;
 use leveldb_mem::skipmap::SkipMap;
@@ -13,8 +14,8 @@ fn a_batch_in_a_memtable(rt: HostRuntime) -> Result<()> {
     batch.delete(b"b")?;
     let mut table = MemTable::new(rt.alloc(), DefaultCmp);
     batch.insert_into_memtable(7, &mut table)?;
-    assert!(rt; table.newest(b"a", 7) == Some(Some(b"1")));
-    assert!(rt; table.newest(b"b", 8) == Some(None) && table.newest(b"b", 7).is_none());
+    assert!(rt; table.newest(b"a", 7).into_value() == Some(b"1"));
+    assert!(rt; table.newest(b"b", 8) == Lookup::Deleted && table.newest(b"b", 7).is_absent());
     Ok(())
 }
 

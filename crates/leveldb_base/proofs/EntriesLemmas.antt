@@ -1,6 +1,7 @@
 -- Entries as pairs, their order, and the newest entry of a key.
 use Rattle.std.proofs.Common.{◌≡◌, ◌≢◌, ◌⊎◌, inl, inr, ⊎_elim, ℕ, ◌<◌, ◌≤◌, ◌^◌, Bool, true, false, List, [], ◌∷◌, ◌++◌, map, take, drop, refl, sym, ◌∙◌, ap, subst, arith, Option, Some, None}
 use Rattle.std.specs.Prelude.{Contains, if◌then◌else◌, slice_get}
+use Rattle.std.specs.Borrow.{Bor}
 use Rattle.std.specs.Str.{bytes_eq}
 use Rattle.std.specs.declared.cmp.Ordering.{Ordering}
 use Rattle.std.specs.declared.cmp.Ordering.TheVariants.{Less, Equal, Greater}
@@ -16,7 +17,9 @@ use Rattle.leveldb_base.specs.Cmp.{IsExactOrder}
 use Rattle.leveldb_base.specs.CmpLaws.{user_part-internal_key, sequence_part-internal_key}
 use Rattle.leveldb_base.specs.Types.{Pair, count_before, pair_at, seek_position}
 use Rattle.leveldb_base.specs.History.{Entry, IsBeforeAll, AreRising}
-use Rattle.leveldb_base.specs.Entries.{type_of, bytes_of_value, value_of, entry_of_pair, entries_of_pairs, IsBeforeEntry, AreSorted, IsBeforeKeyAt, FindsNewest, found_at, PairIsRead, RisingIsSorted, InternalIsTotal, FirstIsNewest, FirstOfKeyIsNewest}
+use Rattle.leveldb_base.specs.declared.types.Lookup.{Lookup}
+use Rattle.leveldb_base.specs.declared.types.Lookup.TheVariants.{Value, Deleted, Absent}
+use Rattle.leveldb_base.specs.Entries.{type_of, bytes_of_value, value_of, entry_of_pair, entries_of_pairs, IsBeforeEntry, AreSorted, IsBeforeKeyAt, FindsNewest, HasNewest, found_at, is_absent, lookup_copied, lookup_of, PairIsRead, RisingIsSorted, InternalIsTotal, FirstIsNewest, FirstOfKeyIsNewest}
 use Rattle.leveldb_base.proofs.OrderLemmas.{lt_less, both, lt_turn, lt_itself, same_bytes, bytes_same, exact_total}
 use Rattle.leveldb_base.proofs.HistoryLemmas.{in_none, in_front, in_rest, in_cases}
 use Rattle.leveldb_base.proofs.KeyTypesLemmas.{type_part-internal_key}
@@ -108,12 +111,25 @@ module _ (cmp : List ℕ → List ℕ → Ordering) (exact : IsExactOrder cmp) w
 pub rising_is_sorted : RisingIsSorted
 rising_is_sorted cmp exact pairs rising = sorted_pairs cmp exact pairs rising
 
+-- ---- what a look-up finds
+
+-- one answer alone is that there is no entry
+pub absent_is : {V : Type 0} (found : Lookup V) → is_absent found ≡ true → found ≡ Absent
+absent_is (Value value) e = cc
+absent_is Deleted e = cc
+absent_is Absent e = refl
+
+-- a copy is that answer where the original is
+pub absent_copied : (found : Lookup (Bor (List ℕ))) → is_absent (lookup_copied found) ≡ is_absent found
+absent_copied (Value value) = refl
+absent_copied Deleted = refl
+absent_copied Absent = refl
+
 -- ---- the newest entry of a key
 
--- what one set finds of a key, it finds together with a set that has no entry of the key
-pub finds_after : (xs ys : List Entry) (s : ℕ) (key : List ℕ) (found : Option (Option (List ℕ))) → FindsNewest xs s key None → FindsNewest ys s key found → FindsNewest (xs ++ ys) s key found
-finds_after xs ys s key None none more = λ e c k seen. ⊎_elim (λ d. none e d k seen) (λ d. more e d k seen) (Contains-append_cases xs ys e c)
-finds_after xs ys s key (Some value) none has = record {
+-- the newest entry of a key in one set is its newest together with a set that has no entry of the key
+pub newest_after : (xs ys : List Entry) (s : ℕ) (key : List ℕ) (value : Option (List ℕ)) → FindsNewest xs s key Absent → HasNewest ys s key value → HasNewest (xs ++ ys) s key value
+newest_after xs ys s key value none has = record {
   entry = has.entry;
   newest = record {
     there = Contains-append_right xs ys has.entry has.newest.there;
@@ -132,6 +148,17 @@ finds_after xs ys s key (Some value) none has = record {
     newest = λ more c l seen. newest.newest more (Contains-append_right xs ys more c) l seen;
   }) k;
 }
+
+-- the newest entry of a key is what is found of it
+pub finds_entry : (entries : List Entry) (s : ℕ) (key : List ℕ) (value : Option (List ℕ)) → HasNewest entries s key value → FindsNewest entries s key (lookup_of value)
+finds_entry entries s key None has = has
+finds_entry entries s key (Some value) has = has
+
+-- what one set finds of a key, it finds together with a set that has no entry of the key
+pub finds_after : (xs ys : List Entry) (s : ℕ) (key : List ℕ) (found : Lookup (List ℕ)) → FindsNewest xs s key Absent → FindsNewest ys s key found → FindsNewest (xs ++ ys) s key found
+finds_after xs ys s key Absent none more = λ e c k seen. ⊎_elim (λ d. none e d k seen) (λ d. more e d k seen) (Contains-append_cases xs ys e c)
+finds_after xs ys s key Deleted none has = newest_after xs ys s key None none has
+finds_after xs ys s key (Value value) none has = newest_after xs ys s key (Some value) none has
 
 -- ---- the first pair at or after an internal key
 
@@ -170,7 +197,7 @@ module _ (cmp : List ℕ → List ℕ → Ordering) (exact : IsExactOrder cmp) (
   first_finds [] rising = λ entry c k low. in_none entry c
   first_finds (p ∷ pairs) rising = by (first_finds pairs rising.1) (test p.0) refl
     where
-      skipped : test p.0 ≡ true → FindsNewest (entry_of_pair p ∷ []) (sequence_part sought) (user_part sought) None
+      skipped : test p.0 ≡ true → FindsNewest (entry_of_pair p ∷ []) (sequence_part sought) (user_part sought) Absent
       skipped t other c k low =
           let is : entry_of_pair p ≡ other = ⊎_elim (λ (e : entry_of_pair p ≡ other). e) (λ (d : Contains [] other). absurd (in_none other d)) (in_cases (entry_of_pair p) other [] c) in
           ⊎_elim
@@ -180,11 +207,11 @@ module _ (cmp : List ℕ → List ℕ → Ordering) (exact : IsExactOrder cmp) (
           (before_sought p t)
 
       found : test p.0 ≡ false → (b : Bool) → bytes_eq (user_part p.0) (user_part sought) ≡ b
-          → FindsNewest (entries_of_pairs (p ∷ pairs)) (sequence_part sought) (user_part sought) (if b then Some (value_of (type_part p.0) p.1) else None)
+          → FindsNewest (entries_of_pairs (p ∷ pairs)) (sequence_part sought) (user_part sought) (if b then lookup_of (value_of (type_part p.0) p.1) else Absent)
       found f true t =
           let same = same_bytes (user_part p.0) (user_part sought) t in
           let seen = low_enough p f same in
-          record {
+          finds_entry (entries_of_pairs (p ∷ pairs)) (sequence_part sought) (user_part sought) (value_of (type_part p.0) p.1) (record {
             entry = entry_of_pair p;
             newest = record {
               there = in_front (entry_of_pair p) (entries_of_pairs pairs);
@@ -204,7 +231,7 @@ module _ (cmp : List ℕ → List ℕ → Ordering) (exact : IsExactOrder cmp) (
                 let most = newest.newest (entry_of_pair p) (in_front (entry_of_pair p) (entries_of_pairs pairs)) (same ∙ sym k) seen in
                 absurd (omega arith))
                 (in_cases (entry_of_pair p) other (entries_of_pairs pairs) newest.there);
-          }
+          })
       found f false t = λ other c k low. ⊎_elim
           (λ (e : entry_of_pair p ≡ other). both (bytes_eq (user_part p.0) (user_part sought)) (bytes_same (user_part p.0) (user_part sought) (ap (λ (x : Entry). x.key) e ∙ k)) t)
           (λ (d : Contains (entries_of_pairs pairs) other). ⊎_elim

@@ -1,11 +1,14 @@
 -- Entries as pairs of an internal key and a value, their order, and the newest entry of a key.
-use Rattle.std.specs.Prelude.{◌≡◌, ◌⊎◌, ◌<◌, ◌≤◌, ◌^◌, ℕ, List, [], ◌∷◌, map, if◌then◌else◌, Option, Some, None, Contains}
+use Rattle.std.specs.Prelude.{◌≡◌, ◌⊎◌, ◌<◌, ◌≤◌, ◌^◌, ℕ, Bool, true, false, List, [], ◌∷◌, map, if◌then◌else◌, Option, Some, None, Contains}
+use Rattle.std.specs.Borrow.{Bor}
 use Rattle.std.specs.Str.{bytes_eq}
 use Rattle.std.specs.Cmp.{IsTotalOrder}
 use Rattle.std.specs.declared.cmp.Ordering.{Ordering}
 use Rattle.std.specs.declared.cmp.Ordering.TheVariants.{Less}
 use Rattle.leveldb_base.specs.declared.key_types.ValueType.{ValueType}
 use Rattle.leveldb_base.specs.declared.key_types.ValueType.TheVariants.{TypeDeletion, TypeValue}
+use Rattle.leveldb_base.specs.declared.types.Lookup.{Lookup}
+use Rattle.leveldb_base.specs.declared.types.Lookup.TheVariants.{Value, Deleted, Absent}
 use Rattle.leveldb_base.specs.KeyTypes.{internal_key, user_part, sequence_part, type_part, internal_cmp}
 use Rattle.leveldb_base.specs.Cmp.{IsExactOrder}
 use Rattle.leveldb_base.specs.Types.{Pair, pair_at, seek_position}
@@ -79,18 +82,43 @@ pub record HasNewest (entries : List Entry) (s : ℕ) (key : List ℕ)
   -- another entry of the key with the same number is this one
   pub only : (other : Entry) → IsNewest entries s other → other.key ≡ key → other ≡ entry
 
+-- there is no entry of the key
+abbrev pub is_absent : {V : Type 0} → Lookup V → Bool
+is_absent (Value value) = false
+is_absent Deleted = false
+is_absent Absent = true
+
+-- the value that was found; a deletion and no entry are none
+abbrev pub value_found : {V : Type 0} → Lookup V → Option V
+value_found (Value value) = Some value
+value_found Deleted = None
+value_found Absent = None
+
+-- what a look-up found by reference
+abbrev pub lookup_copied : Lookup (Bor (List ℕ)) → Lookup (List ℕ)
+lookup_copied (Value value) = Value value.now
+lookup_copied Deleted = Deleted
+lookup_copied Absent = Absent
+
+-- what an entry says of its key that has this value, or is a deletion
+abbrev pub lookup_of : Option (List ℕ) → Lookup (List ℕ)
+lookup_of None = Deleted
+lookup_of (Some value) = Value value
+
 -- What is found of a key at s: the value or the deletion of its newest entry at or below s, or
 -- nothing where it has no such entry.
-abbrev pub FindsNewest : List Entry → ℕ → List ℕ → Option (Option (List ℕ)) → Type 0
-FindsNewest entries s key (Some value) = HasNewest entries s key value
-FindsNewest entries s key None =
+abbrev pub FindsNewest : List Entry → ℕ → List ℕ → Lookup (List ℕ) → Type 0
+FindsNewest entries s key (Value value) = HasNewest entries s key (Some value)
+FindsNewest entries s key Deleted = HasNewest entries s key None
+FindsNewest entries s key Absent =
     (entry : Entry) → Contains entries entry → entry.key ≡ key → entry.sequence ≤ s → ⊥
 
 -- what a pair says of a key: its value or deletion, where the pair is one of the key
-abbrev pub found_at : List ℕ → Option Pair → Option (Option (List ℕ))
-found_at key None = None
+abbrev pub found_at : List ℕ → Option Pair → Lookup (List ℕ)
+found_at key None = Absent
 found_at key (Some pair) =
-    if bytes_eq (user_part pair.0) key then Some (value_of (type_part pair.0) pair.1) else None
+    if bytes_eq (user_part pair.0) key then lookup_of (value_of (type_part pair.0) pair.1)
+    else Absent
 
 -- ---- laws
 

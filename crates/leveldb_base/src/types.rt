@@ -4,6 +4,7 @@ ghost use Rattle.std.specs.Prelude.{◌≡◌, ◌⊎◌, List, ℕ, Option, Non
 ghost use Rattle.std.specs.declared.cmp.Ordering.{Ordering};
 ghost use Rattle.leveldb_base.specs.declared.error.Status.{Status};
 ghost use Rattle.leveldb_base.specs.Types.{Pair, IsPosition, SameWalk, position_within, next_position, previous_position, last_position, seek_position, pair_at, pair_of, copied_pair};
+ghost use Rattle.leveldb_base.specs.Entries.{is_absent, value_found};
 ghost use Rattle.leveldb_base.specs.Error.{IsOutOfMemory};
 
 use crate::error::Result;
@@ -89,6 +90,41 @@ impl Default for FileMetaData {
             size: 0,
             smallest: Bytes::new(),
             largest: Bytes::new(),
+        }
+    }
+}
+
+/// What a look-up finds of a key.
+#[derive(Clone, Copy, Debug, Drop, PartialEq)]
+pub enum Lookup<V> {
+    /// The key has this value.
+    Value(V),
+    /// The key was deleted.
+    Deleted,
+    /// There is no entry of the key.
+    Absent,
+}
+
+impl<V> Lookup<V> {
+    /// Whether there is no entry of the key.
+    pub fn is_absent(&self) -> bool
+        ensures { result ≡ is_absent self.now }
+    {
+        match self {
+            Lookup::Absent => true,
+            _ => false,
+        }
+    }
+
+    /// The value, or none if the key was deleted or has no entry.
+    pub fn into_value(self) -> Option<V>
+    where
+        V: Drop,
+        ensures { result ≡ value_found self }
+    {
+        match self {
+            Lookup::Value(value) => Some(value),
+            _ => None,
         }
     }
 }

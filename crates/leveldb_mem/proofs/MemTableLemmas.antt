@@ -25,8 +25,10 @@ use Rattle.leveldb_base.specs.declared.key_types.ValueType.TheVariants.{TypeValu
 use Rattle.leveldb_base.specs.Error.{IsOutOfMemory}
 use Rattle.leveldb_base.specs.declared.error.Status.{Status}
 use Rattle.leveldb_base.specs.declared.error.StatusCode.TheVariants.{NotSupported}
-use Rattle.leveldb_base.specs.Entries.{type_of, bytes_of_value, value_of, internal_pair, HasNewest, FindsNewest}
-use Rattle.leveldb_mem.specs.MemTable.{FailsToPrepare, FailsToNumber, ReserveResult, most_beside, value_length, entry_of, entry_key, entry_from, inner_value, entries_of_keys, IsEntryPair, bytes_in, Kept, KeepsRoom, memory_of_entries, Grows, IsValueAt}
+use Rattle.leveldb_base.specs.Entries.{type_of, bytes_of_value, value_of, internal_pair, HasNewest, FindsNewest, lookup_of}
+use Rattle.leveldb_base.specs.declared.types.Lookup.{Lookup}
+use Rattle.leveldb_base.specs.declared.types.Lookup.TheVariants.{Value, Deleted, Absent}
+use Rattle.leveldb_mem.specs.MemTable.{FailsToPrepare, FailsToNumber, ReserveResult, most_beside, value_length, entry_of, entry_key, entry_from, inner_value, entries_of_keys, IsEntryPair, bytes_in, Kept, KeepsRoom, memory_of_entries, Grows, HasEntryAt, IsFoundAt}
 use Rattle.leveldb_mem.specs.WriteBatch.{change_encoding, change_bytes, BatchOf}
 use Rattle.leveldb_mem.specs.Searching.{key_at, count_while, IsParted}
 use Rattle.leveldb_mem.specs.SkipMap.{IsSorted, InsertsPair}
@@ -456,24 +458,30 @@ pub as_of_key : (cmp : List ℕ → List ℕ → Ordering) (key user : List ℕ)
 as_of_key cmp key user number u n other =
     ap (λ z. as_of cmp other z number) (sym u) ∙ ap (as_of cmp other (user_part (front_key key))) (sym n)
 
+-- the key's entry at an index is what is found there
+found_entry : (entries : List Entry) (i : ℕ) (key : List ℕ) (value : Option (List ℕ)) → HasEntryAt entries i key value → IsFoundAt entries i key (lookup_of value)
+found_entry entries i key None there = there
+found_entry entries i key (Some value) there = there
+
 -- there is no entry after the last
-pub gives_nothing : (pairs : List Pair) (i : ℕ) (user : List ℕ) → length pairs ≤ i → IsValueAt (entries_of_keys pairs) i user None
+pub gives_nothing : (pairs : List Pair) (i : ℕ) (user : List ℕ) → length pairs ≤ i → IsFoundAt (entries_of_keys pairs) i user Absent
 gives_nothing pairs i user h entry got same = let within = got_within pairs i entry got in omega (arith, within)
 
 module _ (pairs : List Pair) (i : ℕ) (within : i < length pairs) (key : List ℕ) (key_is : key ≡ key_at pairs i) (internal : List ℕ) (internal_is : internal ≡ front_key key)
     (user : List ℕ) (user_is : user ≡ user_part internal) where
   -- the entry is another key's
-  pub gives_other : (other : List ℕ) → (user ≡ other → ⊥) → IsValueAt (entries_of_keys pairs) i other None
+  pub gives_other : (other : List ℕ) → (user ≡ other → ⊥) → IsFoundAt (entries_of_keys pairs) i other Absent
   unfolding entry_from
   gives_other other differs entry got same =
       let is : entry_from (key_at pairs i) ≡ entry = same_some (sym (entry_got pairs i within) ∙ got) in
       differs (user_is ∙ ap user_part internal_is ∙ ap (λ k. user_part (front_key k)) key_is ∙ ap (λ (x : Entry). x.key) is ∙ same)
 
   -- the entry is the key's
-  pub gives_read : (value : List ℕ) (kind : ValueType) → kind ≡ type_part internal → value ≡ inner_value key → IsValueAt (entries_of_keys pairs) i user (Some (value_of kind value))
+  pub gives_read : (value : List ℕ) (kind : ValueType) → kind ≡ type_part internal → value ≡ inner_value key → IsFoundAt (entries_of_keys pairs) i user (lookup_of (value_of kind value))
   unfolding entry_from
   gives_read value kind kind_is value_is =
-      let number = sequence_part (front_key key) in (
+      let number = sequence_part (front_key key) in
+      found_entry (entries_of_keys pairs) i user (value_of kind value) (
         number,
         entry_got pairs i within ∙ ap (λ k. Some (entry_from k)) (sym key_is)
             ∙ ap (λ u. Some (entry_of number u (value_of (type_part (front_key key)) (inner_value key)))) (ap user_part (sym internal_is) ∙ sym user_is)
@@ -573,7 +581,7 @@ module _ {accepts : List ℕ → Bool} {cmp : List ℕ → List ℕ → Ordering
       }
 
     -- where no entry of the key is there, it has none
-    pub finds_none : (place < length pairs → (entry place).key ≢ user) → FindsNewest (entries_of_keys pairs) limit user None
+    pub finds_none : (place < length pairs → (entry place).key ≢ user) → FindsNewest (entries_of_keys pairs) limit user Absent
     finds_none other e there key low =
         let found = entry_place pairs e there in
         let i = found.0 in
@@ -595,14 +603,19 @@ module _ {accepts : List ℕ → Bool} {cmp : List ℕ → List ℕ → Ordering
         (first_not_greater (cmp (entry place).key (entry i).key) _ (ordered place i gt found.1))) w)
         (cases_order i place)
 
-    -- what the entry there gives, or that it gives nothing
-    pub finds_given : (n : ℕ) → n ≡ place → (found : Option (Option (List ℕ))) → IsValueAt (entries_of_keys pairs) n user found → FindsNewest (entries_of_keys pairs) limit user found
-    finds_given n n_is None given = finds_none (λ within same. given (entry place) (ap (λ i. slice_get (entries_of_keys pairs) i) n_is ∙ entry_got pairs place within) same)
-    finds_given n n_is (Some value) given =
+    -- the key's entry there is its newest
+    finds_there : (n : ℕ) → n ≡ place → (value : Option (List ℕ)) → HasEntryAt (entries_of_keys pairs) n user value → HasNewest (entries_of_keys pairs) limit user value
+    finds_there n n_is value given =
         let within = got_within pairs n (entry_of given.0 user value) given.1 in
         let is : entry place ≡ entry_of given.0 user value = same_some (sym (entry_got pairs place (omega (arith, within, n_is))) ∙ ap (λ i. slice_get (entries_of_keys pairs) i) (sym n_is) ∙ given.1) in
         subst (λ v. HasNewest (entries_of_keys pairs) limit user v) (ap (λ (x : Entry). x.value) is)
         (finds_entry (omega (arith, within, n_is)) (ap (λ (x : Entry). x.key) is))
+
+    -- what is found there of the key is its newest, or nothing
+    pub finds_given : (n : ℕ) → n ≡ place → (found : Lookup (List ℕ)) → IsFoundAt (entries_of_keys pairs) n user found → FindsNewest (entries_of_keys pairs) limit user found
+    finds_given n n_is Absent given = finds_none (λ within same. given (entry place) (ap (λ i. slice_get (entries_of_keys pairs) i) n_is ∙ entry_got pairs place within) same)
+    finds_given n n_is Deleted given = finds_there n n_is None given
+    finds_given n n_is (Value value) given = finds_there n n_is (Some value) given
 
     -- keys before it, by their internal keys
     pub counted_inner : count_while (λ k. is_lt (internal_cmp cmp (front_key k) internal)) pairs ≡ place
@@ -619,7 +632,7 @@ module _ {accepts : List ℕ → Bool} {cmp : List ℕ → List ℕ → Ordering
         subst (λ number. IsParted (λ k. as_of cmp k key number) pairs) (sequence_part-internal_key key sequence TypeValue fits)
         (subst (λ user. IsParted (λ k. as_of cmp k user (sequence_part looked_up)) pairs) (user_part-internal_key key sequence TypeValue) (parted_walked o all sorted looked_up))
 
-    pub finds_as_of : (n : ℕ) → n ≡ count_while (λ k. as_of cmp k key sequence) pairs → (found : Option (Option (List ℕ))) → IsValueAt (entries_of_keys pairs) n key found
+    pub finds_as_of : (n : ℕ) → n ≡ count_while (λ k. as_of cmp k key sequence) pairs → (found : Lookup (List ℕ)) → IsFoundAt (entries_of_keys pairs) n key found
         → FindsNewest (entries_of_keys pairs) sequence key found
     finds_as_of n n_is found given =
         let number_is = sequence_part-internal_key key sequence TypeValue fits in
@@ -629,4 +642,4 @@ module _ {accepts : List ℕ → Bool} {cmp : List ℕ → List ℕ → Ordering
         ∙ ap (λ user. count_while (λ k. as_of cmp k user (sequence_part looked_up)) pairs) (sym user_is) ∙ counted_inner looked_up in
         subst (λ number. FindsNewest (entries_of_keys pairs) number key found) number_is
         (subst (λ user. FindsNewest (entries_of_keys pairs) (sequence_part looked_up) user found) user_is
-        (finds_given looked_up n there found (subst (λ user. IsValueAt (entries_of_keys pairs) n user found) (sym user_is) given)))
+        (finds_given looked_up n there found (subst (λ user. IsFoundAt (entries_of_keys pairs) n user found) (sym user_is) given)))

@@ -9,6 +9,8 @@ use Rattle.leveldb_base.specs.Error.{IsOutOfMemory}
 use Rattle.leveldb_base.specs.declared.error.Status.{Status}
 use Rattle.leveldb_base.specs.declared.error.StatusCode.TheVariants.{AlreadyExists, NotSupported}
 use Rattle.leveldb_base.specs.Entries.{type_of, bytes_of_value, value_of}
+use Rattle.leveldb_base.specs.declared.types.Lookup.{Lookup}
+use Rattle.leveldb_base.specs.declared.types.Lookup.TheVariants.{Value, Deleted, Absent}
 use Rattle.leveldb_base.specs.History.{Item, Entry}
 use Rattle.leveldb_base.specs.KeyTypes.{user_part, sequence_part, type_part, memtable_key}
 use Rattle.leveldb_base.specs.KeyTypes.{front_key}
@@ -134,12 +136,16 @@ IsEntryPair pair = (pair.0 ≡ entry_key (entry_from pair.0)) × (pair.1 ≡ [])
 abbrev pub entries_of_keys : List Pair → List Entry
 entries_of_keys pairs = map (λ pair. entry_from pair.0) pairs
 
--- the value or deletion of a key that the entry at an index has, or none where that is another
--- key's or there is no entry
-abbrev pub IsValueAt : List Entry → ℕ → List ℕ → Option (Option (List ℕ)) → Type 0
-IsValueAt entries at key (Some value) = (sequence : ℕ)
+-- the entry at an index is one of the key, with this value or as a deletion
+abbrev pub HasEntryAt : List Entry → ℕ → List ℕ → Option (List ℕ) → Type 0
+HasEntryAt entries at key value = (sequence : ℕ)
     × (slice_get entries at ≡ Some (entry_of sequence key value))
-IsValueAt entries at key None = (entry : Entry) → slice_get entries at ≡ Some entry
+
+-- what the entry at an index says of a key: nothing where it is another key's or isn't there
+abbrev pub IsFoundAt : List Entry → ℕ → List ℕ → Lookup (List ℕ) → Type 0
+IsFoundAt entries at key (Value value) = HasEntryAt entries at key (Some value)
+IsFoundAt entries at key Deleted = HasEntryAt entries at key None
+IsFoundAt entries at key Absent = (entry : Entry) → slice_get entries at ≡ Some entry
     → entry.key ≡ key → ⊥
 
 -- the most that an entry's memtable key has beside key and value: two lengths and a tag

@@ -1,14 +1,14 @@
 //! The newest entries of a store, in memory.
 ghost use Rattle.std.specs.Prelude.{◌≡◌, ◌+◌, ◌<◌, ◌≤◌, ◌^◌, ℕ, List, [], ◌∷◌, ◌++◌, length, map};
 ghost use Rattle.std.specs.Prelude.{IsTrue, ◌↔◌, Some, None, slice_get, option_copied};
-ghost use Rattle.std.specs.Option.{option_map, ForSome};
+ghost use Rattle.std.specs.Option.{ForSome};
 ghost use Rattle.leveldb_base.specs.History.{placed, greatest, AreRising, AreUpTo};
 ghost use Rattle.leveldb_base.specs.Varint.{varint, sized};
 ghost use Rattle.leveldb_base.specs.KeyTypes.{front_key, greatest_sequence, internal_cmp, user_part};
 ghost use Rattle.leveldb_base.specs.KeyTypes.{sequence_part};
 ghost use Rattle.leveldb_base.specs.Types.{position_within, previous_position, last_position};
 ghost use Rattle.leveldb_base.specs.Types.{seek_position};
-ghost use Rattle.leveldb_base.specs.Entries.{FindsNewest, type_of, bytes_of_value, value_of};
+ghost use Rattle.leveldb_base.specs.Entries.{FindsNewest, type_of, bytes_of_value, lookup_copied, lookup_of, value_of};
 ghost use Rattle.leveldb_base.specs.Entries.{internal_pair};
 ghost use Rattle.leveldb_mem.specs.WriteBatch.{item_of};
 ghost use Rattle.leveldb_mem.specs.Placed.{rank};
@@ -16,7 +16,7 @@ ghost use Rattle.leveldb_mem.specs.SkipMap.{HasNode, position_of_node};
 ghost use Rattle.leveldb_mem.specs.MemTable.{IsNewTo, AreNewTo, HasRoom, KeepsRoom, AddsEntry};
 ghost use Rattle.leveldb_mem.specs.MemTable.{AddsAll, entry_of, value_length, entry_key};
 ghost use Rattle.leveldb_mem.specs.MemTable.{entry_from, inner_value, memory_of_entries, Grows};
-ghost use Rattle.leveldb_mem.specs.MemTable.{IsValueAt, PrepareResult, ReserveResult};
+ghost use Rattle.leveldb_mem.specs.MemTable.{IsFoundAt, PrepareResult, ReserveResult};
 ghost use Rattle.leveldb_mem.specs.MemTable.{AddResult, PutResult};
 
 use crate::memtable::as_of::AsOf;
@@ -28,7 +28,7 @@ use leveldb_base::error::{Result, StatusCode, err};
 use leveldb_base::key_types::{
     LookupKey, TAG_LEN, UserKey, ValueType, parse_internal_key, split_sequence, tag_bytes,
 };
-use leveldb_base::types::{LdbIterator, SequenceNumber};
+use leveldb_base::types::{LdbIterator, Lookup, SequenceNumber};
 use leveldb_base::varint::{encode_varint64, get_length_prefixed_slice};
 use std::alloc::Global;
 use std::marker::Model;
@@ -165,22 +165,21 @@ impl<C: UserCmp> MemTable<C> {
         )
     }
 
-    /// Returns the newest entry of the key at or below the sequence of the look-up key: its value,
-    /// or inside none for a deletion.
-    pub fn get(&self, key: &LookupKey) -> Option<Option<&[u8]>>
+    /// Returns what the newest entry of the key at or below the sequence of the look-up key says of
+    /// it.
+    pub fn get(&self, key: &LookupKey) -> Lookup<&[u8]>
         ensures { FindsNewest self.now.kept.entries (sequence_part key.now) (user_part key.now)
-            (option_map option_copied result) }
+            (lookup_copied result) }
     {
         let (user, sequence) = split_sequence(key.internal_key());
         self.newest(user, sequence)
     }
 
-    /// Returns the newest entry of the key at or below the sequence, as `get`, without a look-up
-    /// key.
-    pub fn newest(&self, key: UserKey<'_>, sequence: SequenceNumber) -> Option<Option<&[u8]>>
+    /// Returns what the newest entry of the key at or below the sequence says of it, as `get`,
+    /// without a look-up key.
+    pub fn newest(&self, key: UserKey<'_>, sequence: SequenceNumber) -> Lookup<&[u8]>
         requires { sequence < 2 ^ 56 }
-        ensures { FindsNewest self.now.kept.entries sequence key.now
-            (option_map option_copied result) }
+        ensures { FindsNewest self.now.kept.entries sequence key.now (lookup_copied result) }
     {
         let cmp = self.map.comparator();
         let probe = AsOf {
@@ -189,7 +188,7 @@ impl<C: UserCmp> MemTable<C> {
             sequence,
         };
         match self.map.first_by(&probe) {
-            None => None,
+            None => Lookup::Absent,
             Some(node) => self.given_at(node, key),
         }
     }
@@ -213,19 +212,19 @@ impl<C: UserCmp> MemTable<C> {
         }
     }
 
-    // What the entry of a node gives the key, if it is the key's.
+    // What the entry of a node says of the key: nothing where it is another key's.
     #[inline]
-    fn given_at(&self, node: usize, key: &[u8]) -> Option<Option<&[u8]>>
+    fn given_at(&self, node: usize, key: &[u8]) -> Lookup<&[u8]>
         requires { HasNode self.now.nodes (map internal_pair self.now.kept.entries) node }
-        ensures { IsValueAt self.now.kept.entries (rank self.now.nodes node) key.now
-            (option_map option_copied result) }
+        ensures { IsFoundAt self.now.kept.entries (rank self.now.nodes node) key.now
+            (lookup_copied result) }
     {
         let parts = split_entry(self.map.key(node));
         let parsed = parse_internal_key(parts.0);
         if is_same(parsed.2, key) {
-            return Some(given(parsed.0, parts.1));
+            return said(parsed.0, parts.1);
         }
-        None
+        Lookup::Absent
     }
 
     // The node of the first entry.
@@ -403,5 +402,15 @@ fn given(kind: ValueType, bytes: &[u8]) -> Option<&[u8]>
     match kind {
         ValueType::TypeDeletion => None,
         ValueType::TypeValue => Some(bytes),
+    }
+}
+
+// What an entry of this type, with these bytes as its value, says of its key.
+fn said(kind: ValueType, bytes: &[u8]) -> Lookup<&[u8]>
+    ensures { lookup_copied result ≡ lookup_of (value_of kind bytes.now) }
+{
+    match kind {
+        ValueType::TypeDeletion => Lookup::Deleted,
+        ValueType::TypeValue => Lookup::Value(bytes),
     }
 }

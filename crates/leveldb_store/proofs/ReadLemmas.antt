@@ -1,18 +1,19 @@
 -- What a look-up finds in memory and in tables together, and what that is of a history.
-use Rattle.std.specs.Prelude.{All, Contains, IfErr, IfOk, IsPermutation, IsSome, min, unwrap_or}
-use Rattle.std.proofs.Common.{◌≡◌, inl, inr, ⊎_elim, ℕ, ◌<◌, ◌≤◌, ◌^◌, List, [], ◌∷◌, ◌++◌, Option, None, Some, Result, Ok, Err, refl, sym, ◌∙◌, subst, append_assoc, arith}
+use Rattle.std.specs.Prelude.{All, Contains, IfErr, IfOk, IsPermutation, IsSome, min}
+use Rattle.std.proofs.Common.{false, ◌≡◌, inl, inr, ⊎_elim, ℕ, ◌<◌, ◌≤◌, ◌^◌, List, [], ◌∷◌, ◌++◌, Option, None, Some, Result, Ok, Err, refl, sym, ◌∙◌, subst, append_assoc, arith}
 use Rattle.std.specs.declared.cmp.Ordering.{Ordering}
-use Rattle.std.proofs.lemmas.List.Elements.{All-contains, Contains-append_cases, Contains-append_left}
+use Rattle.std.proofs.lemmas.List.Elements.{All-contains}
 use Rattle.std.proofs.lemmas.List.Sorted.{Contains-permutation, IsPermutation-sym}
 use Rattle.leveldb_base.proofs.EntriesLemmas.{finds_after, in_map}
 use Rattle.leveldb_base.proofs.HistoryLemmas.{in_cases, in_none}
-use Rattle.leveldb_base.proofs.LayersLemmas.{found_is_value}
+use Rattle.leveldb_base.proofs.LayersLemmas.{finds_first, found_is_value}
 use Rattle.leveldb_base.specs.CmpLaws.{sequence_part-internal_key, user_part-internal_key}
-use Rattle.leveldb_base.specs.Entries.{FindsNewest, HasNewest}
+use Rattle.leveldb_base.specs.Entries.{FindsNewest, HasNewest, is_absent, value_found}
+use Rattle.leveldb_base.specs.declared.types.Lookup.{Lookup}
+use Rattle.leveldb_base.specs.declared.types.Lookup.TheVariants.{Value, Deleted, Absent}
 use Rattle.leveldb_base.specs.Error.{IsOutOfMemory}
 use Rattle.leveldb_base.specs.History.{AreUpTo, Entry, History, IsValueAt, SameView, entries_of}
 use Rattle.leveldb_base.specs.KeyTypes.{greatest_sequence, sequence_part, user_part}
-use Rattle.leveldb_base.specs.Layers.{IsOlder, value_found}
 use Rattle.leveldb_base.specs.declared.cmp.Cmp.{Ghosts as CmpGhosts}
 use Rattle.leveldb_base.specs.declared.cmp.internal.InternalKeyCmp.{InternalKeyCmp}
 use Rattle.leveldb_base.specs.declared.error.Status.{Status}
@@ -38,41 +39,11 @@ use Rattle.leveldb_store.specs.OpenTables.{AreOpenTablesOf}
 use Rattle.leveldb_store.specs.Read.{FindsInMemory, HasOpenTables, LooksUpKey, charge_of, in_memory, sought_key, value_searched, with_charge}
 use Rattle.leveldb_store.specs.Written.{HasLiveTables, Shows, waiting_entries}
 
--- ---- newer entries and older ones
+-- ---- what is found of a key
 
--- what newer entries find of a key, they find together with older ones
-pub finds_before : (xs ys : List Entry) (s : ℕ) (key : List ℕ) (value : Option (List ℕ)) → IsOlder ys xs → HasNewest xs s key value → HasNewest (xs ++ ys) s key value
-finds_before xs ys s key value older has = record {
-  entry = has.entry;
-  newest = record {
-    there = Contains-append_left xs ys has.entry has.newest.there;
-    seen = has.newest.seen;
-    newest = λ other c k seen.
-        ⊎_elim
-        (λ (d : Contains xs other). has.newest.newest other d k seen)
-        (λ (d : Contains ys other). let below = older other has.entry d has.newest.there k in omega arith)
-        (Contains-append_cases xs ys other c);
-  };
-  key_is = has.key_is;
-  value_is = has.value_is;
-  only = λ other newest k. has.only other (record {
-    there =
-        ⊎_elim
-        (λ (d : Contains xs other). d)
-        (λ (d : Contains ys other).
-        let below = older other has.entry d has.newest.there (k ∙ sym has.key_is) in
-        let above = newest.newest has.entry (Contains-append_left xs ys has.entry has.newest.there) (has.key_is ∙ sym k) has.newest.seen in
-        absurd (omega arith))
-        (Contains-append_cases xs ys other newest.there);
-    seen = newest.seen;
-    newest = λ more c l seen. newest.newest more (Contains-append_left xs ys more c) l seen;
-  }) k;
-}
-
--- no entry is past the greatest number, so what is found up to it is found at each number above
-pub finds_up_to : (entries : List Entry) (s : ℕ) (key : List ℕ) (found : Option (Option (List ℕ))) → AreUpTo greatest_sequence entries → FindsNewest entries (min s greatest_sequence) key found → FindsNewest entries s key found
-finds_up_to entries s key None up_to none = λ entry c k seen. none entry c k (let most = up_to entry c in omega (arith, seen, most))
-finds_up_to entries s key (Some value) up_to has = record {
+-- no entry is past the greatest number, so the newest up to it is the newest up to each number above
+newest_up_to : (entries : List Entry) (s : ℕ) (key : List ℕ) (value : Option (List ℕ)) → AreUpTo greatest_sequence entries → HasNewest entries (min s greatest_sequence) key value → HasNewest entries s key value
+newest_up_to entries s key value up_to has = record {
   entry = has.entry;
   newest = record {
     there = has.newest.there;
@@ -87,6 +58,12 @@ finds_up_to entries s key (Some value) up_to has = record {
     newest = λ more c l seen. newest.newest more c l (omega (arith, seen));
   }) k;
 }
+
+-- so with what is found
+pub finds_up_to : (entries : List Entry) (s : ℕ) (key : List ℕ) (found : Lookup (List ℕ)) → AreUpTo greatest_sequence entries → FindsNewest entries (min s greatest_sequence) key found → FindsNewest entries s key found
+finds_up_to entries s key Absent up_to none = λ entry c k seen. none entry c k (let most = up_to entry c in omega (arith, seen, most))
+finds_up_to entries s key Deleted up_to has = newest_up_to entries s key None up_to has
+finds_up_to entries s key (Value value) up_to has = newest_up_to entries s key (Some value) up_to has
 
 -- ---- the live tables
 
@@ -114,11 +91,6 @@ tables_up_to cmp meaning store files live each entry c =
 
 -- ---- a history
 
--- what was found, or none
-pub or_none : (found : Option (Option (List ℕ))) → value_found found ≡ unwrap_or found None
-or_none None = refl
-or_none (Some value) = refl
-
 -- the same view gives the same value
 value_same : (these those : List Entry) (s : ℕ) (key : List ℕ) (found : Option (List ℕ)) → SameView these those s → IsValueAt these s key found → IsValueAt those s key found
 value_same these those s key None same none = λ value there. none value ((same key value).1 there)
@@ -135,7 +107,7 @@ module _ {E F C FP : Type 0} (order : CmpGhosts (InternalKeyCmp C)) (env : EnvGh
   shown : {meaning : Meaning} {files : Files} {history : History} {since : ℕ}
       → since ≤ sequence
       → (shows : Shows by.format.order meaning old files history since)
-      → (found : Option (Option (List ℕ)))
+      → (found : Lookup (List ℕ))
       → FindsNewest (in_memory old ++ table_entries shows.tables) sequence key found
       → IsValueAt (entries_of history) sequence key (value_found found)
   shown {history = history} bound shows found all =
@@ -149,18 +121,20 @@ module _ {E F C FP : Type 0} (order : CmpGhosts (InternalKeyCmp C)) (env : EnvGh
 
   -- ---- memory has the key
 
-  pub got_in_memory : (value : Option (List ℕ)) → FindsInMemory old sequence key (Some value)
-      → (result : Result (Option (List ℕ)) Status) → IfOk result (λ copy. copy ≡ value)
+  pub got_in_memory : (found : Lookup (List ℕ)) → is_absent found ≡ false
+      → FindsInMemory old sequence key found → (result : Result (Option (List ℕ)) Status)
+      → IfOk result (λ copy. copy ≡ value_found found)
       → IfErr result IsOutOfMemory → Gets result old from tables
-  got_in_memory value finds result copy memory = record {
+  got_in_memory found some finds result copy memory = record {
     finds = λ opened meaning agrees history since bound shows. by_result history result copy
-        (shown bound shows (Some value) (finds_before (in_memory old) (table_entries shows.tables)
-        sequence key value shows.shows.tables_older (finds shows.shows.waiting_older)));
+        (shown bound shows found (finds_first (in_memory old) (table_entries shows.tables) sequence key
+        found some shows.shows.tables_older (finds shows.shows.waiting_older)));
     reads = read result memory;
     lacks = λ meaning live has. fails_of result memory;
     still_open = λ opened. opened.are;
     way = inl (record {
-      value = value;
+      found = found;
+      there = some;
       finds = finds;
       copy = copy;
       memory = memory;
@@ -169,8 +143,8 @@ module _ {E F C FP : Type 0} (order : CmpGhosts (InternalKeyCmp C)) (env : EnvGh
   }
     where
       by_result : (history : History) (result : Result (Option (List ℕ)) Status)
-          → IfOk result (λ copy. copy ≡ value)
-          → IsValueAt (entries_of history) sequence key value
+          → IfOk result (λ copy. copy ≡ value_found found)
+          → IsValueAt (entries_of history) sequence key (value_found found)
           → IfOk result (IsValueAt (entries_of history) sequence key)
       by_result history (Ok copy) same is =
           subst (IsValueAt (entries_of history) sequence key) (sym same) is
@@ -191,8 +165,8 @@ module _ {E F C FP : Type 0} (order : CmpGhosts (InternalKeyCmp C)) (env : EnvGh
   module _ {compares : List ℕ → List ℕ → Ordering} (current : IsCurrent compares old.cmp old.set old.current)
       (given : AreNumbersGiven old.set old.set.full.added)
       (apart : AreDisjointLevels by.format.order old.set.full.added)
-      (none : FindsInMemory old sequence key None)
-      (searched : Result (Option (Option (List ℕ)) × GetStats) Status) {to : E}
+      (none : FindsInMemory old sequence key Absent)
+      (searched : Result (Lookup (List ℕ) × GetStats) Status) {to : E}
       {now : TableCache E C FP F}
       (searches : LooksUpNewest order env by (sought_key sequence key) from tables old.current searched to now)
     where
@@ -241,10 +215,10 @@ module _ {E F C FP : Type 0} (order : CmpGhosts (InternalKeyCmp C)) (env : EnvGh
       finds_value : HasOpenTables order env by old from tables → (meaning : Meaning)
           → Agrees by.format meaning → (history : History) (since : ℕ) → since ≤ sequence
           → (shows : Shows by.format.order meaning old (files_at env from) history since)
-          → (found : Option (Option (List ℕ)))
+          → (found : Lookup (List ℕ))
           → FindsNewest (table_entries shows.tables) (sequence_part (sought_key sequence key))
           (user_part (sought_key sequence key)) found
-          → IsValueAt (entries_of history) sequence key (unwrap_or found None)
+          → IsValueAt (entries_of history) sequence key (value_found found)
       finds_value opened meaning agrees history since bound shows found finds =
           let n = min sequence greatest_sequence in
           let entries = table_entries shows.tables in
@@ -252,11 +226,10 @@ module _ {E F C FP : Type 0} (order : CmpGhosts (InternalKeyCmp C)) (env : EnvGh
           subst (λ k. FindsNewest entries n k found) (user_part-internal_key key n TypeValue)
           (subst (λ m. FindsNewest entries m (user_part (sought_key sequence key)) found)
           (sequence_part-internal_key key n TypeValue (omega arith)) finds) in
-          subst (IsValueAt (entries_of history) sequence key) (or_none found)
-          (shown bound shows found (finds_after (in_memory old) entries sequence key found
+          shown bound shows found (finds_after (in_memory old) entries sequence key found
           (none shows.shows.waiting_older)
           (finds_up_to entries sequence key found (tables_up_to by.format.order meaning old.set.store
-          (files_at env from) shows.tables shows.has.each) here)))
+          (files_at env from) shows.tables shows.has.each) here))
 
       pub got_in_tables : Gets (value_searched searched)
           (with_charge old (charge_of searched)) to now
@@ -284,23 +257,23 @@ module _ {E F C FP : Type 0} (order : CmpGhosts (InternalKeyCmp C)) (env : EnvGh
         });
       }
         where
-          value_of : (P : Option (Option (List ℕ)) → Type 0) (Q : Option (List ℕ) → Type 0)
-              (searched : Result (Option (Option (List ℕ)) × GetStats) Status)
-              → ((found : Option (Option (List ℕ))) → P found → Q (unwrap_or found None))
+          value_of : (P : Lookup (List ℕ) → Type 0) (Q : Option (List ℕ) → Type 0)
+              (searched : Result (Lookup (List ℕ) × GetStats) Status)
+              → ((found : Lookup (List ℕ)) → P found → Q (value_found found))
               → IfOk searched (λ found. P found.0)
               → IfOk (value_searched searched) Q
           value_of P Q (Ok it) to finds = to it.0 finds
           value_of P Q (Err status) to finds = tt
 
           read_of : {Why : Status → Type 0}
-              (searched : Result (Option (Option (List ℕ)) × GetStats) Status)
+              (searched : Result (Lookup (List ℕ) × GetStats) Status)
               → ReadsFile env Why from to searched
               → ReadsFile env Why from to (value_searched searched)
           read_of (Ok it) reads = reads_ok env reads.kept_disk reads.cause.ok
           read_of (Err status) reads = reads_refused env (Err status) refl reads
 
           fails_of : {Why : Status → Type 0}
-              (searched : Result (Option (Option (List ℕ)) × GetStats) Status)
+              (searched : Result (Lookup (List ℕ) × GetStats) Status)
               → FailsFor env Why from to searched
               → FailsFor env Why from to (value_searched searched)
           fails_of (Ok it) cause = fails_ok env cause.ok

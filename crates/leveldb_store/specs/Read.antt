@@ -1,6 +1,8 @@
 -- What a look-up in an open store returns and leaves, and why it fails.
-use Rattle.std.specs.Prelude.{◌≡◌, ◌≤◌, ◌++◌, ◌⊎◌, ℕ, List, Option, None, Some, Result, Ok, Err, IfErr, IfOk, IsTrue, min, unwrap_or}
-use Rattle.leveldb_base.specs.Entries.{FindsNewest}
+use Rattle.std.specs.Prelude.{◌≡◌, ◌≤◌, ◌++◌, ◌⊎◌, ℕ, List, Option, None, Some, Result, Ok, Err, IfErr, IfOk, IsTrue, false, min}
+use Rattle.leveldb_base.specs.Entries.{FindsNewest, is_absent, value_found}
+use Rattle.leveldb_base.specs.declared.types.Lookup.{Lookup}
+use Rattle.leveldb_base.specs.declared.types.Lookup.TheVariants.{Absent}
 use Rattle.leveldb_base.specs.Error.{IsOutOfMemory}
 use Rattle.leveldb_base.specs.History.{Entry, History, IsValueAt, entries_of}
 use Rattle.leveldb_base.specs.KeyTypes.{greatest_sequence, internal_key}
@@ -33,7 +35,7 @@ in_memory value = value.recent.entries ++ waiting_entries value.waiting
 -- what memory has of a key at a number, if the entries that wait are the older ones: a value, a
 -- deletion, or nothing
 abbrev pub FindsInMemory : {C : Type 0} → OpenStoreValue C → ℕ → List ℕ
-    → Option (Option (List ℕ)) → Type 0
+    → Lookup (List ℕ) → Type 0
 FindsInMemory value sequence key found =
     IsOlder (waiting_entries value.waiting) value.recent.entries
     → FindsNewest (in_memory value) sequence key found
@@ -43,14 +45,14 @@ abbrev pub sought_key : ℕ → List ℕ → List ℕ
 sought_key sequence key = internal_key key (min sequence greatest_sequence) TypeValue
 
 -- the file that a search charges with a seek, if one
-abbrev pub charge_of : Result (Option (Option (List ℕ)) × GetStats) Status → Option LevelFile
+abbrev pub charge_of : Result (Lookup (List ℕ) × GetStats) Status → Option LevelFile
 charge_of (Ok searched) = searched.1.file
 charge_of (Err status) = None
 
 -- what a look-up returns by what the search finds: the value, or none
-abbrev pub value_searched : Result (Option (Option (List ℕ)) × GetStats) Status
+abbrev pub value_searched : Result (Lookup (List ℕ) × GetStats) Status
     → Result (Option (List ℕ)) Status
-value_searched (Ok searched) = Ok (unwrap_or searched.0 None)
+value_searched (Ok searched) = Ok (value_found searched.0)
 value_searched (Err status) = Err status
 
 -- the store once a file of its version is charged with a seek
@@ -83,19 +85,20 @@ module _ {E F C FP : Type 0} (order : CmpGhosts (InternalKeyCmp C)) (env : Ghost
   pub record PassesOverNone (sequence : ℕ) (key : List ℕ) (value : Option (List ℕ)) : Type 0 where
     pub looked : List NewFile
     pub first : AreTriedFirst by.format.order key (new_files_of old.current) looked
-    pub found : Option (Option (List ℕ))
-    pub value_is : value ≡ unwrap_or found None
+    pub found : Lookup (List ℕ)
+    pub value_is : value ≡ value_found found
     pub finds : HasOpenTables
         → FindsInLast order env by (sought_key sequence key) from tables looked found
-    pub all : found ≡ None → AreAllTried by.format.order key (new_files_of old.current) looked
+    pub all : found ≡ Absent → AreAllTried by.format.order key (new_files_of old.current) looked
 
   module _ (sequence : ℕ) (key : List ℕ) (result : Result (Option (List ℕ)) Status)
       (new : OpenStoreValue C) (to : E) (now : TableCache E C FP F) where
     -- Memory has the key, whose value is copied. Nothing changes.
     pub record GetsFromMemory : Type 0 where
-      pub value : Option (List ℕ)
-      pub finds : FindsInMemory old sequence key (Some value)
-      pub copy : IfOk result (λ copy. copy ≡ value)
+      pub found : Lookup (List ℕ)
+      pub there : is_absent found ≡ false
+      pub finds : FindsInMemory old sequence key found
+      pub copy : IfOk result (λ copy. copy ≡ value_found found)
       pub memory : IfErr result IsOutOfMemory
       pub nothing_changes : (new ≡ old) × (to ≡ from) × (now ≡ tables)
 
@@ -103,9 +106,9 @@ module _ {E F C FP : Type 0} (order : CmpGhosts (InternalKeyCmp C)) (env : Ghost
     -- apart. The file that the search charges has one seek less then, and nothing else of the store
     -- changes.
     pub record GetsFromTables : Type 0 where
-      pub none : FindsInMemory old sequence key None
+      pub none : FindsInMemory old sequence key Absent
       pub apart : AreDisjointLevels by.format.order (new_files_of old.current)
-      pub searched : Result (Option (Option (List ℕ)) × GetStats) Status
+      pub searched : Result (Lookup (List ℕ) × GetStats) Status
       pub searches : LooksUpNewest order env by (sought_key sequence key) from tables old.current
           searched to now
       pub result_is : result ≡ value_searched searched

@@ -7,10 +7,12 @@ use Rattle.std.proofs.lemmas.List.Quantifiers.{all_pairs_push}
 use Rattle.std.proofs.lemmas.List.Sorted.{Contains-permutation, IsPermutation-append_left, IsPermutation-pop_more, IsPermutation-refl, IsPermutation-sym}
 use Rattle.std.specs.Option.{option_or, option_to_list}
 use Rattle.std.specs.declared.cmp.Ordering.{Ordering}
-use Rattle.leveldb_base.proofs.EntriesLemmas.{map_in}
+use Rattle.leveldb_base.proofs.EntriesLemmas.{absent_is, map_in}
 use Rattle.leveldb_base.proofs.HistoryLemmas.{in_cases, in_front, in_none}
 use Rattle.leveldb_base.specs.Cmp.{IsExactOrder}
-use Rattle.leveldb_base.specs.Entries.{FindsNewest}
+use Rattle.leveldb_base.specs.Entries.{FindsNewest, is_absent}
+use Rattle.leveldb_base.specs.declared.types.Lookup.{Lookup}
+use Rattle.leveldb_base.specs.declared.types.Lookup.TheVariants.{Absent}
 use Rattle.leveldb_base.specs.KeyTypes.{internal_cmp, sequence_part, user_part}
 use Rattle.leveldb_base.specs.declared.cmp.Cmp.{Ghosts as CmpGhosts}
 use Rattle.leveldb_base.specs.declared.cmp.internal.InternalKeyCmp.{InternalKeyCmp}
@@ -33,7 +35,7 @@ use Rattle.leveldb_version.specs.VersionEdit.{LevelFile, NewFile}
 use Rattle.leveldb_version.specs.VersionSet.{level_file}
 use Rattle.leveldb_version.specs.declared.table_cache.TableCache.{TableCache}
 use Rattle.leveldb_version.specs.declared.version.GetStats.{GetStats}
-use Rattle.leveldb_version.proofs.NewestTablesLemmas.{disjoint_levels, file_of, none_found, some_found, table_of, there}
+use Rattle.leveldb_version.proofs.NewestTablesLemmas.{disjoint_levels, file_of, found_in_all, none_found, table_of, there}
 use Rattle.leveldb_version.proofs.SearchLemmas.{all_from_contains, is_one, kept_passes, passes_kept, stays_left}
 use Rattle.leveldb_version.proofs.SearchTableLemmas.{table_finds, unread_wants}
 
@@ -62,7 +64,7 @@ module _ {E C FP F : Type 0} (order : CmpGhosts (InternalKeyCmp C)) (env : EnvGh
       subst (λ files. HasBytesAt files (path_at cache number) bytes) (sym (same_files env kept modelled))
       (subst (λ store. HasBytesAt (files_at env from) (table_path store number) bytes) (sym path) has)
 
-  found_before : (number : ℕ) (found : Option (Option (List ℕ))) → FindsInTable order env by key mid cache number found → FindsInTable order env by key from old number found
+  found_before : (number : ℕ) (found : Lookup (List ℕ)) → FindsInTable order env by key mid cache number found → FindsInTable order env by key from old number found
   found_before number found finds = λ bytes has. finds bytes (bytes_after number has)
 
   unread_before : (number : ℕ) (status : Status) → IsUnreadable order env by key mid cache number status → IsUnreadable order env by key from old number status
@@ -75,25 +77,25 @@ module _ {E C FP F : Type 0} (order : CmpGhosts (InternalKeyCmp C)) (env : EnvGh
 -- ---- files
 
 -- in the last one this is found, and in the others nothing
-last_finds : {E C FP F : Type 0} {order : CmpGhosts (InternalKeyCmp C)} (env : EnvGhosts E F) (by : TableOptions C FP) (key : List ℕ) (from : E) (old : TableCache E C FP F) (looked : List NewFile) (file : NewFile) (found : Option (Option (List ℕ)))
+last_finds : {E C FP F : Type 0} {order : CmpGhosts (InternalKeyCmp C)} (env : EnvGhosts E F) (by : TableOptions C FP) (key : List ℕ) (from : E) (old : TableCache E C FP F) (looked : List NewFile) (file : NewFile) (found : Lookup (List ℕ))
     → FindsInNone order env by key from old looked → FindsInTable order env by key from old file.number found → FindsInLast order env by key from old (looked ++ file ∷ []) found
 last_finds {order = order} env by key from old [] file found none finds = finds
 last_finds {order = order} env by key from old (one ∷ looked) file found none finds =
-    let here = All-head (λ (f : NewFile). FindsInTable order env by key from old f.number None) one looked none in
-    let rest = last_finds env by key from old looked file found (All-tail (λ (f : NewFile). FindsInTable order env by key from old f.number None) one looked none) finds in
+    let here = All-head (λ (f : NewFile). FindsInTable order env by key from old f.number Absent) one looked none in
+    let rest = last_finds env by key from old looked file found (All-tail (λ (f : NewFile). FindsInTable order env by key from old f.number Absent) one looked none) finds in
     with_more looked here rest
   where
-    with_more : (more : List NewFile) → FindsInTable order env by key from old one.number None → FindsInLast order env by key from old (more ++ file ∷ []) found → FindsInLast order env by key from old (one ∷ (more ++ file ∷ [])) found
+    with_more : (more : List NewFile) → FindsInTable order env by key from old one.number Absent → FindsInLast order env by key from old (more ++ file ∷ []) found → FindsInLast order env by key from old (one ∷ (more ++ file ∷ [])) found
     with_more [] here rest = (here, rest)
     with_more (second ∷ more) here rest = (here, rest)
 
 none_finds : {E C FP F : Type 0} {order : CmpGhosts (InternalKeyCmp C)} (env : EnvGhosts E F) (by : TableOptions C FP) (key : List ℕ) (from : E) (old : TableCache E C FP F) (looked : List NewFile)
-    → FindsInNone order env by key from old looked → FindsInLast order env by key from old looked None
+    → FindsInNone order env by key from old looked → FindsInLast order env by key from old looked Absent
 none_finds {order = order} env by key from old [] none = refl
-none_finds {order = order} env by key from old (file ∷ []) none = All-head (λ (f : NewFile). FindsInTable order env by key from old f.number None) file [] none
+none_finds {order = order} env by key from old (file ∷ []) none = All-head (λ (f : NewFile). FindsInTable order env by key from old f.number Absent) file [] none
 none_finds {order = order} env by key from old (file ∷ second ∷ looked) none = (
-  All-head (λ (f : NewFile). FindsInTable order env by key from old f.number None) file (second ∷ looked) none,
-  none_finds env by key from old (second ∷ looked) (All-tail (λ (f : NewFile). FindsInTable order env by key from old f.number None) file (second ∷ looked) none),
+  All-head (λ (f : NewFile). FindsInTable order env by key from old f.number Absent) file (second ∷ looked) none,
+  none_finds env by key from old (second ∷ looked) (All-tail (λ (f : NewFile). FindsInTable order env by key from old f.number Absent) file (second ∷ looked) none),
 )
 
 -- ---- the search
@@ -150,7 +152,7 @@ module _ {E C FP F : Type 0} (order : CmpGhosts (InternalKeyCmp C)) (env : EnvGh
       before = λ one file c d. absurd (in_none one c);
       others = λ file c has. inr (subst (λ fs. Contains fs file) (sym is) c);
     };
-    nothing = λ matched. All-nil (λ (file : NewFile). FindsInTable order env by key from old file.number None);
+    nothing = λ matched. All-nil (λ (file : NewFile). FindsInTable order env by key from old file.number Absent);
   }
 
   module _ {first charge : Option LevelFile} {left : List NewFile} {mid : E} {cache : TableCache E C FP F} (so_far : SearchedSoFar first charge left mid cache) where
@@ -243,7 +245,7 @@ module _ {E C FP F : Type 0} (order : CmpGhosts (InternalKeyCmp C)) (env : EnvGh
             only number c = ⊎_elim (λ (same : file.number ≡ number). same) (λ (none : Contains [] number). absurd (in_none number none)) (in_cases file.number number [] c)
 
         -- nothing is found in it
-        pub goes_on : SearchesTable order env by key mid cache file.number (Ok None) to new → SearchedSoFar (option_or first (Some (level_file file))) first left_after to new
+        pub goes_on : SearchesTable order env by key mid cache file.number (Ok Absent) to new → SearchedSoFar (option_or first (Some (level_file file))) first left_after to new
         goes_on search = record {
           kept = KeepsDisk-trans env so_far.kept search.reads.kept_disk;
           counted = search.reads.cause.ok ∙ so_far.counted;
@@ -260,8 +262,8 @@ module _ {E C FP F : Type 0} (order : CmpGhosts (InternalKeyCmp C)) (env : EnvGh
           first_is = ap (λ o. option_or o (Some (level_file file))) so_far.first_is ∙ first_more so_far.looked file;
           charge_is = so_far.first_is ∙ charge_more so_far.looked file;
           turns = turns_more;
-          nothing = λ matched. All-push (λ (f : NewFile). FindsInTable order env by key from old f.number None) so_far.looked file (so_far.nothing matched)
-              (found_before order env by key from mid old cache so_far.kept so_far.opens.path matched.modelled file.number None (search.finds (matched_mid matched)));
+          nothing = λ matched. All-push (λ (f : NewFile). FindsInTable order env by key from old f.number Absent) so_far.looked file (so_far.nothing matched)
+              (found_before order env by key from mid old cache so_far.kept so_far.opens.path matched.modelled file.number Absent (search.finds (matched_mid matched)));
         }
           where
             only : (number : ℕ) → Contains (file.number ∷ []) number → file.number ≡ number
@@ -269,21 +271,21 @@ module _ {E C FP F : Type 0} (order : CmpGhosts (InternalKeyCmp C)) (env : EnvGh
 
         module _ (exact : IsExactOrder by.format.order) (order_is : order.cmp (record { 0 = by.cmp }) ≡ internal_cmp by.format.order) (tagged : 8 ≤ length key) (sizes : (one : NewFile) → Contains files one → one.size < 2 ^ 64) where
           -- a value or a deletion is found in it
-          pub stops_here : (value : Option (List ℕ)) (stats : GetStats) → stats.file ≡ first → SearchesTable order env by key mid cache file.number (Ok (Some value)) to new → LooksUpNewest order env by key from old version (Ok (Some value, stats)) to new
-          stops_here value stats charged search = record {
+          pub stops_here : (found : Lookup (List ℕ)) → is_absent found ≡ false → (stats : GetStats) → stats.file ≡ first → SearchesTable order env by key mid cache file.number (Ok found) to new → LooksUpNewest order env by key from old version (Ok (found, stats)) to new
+          stops_here found some stats charged search = record {
             finds = λ matched meaning agrees tables are.
-                some_found exact meaning (store_of old) (files_at env from) tables are.each files are.files_are (sequence_part key) (user_part key) are.levels so_far.looked file
+                found_in_all exact meaning (store_of old) (files_at env from) tables are.each files are.files_are (sequence_part key) (user_part key) are.levels so_far.looked file
                 (first_more_tried (disjoint_levels exact meaning (store_of old) (files_at env from) tables are.each files are.files_are are.levels))
-                (λ one c table d same. table_finds order env by exact order_is key tagged from old agrees table (there exact meaning (store_of old) (files_at env from) tables are.each table d) (small tables are.files_are table d) None
-                (subst (λ (f : NewFile). FindsInTable order env by key from old f.number None) (sym same) (All-contains (λ (f : NewFile). FindsInTable order env by key from old f.number None) so_far.looked one (so_far.nothing matched) c)))
-                (λ table d same. table_finds order env by exact order_is key tagged from old agrees table (there exact meaning (store_of old) (files_at env from) tables are.each table d) (small tables are.files_are table d) (Some value)
-                (subst (λ (f : NewFile). FindsInTable order env by key from old f.number (Some value)) (sym same) (here matched)));
+                (λ one c table d same. table_finds order env by exact order_is key tagged from old agrees table (there exact meaning (store_of old) (files_at env from) tables are.each table d) (small tables are.files_are table d) Absent
+                (subst (λ (f : NewFile). FindsInTable order env by key from old f.number Absent) (sym same) (All-contains (λ (f : NewFile). FindsInTable order env by key from old f.number Absent) so_far.looked one (so_far.nothing matched) c))) found some
+                (λ table d same. table_finds order env by exact order_is key tagged from old agrees table (there exact meaning (store_of old) (files_at env from) tables are.each table d) (small tables are.files_are table d) found
+                (subst (λ (f : NewFile). FindsInTable order env by key from old f.number found) (sym same) (here matched)));
             goes = λ levels. record {
               looked = looked_more;
               first = first_more_tried levels;
               there = All-push (λ (f : NewFile). IsOpenOrThere env from old f.number) so_far.looked file so_far.all_there (open_before fits search.there);
-              finds = λ matched. last_finds env by key from old so_far.looked file (Some value) (so_far.nothing matched) (here matched);
-              all = λ e. cc;
+              finds = λ matched. last_finds env by key from old so_far.looked file found (so_far.nothing matched) (here matched);
+              all = λ e. let t : is_absent found ≡ true = ap is_absent e in absurd cc;
               charged = charged ∙ so_far.first_is ∙ charge_more so_far.looked file;
             };
             reads = reads_ok env (KeepsDisk-trans env so_far.kept search.reads.kept_disk) (search.reads.cause.ok ∙ so_far.counted);
@@ -293,14 +295,14 @@ module _ {E C FP F : Type 0} (order : CmpGhosts (InternalKeyCmp C)) (env : EnvGh
             cache = opens_more search.cache;
           }
             where
-              here : AreOpenTablesMatched order env by key from old → FindsInTable order env by key from old file.number (Some value)
-              here matched = found_before order env by key from mid old cache so_far.kept so_far.opens.path matched.modelled file.number (Some value) (search.finds (matched_mid matched))
+              here : AreOpenTablesMatched order env by key from old → FindsInTable order env by key from old file.number found
+              here matched = found_before order env by key from mid old cache so_far.kept so_far.opens.path matched.modelled file.number found (search.finds (matched_mid matched))
 
               small : (tables : List LiveTable) → IsPermutation (map (λ table. table.file) tables) files → (table : LiveTable) → Contains tables table → table.file.size < 2 ^ 64
               small tables files_are table c = sizes table.file (Contains-permutation (map (λ table. table.file) tables) files table.file files_are (map_in (λ (one : LiveTable). one.file) tables table c))
 
           -- it can't be read
-          pub stops_unread : (status : Status) (result : Result (Option (Option (List ℕ)) × GetStats) Status) → IsErrAnd result (λ other. other ≡ status) → SearchesTable order env by key mid cache file.number (Err status) to new → LooksUpNewest order env by key from old version result to new
+          pub stops_unread : (status : Status) (result : Result (Lookup (List ℕ) × GetStats) Status) → IsErrAnd result (λ other. other ≡ status) → SearchesTable order env by key mid cache file.number (Err status) to new → LooksUpNewest order env by key from old version result to new
           stops_unread status result same search = record {
             finds = λ matched meaning agrees tables are. if_refused (λ found. FindsNewest (table_entries tables) (sequence_part key) (user_part key) found.0) result same;
             goes = λ levels. if_refused (λ found. SearchesFiles order env by key from old version found.0 found.1.file) result same;
@@ -317,7 +319,7 @@ module _ {E C FP F : Type 0} (order : CmpGhosts (InternalKeyCmp C)) (env : EnvGh
             cache = opens_more search.cache;
           }
             where
-              if_refused : (P : Option (Option (List ℕ)) × GetStats → Type 0) (answer : Result (Option (Option (List ℕ)) × GetStats) Status) → IsErrAnd answer (λ other. other ≡ status) → IfOk answer P
+              if_refused : (P : Lookup (List ℕ) × GetStats → Type 0) (answer : Result (Lookup (List ℕ) × GetStats) Status) → IsErrAnd answer (λ other. other ≡ status) → IfOk answer P
               if_refused P (Ok found) refused = absurd refused
               if_refused P (Err other) refused = tt
 
@@ -335,14 +337,14 @@ module _ {E C FP F : Type 0} (order : CmpGhosts (InternalKeyCmp C)) (env : EnvGh
     -- ---- no file is left
 
     module _ (exact : IsExactOrder by.format.order) (order_is : order.cmp (record { 0 = by.cmp }) ≡ internal_cmp by.format.order) (tagged : 8 ≤ length key) (sizes : (one : NewFile) → Contains files one → one.size < 2 ^ 64) where
-      pub ends_there : {left_after : List NewFile} → TakesNextFile cmp (user_part key) left None left_after → (stats : GetStats) → stats.file ≡ charge → LooksUpNewest order env by key from old version (Ok (None, stats)) mid cache
+      pub ends_there : {left_after : List NewFile} → TakesNextFile cmp (user_part key) left None left_after → (stats : GetStats) → stats.file ≡ charge → LooksUpNewest order env by key from old version (Ok (Absent, stats)) mid cache
       ends_there {left_after} takes stats charged = record {
         finds = λ matched meaning agrees tables are.
             none_found exact meaning (store_of old) (files_at env from) tables are.each files are.files_are (sequence_part key) (user_part key) so_far.looked
             (all_tried (disjoint_levels exact meaning (store_of old) (files_at env from) tables are.each files are.files_are are.levels))
             (λ one c table d same. table_finds order env by exact order_is key tagged from old agrees table (there exact meaning (store_of old) (files_at env from) tables are.each table d)
-            (sizes table.file (file_of exact meaning (store_of old) (files_at env from) tables are.each files are.files_are table d)) None
-            (subst (λ (f : NewFile). FindsInTable order env by key from old f.number None) (sym same) (All-contains (λ (f : NewFile). FindsInTable order env by key from old f.number None) so_far.looked one (so_far.nothing matched) c)));
+            (sizes table.file (file_of exact meaning (store_of old) (files_at env from) tables are.each files are.files_are table d)) Absent
+            (subst (λ (f : NewFile). FindsInTable order env by key from old f.number Absent) (sym same) (All-contains (λ (f : NewFile). FindsInTable order env by key from old f.number Absent) so_far.looked one (so_far.nothing matched) c)));
         goes = λ levels. record {
           looked = so_far.looked;
           first = record {
@@ -375,26 +377,16 @@ module _ {E C FP F : Type 0} (order : CmpGhosts (InternalKeyCmp C)) (env : EnvGh
 
 -- ---- whether something is found
 
-none_of : {A : Type 0} (o : Option A) → is_some o ≡ false → o ≡ None
-none_of None e = refl
-none_of (Some x) e = cc
-
-some_of : {A : Type 0} (o : Option A) → is_some o ≡ true → (x : A) × (o ≡ Some x)
-some_of None e = cc
-some_of (Some x) e = (x, refl)
-
 module _ {E C FP F : Type 0} (order : CmpGhosts (InternalKeyCmp C)) (env : EnvGhosts E F) (by : TableOptions C FP) (key : List ℕ) (from : E) (old : TableCache E C FP F) (version : VersionValue C)
     {first charge : Option LevelFile} {left : List NewFile} {mid : E} {cache : TableCache E C FP F} (so_far : SearchedSoFar order env by key from old version first charge left mid cache)
     {file : NewFile} {left_after : List NewFile} (takes : TakesNextFile by.format.order (user_part key) left (Some file) left_after) {to : E} {new : TableCache E C FP F} (fits : file.number < 2 ^ 64) where
-  pub goes_on_without : (found : Option (Option (List ℕ))) → is_some found ≡ false → (next : Option LevelFile) → next ≡ option_or first (Some (level_file file)) → SearchesTable order env by key mid cache file.number (Ok found) to new
+  pub goes_on_without : (found : Lookup (List ℕ)) → is_absent found ≡ true → (next : Option LevelFile) → next ≡ option_or first (Some (level_file file)) → SearchesTable order env by key mid cache file.number (Ok found) to new
       → SearchedSoFar order env by key from old version next first left_after to new
   goes_on_without found none next is finds =
       subst (λ o. SearchedSoFar order env by key from old version o first left_after to new) (sym is)
-      (goes_on order env by key from old version so_far takes fits (subst (λ o. SearchesTable order env by key mid cache file.number (Ok o) to new) (none_of found none) finds))
+      (goes_on order env by key from old version so_far takes fits (subst (λ o. SearchesTable order env by key mid cache file.number (Ok o) to new) (absent_is found none) finds))
 
   pub stops_with : IsExactOrder by.format.order → order.cmp (record { 0 = by.cmp }) ≡ internal_cmp by.format.order → 8 ≤ length key → ((one : NewFile) → Contains (new_files_of version) one → one.size < 2 ^ 64)
-      → (found : Option (Option (List ℕ))) → is_some found ≡ true → (stats : GetStats) → stats.file ≡ first → SearchesTable order env by key mid cache file.number (Ok found) to new → LooksUpNewest order env by key from old version (Ok (found, stats)) to new
+      → (found : Lookup (List ℕ)) → is_absent found ≡ false → (stats : GetStats) → stats.file ≡ first → SearchesTable order env by key mid cache file.number (Ok found) to new → LooksUpNewest order env by key from old version (Ok (found, stats)) to new
   stops_with exact order_is tagged sizes found some stats charged finds =
-      let value = some_of found some in
-      subst (λ o. LooksUpNewest order env by key from old version (Ok (o, stats)) to new) (sym value.1)
-      (stops_here order env by key from old version so_far takes fits exact order_is tagged sizes value.0 stats charged (subst (λ o. SearchesTable order env by key mid cache file.number (Ok o) to new) value.1 finds))
+      stops_here order env by key from old version so_far takes fits exact order_is tagged sizes found some stats charged finds

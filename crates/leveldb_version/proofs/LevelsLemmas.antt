@@ -2,6 +2,7 @@
 use Rattle.leveldb_base.proofs.HistoryLemmas.{in_cases, in_front, in_rest}
 use Rattle.leveldb_base.proofs.LayersLemmas.{found_by_key}
 use Rattle.leveldb_base.specs.Entries.{FindsNewest}
+use Rattle.leveldb_base.specs.declared.types.Lookup.{Lookup}
 use Rattle.leveldb_base.specs.History.{Entry}
 use Rattle.leveldb_base.specs.KeyTypes.{user_part}
 use Rattle.leveldb_base.specs.Layers.{AreLayered, IsOlder}
@@ -25,7 +26,7 @@ pub ranges_leave_out : (cmp : List ℕ → List ℕ → Ordering) (all some : Li
     → (key : List ℕ)
     → ((table : LiveTable) → Contains all table → IsInRange cmp table.file key
     → Contains some table)
-    → (s : ℕ) (found : Option (Option (List ℕ)))
+    → (s : ℕ) (found : Lookup (List ℕ))
     → FindsNewest (table_entries some) s key found → FindsNewest (table_entries all) s key found
 ranges_leave_out cmp all some bounded among key kept s found =
     found_by_key (table_entries some) (table_entries all) s key found same

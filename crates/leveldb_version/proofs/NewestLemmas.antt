@@ -16,7 +16,9 @@ use Rattle.leveldb_base.proofs.KeyTypesLemmas.{type_part-internal_key}
 use Rattle.leveldb_base.proofs.OrderLemmas.{not_lt, same_bytes}
 use Rattle.leveldb_base.specs.Cmp.{IsExactOrder, IsPreorderOn, internal_accepts}
 use Rattle.leveldb_base.specs.CmpLaws.{internal_preorder, sequence_part-internal_key, user_part-internal_key}
-use Rattle.leveldb_base.specs.Entries.{FindsNewest, entries_of_pairs, entry_of_pair, found_at, value_of}
+use Rattle.leveldb_base.specs.Entries.{FindsNewest, entries_of_pairs, entry_of_pair, found_at, lookup_of, value_of}
+use Rattle.leveldb_base.specs.declared.types.Lookup.{Lookup}
+use Rattle.leveldb_base.specs.declared.types.Lookup.TheVariants.{Absent}
 use Rattle.leveldb_base.specs.History.{AreRising, Entry, IsBeforeAll}
 use Rattle.leveldb_base.specs.KeyTypes.{internal_cmp, sequence_part, type_part, user_part}
 use Rattle.leveldb_base.specs.Types.{Pair, count_before, pair_at, position_within}
@@ -106,11 +108,11 @@ other_user cmp user key (pair ∷ pairs) first none is same = by (λ later. othe
     by later true less there = later there
     by later false least there = none.0 (not_lt (cmp pair.0 key) least) (ap (λ (z : Pair). user z.0) (let e : pair ≡ first = cc in e) ∙ same)
 
-no_entry : (cmp : List ℕ → List ℕ → Ordering) (key : List ℕ) (pairs : List Pair) (at : Option Pair) → HasNoneFrom cmp user_part key pairs → first_from cmp key pairs ≡ at → found_at (user_part key) at ≡ None
+no_entry : (cmp : List ℕ → List ℕ → Ordering) (key : List ℕ) (pairs : List Pair) (at : Option Pair) → HasNoneFrom cmp user_part key pairs → first_from cmp key pairs ≡ at → found_at (user_part key) at ≡ Absent
 no_entry cmp key pairs None none is = refl
 no_entry cmp key pairs (Some pair) none is = by (bytes_eq (user_part pair.0) (user_part key)) refl
   where
-    by : (b : Bool) → bytes_eq (user_part pair.0) (user_part key) ≡ b → (if b then Some (value_of (type_part pair.0) pair.1) else None) ≡ None
+    by : (b : Bool) → bytes_eq (user_part pair.0) (user_part key) ≡ b → (if b then lookup_of (value_of (type_part pair.0) pair.1) else Absent) ≡ Absent
     by true same = absurd (other_user cmp user_part key pairs pair none is (same_bytes (user_part pair.0) (user_part key) same))
     by false other = refl
 
@@ -126,7 +128,7 @@ finds_newest cmp exact key pairs found rise finds =
     says (ap (found_at (user_part key)) none.0 ∙ sym (no_entry order key pairs (first_from order key pairs) none.1 refl) ∙ ap (found_at (user_part key)) (first_is order key pairs)) newest)
     finds
   where
-    says : {these those : Option (Option (List ℕ))} → these ≡ those → FindsNewest (entries_of_pairs pairs) (sequence_part key) (user_part key) those → FindsNewest (entries_of_pairs pairs) (sequence_part key) (user_part key) these
+    says : {these those : Lookup (List ℕ)} → these ≡ those → FindsNewest (entries_of_pairs pairs) (sequence_part key) (user_part key) those → FindsNewest (entries_of_pairs pairs) (sequence_part key) (user_part key) these
     says same newest = subst (FindsNewest (entries_of_pairs pairs) (sequence_part key) (user_part key)) (sym same) newest
 
 -- ---- a key with its tag

@@ -1,6 +1,6 @@
 -- What a search that ends at the first table with an entry of the key finds, all tables together have.
 use Rattle.std.specs.Prelude.{◌≢◌, All, Contains, IsPermutation}
-use Rattle.std.proofs.Common.{◌≡◌, ◌⊎◌, inl, inr, ⊎_elim, ℕ, ◌==◌, ◌<◌, ◌≤◌, ◌^◌, List, [], ◌∷◌, ◌++◌, Option, None, Some, length, map, refl, sym, ◌∙◌, ap, subst, arith}
+use Rattle.std.proofs.Common.{◌≡◌, ◌⊎◌, inl, inr, ⊎_elim, ℕ, ◌==◌, ◌<◌, ◌≤◌, ◌^◌, true, false, List, [], ◌∷◌, ◌++◌, Option, None, Some, length, map, refl, sym, ◌∙◌, ap, subst, arith}
 use Rattle.std.proofs.lemmas.Bool.{cases_lt, eqb-true}
 use Rattle.std.proofs.lemmas.List.{same_from_push}
 use Rattle.std.proofs.lemmas.List.Elements.{All-contains, Contains-append_left, Contains-append_right, Contains-push, Contains-push_cases}
@@ -11,7 +11,9 @@ use Rattle.std.specs.declared.cmp.Ordering.TheVariants.{Less}
 use Rattle.leveldb_base.proofs.EntriesLemmas.{in_map, map_in}
 use Rattle.leveldb_base.proofs.OrderLemmas.{exact_total}
 use Rattle.leveldb_base.specs.Cmp.{IsExactOrder}
-use Rattle.leveldb_base.specs.Entries.{FindsNewest, HasNewest}
+use Rattle.leveldb_base.specs.Entries.{FindsNewest, HasNewest, is_absent}
+use Rattle.leveldb_base.specs.declared.types.Lookup.{Lookup}
+use Rattle.leveldb_base.specs.declared.types.Lookup.TheVariants.{Value, Deleted, Absent}
 use Rattle.leveldb_base.specs.History.{Entry}
 use Rattle.leveldb_base.specs.KeyTypes.{internal_cmp, user_part}
 use Rattle.leveldb_base.specs.Types.{Pair}
@@ -107,84 +109,91 @@ module _ {cmp : List ℕ → List ℕ → Ordering} (exact : IsExactOrder cmp) (
 
       module _ (s : ℕ) (key : List ℕ) where
         -- what the tables of a file find of the key
-        abbrev pub FileFinds : NewFile → Option (Option (List ℕ)) → Type 0
+        abbrev pub FileFinds : NewFile → Lookup (List ℕ) → Type 0
         FileFinds file found = (table : LiveTable) → Contains tables table → table.file ≡ file → FindsNewest table.entries s key found
 
         in_range : (table : LiveTable) → Contains tables table → (entry : Entry) → Contains table.entries entry → entry.key ≡ key → IsInRange cmp table.file key
         in_range table c entry d k = subst (IsInRange cmp table.file) k ((bounded table c).within entry d)
 
         -- where none of the files with the key in their range has one, none has
-        pub none_found : (tried : List NewFile) → AreAllTried cmp key all tried → ((file : NewFile) → Contains tried file → FileFinds file None) → FindsNewest (table_entries tables) s key None
+        pub none_found : (tried : List NewFile) → AreAllTried cmp key all tried → ((file : NewFile) → Contains tried file → FileFinds file Absent) → FindsNewest (table_entries tables) s key Absent
         none_found tried are_all none entry c k seen =
             let from = in_flat (λ (t : LiveTable). t.entries) tables entry c in
             none from.0.file (are_all from.0.file (file_of from.0 from.1) (in_range from.0 from.1 entry from.2 k)) from.0 from.1 refl entry from.2 k seen
 
-        module _ (order : LevelOrder cmp tables) (before : List NewFile) (file : NewFile) (tried : AreTriedFirst cmp key all (before ++ file ∷ [])) (none : (one : NewFile) → Contains before one → FileFinds one None)
-            {value : Option (List ℕ)} (finds : FileFinds file (Some value)) where
-          table : (table : LiveTable) × Contains tables table × (table.file ≡ file)
-          table = table_of file (Contains-permutation ((before ++ file ∷ []) ++ tried.rest) all file (IsPermutation-sym all ((before ++ file ∷ []) ++ tried.rest) tried.once)
-              (Contains-append_left (before ++ file ∷ []) tried.rest file (Contains-push before file)))
+        module _ (order : LevelOrder cmp tables) (before : List NewFile) (file : NewFile) (tried : AreTriedFirst cmp key all (before ++ file ∷ [])) (none : (one : NewFile) → Contains before one → FileFinds one Absent) where
+          module _ {value : Option (List ℕ)} (finds : (table : LiveTable) → Contains tables table → table.file ≡ file
+              → HasNewest table.entries s key value) where
+            table : (table : LiveTable) × Contains tables table × (table.file ≡ file)
+            table = table_of file (Contains-permutation ((before ++ file ∷ []) ++ tried.rest) all file (IsPermutation-sym all ((before ++ file ∷ []) ++ tried.rest) tried.once)
+                (Contains-append_left (before ++ file ∷ []) tried.rest file (Contains-push before file)))
 
-          has : HasNewest table.0.entries s key value
-          has = finds table.0 table.1 table.2
+            has : HasNewest table.0.entries s key value
+            has = finds table.0 table.1 table.2
 
-          -- an entry of another table is this one's too, or older
-          not_newer : (other : LiveTable) → Contains tables other → (entry : Entry) → Contains other.entries entry → entry.key ≡ key → entry.sequence ≤ s → Contains table.0.entries entry ⊎ (entry.sequence < has.entry.sequence)
-          not_newer other c entry d k seen = ⊎_elim
-              (λ (one : Contains (before ++ file ∷ []) other.file). ⊎_elim
-              (λ (passed : Contains before other.file). absurd (none other.file passed other c refl entry d k seen))
-              (λ (same : file ≡ other.file). inl (mine (ap (λ (f : NewFile). f.number) (table.2 ∙ same))))
-              (Contains-push_cases before file other.file one))
-              (λ (later : All (λ one. IsTriedBefore one other.file) (before ++ file ∷ [])).
-              by (All-contains (λ one. IsTriedBefore one other.file) (before ++ file ∷ []) file later (Contains-push before file)))
-              (tried.others other.file (file_of other c) (in_range other c entry d k))
-            where
-              same_key : entry.key ≡ has.entry.key
-              same_key = k ∙ sym has.key_is
+            -- an entry of another table is this one's too, or older
+            not_newer : (other : LiveTable) → Contains tables other → (entry : Entry) → Contains other.entries entry → entry.key ≡ key → entry.sequence ≤ s → Contains table.0.entries entry ⊎ (entry.sequence < has.entry.sequence)
+            not_newer other c entry d k seen = ⊎_elim
+                (λ (one : Contains (before ++ file ∷ []) other.file). ⊎_elim
+                (λ (passed : Contains before other.file). absurd (none other.file passed other c refl entry d k seen))
+                (λ (same : file ≡ other.file). inl (mine (ap (λ (f : NewFile). f.number) (table.2 ∙ same))))
+                (Contains-push_cases before file other.file one))
+                (λ (later : All (λ one. IsTriedBefore one other.file) (before ++ file ∷ [])).
+                by (All-contains (λ one. IsTriedBefore one other.file) (before ++ file ∷ []) file later (Contains-push before file)))
+                (tried.others other.file (file_of other c) (in_range other c entry d k))
+              where
+                same_key : entry.key ≡ has.entry.key
+                same_key = k ∙ sym has.key_is
 
-              mine : table.0.file.number ≡ other.file.number → Contains table.0.entries entry
-              mine same = subst (λ (es : List Entry). Contains es entry) (sym (one_number table.0 other (there table.0 table.1) (there other c) same)) d
+                mine : table.0.file.number ≡ other.file.number → Contains table.0.entries entry
+                mine same = subst (λ (es : List Entry). Contains es entry) (sym (one_number table.0 other (there table.0 table.1) (there other c) same)) d
 
-              by : IsTriedBefore file other.file → Contains table.0.entries entry ⊎ (entry.sequence < has.entry.sequence)
-              by (inl deeper) =
-                  let up = ap (λ (f : NewFile). f.level) table.2 in
-                  inr (order.deeper table.0 other table.1 c (omega (arith, deeper, up)) entry has.entry d has.newest.there same_key)
-              by (inr (zero_file, zero_other, most)) =
-                  let number = ap (λ (f : NewFile). f.number) table.2 in
+                by : IsTriedBefore file other.file → Contains table.0.entries entry ⊎ (entry.sequence < has.entry.sequence)
+                by (inl deeper) =
+                    let up = ap (λ (f : NewFile). f.level) table.2 in
+                    inr (order.deeper table.0 other table.1 c (omega (arith, deeper, up)) entry has.entry d has.newest.there same_key)
+                by (inr (zero_file, zero_other, most)) =
+                    let number = ap (λ (f : NewFile). f.number) table.2 in
+                    ⊎_elim
+                    (λ (same : table.0.file.number ≡ other.file.number). inl (mine same))
+                    (λ (differ : table.0.file.number ≢ other.file.number).
+                    let less : other.file.number < table.0.file.number = below differ (omega (arith, number, most)) in
+                    inr (order.newer other table.0 c table.1 zero_other (ap (λ (f : NewFile). f.level) table.2 ∙ zero_file) less entry has.entry d has.newest.there same_key))
+                    (same_or_not table.0.file.number other.file.number)
+                  where
+                    below : table.0.file.number ≢ other.file.number → other.file.number ≤ table.0.file.number → other.file.number < table.0.file.number
+                    below differ upto = ⊎_elim (λ (less : other.file.number < table.0.file.number). less) (λ (least : table.0.file.number ≤ other.file.number). absurd (differ (omega (arith, upto, least)))) (cases_lt other.file.number table.0.file.number)
+
+            pub some_found : HasNewest (table_entries tables) s key value
+            some_found = record {
+              entry = has.entry;
+              newest = record {
+                there = flat_in (λ (t : LiveTable). t.entries) tables table.0 has.entry table.1 has.newest.there;
+                seen = has.newest.seen;
+                newest = λ other c k seen.
+                    let from = in_flat (λ (t : LiveTable). t.entries) tables other c in
+                    ⊎_elim
+                    (λ (mine : Contains table.0.entries other). has.newest.newest other mine k seen)
+                    (λ (less : other.sequence < has.entry.sequence). omega (arith, less))
+                    (not_newer from.0 from.1 other from.2 (k ∙ has.key_is) seen);
+              };
+              key_is = has.key_is;
+              value_is = has.value_is;
+              only = λ other newest k.
+                  let from = in_flat (λ (t : LiveTable). t.entries) tables other newest.there in
+                  let above = newest.newest has.entry (flat_in (λ (t : LiveTable). t.entries) tables table.0 has.entry table.1 has.newest.there) (has.key_is ∙ sym k) has.newest.seen in
                   ⊎_elim
-                  (λ (same : table.0.file.number ≡ other.file.number). inl (mine same))
-                  (λ (differ : table.0.file.number ≢ other.file.number).
-                  let less : other.file.number < table.0.file.number = below differ (omega (arith, number, most)) in
-                  inr (order.newer other table.0 c table.1 zero_other (ap (λ (f : NewFile). f.level) table.2 ∙ zero_file) less entry has.entry d has.newest.there same_key))
-                  (same_or_not table.0.file.number other.file.number)
-                where
-                  below : table.0.file.number ≢ other.file.number → other.file.number ≤ table.0.file.number → other.file.number < table.0.file.number
-                  below differ upto = ⊎_elim (λ (less : other.file.number < table.0.file.number). less) (λ (least : table.0.file.number ≤ other.file.number). absurd (differ (omega (arith, upto, least)))) (cases_lt other.file.number table.0.file.number)
+                  (λ (mine : Contains table.0.entries other). has.only other (record {
+                    there = mine;
+                    seen = newest.seen;
+                    newest = λ more c same seen. newest.newest more (flat_in (λ (t : LiveTable). t.entries) tables table.0 more table.1 c) same seen;
+                  }) k)
+                  (λ (less : other.sequence < has.entry.sequence). absurd (omega (arith, less, above)))
+                  (not_newer from.0 from.1 other from.2 k newest.seen);
+            }
 
-          pub some_found : HasNewest (table_entries tables) s key value
-          some_found = record {
-            entry = has.entry;
-            newest = record {
-              there = flat_in (λ (t : LiveTable). t.entries) tables table.0 has.entry table.1 has.newest.there;
-              seen = has.newest.seen;
-              newest = λ other c k seen.
-                  let from = in_flat (λ (t : LiveTable). t.entries) tables other c in
-                  ⊎_elim
-                  (λ (mine : Contains table.0.entries other). has.newest.newest other mine k seen)
-                  (λ (less : other.sequence < has.entry.sequence). omega (arith, less))
-                  (not_newer from.0 from.1 other from.2 (k ∙ has.key_is) seen);
-            };
-            key_is = has.key_is;
-            value_is = has.value_is;
-            only = λ other newest k.
-                let from = in_flat (λ (t : LiveTable). t.entries) tables other newest.there in
-                let above = newest.newest has.entry (flat_in (λ (t : LiveTable). t.entries) tables table.0 has.entry table.1 has.newest.there) (has.key_is ∙ sym k) has.newest.seen in
-                ⊎_elim
-                (λ (mine : Contains table.0.entries other). has.only other (record {
-                  there = mine;
-                  seen = newest.seen;
-                  newest = λ more c same seen. newest.newest more (flat_in (λ (t : LiveTable). t.entries) tables table.0 more table.1 c) same seen;
-                }) k)
-                (λ (less : other.sequence < has.entry.sequence). absurd (omega (arith, less, above)))
-                (not_newer from.0 from.1 other from.2 k newest.seen);
-          }
+          -- an entry that the first of them finds, all find
+          pub found_in_all : (found : Lookup (List ℕ)) → is_absent found ≡ false → FileFinds file found → FindsNewest (table_entries tables) s key found
+          found_in_all Absent some finds = absurd cc
+          found_in_all Deleted some finds = some_found {value = None} finds
+          found_in_all (Value value) some finds = some_found {value = Some value} finds

@@ -7,6 +7,7 @@ use Rattle.std.specs.declared.cmp.Ordering.{Ordering}
 use Rattle.leveldb_base.proofs.HistoryLemmas.{in_front}
 use Rattle.leveldb_base.specs.Cmp.{IsExactOrder}
 use Rattle.leveldb_base.specs.Entries.{FindsNewest, found_at}
+use Rattle.leveldb_base.specs.declared.types.Lookup.{Lookup}
 use Rattle.leveldb_base.specs.Error.{IsOutOfMemory}
 use Rattle.leveldb_base.specs.History.{Entry}
 use Rattle.leveldb_base.specs.KeyTypes.{internal_cmp, sequence_part, user_part}
@@ -129,7 +130,7 @@ module _ {E C FP F : Type 0} {order : CmpGhosts (InternalKeyCmp C)} (env : EnvGh
   }
 
   -- the table isn't looked up in
-  pub search_refused : (status : Status) (result : Result (Option (Option (List ℕ))) Status) → IsErrAnd result (λ other. other ≡ status)
+  pub search_refused : (status : Status) (result : Result (Lookup (List ℕ)) Status) → IsErrAnd result (λ other. other ≡ status)
       → UsesTable env {T = Option Pair} (MayFail env by from old number) number from old (Err status) to new
       → (IsTrue env.models_disk → MatchesFiles order env by (files_at env from) old → GetsPair order env by number key from old (Err status) to new)
       → SearchesTable order env by key from old number result to new
@@ -141,12 +142,12 @@ module _ {E C FP F : Type 0} {order : CmpGhosts (InternalKeyCmp C)} (env : EnvGh
     cache = used_tables uses (λ matched. (gets matched.modelled matched.matches).matches);
   }
     where
-      refused_if : (P : Option (Option (List ℕ)) → Type 0) (answer : Result (Option (Option (List ℕ))) Status) → IsErrAnd answer (λ other. other ≡ status) → IfOk answer P
+      refused_if : (P : Lookup (List ℕ) → Type 0) (answer : Result (Lookup (List ℕ)) Status) → IsErrAnd answer (λ other. other ≡ status) → IfOk answer P
       refused_if P (Ok value) refused = absurd refused
       refused_if P (Err other) refused = tt
 
   -- what the pair that it finds says
-  pub search_answers : (pair : Option Pair) (result : Result (Option (Option (List ℕ))) Status)
+  pub search_answers : (pair : Option Pair) (result : Result (Lookup (List ℕ)) Status)
       → UsesTable env (MayFail env by from old number) number from old (Ok pair) to new
       → (IsTrue env.models_disk → MatchesFiles order env by (files_at env from) old → GetsPair order env by number key from old (Ok pair) to new)
       → IfOk result (λ value. value ≡ found_at (user_part key) pair) → IfErr result (λ status. (status.code ≡ Corruption) × IsSomeAnd pair (λ it. length it.0 < 8))
@@ -179,7 +180,7 @@ module _ {E C FP F : Type 0} (order : CmpGhosts (InternalKeyCmp C)) (env : EnvGh
   }
 
   -- what is found in it, its entries have
-  pub table_finds : (found : Option (Option (List ℕ))) → FindsInTable order env by key from old table.file.number found → FindsNewest table.entries (sequence_part key) (user_part key) found
+  pub table_finds : (found : Lookup (List ℕ)) → FindsInTable order env by key from old table.file.number found → FindsNewest table.entries (sequence_part key) (user_part key) found
   table_finds found finds =
       let it = finds (bytes_of has.file) has_bytes in
       let says = pair_says order by exact order_is key tagged agrees has.read it.0 it.1 it.2.0 it.2.1 in

@@ -6,6 +6,8 @@ use Rattle.std.specs.Cmp.{IsTotalOrder}
 use Rattle.std.specs.declared.cmp.Ordering.{Ordering}
 use Rattle.std.specs.declared.cmp.Ordering.TheVariants.{Less}
 use Rattle.leveldb_base.specs.Entries.{FindsNewest, found_at}
+use Rattle.leveldb_base.specs.declared.types.Lookup.{Lookup}
+use Rattle.leveldb_base.specs.declared.types.Lookup.TheVariants.{Absent}
 use Rattle.leveldb_base.specs.KeyTypes.{sequence_part, user_part}
 use Rattle.leveldb_base.specs.Types.{Pair}
 use Rattle.leveldb_base.specs.declared.cmp.Cmp.{Ghosts as CmpGhosts}
@@ -109,19 +111,19 @@ module _ {E C FP F : Type 0} (order : CmpGhosts (InternalKeyCmp C)) (env : EnvGh
       × P pair))
 
   -- what a number's table has of the key: a value, a deletion, or nothing
-  abbrev pub FindsInTable : ℕ → Option (Option (List ℕ)) → Type 0
+  abbrev pub FindsInTable : ℕ → Lookup (List ℕ) → Type 0
   FindsInTable number found = ForPairAt number (λ pair. found ≡ found_at (user_part key) pair)
 
   -- in the tables of these files nothing is found of the key
   abbrev pub FindsInNone : List NewFile → Type 0
-  FindsInNone files = All (λ file. FindsInTable file.number None) files
+  FindsInNone files = All (λ file. FindsInTable file.number Absent) files
 
   -- in the last of these files this is found, and in those before it nothing
-  abbrev pub FindsInLast : List NewFile → Option (Option (List ℕ)) → Type 0
-  FindsInLast [] found = found ≡ None
+  abbrev pub FindsInLast : List NewFile → Lookup (List ℕ) → Type 0
+  FindsInLast [] found = found ≡ Absent
   FindsInLast (file ∷ []) found = FindsInTable file.number found
   FindsInLast (file ∷ second ∷ files) found =
-      FindsInTable file.number None × FindsInLast (second ∷ files) found
+      FindsInTable file.number Absent × FindsInLast (second ∷ files) found
 
   -- Why a number's table can't be read for the key: its file is missing or no table, it lacks a block
   -- on the way to the key, or the pair there has a key without a tag.
@@ -146,7 +148,7 @@ module _ {E C FP F : Type 0} (order : CmpGhosts (InternalKeyCmp C)) (env : EnvGh
         → IsSome (table_at old number) ⊎ Contains numbers number
 
   -- what a search for the key in the table of a number returns and leaves
-  pub record SearchesTable (number : ℕ) (result : Result (Option (Option (List ℕ))) Status)
+  pub record SearchesTable (number : ℕ) (result : Result (Lookup (List ℕ)) Status)
       (to : E) (new : TableCache E C FP F) : Type 0 where
     pub finds : AreOpenTablesMatched → IfOk result (FindsInTable number)
     pub there : OnOk result (IsOpenOrThere env from old number)
@@ -174,7 +176,7 @@ module _ {E C FP F : Type 0} (order : CmpGhosts (InternalKeyCmp C)) (env : EnvGh
     AreSearchedFirst = AreTriedFirst by.format.order (user_part key) (new_files_of version)
 
     -- The way of a look-up through the version's files, and the one that it charges with a seek.
-    pub record SearchesFiles (found : Option (Option (List ℕ))) (charge : Option LevelFile)
+    pub record SearchesFiles (found : Lookup (List ℕ)) (charge : Option LevelFile)
         : Type 0 where
       -- the files in whose tables it looked, in order
       pub looked : List NewFile
@@ -182,7 +184,7 @@ module _ {E C FP F : Type 0} (order : CmpGhosts (InternalKeyCmp C)) (env : EnvGh
       pub there : All (λ file. IsOpenOrThere env from old file.number) looked
       -- it ends at the first whose table has an entry of the key, or where no file is left
       pub finds : AreOpenTablesMatched → FindsInLast looked found
-      pub all : found ≡ None
+      pub all : found ≡ Absent
           → AreAllTried by.format.order (user_part key) (new_files_of version) looked
       pub charged : charge ≡ file_to_charge looked
 
@@ -201,7 +203,7 @@ module _ {E C FP F : Type 0} (order : CmpGhosts (InternalKeyCmp C)) (env : EnvGh
       pub unread : IsUnreadable file.number status
 
     -- what a look-up in the version returns and leaves
-    pub record LooksUpNewest (result : Result (Option (Option (List ℕ)) × GetStats) Status)
+    pub record LooksUpNewest (result : Result (Lookup (List ℕ) × GetStats) Status)
         (to : E) (new : TableCache E C FP F) : Type 0 where
       -- the value or the deletion of the newest entry of the user's key at or below the key's
       -- number, or nothing if no table has such an entry

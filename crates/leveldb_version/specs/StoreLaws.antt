@@ -8,6 +8,7 @@ use Rattle.std.specs.Cmp.{IsTotalOrder}
 use Rattle.std.specs.Str.{bytes_eq}
 use Rattle.std.specs.declared.cmp.Ordering.{Ordering}
 use Rattle.leveldb_base.specs.Entries.{FindsNewest}
+use Rattle.leveldb_base.specs.declared.types.Lookup.{Lookup}
 use Rattle.leveldb_base.specs.Layers.{AreLayered, IsOlder}
 use Rattle.leveldb_base.specs.declared.types.FileType.{FileType}
 use Rattle.leveldb_base.specs.declared.types.FileType.TheVariants.{Log, Table, Descriptor, Current}
@@ -354,7 +355,7 @@ RangesLeaveOut = (cmp : List ℕ → List ℕ → Ordering) (all some : List Liv
     → (key : List ℕ)
     → ((table : LiveTable) → Contains all table → IsInRange cmp table.file key
     → Contains some table)
-    → (s : ℕ) (found : Option (Option (List ℕ)))
+    → (s : ℕ) (found : Lookup (List ℕ))
     → FindsNewest (table_entries some) s key found → FindsNewest (table_entries all) s key found
 
 -- tables in the order in which they are searched are layered, the newer ones first

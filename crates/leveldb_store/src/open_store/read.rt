@@ -1,6 +1,6 @@
 //! Looking a key up: in the memtables, and then in the tables of the version.
-ghost use Rattle.std.specs.Prelude.{◌≡◌, IfErr, IfOk, option_copied, option_map};
-ghost use Rattle.leveldb_base.specs.Entries.{FindsNewest};
+ghost use Rattle.std.specs.Prelude.{◌≡◌, IfErr, IfOk};
+ghost use Rattle.leveldb_base.specs.Entries.{FindsNewest, lookup_copied, value_found};
 ghost use Rattle.leveldb_base.specs.Error.{IsOutOfMemory};
 ghost use Rattle.leveldb_version.specs.Format.{format_of};
 ghost use Rattle.leveldb_version.specs.Search.{LooksUpNewest};
@@ -13,7 +13,7 @@ use bytes::Bytes;
 use leveldb_base::cmp::{Cmp, InternalKeyCmp, UserCmp};
 use leveldb_base::error::Result;
 use leveldb_base::key_types::LookupKey;
-use leveldb_base::types::{MAX_SEQUENCE_NUMBER, SequenceNumber};
+use leveldb_base::types::{Lookup, MAX_SEQUENCE_NUMBER, SequenceNumber};
 use leveldb_env::compressor::{CompressorList, Compressors};
 use leveldb_env::env::Env;
 use leveldb_env::filter::FilterPolicy;
@@ -41,24 +41,26 @@ impl<E: Env, C: UserCmp + Copy + Drop> OpenStore<E, C> {
             LooksUpKey ⟦<InternalKeyCmp<C> as Cmp>⟧ E.Env by self.old env.old tables.old sequence
             key.now result self.new env.new tables.new }
     {
-        if let Some(value) = self.newest_in_memory(sequence, key) {
-            return copied(self.alloc, value);
+        let found = self.newest_in_memory(sequence, key);
+        if !found.is_absent() {
+            return copied(self.alloc, found);
         }
         let (found, stats) = self.newest_in_tables(env, options, tables, sequence, key)?;
         self.current.update_stats(stats);
-        Ok(found.unwrap_or(None))
+        Ok(found.into_value())
     }
 
-    // What the memtables have of the key at a number: a value, a deletion, or nothing.
-    fn newest_in_memory(&self, sequence: SequenceNumber, key: &[u8]) -> Option<Option<&[u8]>>
-        ensures { FindsInMemory self.now sequence key.now (option_map option_copied result) }
+    // What the memtables have of the key at a number.
+    fn newest_in_memory(&self, sequence: SequenceNumber, key: &[u8]) -> Lookup<&[u8]>
+        ensures { FindsInMemory self.now sequence key.now (lookup_copied result) }
     {
-        if let Some(value) = newest_up_to(&self.recent, key, sequence) {
-            return Some(value);
+        let recent = newest_up_to(&self.recent, key, sequence);
+        if !recent.is_absent() {
+            return recent;
         }
         match &self.waiting {
             Some(waiting) => newest_up_to(waiting, key, sequence),
-            None => None,
+            None => recent,
         }
     }
 
@@ -72,7 +74,7 @@ impl<E: Env, C: UserCmp + Copy + Drop> OpenStore<E, C> {
         tables: &mut TableCache<E, C, FP>,
         sequence: SequenceNumber,
         key: &[u8],
-    ) -> Result<(Option<Option<Bytes>>, GetStats)>
+    ) -> Result<(Lookup<Bytes>, GetStats)>
         requires { C.cmp options.now.cmp ≡ C.cmp self.now.cmp }
         ensures searches { let by = table_options (format_of C.Cmp FP.FilterPolicy
             ⟦<CompressorList as Compressors>⟧.codings options.now) options.now in
@@ -89,27 +91,26 @@ impl<E: Env, C: UserCmp + Copy + Drop> OpenStore<E, C> {
     }
 }
 
-// What a memtable has of the key up to a number: a value, a deletion, or nothing.
+// What a memtable has of the key up to a number.
 fn newest_up_to<'a, C: UserCmp>(
     memtable: &'a MemTable<C>,
     key: &[u8],
     last: SequenceNumber,
-) -> Option<Option<&'a [u8]>>
-    ensures { FindsNewest memtable.now.kept.entries last key.now
-        (option_map option_copied result) }
+) -> Lookup<&'a [u8]>
+    ensures { FindsNewest memtable.now.kept.entries last key.now (lookup_copied result) }
 {
     // This says that no entry has a number past the greatest.
     let _ = memtable.iter();
     memtable.newest(key, last.min(MAX_SEQUENCE_NUMBER))
 }
 
-// A copy of a value, or none.
-fn copied(alloc: Global, value: Option<&[u8]>) -> Result<Option<Bytes>>
-    ensures ok { IfOk result (λ copy. copy ≡ option_copied value.entry) }
+// A copy of the value that was found, or none.
+fn copied(alloc: Global, found: Lookup<&[u8]>) -> Result<Option<Bytes>>
+    ensures ok { IfOk result (λ copy. copy ≡ value_found (lookup_copied found.entry)) }
     ensures memory { IfErr result IsOutOfMemory }
 {
-    match value {
-        None => Ok(None),
-        Some(value) => Ok(Some(Bytes::copy_from_slice(alloc, value)?)),
+    match found {
+        Lookup::Value(value) => Ok(Some(Bytes::copy_from_slice(alloc, value)?)),
+        Lookup::Deleted | Lookup::Absent => Ok(None),
     }
 }

@@ -13,7 +13,7 @@ use bytes::Bytes;
 use leveldb_base::cmp::{Cmp, InternalKeyCmp, UserCmp};
 use leveldb_base::error::{Result, StatusCode, err};
 use leveldb_base::key_types::{LookupKey, TAG_LEN, ValueType, parse_internal_key};
-use leveldb_base::types::FileNum;
+use leveldb_base::types::{FileNum, Lookup};
 use leveldb_env::compressor::{CompressorList, Compressors};
 use leveldb_env::env::Env;
 use leveldb_env::filter::FilterPolicy;
@@ -34,7 +34,7 @@ impl<C: UserCmp + Copy + Drop> Version<C> {
         options: &Options<C, FP>,
         tables: &mut TableCache<E, C, FP>,
         key: &LookupKey,
-    ) -> Result<(Option<Option<Bytes>>, GetStats)>
+    ) -> Result<(Lookup<Bytes>, GetStats)>
         requires order { C.cmp options.now.cmp ≡ C.cmp self.now.cmp }
         requires tagged { 8 ≤ length key.now }
         ensures { let by = table_options (format_of C.Cmp FP.FilterPolicy
@@ -48,16 +48,16 @@ impl<C: UserCmp + Copy + Drop> Version<C> {
         while let Some(file) = files.next(&self.cmp, key.user_key()) {
             stats.file = first;
             let found = newest_in_table(alloc, env, options, tables, file.1.num, key)?;
-            if found.is_some() {
+            if !found.is_absent() {
                 return Ok((found, stats));
             }
             first = first.or(Some((file.0, file.1.num)));
         }
-        Ok((None, stats))
+        Ok((Lookup::Absent, stats))
     }
 }
 
-// What the table of a file has of a key at or below its number: a value, a deletion, or nothing.
+// What the table of a file has of a key at or below its number.
 fn newest_in_table<E: Env, C: UserCmp + Copy + Drop, FP: FilterPolicy + Copy + Drop>(
     alloc: Global,
     env: &mut E,
@@ -65,7 +65,7 @@ fn newest_in_table<E: Env, C: UserCmp + Copy + Drop, FP: FilterPolicy + Copy + D
     tables: &mut TableCache<E, C, FP>,
     number: FileNum,
     key: &LookupKey,
-) -> Result<Option<Option<Bytes>>>
+) -> Result<Lookup<Bytes>>
     ensures { let by = table_options (format_of C.Cmp FP.FilterPolicy
         ⟦<CompressorList as Compressors>⟧.codings options.now) options.now in
         SearchesTable ⟦<InternalKeyCmp<C> as Cmp>⟧ E.Env by key.now env.old tables.old number result
@@ -77,18 +77,13 @@ fn newest_in_table<E: Env, C: UserCmp + Copy + Drop, FP: FilterPolicy + Copy + D
 
 // What a table's pair of this key and value, if there is one, says of a user's key, if it is one of
 // that key. `Corruption` if its own key has no tag.
-fn value_at(
-    alloc: Global,
-    found: &[u8],
-    value: Option<Bytes>,
-    key: &[u8],
-) -> Result<Option<Option<Bytes>>>
+fn value_at(alloc: Global, found: &[u8], value: Option<Bytes>, key: &[u8]) -> Result<Lookup<Bytes>>
     ensures ok { IfOk result (λ newest. newest ≡ found_at key.now (pair_with found.now value)) }
     ensures damaged { IfErr result (λ status. (status.code ≡ StatusCode.Corruption)
         × IsSomeAnd (pair_with found.now value) (λ it. length it.0 < 8)) }
 {
     let Some(value) = value else {
-        return Ok(None);
+        return Ok(Lookup::Absent);
     };
     if found.len() < TAG_LEN {
         return err(
@@ -99,10 +94,10 @@ fn value_at(
     }
     let (kind, _, user) = parse_internal_key(found);
     if user != key {
-        return Ok(None);
+        return Ok(Lookup::Absent);
     }
     match kind {
-        ValueType::TypeDeletion => Ok(Some(None)),
-        ValueType::TypeValue => Ok(Some(Some(value))),
+        ValueType::TypeDeletion => Ok(Lookup::Deleted),
+        ValueType::TypeValue => Ok(Lookup::Value(value)),
     }
 }

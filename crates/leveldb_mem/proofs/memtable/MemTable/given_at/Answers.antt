@@ -1,8 +1,9 @@
-use Rattle.std.proofs.Common.{◌≡◌, [], List, Option, Some, ℕ, sym, subst, arith}
+use Rattle.std.proofs.Common.{◌≡◌, [], List, ℕ, sym, subst, arith}
 use Rattle.std.proofs.lemmas.Bool.{iff_false}
 use Rattle.leveldb_mem.specs.Placed.{rank}
-use Rattle.leveldb_base.specs.Entries.{value_of}
-use Rattle.leveldb_mem.specs.MemTable.{entries_of_keys, IsValueAt}
+use Rattle.leveldb_base.specs.Entries.{lookup_of, value_of}
+use Rattle.leveldb_base.specs.declared.types.Lookup.{Lookup}
+use Rattle.leveldb_mem.specs.MemTable.{entries_of_keys, IsFoundAt}
 use Rattle.leveldb_mem.proofs.MemTableLemmas.{length-walked, gives_other, gives_read}
 use Rattle.leveldb_mem.proofs.memtable.MemTable.given_at.Goals as goal
 
@@ -23,8 +24,8 @@ returns-then-is_same g c =
     let given = gives_read it.pairs (rank it.nodes c.args.node) (omega (arith, there, length-walked it.pairs)) c.key.result.now c.key.ensures parts.result.0.now parts.ensures.internal parsed.result.2.now parsed.ensures.user
     parts.result.1.now parsed.result.0 parsed.ensures.kind parts.ensures.value in
     rw (← c.self.view_is)
-    (subst (λ (v : Option (List ℕ)). IsValueAt (entries_of_keys it.pairs) (rank it.nodes c.args.node) c.args.key.now (Some v)) (sym c.given.ensures)
-    (subst (λ (k : List ℕ). IsValueAt (entries_of_keys it.pairs) (rank it.nodes c.args.node) k (Some (value_of parsed.result.0 parts.result.1.now))) same given))
+    (subst (λ (found : Lookup (List ℕ)). IsFoundAt (entries_of_keys it.pairs) (rank it.nodes c.args.node) c.args.key.now found) (sym c.said.ensures)
+    (subst (λ (k : List ℕ). IsFoundAt (entries_of_keys it.pairs) (rank it.nodes c.args.node) k (lookup_of (value_of parsed.result.0 parts.result.1.now))) same given))
 
 pub returns : goal.returns
 returns g c =

@@ -1,5 +1,6 @@
-use Rattle.std.proofs.Common.{None, refl, sym, ap, subst, ◌∙◌}
+use Rattle.std.proofs.Common.{refl, sym, ap, subst, ◌∙◌}
 use Rattle.leveldb_base.specs.Types.{position_within}
+use Rattle.leveldb_base.specs.declared.types.Lookup.TheVariants.{Absent}
 use Rattle.leveldb_mem.specs.Placed.{rank}
 use Rattle.leveldb_mem.specs.Searching.{count_while, IsParted}
 use Rattle.leveldb_mem.proofs.MemTableLemmas.{as_of, parted_as_of, finds_as_of, gives_nothing}
@@ -26,7 +27,7 @@ returns-in-None g c =
     let same = ap (λ m. m.0) c.comparator-cmp.ensures.value in
     let count_is = ap (λ z. count_while (λ k. as_of (g.C.Cmp.cmp z) k key sequence) it.pairs) same in
     let past = beyond it.pairs _ (c.in-None.ensures.position ∙ ap (position_within it.pairs) count_is) in
-    rw (← c.self.view_is) (finds_as_of o all exact sorted key sequence c.requires _ refl None (gives_nothing it.pairs _ key past))
+    rw (← c.self.view_is) (finds_as_of o all exact sorted key sequence c.requires _ refl Absent (gives_nothing it.pairs _ key past))
 
 pub returns-in-Some : goal.returns-in-Some
 returns-in-Some g c =

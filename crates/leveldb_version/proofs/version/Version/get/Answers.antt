@@ -49,8 +49,8 @@ returns-in_err-found g c =
     stops_unread _ g.E.Env by c.args.key.now c.args.env.now c.args.tables.now c.args.self.now c.loop-file.invariant takes fits exact refl c.requires.tagged sizes
     c.in_err-found.field-0.0 c.from_residual.result c.from_residual.ensures.1 c.in_err-found.ensures
 
-pub returns-then-is_some : goal.returns-then-is_some
-returns-then-is_some g c =
+pub returns-then-not-is_absent : goal.returns-then-not-is_absent
+returns-then-not-is_absent g c =
     let options = c.args.options.now in
     let cmp = options.cmp in
     let by = table_options (format_of g.C.Cmp g.FP.FilterPolicy (compressors g.dyn-2).codings options) options in
@@ -65,7 +65,7 @@ returns-then-is_some g c =
     (λ one there. (each_fits c.self.inside.files.items c.self.invariant.1 one there).1) in
     let fits : c.in-Some.file.now.1.num < 2 ^ 64 = omega arith in
     stops_with _ g.E.Env by c.args.key.now c.args.env.now c.args.tables.now c.args.self.now c.loop-file.invariant takes fits exact refl c.requires.tagged sizes
-    c.in_ok-found.found (sym c.is_some.ensures ∙ c.if-is_some.true) (record { file = c.loop-file.first }) refl c.in_ok-found.ensures
+    c.in_ok-found.found (sym c.is_absent.ensures ∙ c.if-not-is_absent.true) (record { file = c.loop-file.first }) refl c.in_ok-found.ensures
 
 pub loop-file-smaller : goal.loop-file-smaller
 loop-file-smaller g c = fewer_left c.in-Some.ensures
@@ -83,7 +83,7 @@ loop-file-preserved g c =
     (subst (λ (order : List ℕ → List ℕ → Ordering). TakesNextFile order c.user_key.result.now left (Some file) after) same c.in-Some.ensures) in
     let fits : c.in-Some.file.now.1.num < 2 ^ 64 = omega arith in
     goes_on_without _ g.E.Env by c.args.key.now c.args.env.now c.args.tables.now c.args.self.now c.loop-file.invariant takes fits
-    c.in_ok-found.found (sym c.is_some.ensures ∙ c.if-is_some.false) c.or-first.result c.or-first.ensures c.in_ok-found.ensures
+    c.in_ok-found.found (sym c.is_absent.ensures ∙ c.if-not-is_absent.false) c.or-first.result c.or-first.ensures c.in_ok-found.ensures
 
 pub returns : goal.returns
 returns g c =
