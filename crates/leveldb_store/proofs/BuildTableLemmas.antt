@@ -1,6 +1,6 @@
 -- How a builder gets the pairs of a walk, what its table is to a store, and what the file's calls leave.
 use Rattle.std.proofs.Common.{◌≡◌, ◌≢◌, ◌⊎◌, inl, inr, ⊎_elim, ℕ, zero, suc, ◌+◌, ◌^◌, ◌<◌, ◌≤◌, Bool, true, false, List, [], ◌∷◌, ◌++◌, length, take, map, flat_map, nat_lt, Option, None, Some, Result, Ok, Err, refl, sym, ◌∙◌, ap, subst, append_assoc, arith}
-use Rattle.std.specs.Prelude.{All, IsTrue, OnOk, slice_get, slice_index_or, if◌then◌else◌, ◌&&◌}
+use Rattle.std.specs.Prelude.{All, IfOk, IsTrue, OnOk, slice_get, slice_index_or, if◌then◌else◌, ◌&&◌}
 use Rattle.std.specs.List.{concat}
 use Rattle.std.proofs.lemmas.Bool.{cases_lt, le-leb, lt-ltb}
 use Rattle.std.proofs.lemmas.List.{nil_from_length, length-append, append-nil, take_all}
@@ -38,7 +38,7 @@ use Rattle.leveldb_version.specs.Batches.{Each}
 use Rattle.leveldb_version.specs.Paths.{table_path}
 use Rattle.leveldb_version.specs.Store.{IsFirstKey, IsInternalPair, IsLastKey, IsStoreTable, any_user_key}
 use Rattle.leveldb_store.specs.BuildTable.{AddsPairs, CanBeTabled, HasTaken, IsNotTabled, IsTableBuilt, IsTableFile, IsTableOfStore, IsTableUnder, IsUnused, MakesTable, ReadsNoFile, StaysOver, StopsAtPair, StopsBuilding, TableChoices, passed, puts_all}
-use Rattle.leveldb_store.specs.TableFile.{AddsAllToFile, AddsToFile, ChangesOneFile, FailsToWrite, FinishesFile, IsAddFault, IsFinishFault, IsThere, StopsWriting, WritesTable}
+use Rattle.leveldb_store.specs.TableFile.{AddsAllToFile, AddsToFile, ChangesOneFile, FailsToWrite, FinishesFile, IsAddFault, IsFinishFault, IsMetadataOf, IsThere, StopsWriting, WritesTable}
 use Rattle.leveldb_store.proofs.TableFileLemmas.{fails_later, longer_file_is, longer_there, own_stops, stops_after, stops_so, synced_file_is}
 
 -- ---- pairs in turn
@@ -141,7 +141,7 @@ last_of_more first (next ∷ pairs) =
     let later = last_of_more next pairs in
     (first ∷ later.0, later.1, ap (λ ps. first ∷ ps) later.2)
 
-last_key_of : {key : List ℕ} {pairs : List Pair} → IsFirstKey key pairs → IsLastKey (last_added pairs) pairs
+pub last_key_of : {key : List ℕ} {pairs : List Pair} → IsFirstKey key pairs → IsLastKey (last_added pairs) pairs
 last_key_of {key} {pairs} first = subst (λ ps. IsLastKey (last_added ps) ps) (sym first.2) (last_of_more (key, first.0) first.1)
 
 module _ {E T W : Type 0} (walk : WalkGhosts W E T) where
@@ -306,28 +306,41 @@ module _ {C FP : Type 0} {order : CmpGhosts C} {filters : FilterGhosts FP} (codi
         inr (record { mid = mid; at = all.bytes; taken = all.taken; to = failed.0; cause = failed.1 })
 
     -- from an empty file the builder makes the table
-    pub table_written : {core mid : TableBuilt C FP} {from : E} {start at to : Opened E F} {path : List ℕ} {pairs : List Pair} {size : ℕ} (largest : List ℕ) → (IsTrue env.models_disk → env.name_of start.file ≡ path)
-        → (IsTrue env.models_disk → opened_file env start ≡ Some (kept_file [])) → IsBegun codings order filters core [] [] → AddsAllToFile order filters codings env core start pairs mid at
-        → FinishesFile order filters codings env mid at size to → size < 2 ^ 64 → largest ≡ last_of mid → AreBytes largest → env.failures start.env ≡ env.failures from
-        → WritesTable order filters codings env core path pairs size largest from to.env
-    table_written {core} {mid} {from} {start} {at} {to} {path} {pairs} {size} largest named empty begun all finishes fits last key counted =
-        let made = finishes.made all.taken.adds.bytes pairs (all.taken.adds.begun [] [] begun) in
+    pub table_written : {core mid : TableBuilt C FP} {from to : E} {start at : Opened E F}
+        {path smallest : List ℕ} {number : ℕ} {pairs : List Pair} (made : FileMetaData)
+        → (IsTrue env.models_disk → env.name_of start.file ≡ path)
+        → (IsTrue env.models_disk → opened_file env start ≡ Some (kept_file []))
+        → IsBegun codings order filters core [] []
+        → AddsAllToFile order filters codings env core start pairs mid at
+        → FinishesFile order filters codings env mid at made.size to
+        → IsMetadataOf number smallest (last_of mid) made
+        → env.failures start.env ≡ env.failures from
+        → WritesTable order filters codings env core path number smallest pairs made from to
+    table_written {core} {mid} {from} {to} {start} {at} {path} {smallest} {number} {pairs} made
+        named empty begun all finishes known counted =
+        let table = finishes.made all.taken.adds.bytes pairs (all.taken.adds.begun [] [] begun) in
         let put = all_put all.taken.adds.put in
         let kept = all.taken.choices in
         record {
           bytes = all.bytes ++ finishes.bytes;
-          built = subst (λ b. IsTableUnder order filters codings (order_of core) (policy_of core) core.compressor core.block.interval core.index.interval (b ++ finishes.bytes) pairs) (sym put)
-              (IsTableUnder-same order filters codings kept.same_order kept.same_policy kept.same_compressor kept.same_intervals.0 kept.same_intervals.1 made.0);
+          built = subst (λ b. IsTableUnder order filters codings (order_of core) (policy_of core)
+              core.compressor core.block.interval core.index.interval (b ++ finishes.bytes) pairs)
+              (sym put)
+              (IsTableUnder-same order filters codings kept.same_order kept.same_policy
+              kept.same_compressor kept.same_intervals.0 kept.same_intervals.1 table.0);
           kept = λ modelled.
               let first = longer_file_is env (kept_file []) all.longer modelled (empty modelled) in
-              let second = longer_file_is env (record { kept = []; since = all.bytes }) finishes.longer modelled first in
-              let last = synced_file_is env (record { kept = []; since = all.bytes ++ finishes.bytes }) finishes.synced modelled second in
-              ap (env.observed to.env).disk.files (sym (finishes.synced.file modelled ∙ finishes.longer.file modelled ∙ all.longer.file modelled ∙ named modelled)) ∙ last;
-          size_is = made.1 ∙ ap (λ b. length (b ++ finishes.bytes)) (sym put);
-          fits = fits;
-          largest_is = last ∙ all.last;
-          key = key;
-          counted = finishes.synced.cause.ok ∙ finishes.longer.counted ∙ all.longer.counted ∙ counted;
+              let second = longer_file_is env (record { kept = []; since = all.bytes })
+              finishes.longer modelled first in
+              let last = synced_file_is env
+              (record { kept = []; since = all.bytes ++ finishes.bytes }) finishes.synced modelled
+              second in
+              ap (env.observed to).disk.files (sym (finishes.synced.file modelled
+              ∙ finishes.longer.file modelled ∙ all.longer.file modelled ∙ named modelled)) ∙ last;
+          size_is = table.1 ∙ ap (λ b. length (b ++ finishes.bytes)) (sym put);
+          known = subst (λ key. IsMetadataOf number smallest key made) all.last known;
+          counted = finishes.synced.cause.ok ∙ finishes.longer.counted ∙ all.longer.counted
+              ∙ counted;
         }
 
 -- ---- beside a walk
@@ -353,16 +366,16 @@ module _ {E F T W C FP : Type 0} (walk : WalkGhosts W E T) (laws : WalkLaws walk
       }
 
   -- the next one wasn't added
-  pub not_added_so_far : {Other : Status → Type 0} {to : Opened E F} {pair : Pair} {status : Status} → Some pair ≡ walk.here it → (IsThere env at → StopsWriting env (IsAddFault order filters codings mid pair) at status to) → IsThere env from
+  pub not_added_so_far : {Other : Status → Type 0} {to : E} {pair : Pair} {status : Status} → Some pair ≡ walk.here it → (IsThere env at → StopsWriting env (IsAddFault order filters codings mid pair) at status to) → IsThere env from
       → StopsWriting env (λ why. StopsAtPair order filters codings puts_all core [] pairs why ⊎ Other why) from status to
   not_added_so_far {pair = pair} {status = status} here stops there =
       stops_so env (λ own. inl (stops_at_next codings env pairs (passed pairs s.position) pair status (there_so_far here) s.adds own)) (stops_after env s.adds.longer (stops (longer_there env s.adds.longer there)))
 
 -- the walk failed, which changed nothing
 pub walk_failed_so_far : {E F C FP : Type 0} (env : EnvGhosts E F) {order : CmpGhosts C} {filters : FilterGhosts FP} {codings : Codings} {Own : Status → Type 0} {core mid new : TableBuilt C FP} {from at to : Opened E F} {last : E} {pairs : List Pair} {pair : Pair} {status : Status}
-    → AddsAllToFile order filters codings env core from pairs mid at → AddsToFile order filters codings env mid at pair new to → last ≡ to.env → Own status → StopsWriting env Own from status (opened last to.file)
+    → AddsAllToFile order filters codings env core from pairs mid at → AddsToFile order filters codings env mid at pair new to → last ≡ to.env → Own status → StopsWriting env Own from status last
 walk_failed_so_far env {Own = Own} {from = from} {to = to} {status = status} all one same own =
-    subst (λ e. StopsWriting env Own from status (opened e to.file)) (sym same) (own_stops env (IsLonger-trans env all.longer one.longer) own)
+    subst (λ e. StopsWriting env Own from status e) (sym same) (own_stops env (IsLonger-trans env all.longer one.longer) own)
 
 -- ---- a table of the store
 
@@ -478,33 +491,75 @@ module _ {C FP : Type 0} {order : CmpGhosts C} {filters : FilterGhosts FP} (choi
         }
 
     -- the file was made
-    pub MakesTable-done : {core : TableBuilt C FP} {smallest largest : List ℕ} {size : ℕ} → number < 2 ^ 64 → AreBytes smallest → IsNewBuilder order filters choices.cmp choices.policy choices.id choices.block_size choices.restarts core
-        → WritesTable order filters choices.format.codings env core path pairs size largest mid new → IsFirstKey smallest pairs
-        → ((read : List ℕ) → IsTableBuilt choices pairs read → (meaning : List ℕ → Option (List ℕ → List ℕ → Bool)) → IsMeaningOf meaning choices.format.policy_name (λ key. choices.format.matches (user_part key))
+    pub MakesTable-done : {core : TableBuilt C FP} {smallest : List ℕ} (file : FileMetaData)
+        → number < 2 ^ 64 → AreBytes smallest
+        → IsNewBuilder order filters choices.cmp choices.policy choices.id choices.block_size
+        choices.restarts core
+        → WritesTable order filters choices.format.codings env core path number smallest pairs file
+        mid new
+        → IsFirstKey smallest pairs
+        → ((read : List ℕ) → IsTableBuilt choices pairs read
+        → (meaning : List ℕ → Option (List ℕ → List ℕ → Bool))
+        → IsMeaningOf meaning choices.format.policy_name
+        (λ key. choices.format.matches (user_part key))
         → IsStoreTable (Decodes choices.format.codings) choices.format.order meaning read pairs)
-        → MakesTable choices pairs env Fails store number old (Ok (record { allowed_seeks = 0; num = number; size = size; smallest = smallest; largest = largest })) new
-    MakesTable-done {core} {smallest} {largest} {size} number_fits key is_new writes first reads =
-        let file : FileMetaData = record { allowed_seeks = 0; num = number; size = size; smallest = smallest; largest = largest } in
-        let built : IsTableBuilt choices pairs writes.bytes = IsTableUnder-same order filters choices.format.codings is_new.order is_new.policy is_new.compressor is_new.interval.0 is_new.interval.1 writes.built in
-        let made : IsTableFile choices pairs env.models_disk store (env.observed new).disk.files file = record {
+        → MakesTable choices pairs env Fails store number old (Ok file) new
+    MakesTable-done {core} {smallest} file number_fits key is_new writes first reads =
+        let known = writes.known in
+        let built : IsTableBuilt choices pairs writes.bytes
+        = IsTableUnder-same order filters choices.format.codings is_new.order is_new.policy
+        is_new.compressor is_new.interval.0 is_new.interval.1 writes.built in
+        let made : IsTableFile choices pairs env.models_disk store (env.observed new).disk.files
+        file = record {
           bytes = writes.bytes;
           built = built;
-          kept = λ modelled. ap (env.observed new).disk.files (sym named) ∙ writes.kept modelled;
+          kept = λ modelled. ap (λ n. (env.observed new).disk.files (table_path store n))
+              known.number_is ∙ ap (env.observed new).disk.files (sym named)
+              ∙ writes.kept modelled;
           size = writes.size_is;
-          smallest = first;
-          largest = subst (λ k. IsLastKey k pairs) (sym writes.largest_is) (last_key_of first);
+          smallest = subst (λ k. IsFirstKey k pairs) (sym known.smallest_is) first;
+          largest = subst (λ k. IsLastKey k pairs) (sym known.largest_is) (last_key_of first);
         } in
         record {
-          number_is = (refl, refl);
-          fits = λ level. record { number = number_fits; size = writes.fits; smallest = key; largest = writes.key };
+          number_is = (known.number_is, known.seeks);
+          fits = λ level. record {
+            number = omega (arith, known.number_is, number_fits);
+            size = known.fits;
+            smallest = subst AreBytes (sym known.smallest_is) key;
+            largest = subst AreBytes (sym known.largest_is) known.bytes;
+          };
           bytes = here.bytes;
           none = λ empty. absurd (some empty);
           made = λ more. made;
           has = λ more modelled. file_of_store choices pairs modelled made reads;
           run = here.run;
           locks = here.locks;
-          cause = record { later = here.later; ok = writes.counted ∙ ap env.failures same; uncounted = tt; cause = tt };
+          cause = record {
+            later = here.later;
+            ok = writes.counted ∙ ap env.failures same;
+            uncounted = tt;
+            cause = tt;
+          };
         }
+
+    -- what came of it
+    pub MakesTable-written : {core : TableBuilt C FP} {smallest : List ℕ}
+        (result : Result FileMetaData Status) → number < 2 ^ 64 → AreBytes smallest
+        → IsNewBuilder order filters choices.cmp choices.policy choices.id choices.block_size
+        choices.restarts core
+        → IfOk result (λ file. WritesTable order filters choices.format.codings env core path number
+        smallest pairs file mid new)
+        → FailsToWrite Why (env.failures mid) (env.failures new) result → IsFirstKey smallest pairs
+        → ((read : List ℕ) → IsTableBuilt choices pairs read
+        → (meaning : List ℕ → Option (List ℕ → List ℕ → Bool))
+        → IsMeaningOf meaning choices.format.policy_name
+        (λ key. choices.format.matches (user_part key))
+        → IsStoreTable (Decodes choices.format.codings) choices.format.order meaning read pairs)
+        → MakesTable choices pairs env Fails store number old result new
+    MakesTable-written (Ok file) fits key is_new writes cause first reads =
+        MakesTable-done file fits key is_new writes first reads
+    MakesTable-written (Err status) fits key is_new writes cause first reads =
+        MakesTable-failed status cause
 
 -- a walk that never fails is no cause
 pub MakesTable-never : {C FP : Type 0} {order : CmpGhosts C} {filters : FilterGhosts FP} {choices : TableChoices order filters} {pairs : List Pair} {E F : Type 0} {env : EnvGhosts E F} {Fails : Status → Type 0} {store : List ℕ} {number : ℕ} {old new : E} (result : Result FileMetaData Status)
@@ -524,11 +579,19 @@ MakesTable-never {choices = choices} {pairs} {env = env} {Fails} {old = old} {ne
 }
 
 -- why a new builder's table isn't written
-pub written_why : {C FP : Type 0} {order : CmpGhosts C} {filters : FilterGhosts FP} (choices : TableChoices order filters) (pairs : List Pair) {core : TableBuilt C FP} {Others Fails : Status → Type 0} {T U : Type 0} {before now : ℕ} {status : Status}
-    → IsNewBuilder order filters choices.cmp choices.policy choices.id choices.block_size choices.restarts core → ((s : Status) → Others s → Fails s)
-    → FailsToWrite {T = T} (λ s. StopsBuilding order filters choices.format.codings core pairs s ⊎ Others s) before now (Err status) → FailsToWrite {T = U} (λ s. IsNotTabled choices pairs s ⊎ Fails s) before now (Err status)
-written_why choices pairs {core} {status = status} is_new so cause =
-    fails_later refl (⊎_elim (λ stops. inl (inr (core, is_new, stops))) (λ other. inr (so status other))) cause
+pub written_why : {C FP : Type 0} {order : CmpGhosts C} {filters : FilterGhosts FP}
+    (choices : TableChoices order filters) (pairs : List Pair) {core : TableBuilt C FP}
+    {Others Fails : Status → Type 0} {T : Type 0} {before now : ℕ} (result : Result T Status)
+    → IsNewBuilder order filters choices.cmp choices.policy choices.id choices.block_size
+    choices.restarts core → ((s : Status) → Others s → Fails s)
+    → FailsToWrite (λ s. StopsBuilding order filters choices.format.codings core pairs s
+    ⊎ Others s) before now result
+    → FailsToWrite (λ s. IsNotTabled choices pairs s ⊎ Fails s) before now result
+written_why choices pairs (Ok made) is_new so cause =
+    record { later = cause.later; ok = cause.ok; uncounted = tt; cause = tt }
+written_why choices pairs {core} (Err status) is_new so cause =
+    fails_later refl (⊎_elim (λ stops. inl (inr (core, is_new, stops)))
+    (λ other. inr (so status other))) cause
 
 -- where there is a first key, there is a pair
 pub first_some : {key : List ℕ} {pairs : List Pair} → IsFirstKey key pairs → pairs ≢ []

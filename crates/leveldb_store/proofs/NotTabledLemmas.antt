@@ -17,14 +17,8 @@ use Rattle.leveldb_table.specs.TableBuilder.{TableBuilt}
 use Rattle.leveldb_table.specs.TableBuilderAdd.{IsAddError, IsNotAdded, IsNotClosed, IsNotLined}
 use Rattle.leveldb_table.specs.TableBuilderFinish.{IsFinishError, StopsFromFilters, StopsFromIndex}
 use Rattle.leveldb_store.specs.BuildTable.{IsNotTabled, TableChoices, flushes_all, puts_all}
+use Rattle.leveldb_store.specs.TableFile.{IsAddFault, IsBuildFault, IsFinishFault}
 use Rattle.leveldb_version.specs.Format.{HasCompressorError}
-
--- why a builder that isn't broken fails though no put does: out of memory, what isn't supported,
--- or a compressor that is set
-abbrev pub IsBuildFault : Codings → Status → Type 0
-IsBuildFault codings status = IsOutOfMemory status ⊎ (status.code ≡ NotSupported)
-    ⊎ ((id : ℕ) × (coding : Coding) × (codings id ≡ Some coding) × (block : List ℕ)
-    × IsTrue (coding.encode_fails block status.code))
 
 module _ (codings : Codings) (status : Status) where
   abbrev Fault : Type 0
@@ -149,6 +143,20 @@ module _ (codings : Codings) (status : Status) where
             (filters.too_large core.filter.policy) (filters.filter_for core.filter.policy)
             core.compressor (filters.name core.filter.policy) last puts_all
             flushes_all) at_index at to meta.2
+
+module _ {C FP : Type 0} (order : CmpGhosts C) (filters : FilterGhosts FP) (codings : Codings)
+    (core : TableBuilt C FP) (usable : core.broken ≡ false) (status : Status) where
+  -- whatever a builder doesn't take
+  pub not_added_causes : (pair : Pair) → IsAddFault order filters codings core pair status
+      → IsBuildFault codings status
+  not_added_causes pair fault =
+      let is = fault [] in add_fault codings status order filters core pair [] is.0 usable is.1
+
+  -- or finish
+  pub not_finished_causes : IsFinishFault order filters codings core status
+      → IsBuildFault codings status
+  not_finished_causes fault =
+      let is = fault [] in finish_fault codings status order filters core [] is.0 usable is.1
 
 -- Memory is out; it isn't supported, as an entry, a filter or a count that is too large, or an id
 -- without a compressor; or a compressor that is set fails for a block.

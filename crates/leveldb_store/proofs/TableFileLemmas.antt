@@ -67,6 +67,18 @@ fails_later {T} {U} {Own} {Other} {before} {mid} {now} {status} same so cause =
           (λ own. inr (so own.0, own.1)) excused)) (λ counted. inr counted) cause.cause;
     }
 
+-- the same of any result
+pub fails_so : {T : Type 0} {Own Other : Status → Type 0} {before mid now : ℕ}
+    (result : Result T Status) → mid ≡ before → ((status : Status) → Own status → Other status)
+    → FailsToWrite Own mid now result → FailsToWrite Other before now result
+fails_so (Ok x) same so cause = record {
+  later = omega (arith, cause.later, same);
+  ok = cause.ok ∙ same;
+  uncounted = tt;
+  cause = tt;
+}
+fails_so (Err status) same so cause = fails_later same (so status) cause
+
 -- ---- what changes
 
 module _ {E F : Type 0} (env : EnvGhosts E F) where
@@ -193,47 +205,42 @@ module _ {E F : Type 0} (env : EnvGhosts E F) where
       absurd (cc never)
 
   module _ {Own : Status → Type 0} where
-    pub stops_after : {from mid to : Opened E F} {bytes : List ℕ} {status : Status}
+    pub stops_after : {from mid : Opened E F} {to : E} {bytes : List ℕ} {status : Status}
         → IsLonger env from bytes mid → StopsWriting env Own mid status to
         → StopsWriting env Own from status to
     stops_after {from} {mid} {to} longer stops = record {
       changes = changes-trans (longer_changes longer)
           (changes_named longer.file stops.changes);
-      file = λ modelled. stops.file modelled ∙ longer.file modelled;
       cause = fails_later longer.counted (λ own. own) stops.cause;
     }
 
     append_stops : {from to : Opened E F} {bytes : List ℕ} {status : Status} → IsThere env from
-        → Appends env from bytes (Err status) to → StopsWriting env Own from status to
+        → Appends env from bytes (Err status) to → StopsWriting env Own from status to.env
     append_stops there put = record {
       changes = append_changes put;
-      file = put.file;
       cause = device_fails (not_gone there) (λ memory. inl memory) put.cause;
     }
 
     sync_stops : {from to : Opened E F} {status : Status} → IsThere env from
-        → Syncs env from (Err status) to → StopsWriting env Own from status to
+        → Syncs env from (Err status) to → StopsWriting env Own from status to.env
     sync_stops there flushed = record {
       changes = sync_changes flushed;
-      file = flushed.file;
       cause = device_fails (not_gone there) (λ memory. inl memory) flushed.cause;
     }
 
     pub own_stops : {from to : Opened E F} {bytes : List ℕ} {status : Status}
-        → IsLonger env from bytes to → Own status → StopsWriting env Own from status to
+        → IsLonger env from bytes to → Own status → StopsWriting env Own from status to.env
     own_stops longer own = record {
       changes = longer_changes longer;
-      file = longer.file;
       cause = own_fails longer.counted (inr (own, longer.counted));
     }
 
     -- for a cause in other words
-    pub stops_so : {Other : Status → Type 0} {from to : Opened E F} {status : Status}
+    pub stops_so : {Other : Status → Type 0} {from : Opened E F} {to : E} {status : Status}
         → (Own status → Other status) → StopsWriting env Own from status to
         → StopsWriting env Other from status to
     stops_so so stops = record {
       changes = stops.changes;
-      file = stops.file;
       cause = fails_later refl so stops.cause;
     }
 
@@ -241,7 +248,7 @@ module _ {E F : Type 0} (env : EnvGhosts E F) where
     pub stops_borrowed : (status : Status) {from to : EnvFile E F}
         → Stops (AppendsBorrowed env) (SyncsBorrowed env) status (Own status) from to
         → ChangesBorrowedFile (λ before after. IsThere env before
-        → StopsWriting env Own before status after) from to
+        → StopsWriting env Own before status after.env) from to
     stops_borrowed status (inl own) =
         let longer = IsLonger-borrowed env own.2 in
         record {
@@ -296,7 +303,8 @@ module _ {C FP E F : Type 0} (order : CmpGhosts C) (filters : FilterGhosts FP) (
       {status : Status}
       → TakesNoPair order filters codings (AppendsBorrowed env) old new pair from status to
       → ChangesBorrowedFile (λ before after. IsThere env before
-      → StopsWriting env (IsAddFault order filters codings old pair) before status after) from to
+      → StopsWriting env (IsAddFault order filters codings old pair) before status after.env) from
+      to
   not_added_borrowed {old} {from = from} {to = to} {pair = pair} {status = status} none =
       stops_borrowed env status
       (add_stops (AppendsBorrowed env) (SyncsBorrowed env) status codings order filters old pair
@@ -305,8 +313,8 @@ module _ {C FP E F : Type 0} (order : CmpGhosts C) (filters : FilterGhosts FP) (
   pub finished_borrowed : {core : TableBuilt C FP} {from to : EnvFile E F} {size : ℕ}
       → IsFinished order filters codings core (AppendsBorrowed env) (SyncsBorrowed env) from size to
       → ChangesBorrowedFile (λ before after.
-      FinishesFile order filters codings env core before size after) from to
-  finished_borrowed finished =
+      FinishesFile order filters codings env core before size after.env) from to
+  finished_borrowed {to = to} finished =
       let all = finished.finishes in
       let longer = IsLonger-borrowed env all.put in
       record {
@@ -314,6 +322,7 @@ module _ {C FP E F : Type 0} (order : CmpGhosts C) (filters : FilterGhosts FP) (
           bytes = all.bytes;
           mid = opened all.mid.env.now all.mid.file.now;
           longer = longer.changes;
+          file = to.file.now;
           synced = all.flushed.changes;
           made = all.made;
         };
@@ -325,7 +334,7 @@ module _ {C FP E F : Type 0} (order : CmpGhosts C) (filters : FilterGhosts FP) (
       → IsFinishError order filters codings core (AppendsBorrowed env) (SyncsBorrowed env) from
       status to
       → ChangesBorrowedFile (λ before after. IsThere env before
-      → StopsWriting env (IsFinishFault order filters codings core) before status after) from to
+      → StopsWriting env (IsFinishFault order filters codings core) before status after.env) from to
   not_finished_borrowed core {from} {to} {status} failed =
       stops_borrowed env status
       (finish_stops (AppendsBorrowed env) (SyncsBorrowed env) status codings order filters core

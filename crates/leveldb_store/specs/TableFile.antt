@@ -5,9 +5,11 @@ use Rattle.leveldb_base.specs.Error.{IsOutOfMemory}
 use Rattle.leveldb_base.specs.Types.{Pair}
 use Rattle.leveldb_base.specs.declared.cmp.Cmp.{Ghosts as CmpGhosts}
 use Rattle.leveldb_base.specs.declared.error.Status.{Status}
-use Rattle.leveldb_env.specs.Compressor.{Codings}
+use Rattle.leveldb_base.specs.declared.error.StatusCode.TheVariants.{NotSupported}
+use Rattle.leveldb_base.specs.declared.types.FileMetaData.{FileMetaData}
+use Rattle.leveldb_env.specs.Compressor.{Coding, Codings}
 use Rattle.leveldb_env.specs.Env.{AreBytes, File, HasCause, Run, SameBut, SameLocks, kept_file}
-use Rattle.leveldb_env.specs.EnvFile.{IsLonger, Opened, Syncs, done, failed, opened_file}
+use Rattle.leveldb_env.specs.EnvFile.{IsLonger, Opened, Syncs, done, failed, opened, opened_file}
 use Rattle.leveldb_env.specs.declared.env.Env.{Ghosts as EnvGhosts}
 use Rattle.leveldb_env.specs.declared.filter.FilterPolicy.{Ghosts as FilterGhosts}
 use Rattle.leveldb_table.specs.BlockBuilder.{last_added}
@@ -46,13 +48,30 @@ IsUncounted Own before now status = IsOutOfMemory status ⊎ (Own status × (now
 abbrev pub FailsToWrite : {T : Type 0} → (Status → Type 0) → ℕ → ℕ → Result T Status → Type 0
 FailsToWrite Own before now result = HasCause (IsUncounted Own before now) before now result
 
+-- why a builder that isn't broken fails though no put does: out of memory, what isn't supported, or
+-- a compressor that is set
+abbrev pub IsBuildFault : Codings → Status → Type 0
+IsBuildFault codings status = IsOutOfMemory status ⊎ (status.code ≡ NotSupported)
+    ⊎ ((id : ℕ) × (coding : Coding) × (codings id ≡ Some coding) × (block : List ℕ)
+    × IsTrue (coding.encode_fails block status.code))
+
 module _ {E F : Type 0} (env : EnvGhosts E F) where
   -- a call that writes a table's file failed, for one of these causes or another
-  pub record StopsWriting (Own : Status → Type 0) (from : Opened E F) (status : Status)
-      (to : Opened E F) : Type 0 where
-    pub changes : ChangesOneFile env (env.name_of from.file) from.env to.env
-    pub file : IsTrue env.models_disk → env.name_of to.file ≡ env.name_of from.file
-    pub cause : FailsToWrite Own (env.failures from.env) (env.failures to.env) (failed status)
+  pub record StopsWriting (Own : Status → Type 0) (from : Opened E F) (status : Status) (to : E)
+      : Type 0 where
+    pub changes : ChangesOneFile env (env.name_of from.file) from.env to
+    pub cause : FailsToWrite Own (env.failures from.env) (env.failures to) (failed status)
+
+-- ---- what a table's file is known by
+
+-- the metadata of a table under this number, of this first and this last key: no seeks are counted
+pub record IsMetadataOf (number : ℕ) (smallest largest : List ℕ) (file : FileMetaData) : Type 0 where
+  pub number_is : file.num ≡ number
+  pub seeks : file.allowed_seeks ≡ 0
+  pub smallest_is : file.smallest ≡ smallest
+  pub largest_is : file.largest ≡ largest
+  pub bytes : AreBytes largest
+  pub fits : file.size < 2 ^ 64
 
 -- ---- the builder beside its file
 
@@ -91,12 +110,13 @@ module _ {C FP : Type 0} (order : CmpGhosts C) (filters : FilterGhosts FP) (codi
       pub last : last_of new ≡ last_added pairs
 
     -- the table was finished: what was left of it was appended, and all was synced
-    pub record FinishesFile (core : TableBuilt C FP) (from : Opened E F) (size : ℕ)
-        (to : Opened E F) : Type 0 where
+    pub record FinishesFile (core : TableBuilt C FP) (from : Opened E F) (size : ℕ) (to : E)
+        : Type 0 where
       pub bytes : List ℕ
       pub mid : Opened E F
       pub longer : IsLonger env from bytes mid
-      pub synced : Syncs env mid done to
+      pub file : F
+      pub synced : Syncs env mid done (opened to file)
       pub made : (written : List ℕ) (pairs : List Pair)
           → IsBegun codings order filters core written pairs
           → IsTableUnder order filters codings (order_of core) (policy_of core) core.compressor
@@ -104,16 +124,15 @@ module _ {C FP : Type 0} (order : CmpGhosts C) (filters : FilterGhosts FP) (codi
           × (size ≡ length (written ++ bytes))
 
     -- The table that a new builder makes of the pairs is the file under the path, all of it kept,
-    -- and has this size and this last key. No failure was counted.
-    pub record WritesTable (core : TableBuilt C FP) (path : List ℕ) (pairs : List Pair)
-        (size : ℕ) (largest : List ℕ) (from to : E) : Type 0 where
+    -- and its metadata is the table's. No failure was counted.
+    pub record WritesTable (core : TableBuilt C FP) (path : List ℕ) (number : ℕ)
+        (smallest : List ℕ) (pairs : List Pair) (made : FileMetaData) (from to : E)
+        : Type 0 where
       pub bytes : List ℕ
       pub built : IsTableUnder order filters codings (order_of core) (policy_of core)
           core.compressor core.block.interval core.index.interval bytes pairs
       pub kept : IsTrue env.models_disk
           → (env.observed to).disk.files path ≡ Some (kept_file bytes)
-      pub size_is : size ≡ length bytes
-      pub fits : size < 2 ^ 64
-      pub largest_is : largest ≡ last_added pairs
-      pub key : AreBytes largest
+      pub size_is : made.size ≡ length bytes
+      pub known : IsMetadataOf number smallest (last_added pairs) made
       pub counted : env.failures to ≡ env.failures from

@@ -1,11 +1,9 @@
 //! Tables made of the entries that a store has in memory.
 ghost use Rattle.std.specs.Prelude.{◌≡◌, ◌⊎◌, List, [], IfOk, IfErr, OnOk, map};
 ghost use Rattle.leveldb_base.specs.Entries.{internal_pair};
-ghost use Rattle.leveldb_base.specs.Error.{IsOutOfMemory};
 ghost use Rattle.leveldb_base.specs.History.{AreRising};
 ghost use Rattle.leveldb_base.specs.KeyTypes.{internal_cmp};
 ghost use Rattle.leveldb_base.specs.Types.{Pair, position_within};
-ghost use Rattle.leveldb_env.specs.Env.{AreBytes};
 ghost use Rattle.leveldb_env.specs.EnvFile.{opened};
 ghost use Rattle.leveldb_iter.specs.Walk.{key_order};
 ghost use Rattle.leveldb_table.specs.TableBuilder.{order_of};
@@ -14,7 +12,7 @@ ghost use Rattle.leveldb_version.specs.Store.{IsInternalPair};
 ghost use Rattle.leveldb_store.specs.BuildTable.{IsUnused, MakesTable, ReadsNoFile, StaysOver, StopsAtPair, StopsBuilding, WalkFails, choices_of, puts_all};
 ghost use Rattle.leveldb_store.specs.TableFile.{AddsAllToFile, ChangesOneFile, FailsToWrite, IsThere, StopsWriting, WritesTable};
 
-use crate::table_file::{add_pair, finish_table};
+use crate::table_file::{TableFile, copied_key};
 use bytes::Bytes;
 use leveldb_base::cmp::{Cmp, InternalKeyCmp, UserCmp};
 use leveldb_base::error::Result;
@@ -72,14 +70,17 @@ pub fn build_table<
     let policy = InternalFilterPolicy::new(options.filter_policy);
     let core = BuilderCore::under(alloc, InternalKeyCmp(options.cmp), policy, options);
     let compressors = &options.compressor_list;
-    let (size, largest) = write_table(alloc, env, tables, &path, core, compressors, from)?;
-    Ok(FileMetaData {
-        allowed_seeks: 0,
-        num: number,
-        size,
+    write_table(
+        alloc,
+        env,
+        tables,
+        &path,
+        number,
+        core,
         smallest,
-        largest,
-    })
+        compressors,
+        from,
+    )
 }
 
 /// Makes the table of a memtable's entries under the name of a number in the store's folder, as
@@ -106,17 +107,19 @@ pub fn build_memtable<E: Env, C: UserCmp + Copy + Drop, FP: FilterPolicy + Copy 
     build_table(alloc, env, &mut (), store, options, &mut walk, number)
 }
 
-// Creates or empties a file, and writes the table of the pairs of a walk that is at the first one.
-// Returns the table's size and its last key.
+// Creates or empties a file, and writes the table of the pairs of a walk that is at the first one,
+// which has the smallest key.
 fn write_table<E: Env, T, W: Walk<E, T>, C: Cmp + Copy + Drop, FP: FilterPolicy + Drop>(
     alloc: Global,
     env: &mut E,
     tables: &mut T,
     path: &str,
+    number: FileNum,
     core: BuilderCore<C, FP>,
+    smallest: Bytes,
     compressors: &CompressorList,
     from: &mut W,
-) -> Result<(usize, Bytes)>
+) -> Result<FileMetaData>
     requires unused { IsUnused C.Cmp FP.FilterPolicy (⟦<CompressorList as Compressors>⟧.codings
         compressors.now) core }
     requires reads { ReadsNoFile W.Walk }
@@ -125,8 +128,8 @@ fn write_table<E: Env, T, W: Walk<E, T>, C: Cmp + Copy + Drop, FP: FilterPolicy 
     ensures writes { let codings = ⟦<CompressorList as Compressors>⟧.codings compressors.now in
         (pairs : List Pair) → W.is_at (env.old, tables.old) from.old
         (key_order C.Cmp (order_of core)) pairs (position_within pairs 0)
-        → IfOk result (λ made. WritesTable C.Cmp FP.FilterPolicy codings E.Env core path.now pairs
-        made.0 made.1 env.old env.new) }
+        → IfOk result (λ made. WritesTable C.Cmp FP.FilterPolicy codings E.Env core path.now number
+        smallest pairs made env.old env.new) }
     ensures changes { ChangesOneFile E.Env path.now env.old env.new }
     ensures cause { let codings = ⟦<CompressorList as Compressors>⟧.codings compressors.now in
         (pairs : List Pair) → W.is_at (env.old, tables.old) from.old
@@ -136,53 +139,43 @@ fn write_table<E: Env, T, W: Walk<E, T>, C: Cmp + Copy + Drop, FP: FilterPolicy 
         (E.failures env.old) (E.failures env.new) result }
     ensures walk { StaysOver W.Walk (env.old, tables.old) from.old (env.new, tables.new) from.new }
 {
-    let mut core = core;
-    let mut file = env.open_writable_file(path)?;
-    add_pairs(&mut core, env, tables, &mut file, compressors, from)?;
-    let largest = copied_key(alloc, core.last_key())?;
-    let size = finish_table(core, env, &mut file, compressors)?;
-    Ok((size, largest))
+    let mut table = TableFile::create(alloc, env, path, number, core, smallest)?;
+    add_pairs(&mut table, env, tables, compressors, from)?;
+    table.finish(env, compressors)
 }
 
-// A copy of a key.
-fn copied_key(alloc: Global, key: &[u8]) -> Result<Bytes>
-    ensures ok { IfOk result (λ copy. copy ≡ key.now) }
-    ensures bytes { OnOk result (AreBytes key.now) }
-    ensures memory { IfErr result IsOutOfMemory }
-{
-    Ok(Bytes::copy_from_slice(alloc, key)?)
-}
-
-// Adds the pairs of a walk that is at the first one to the table of a file.
-fn add_pairs<E: Env, T, W: Walk<E, T>, C: Cmp + Copy, FP: FilterPolicy>(
-    core: &mut BuilderCore<C, FP>,
+// Adds the pairs of a walk that is at the first one to a table that has none.
+fn add_pairs<E: Env, T, W: Walk<E, T>, C: Cmp + Copy + Drop, FP: FilterPolicy + Drop>(
+    table: &mut TableFile<E, C, FP>,
     env: &mut E,
     tables: &mut T,
-    file: &mut E::File,
     compressors: &CompressorList,
     from: &mut W,
 ) -> Result<()>
     requires unused { IsUnused C.Cmp FP.FilterPolicy (⟦<CompressorList as Compressors>⟧.codings
-        compressors.now) core.old }
+        compressors.now) table.old.core }
     requires reads { ReadsNoFile W.Walk }
     requires first { (pairs : List Pair) × W.is_at (env.old, tables.old) from.old
-        (key_order C.Cmp (order_of core.old)) pairs (position_within pairs 0) }
+        (key_order C.Cmp (order_of table.old.core)) pairs (position_within pairs 0) }
     ensures ok { let codings = ⟦<CompressorList as Compressors>⟧.codings compressors.now in
         (pairs : List Pair) → W.is_at (env.old, tables.old) from.old
-        (key_order C.Cmp (order_of core.old)) pairs (position_within pairs 0)
-        → OnOk result (AddsAllToFile C.Cmp FP.FilterPolicy codings E.Env core.old
-        (opened env.old file.old) pairs core.new (opened env.new file.new)) }
+        (key_order C.Cmp (order_of table.old.core)) pairs (position_within pairs 0)
+        → OnOk result (AddsAllToFile C.Cmp FP.FilterPolicy codings E.Env table.old.core
+        (opened env.old table.old.file) pairs table.new.core (opened env.new table.new.file)) }
     ensures err { let codings = ⟦<CompressorList as Compressors>⟧.codings compressors.now in
         (pairs : List Pair) → W.is_at (env.old, tables.old) from.old
-        (key_order C.Cmp (order_of core.old)) pairs (position_within pairs 0)
-        → IfErr result (λ status. IsThere E.Env (opened env.old file.old) → StopsWriting E.Env
-        (λ why. StopsAtPair C.Cmp FP.FilterPolicy codings puts_all core.old [] pairs why
-        ⊎ WalkFails W.Walk (env.old, tables.old) from.old why) (opened env.old file.old) status
-        (opened env.new file.new)) }
+        (key_order C.Cmp (order_of table.old.core)) pairs (position_within pairs 0)
+        → IfErr result (λ status. IsThere E.Env (opened env.old table.old.file)
+        → StopsWriting E.Env (λ why.
+        StopsAtPair C.Cmp FP.FilterPolicy codings puts_all table.old.core [] pairs why
+        ⊎ WalkFails W.Walk (env.old, tables.old) from.old why) (opened env.old table.old.file)
+        status env.new) }
+    ensures same { (table.new.number ≡ table.old.number)
+        × (table.new.smallest ≡ table.old.smallest) }
     ensures walk { StaysOver W.Walk (env.old, tables.old) from.old (env.new, tables.new) from.new }
 {
     'adding: while let Some((key, value)) = from.current() {
-        add_pair(core, env, file, compressors, key, value)?;
+        table.add(env, compressors, key, value)?;
         from.advance(env, tables)?;
     }
     Ok(())

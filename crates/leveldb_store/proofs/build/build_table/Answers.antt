@@ -9,7 +9,7 @@ use Rattle.leveldb_iter.specs.Walk.{key_order}
 use Rattle.leveldb_version.specs.Paths.{table_path}
 use Rattle.leveldb_version.specs.Store.{IsFirstKey}
 use Rattle.leveldb_store.specs.BuildTable.{choices_of}
-use Rattle.leveldb_store.proofs.BuildTableLemmas.{MakesTable-before, MakesTable-done, MakesTable-failed, MakesTable-none, built_of_store, first_key_is, first_some, none_first, stays_over-none, stays_over-trans, written_why}
+use Rattle.leveldb_store.proofs.BuildTableLemmas.{MakesTable-before, MakesTable-none, MakesTable-written, built_of_store, first_key_is, first_some, none_first, stays_over-none, stays_over-trans, written_why}
 use Rattle.leveldb_store.proofs.build.build_table.Goals as goal
 
 -- there is no path
@@ -58,24 +58,6 @@ write_table-requires-clause-first g c =
     let over = c.requires.over in
     (over.0, rw c.under-core.ensures.order (c.in_ok-seek_to_first.ensures.moves.ok keys over.0 None over.1))
 
-pub returns-in_err-size-clause-makes : goal.returns-in_err-size-clause-makes
-returns-in_err-size-clause-makes g c = λ pairs over.
-    let keys = key_order (key_cmp g.row.C g.C.UserCmp g.C.UserCmp-dict g.C.Cmp g.C.Cmp-dict) (record { 0 = c.args.options.now.cmp }) in
-    let moves = c.seek_to_first.ensures.moves in
-    let at = c.in_ok-seek_to_first.ensures.moves.ok keys pairs None over in
-    let first : Some (c.in-Some.first.now, c.in-Some.field-0-1.now) ≡ pair_at pairs (position_within pairs 0) = c.in-Some.ensures ∙ g.met.W.Walk.laws.at_position (c.seek_to_first.new.env, c.seek_to_first.new.tables) c.seek_to_first.new.self keys pairs (position_within pairs 0) at in
-    let new = rw c.new-policy.ensures at c.under-core.ensures in
-    let cause = c.in_err-size.ensures.cause pairs (rw c.under-core.ensures.order at) in
-    let named = c.deref.ensures ∙ c.in_ok-path.ensures.ok in
-    let failed = err_from_is_err_and c.from_residual-in_err-size.result c.from_residual-in_err-size.ensures.1 in
-    let key_filters = key_policy g.row.FP g.FP.FilterPolicy g.FP.FilterPolicy-dict in
-    let choices = choices_of g.C.Cmp g.FP.FilterPolicy (key_cmp g.row.C g.C.UserCmp g.C.UserCmp-dict g.C.Cmp g.C.Cmp-dict) key_filters (compressors g.dyn-2).codings c.args.options.now in
-    rw failed.1 (rw failed.2 (MakesTable-failed choices pairs g.E.Env _ c.args.store.now c.args.number (first_some (first_key_is pairs _ first)) _ named (c.requires.reads.still _ _ moves.kept) c.write_table.ensures.changes _
-    (written_why choices pairs new (λ status failed. (failed.0, moves.excuses failed.0 status failed.1)) cause)))
-
-pub returns-in_err-size-clause-walk : goal.returns-in_err-size-clause-walk
-returns-in_err-size-clause-walk g c = let moves = c.seek_to_first.ensures.moves in stays_over-trans g.W.Walk (record { same = moves.same; excuses = moves.excuses }) c.write_table.ensures.walk
-
 pub returns-clause-makes : goal.returns-clause-makes
 returns-clause-makes g c = λ pairs over.
     let cmp = c.args.options.now.cmp in
@@ -87,10 +69,12 @@ returns-clause-makes g c = λ pairs over.
     let first : Some (c.in-Some.first.now, c.in-Some.field-0-1.now) ≡ pair_at pairs (position_within pairs 0) = c.in-Some.ensures ∙ g.met.W.Walk.laws.at_position (c.seek_to_first.new.env, c.seek_to_first.new.tables) c.seek_to_first.new.self keys pairs (position_within pairs 0) at in
     let smallest = subst (λ k. IsFirstKey k pairs) (sym c.in_ok-smallest.ensures.ok) (first_key_is pairs _ first) in
     let new = rw c.new-policy.ensures at c.under-core.ensures in
-    let writes = c.in_ok-size.ensures.writes pairs (rw c.under-core.ensures.order at) in
+    let writes = c.write_table.ensures.writes pairs (rw c.under-core.ensures.order at) in
+    let cause = c.write_table.ensures.cause pairs (rw c.under-core.ensures.order at) in
     let named = c.deref.ensures ∙ c.in_ok-path.ensures.ok in
-    MakesTable-done choices pairs g.E.Env _ c.args.store.now c.args.number (first_some smallest) _ named (c.requires.reads.still _ _ moves.kept) c.write_table.ensures.changes
-    c.ranges.number.fits (subst AreBytes (sym c.in_ok-smallest.ensures.ok) c.in_ok-smallest.ensures.bytes) new writes smallest
+    MakesTable-written choices pairs g.E.Env _ c.args.store.now c.args.number (first_some smallest) _ named (c.requires.reads.still _ _ moves.kept) c.write_table.ensures.changes
+    c.write_table.result c.ranges.number.fits (subst AreBytes (sym c.in_ok-smallest.ensures.ok) c.in_ok-smallest.ensures.bytes) new writes
+    (written_why choices pairs c.write_table.result new (λ status failed. (failed.0, moves.excuses failed.0 status failed.1)) cause) smallest
     (λ read is_built meaning known. built_of_store _ (g.met.C.Cmp.preorder cmp) (g.met.C.UserCmp.accepts_all cmp) (g.met.C.UserCmp.exact cmp) (g.C.Cmp.shortest_sep cmp) (g.met.C.Cmp.separates cmp)
     (g.FP.FilterPolicy.matches c.args.options.now.filter_policy) is_built meaning known)
 

@@ -1,4 +1,4 @@
-use Rattle.std.proofs.Common.{rules}
+use Rattle.std.proofs.Common.{refl, rules}
 use Rattle.std.proofs.lemmas.Result.{MatchResult-weaker}
 use Rattle.leveldb_env.proofs.EnvFileLemmas.{ends_as}
 use Rattle.leveldb_env.specs.contracts.compressor.CompressorListCompressors.TheImpl.{ghosts as compressors}
@@ -12,4 +12,4 @@ returns-clause-ok g c = MatchResult-weaker c.add.result c.add.ensures.ok
 
 pub returns-clause-err : goal.returns-clause-err
 returns-clause-err g c = MatchResult-weaker c.add.result c.add.ensures.err (λ done none. tt)
-    (λ status none. ends_as (not_added_borrowed g.C.Cmp g.FP.FilterPolicy ((compressors g.dyn-1).codings c.args.compressors.now) g.E.Env none) (search rules) (search rules))
+    (λ status none. ends_as {file = c.add.new.sink.file.now} (not_added_borrowed g.C.Cmp g.FP.FilterPolicy ((compressors g.dyn-1).codings c.args.compressors.now) g.E.Env none) (search rules) (λ same. refl))

@@ -1,4 +1,4 @@
-use Rattle.std.proofs.Common.{rules}
+use Rattle.std.proofs.Common.{refl, rules}
 use Rattle.std.proofs.lemmas.Result.{MatchResult-weaker}
 use Rattle.leveldb_env.proofs.EnvFileLemmas.{ends_as}
 use Rattle.leveldb_env.specs.contracts.compressor.CompressorListCompressors.TheImpl.{ghosts as compressors}
@@ -7,9 +7,9 @@ use Rattle.leveldb_store.proofs.table_file.finish_table.Goals as goal
 
 pub returns-clause-ok : goal.returns-clause-ok
 returns-clause-ok g c = MatchResult-weaker c.finish.result c.finish.ensures.ok
-    (λ size finished. ends_as (finished_borrowed g.C.Cmp g.FP.FilterPolicy ((compressors g.dyn-1).codings c.args.compressors.now) g.E.Env finished) (search rules) (search rules))
+    (λ size finished. ends_as {file = c.finish.new.sink.file.now} (finished_borrowed g.C.Cmp g.FP.FilterPolicy ((compressors g.dyn-1).codings c.args.compressors.now) g.E.Env finished) (search rules) (λ same. refl))
     (λ status none. tt)
 
 pub returns-clause-err : goal.returns-clause-err
 returns-clause-err g c = MatchResult-weaker c.finish.result c.finish.ensures.cause (λ size none. tt)
-    (λ status failed. ends_as (not_finished_borrowed g.C.Cmp g.FP.FilterPolicy ((compressors g.dyn-1).codings c.args.compressors.now) g.E.Env c.args.core failed) (search rules) (search rules))
+    (λ status failed. ends_as {file = c.finish.new.sink.file.now} (not_finished_borrowed g.C.Cmp g.FP.FilterPolicy ((compressors g.dyn-1).codings c.args.compressors.now) g.E.Env c.args.core failed) (search rules) (λ same. refl))
