@@ -3,11 +3,17 @@
 #[cfg(test)]
 mod changes;
 #[cfg(test)]
+mod choices;
+#[cfg(test)]
 mod compactions;
+#[cfg(test)]
+mod crate_choices;
 #[cfg(test)]
 mod gets;
 #[cfg(test)]
 mod logs;
+#[cfg(test)]
+mod random_choices;
 #[cfg(test)]
 mod recovers;
 #[cfg(test)]

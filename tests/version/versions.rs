@@ -13,10 +13,10 @@ use std::alloc::Global;
 use std::process::Abort;
 
 /// A file: its level, number and size, and its first and last user key.
-type Row = (usize, FileNum, usize, &'static str, &'static str);
+pub type Row = (usize, FileNum, usize, &'static str, &'static str);
 
 /// A store of four levels, its files in no order. In level 0 they overlap.
-const STORE: [Row; 9] = [
+pub const STORE: [Row; 9] = [
     (3, 9, 200, "iaa", "iba"),
     (1, 4, 216, "daa", "dba"),
     (0, 2, 251, "aac", "bba"),
@@ -41,7 +41,7 @@ const CHAIN: [Row; 8] = [
 ];
 
 /// A key of the first or the last entry of a file.
-fn entry_key(alloc: Global, key: &str) -> Result<Bytes> {
+pub fn entry_key(alloc: Global, key: &str) -> Result<Bytes> {
     let key = LookupKey::new(alloc, key.as_bytes(), 30)?;
     Ok(Bytes::copy_from_slice(alloc, key.internal_key())?)
 }
@@ -64,7 +64,7 @@ fn files_of(alloc: Global, rows: &[Row]) -> Result<Vec<(usize, FileMetaData)>> {
     Ok(files)
 }
 
-fn version_of(alloc: Global, rows: &[Row]) -> Result<Version<DefaultCmp>> {
+pub fn version_of(alloc: Global, rows: &[Row]) -> Result<Version<DefaultCmp>> {
     let files = files_of(alloc, rows)?;
     Version::of_files(alloc, DefaultCmp, files.as_slice())
 }

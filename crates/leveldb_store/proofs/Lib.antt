@@ -2,7 +2,6 @@ mod BuildTableLemmas
 mod StopsLemmas
 mod TableFileLemmas
 mod WriteTableLemmas
-mod OutputsLemmas
 pub mod WriteLemmas
 mod OpeningNamesLemmas
 mod OpeningCausesLemmas

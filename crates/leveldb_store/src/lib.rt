@@ -5,6 +5,5 @@
 pub mod build;
 pub mod open_store;
 mod opening;
-pub mod outputs;
 pub mod passing;
 mod table_file;

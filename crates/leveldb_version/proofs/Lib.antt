@@ -110,3 +110,7 @@ pub mod ChoosingLemmas
 pub mod ScoresLemmas
 pub mod WalksBesideLemmas
 pub mod ContradictionLemmas
+pub mod InputsLemmas
+pub mod PickingLemmas
+pub mod CompactionCallLemmas
+mod BaseLevelLemmas

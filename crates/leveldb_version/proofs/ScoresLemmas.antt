@@ -1,5 +1,5 @@
 -- The level that asks for a compaction is the first of the greatest score.
-use Rattle.std.proofs.Common.{◌≡◌, ◌⊎◌, ◌<◌, ◌≤◌, ◌*◌, zero, suc, ℕ, Bool, true, false, List, Some, None, refl, ap, subst, inl, inr, ⊎_elim, arith}
+use Rattle.std.proofs.Common.{◌≡◌, ◌⊎◌, ◌<◌, ◌≤◌, ◌*◌, ◌+◌, ◌-◌, [], ◌∷◌, fold, take, zero, suc, ℕ, Bool, true, false, List, Some, None, refl, ap, subst, inl, inr, ⊎_elim, arith}
 use Rattle.std.specs.Prelude.{if◌then◌else◌, nat_le, nat_lt}
 use Rattle.std.proofs.lemmas.Bool.{cases_lt, ltb-true, ltb-false, leb-true, le-leb}
 use Rattle.std.proofs.Math.Nat.{lt_of_mul-lt-mul_right, mul-le-mul_right, mul-lt-mul_of_pos_right, mul_right_comm}
@@ -149,3 +149,21 @@ scores_tell_level files level = (to, back)
         same : level ≡ fullest_level files
         same = one_best (level_load files) level_limit 6 level (fullest_level files)
             (as_best files level is.0) (best files)
+
+-- ---- the levels one after another
+
+-- the levels that may ask, but for level 0
+abbrev pub levels_from_one : List ℕ
+levels_from_one = 1 ∷ 2 ∷ 3 ∷ 4 ∷ 5 ∷ []
+
+-- one level more
+pub fold_next : (step : ℕ → ℕ → ℕ) (level : ℕ) → 1 ≤ level → level < 6
+    → fold step 0 (take (level + 1 - 1) levels_from_one)
+    ≡ step (fold step 0 (take (level - 1) levels_from_one)) level
+fold_next step zero low high = absurd (omega arith)
+fold_next step (suc zero) low high = refl
+fold_next step (suc (suc zero)) low high = refl
+fold_next step (suc (suc (suc zero))) low high = refl
+fold_next step (suc (suc (suc (suc zero)))) low high = refl
+fold_next step (suc (suc (suc (suc (suc zero))))) low high = refl
+fold_next step (suc (suc (suc (suc (suc (suc level)))))) low high = absurd (omega arith)

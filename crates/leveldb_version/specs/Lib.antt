@@ -51,3 +51,5 @@ pub mod Choosing
 pub mod Scores
 pub mod WalksBeside
 pub mod Contradictions
+pub mod Inputs
+pub mod Picking

@@ -1,6 +1,7 @@
 //! Versions: which files make up a store at a moment, and the edits and names that keep them.
 #![tactic(auto)]
 
+pub mod compaction;
 pub mod laws;
 pub mod store_walk;
 pub mod table_cache;

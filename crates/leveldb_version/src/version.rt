@@ -17,12 +17,14 @@ use std::alloc::Global;
 use std::marker::Model;
 
 mod change;
+mod choices;
 mod find;
 mod get;
 mod iters;
 mod key_range;
 mod order;
 mod overlap;
+mod score;
 mod search;
 mod seeks;
 
@@ -32,6 +34,7 @@ use key_range::KeyRange;
 pub use order::total_size;
 use order::{part_of_level, sort_files};
 use overlap::{files_in, is_overlapped, overlap_size, widen};
+pub(crate) use score::product;
 use seeks::{has_last_seek, take_seek, with_first_seeks};
 
 /// The file that a look-up charges with a seek, if one: its level and number.

@@ -1,6 +1,7 @@
 //! Ranges of user keys, and how files are to them.
 ghost use Rattle.std.specs.Prelude.{◌≡◌};
 ghost use Rattle.std.specs.Option.{option_copied};
+ghost use Rattle.leveldb_version.specs.Compaction.{closed_range};
 ghost use Rattle.leveldb_version.specs.Overlap.{is_above, is_below, named_end, named_range, overlaps, sticks_out, with_file};
 ghost use Rattle.leveldb_version.specs.VersionEdit.{new_file_of};
 
@@ -34,6 +35,16 @@ impl<'a> KeyRange<'a> {
         KeyRange {
             begin: named_end(begin),
             end: named_end(end),
+        }
+    }
+
+    /// The range from one key to another, with both of them, whichever keys they are.
+    pub(super) fn closed(low: UserKey<'a>, high: UserKey<'a>) -> KeyRange<'a>
+        ensures { result ≡ closed_range low.now high.now }
+    {
+        KeyRange {
+            begin: Some(low),
+            end: Some(high),
         }
     }
 

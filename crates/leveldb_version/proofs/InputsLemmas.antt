@@ -1,0 +1,310 @@
+-- Which files of a level are chosen for a compaction.
+use Rattle.std.specs.Prelude.{Contains, if◌then◌else◌, nat_lt}
+use Rattle.std.proofs.Common.{◌≡◌, ◌∙◌, ◌++◌, ◌∷◌, ◌==◌, ⊎_elim, ℕ, zero, suc, ◌+◌, ◌-◌, ◌<◌, ◌≤◌, Bool, true, false, cond, List, [], arith, ap, drop, get_or, length, map, refl, subst, sym, take}
+use Rattle.std.proofs.lemmas.Bool.{eqb-true}
+use Rattle.std.proofs.lemmas.List.{append-nil, drop_all, get_or-map, length-map, map_push, take_more}
+use Rattle.std.proofs.lemmas.List.Elements.{Contains-append_cases, Contains-get_or, Contains-push_cases}
+use Rattle.std.specs.Borrow.{Bor}
+use Rattle.std.specs.Cmp.{IsTotalOrder}
+use Rattle.std.specs.List.{AllByRecursion, IsDistinct}
+use Rattle.std.specs.Ordering.{is_lt, nat_cmp, ordering_then}
+use Rattle.std.specs.declared.cmp.Ordering.{Ordering}
+use Rattle.std.specs.declared.cmp.Ordering.TheVariants.{Equal, Greater, Less}
+use Rattle.leveldb_base.proofs.EntriesLemmas.{map_in}
+use Rattle.leveldb_base.proofs.HistoryLemmas.{in_cases, in_front, in_none, in_rest}
+use Rattle.leveldb_base.proofs.OrderLemmas.{le_le, lt_itself, lt_turn, not_less, not_lt}
+use Rattle.leveldb_base.specs.KeyTypes.{internal_cmp, sequence_part, user_part}
+use Rattle.leveldb_base.specs.declared.types.FileMetaData.{FileMetaData}
+use Rattle.leveldb_version.proofs.ChoosingLemmas.{chosen_may_be_compacted, widened_are_closed}
+use Rattle.leveldb_version.proofs.FullEditLemmas.{once_then, still_once}
+use Rattle.leveldb_version.proofs.SearchLemmas.{kept_passes}
+use Rattle.leveldb_version.proofs.VersionLemmas.{internal_total}
+use Rattle.leveldb_version.specs.Choosing.{AreEnds}
+use Rattle.leveldb_version.specs.Compaction.{AreOnce, MayCompact, closed_range}
+use Rattle.leveldb_version.specs.Inputs.{AreChosen, AreKeyEnds, AreWithin, MayTake, first_past, input_files}
+use Rattle.leveldb_version.specs.Overlap.{AreInputs, UserRange, overlapping, overlaps}
+use Rattle.leveldb_version.specs.Summary.{files_of_level}
+use Rattle.leveldb_version.specs.Version.{at_level, borrowed_files}
+use Rattle.leveldb_version.specs.VersionEdit.{LevelFile, NewFile, new_file_of}
+use Rattle.leveldb_version.specs.VersionSet.{is_same_file, level_file}
+use Rattle.leveldb_version.specs.declared.compaction.inputs.Inputs.{Inputs}
+
+-- ---- ends of files
+
+-- the ends of the files that were seen, which are keys of some of all
+pub record AreKeyEndsSoFar (icmp : List ℕ → List ℕ → Ordering) (all seen : List NewFile) (low high : List ℕ) : Type 0 where
+  pub from : (file : NewFile) → Contains seen file → is_lt (icmp file.smallest low) ≡ false
+  pub to : (file : NewFile) → Contains seen file → is_lt (icmp high file.largest) ≡ false
+  pub first : (file : NewFile) × Contains all file × (file.smallest ≡ low)
+  pub last : (file : NewFile) × Contains all file × (file.largest ≡ high)
+
+pub key_ends_at_last : (cmp : List ℕ → List ℕ → Ordering) (all : List NewFile) (low high : List ℕ) → AreKeyEndsSoFar (internal_cmp cmp) all all low high → AreKeyEnds cmp all low high
+key_ends_at_last cmp all low high are = record {
+  from = λ file c. not_lt (internal_cmp cmp file.smallest low) (are.from file c);
+  to = λ file c. not_lt (internal_cmp cmp high file.largest) (are.to file c);
+  first = are.first;
+  last = are.last;
+}
+
+module _ (icmp : List ℕ → List ℕ → Ordering) (total : IsTotalOrder icmp) where
+  -- a key that is at or after the least so far is at or after the lesser of it and another
+  still_from : (low key x : List ℕ) → is_lt (icmp x low) ≡ false → is_lt (icmp x (if is_lt (icmp key low) then key else low)) ≡ false
+  still_from low key x up = by (is_lt (icmp key low)) refl
+    where
+      by : (b : Bool) → is_lt (icmp key low) ≡ b → is_lt (icmp x (cond b key low)) ≡ false
+      by true less = le_le total key low x (lt_turn total key low less) up
+      by false more = up
+
+  own_from : (low key : List ℕ) → is_lt (icmp key (if is_lt (icmp key low) then key else low)) ≡ false
+  own_from low key = by (is_lt (icmp key low)) refl
+    where
+      by : (b : Bool) → is_lt (icmp key low) ≡ b → is_lt (icmp key (cond b key low)) ≡ false
+      by true less = lt_itself total key
+      by false more = more
+
+  still_to : (high key x : List ℕ) → is_lt (icmp high x) ≡ false → is_lt (icmp (if is_lt (icmp high key) then key else high) x) ≡ false
+  still_to high key x up = by (is_lt (icmp high key)) refl
+    where
+      by : (b : Bool) → is_lt (icmp high key) ≡ b → is_lt (icmp (cond b key high) x) ≡ false
+      by true less = le_le total x high key up (lt_turn total high key less)
+      by false more = up
+
+  own_to : (high key : List ℕ) → is_lt (icmp (if is_lt (icmp high key) then key else high) key) ≡ false
+  own_to high key = by (is_lt (icmp high key)) refl
+    where
+      by : (b : Bool) → is_lt (icmp high key) ≡ b → is_lt (icmp (cond b key high) key) ≡ false
+      by true less = lt_itself total key
+      by false more = more
+
+  one_of : (P : List ℕ → Type 0) (b : Bool) (x y : List ℕ) → P x → P y → P (if b then x else y)
+  one_of P true x y p q = p
+  one_of P false x y p q = q
+
+  -- one file more is seen
+  pub key_ends_go_on : (all seen : List NewFile) (file : NewFile) (low high new_low new_high : List ℕ) → AreKeyEndsSoFar icmp all seen low high → Contains all file
+      → new_low ≡ (if is_lt (icmp file.smallest low) then file.smallest else low)
+      → new_high ≡ (if is_lt (icmp high file.largest) then file.largest else high)
+      → AreKeyEndsSoFar icmp all (seen ++ file ∷ []) new_low new_high
+  key_ends_go_on all seen file low high new_low new_high are there low_is high_is = record {
+    from = λ x c. subst (λ k. is_lt (icmp x.smallest k) ≡ false) (sym low_is) (⊎_elim
+        (λ (d : Contains seen x). still_from low file.smallest x.smallest (are.from x d))
+        (λ (same : file ≡ x). subst (λ (z : NewFile). is_lt (icmp z.smallest (if is_lt (icmp file.smallest low) then file.smallest else low)) ≡ false) same (own_from low file.smallest))
+        (Contains-push_cases seen file x c));
+    to = λ x c. subst (λ k. is_lt (icmp k x.largest) ≡ false) (sym high_is) (⊎_elim
+        (λ (d : Contains seen x). still_to high file.largest x.largest (are.to x d))
+        (λ (same : file ≡ x). subst (λ (z : NewFile). is_lt (icmp (if is_lt (icmp high file.largest) then file.largest else high) z.largest) ≡ false) same (own_to high file.largest))
+        (Contains-push_cases seen file x c));
+    first = subst (λ k. (one : NewFile) × Contains all one × (one.smallest ≡ k)) (sym low_is)
+        (one_of (λ k. (one : NewFile) × Contains all one × (one.smallest ≡ k)) (is_lt (icmp file.smallest low)) file.smallest low (file, there, refl) are.first);
+    last = subst (λ k. (one : NewFile) × Contains all one × (one.largest ≡ k)) (sym high_is)
+        (one_of (λ k. (one : NewFile) × Contains all one × (one.largest ≡ k)) (is_lt (icmp high file.largest)) file.largest high (file, there, refl) are.last);
+  }
+
+-- where none was seen, the ends are those of any file
+pub key_ends_begin : (icmp : List ℕ → List ℕ → Ordering) (all : List NewFile) (file : NewFile) (low high : List ℕ) → Contains all file
+    → low ≡ file.smallest → high ≡ file.largest → AreKeyEndsSoFar icmp all [] low high
+key_ends_begin icmp all file low high there low_is high_is = record {
+  from = λ x c. absurd (in_none x c);
+  to = λ x c. absurd (in_none x c);
+  first = (file, there, sym low_is);
+  last = (file, there, sym high_is);
+}
+
+module _ (cmp : List ℕ → List ℕ → Ordering) where
+  -- where an internal key isn't before another, neither is its user key
+  pub user_up : (a b : List ℕ) → is_lt (internal_cmp cmp a b) ≡ false → is_lt (cmp (user_part a) (user_part b)) ≡ false
+  user_up a b = by (cmp (user_part a) (user_part b)) (nat_cmp (sequence_part b) (sequence_part a))
+    where
+      by : (o rest : Ordering) → is_lt (ordering_then o rest) ≡ false → is_lt o ≡ false
+      by Less rest e = absurd cc
+      by Equal rest e = refl
+      by Greater rest e = refl
+
+  -- ends of internal keys are ends of user keys
+  pub key_ends_are_ends : (files : List NewFile) (low high : List ℕ) → AreKeyEnds cmp files low high → AreEnds cmp files (user_part low) (user_part high)
+  key_ends_are_ends files low high are = record {
+    from = λ file c. not_lt (cmp (user_part file.smallest) (user_part low)) (user_up file.smallest low (not_less (internal_cmp cmp file.smallest low) (are.from file c)));
+    to = λ file c. not_lt (cmp (user_part high) (user_part file.largest)) (user_up high file.largest (not_less (internal_cmp cmp high file.largest) (are.to file c)));
+    first = (are.first.0, are.first.1, ap user_part are.first.2);
+    last = (are.last.0, are.last.1, ap user_part are.last.2);
+  }
+
+-- ---- borrowed files
+
+-- a borrowed file is among its like
+pub in_borrowed : (files : List (Bor (ℕ × FileMetaData))) (i : ℕ) (file : Bor (ℕ × FileMetaData)) → i < length files → file ≡ get_or files i file
+    → Contains (borrowed_files files) (new_file_of file.now)
+in_borrowed files i file inside is =
+    map_in (λ (f : Bor (ℕ × FileMetaData)). new_file_of f.now) files file (subst (Contains files) (sym is) (Contains-get_or files i file inside))
+
+-- one borrowed file more
+pub borrowed_more : (files : List (Bor (ℕ × FileMetaData))) (i : ℕ) (file : Bor (ℕ × FileMetaData)) → i < length files → file ≡ get_or files i file
+    → borrowed_files (take (i + 1) files) ≡ borrowed_files (take i files) ++ new_file_of file.now ∷ []
+borrowed_more files i file inside is =
+    ap borrowed_files (take_more files i file inside ∙ ap (λ f. take i files ++ f ∷ []) (sym is))
+    ∙ map_push (λ (f : Bor (ℕ × FileMetaData)). new_file_of f.now) (take i files) file
+
+-- one file more
+pub mapped_more : (files : List (ℕ × FileMetaData)) (i : ℕ) (file : ℕ × FileMetaData) → i < length files → file ≡ get_or files i file
+    → map new_file_of (take (i + 1) files) ≡ map new_file_of (take i files) ++ new_file_of file ∷ []
+mapped_more files i file inside is =
+    ap (map new_file_of) (take_more files i file inside ∙ ap (λ f. take i files ++ f ∷ []) (sym is))
+    ∙ map_push new_file_of (take i files) file
+
+-- the ends of inputs of two levels reach as far as those of one
+pub within_both : (cmp : List ℕ → List ℕ → Ordering) → IsTotalOrder cmp → (files : List NewFile) (low high first last new_low new_high : List ℕ) → AreKeyEnds cmp files low high
+    → new_low ≡ (if is_lt (internal_cmp cmp first low) then first else low) → new_high ≡ (if is_lt (internal_cmp cmp high last) then last else high)
+    → AreWithin cmp files new_low new_high
+within_both cmp total files low high first last new_low new_high ends low_is high_is file c =
+    let icmp = internal_cmp cmp in (
+      not_lt (icmp file.smallest new_low) (subst (λ k. is_lt (icmp file.smallest k) ≡ false) (sym low_is)
+          (still_from icmp (internal_total total) low first file.smallest (not_less (icmp file.smallest low) (ends.from file c)))),
+      not_lt (icmp new_high file.largest) (subst (λ k. is_lt (icmp k file.largest) ≡ false) (sym high_is)
+          (still_to icmp (internal_total total) high last file.largest (not_less (icmp high file.largest) (ends.to file c)))),
+    )
+
+pub within_one : (cmp : List ℕ → List ℕ → Ordering) (files : List NewFile) (low high : List ℕ) → AreKeyEnds cmp files low high → AreWithin cmp files low high
+within_one cmp files low high ends file c = (ends.from file c, ends.to file c)
+
+-- ---- files that are there once
+
+none_once : AreOnce []
+unfolding IsDistinct
+none_once = tt
+
+one_once : (file : NewFile) → AreOnce (file ∷ [])
+one_once file = once_then [] file none_once (λ one c. absurd (in_none one c))
+
+first_others : (P : LevelFile → Type 0) (n : ℕ) (files : List (Bor (ℕ × FileMetaData))) → AllByRecursion P (map level_file (borrowed_files files))
+    → AllByRecursion P (map level_file (borrowed_files (take n files)))
+first_others P zero files all = tt
+first_others P (suc n) [] all = tt
+first_others P (suc n) (x ∷ files) all = (all.0, first_others P n files all.1)
+
+first_once : (n : ℕ) (files : List (Bor (ℕ × FileMetaData))) → AreOnce (borrowed_files files) → AreOnce (borrowed_files (take n files))
+unfolding IsDistinct
+first_once zero files once = tt
+first_once (suc n) [] once = tt
+first_once (suc n) (x ∷ files) once =
+    (first_others (λ other. is_same_file (level_file (new_file_of x.now)) other ≡ false) n files once.0, first_once n files once.1)
+
+-- ---- files that are chosen
+
+module _ (cmp : List ℕ → List ℕ → Ordering) (total : IsTotalOrder cmp) where
+  -- what overlaps a range, widened in level 0, is chosen
+  pub inputs_are_chosen : (level : ℕ) (narrow : UserRange) (files inputs : List NewFile) → AreInputs cmp level narrow files inputs → AreChosen cmp files level inputs
+  inputs_are_chosen level narrow files inputs are = record {
+    each = λ file c.
+        let meets = kept_passes (overlaps cmp are.range) (files_of_level level files) file (subst (λ fs. Contains fs file) are.inputs_are c) in
+        let at = kept_passes (λ (f : NewFile). f.level == level) files file meets.0 in
+        (at.0, eqb-true file.level level at.1);
+    once = λ once. subst AreOnce (sym are.inputs_are) (still_once (overlaps cmp are.range) (files_of_level level files) (still_once (λ (f : NewFile). f.level == level) files once));
+    closed = λ low high ends. widened_are_closed cmp total files level narrow inputs low high are ends;
+  }
+
+module _ (cmp : List ℕ → List ℕ → Ordering) (level : ℕ) (deep : level ≡ 0 → ⊥) where
+  -- from level 1 on any files of the level are
+  any_are_chosen : (files chosen : List NewFile) → ((file : NewFile) → Contains chosen file → Contains files file × (file.level ≡ level)) → (AreOnce files → AreOnce chosen) → AreChosen cmp files level chosen
+  any_are_chosen files chosen each once = record {
+    each = each;
+    once = once;
+    closed = λ low high ends zero_is. absurd (deep zero_is);
+  }
+
+  pub one_is_chosen : (files : List (ℕ × FileMetaData)) (file : Bor (ℕ × FileMetaData)) → Contains (at_level level files) file.now
+      → AreChosen cmp (map new_file_of files) level (borrowed_files (file ∷ []))
+  one_is_chosen files file there =
+      let at = kept_passes (λ (f : ℕ × FileMetaData). f.0 == level) files file.now there in
+      any_are_chosen (map new_file_of files) (borrowed_files (file ∷ [])) (λ one c. ⊎_elim
+      (λ (same : new_file_of file.now ≡ one). subst (λ (f : NewFile). Contains (map new_file_of files) f × (f.level ≡ level)) same
+      (map_in new_file_of files file.now at.0, eqb-true file.now.0 level at.1))
+      (λ (none : Contains [] one). absurd (in_none one none))
+      (in_cases (new_file_of file.now) one [] c))
+      (λ once. one_once (new_file_of file.now))
+
+  pub first_are_chosen : (files : List NewFile) (n : ℕ) (chosen : List (Bor (ℕ × FileMetaData))) → AreChosen cmp files level (borrowed_files chosen)
+      → AreChosen cmp files level (borrowed_files (take n chosen))
+  first_are_chosen files n chosen are = any_are_chosen files (borrowed_files (take n chosen)) (λ file c. are.each file (among n chosen file c)) (λ once. first_once n chosen (are.once once))
+    where
+      among : (n : ℕ) (chosen : List (Bor (ℕ × FileMetaData))) (file : NewFile) → Contains (borrowed_files (take n chosen)) file → Contains (borrowed_files chosen) file
+      among zero chosen file c = absurd (in_none file c)
+      among (suc n) [] file c = absurd (in_none file c)
+      among (suc n) (x ∷ chosen) file c = ⊎_elim
+          (λ (same : new_file_of x.now ≡ file). subst (λ (f : NewFile). Contains (new_file_of x.now ∷ borrowed_files chosen) f) same (in_front (new_file_of x.now) (borrowed_files chosen)))
+          (λ (rest : Contains (borrowed_files (take n chosen)) file). in_rest (new_file_of x.now) file (borrowed_files chosen) (among n chosen file rest))
+          (in_cases (new_file_of x.now) file (borrowed_files (take n chosen)) c)
+
+-- ---- with those of the next level
+
+-- the level of each file that overlaps a range in a level
+level_of_overlapping : (cmp : List ℕ → List ℕ → Ordering) (level : ℕ) (range : UserRange) (files : List NewFile) (file : NewFile) → Contains (overlapping cmp level range files) file → file.level ≡ level
+level_of_overlapping cmp level range files file c =
+    eqb-true file.level level (kept_passes (λ (f : NewFile). f.level == level) files file (kept_passes (overlaps cmp range) (files_of_level level files) file c).0).1
+
+pub taken_with_next : (cmp : List ℕ → List ℕ → Ordering) (files : List NewFile) (level : ℕ) (inputs : Inputs) (low high : List ℕ) → level < 6
+    → AreChosen cmp files level (borrowed_files inputs.of_level.items) → AreKeyEnds cmp (borrowed_files inputs.of_level.items) low high
+    → borrowed_files inputs.of_next.items ≡ overlapping cmp (level + 1) (closed_range (user_part low) (user_part high)) files
+    → MayTake cmp files level inputs
+taken_with_next cmp files level inputs low high shallow chosen key_ends next =
+    let ends = key_ends_are_ends cmp (borrowed_files inputs.of_level.items) low high key_ends in
+    record {
+      may = subst (λ (n : List NewFile). MayCompact cmp files level (borrowed_files inputs.of_level.items ++ n)) (sym next)
+          (chosen_may_be_compacted cmp files level (borrowed_files inputs.of_level.items) (user_part low) (user_part high) shallow chosen.each chosen.once ends (chosen.closed (user_part low) (user_part high) ends));
+      of_level = λ file c. (chosen.each file c).1;
+      of_next = λ file c. level_of_overlapping cmp (level + 1) (closed_range (user_part low) (user_part high)) files file (subst (λ (fs : List NewFile). Contains fs file) next c);
+    }
+
+-- ---- the first files past a limit
+
+-- the first files past a limit are those before an index and the first past what is left of it
+abbrev pub IsCountedTo : ℕ → ℕ → ℕ → List NewFile → Type 0
+IsCountedTo limit left i files = first_past limit files ≡ take i files ++ first_past left (drop i files)
+
+past_here : (file : NewFile) (files : List NewFile) (left : ℕ) (b : Bool) → nat_lt left file.size ≡ b
+    → first_past left (file ∷ files) ≡ file ∷ cond b [] (first_past (left - file.size) files)
+past_here file files left b e = ap (λ c. file ∷ cond c [] (first_past (left - file.size) files)) e
+
+-- one file is within the limit
+counted_in : (files : List NewFile) (i : ℕ) (file : NewFile) (left : ℕ) → i < length files → get_or files i file ≡ file → nat_lt left file.size ≡ false
+    → take i files ++ first_past left (drop i files) ≡ take (suc i) files ++ first_past (left - file.size) (drop (suc i) files)
+counted_in [] i file left inside is fits = absurd (omega (arith, inside))
+counted_in (x ∷ files) zero file left inside is fits =
+    past_here x files left false (ap (λ (f : NewFile). nat_lt left f.size) is ∙ fits)
+    ∙ ap (λ (f : NewFile). x ∷ first_past (left - f.size) files) is
+counted_in (x ∷ files) (suc i) file left inside is fits =
+    ap (λ (fs : List NewFile). x ∷ fs) (counted_in files i file left (omega (arith, inside)) is fits)
+
+pub counted_on : (limit left i : ℕ) (files : List NewFile) (file : NewFile) → IsCountedTo limit left i files → i < length files → get_or files i file ≡ file
+    → nat_lt left file.size ≡ false → IsCountedTo limit (left - file.size) (i + 1) files
+counted_on limit left i files file counted inside is fits =
+    let next : suc i ≡ i + 1 = omega arith in
+    subst (λ (n : ℕ). IsCountedTo limit (left - file.size) n files) next (counted ∙ counted_in files i file left inside is fits)
+
+-- one file is past it
+past_in : (files : List NewFile) (i : ℕ) (file : NewFile) (left : ℕ) → i < length files → get_or files i file ≡ file → nat_lt left file.size ≡ true
+    → take i files ++ first_past left (drop i files) ≡ take (suc i) files
+past_in [] i file left inside is past = absurd (omega (arith, inside))
+past_in (x ∷ files) zero file left inside is past = past_here x files left true (ap (λ (f : NewFile). nat_lt left f.size) is ∙ past)
+past_in (x ∷ files) (suc i) file left inside is past =
+    ap (λ (fs : List NewFile). x ∷ fs) (past_in files i file left (omega (arith, inside)) is past)
+
+pub counted_past : (limit left i : ℕ) (files : List NewFile) (file : NewFile) → IsCountedTo limit left i files → i < length files → get_or files i file ≡ file
+    → nat_lt left file.size ≡ true → take (i + 1) files ≡ first_past limit files
+counted_past limit left i files file counted inside is past =
+    let next : suc i ≡ i + 1 = omega arith in
+    sym (counted ∙ past_in files i file left inside is past ∙ ap (λ (n : ℕ). take n files) next)
+
+-- all are within it
+pub counted_all : (limit left i : ℕ) (files : List NewFile) → IsCountedTo limit left i files → length files ≤ i → take i files ≡ first_past limit files
+counted_all limit left i files counted most =
+    sym (counted ∙ ap (λ (fs : List NewFile). take i files ++ first_past left fs) (drop_all i files most) ∙ append-nil (take i files))
+
+-- a file of borrowed ones
+pub borrowed_at : (files : List (Bor (ℕ × FileMetaData))) (i : ℕ) (file : Bor (ℕ × FileMetaData)) → i < length files → file ≡ get_or files i file
+    → get_or (borrowed_files files) i (new_file_of file.now) ≡ new_file_of file.now
+borrowed_at files i file inside is =
+    get_or-map (λ (f : Bor (ℕ × FileMetaData)). new_file_of f.now) files i file (new_file_of file.now) inside
+    ∙ ap (λ (f : Bor (ℕ × FileMetaData)). new_file_of f.now) (sym is)
+
+pub borrowed_length : (files : List (Bor (ℕ × FileMetaData))) → length (borrowed_files files) ≡ length files
+borrowed_length files = length-map files (λ (f : Bor (ℕ × FileMetaData)). new_file_of f.now)

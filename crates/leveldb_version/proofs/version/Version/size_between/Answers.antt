@@ -1,0 +1,21 @@
+use Rattle.std.proofs.Common.{◌≡◌, ◌∙◌, ap, map}
+use Rattle.std.specs.List.{filter}
+use Rattle.leveldb_version.specs.Compaction.{closed_range}
+use Rattle.leveldb_version.specs.Overlap.{UserRange, overlapping, overlaps}
+use Rattle.leveldb_version.specs.Summary.{files_of_level, total_size}
+use Rattle.leveldb_version.specs.Version.{VersionValue, new_files_of}
+use Rattle.leveldb_version.specs.VersionEdit.{NewFile, new_file_of}
+use Rattle.leveldb_version.proofs.VersionLemmas.{at_level_map}
+use Rattle.leveldb_version.proofs.version.Version.size_between.Goals as goal
+
+pub returns : goal.returns
+returns g c =
+    let cmp = g.C.Cmp.cmp c.self.inside.cmp in
+    let all = new_files_of c.args.self.now in
+    let range = closed_range c.args.low.now c.args.high.now in
+    let same : map new_file_of c.part.result.now ≡ files_of_level c.args.level all =
+    ap (map new_file_of) c.part.ensures ∙ at_level_map c.args.level c.args.self.now.files in
+    c.overlap_size.ensures
+    ∙ (ap (λ (r : UserRange). total_size (filter (overlaps cmp r) (map new_file_of c.part.result.now))) c.closed-range.ensures
+    ∙ (ap (λ fs. total_size (filter (overlaps cmp range) fs)) same
+    ∙ ap (λ (v : VersionValue g.row.C.Denot). total_size (overlapping (g.C.Cmp.cmp v.cmp) c.args.level range all)) c.self.view_is))

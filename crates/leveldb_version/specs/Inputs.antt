@@ -1,0 +1,59 @@
+-- Which files of a level are chosen for a compaction, and the files that it takes.
+use Rattle.std.specs.Prelude.{◌≡◌, ◌≢◌, ◌++◌, ◌+◌, ◌-◌, if◌then◌else◌, nat_lt, ℕ, List, [], ◌∷◌, Contains}
+use Rattle.std.specs.declared.cmp.Ordering.{Ordering}
+use Rattle.std.specs.declared.cmp.Ordering.TheVariants.{Less}
+use Rattle.leveldb_base.specs.KeyTypes.{internal_cmp, user_part}
+use Rattle.leveldb_version.specs.Choosing.{AreClosed, AreEnds}
+use Rattle.leveldb_version.specs.Compaction.{AreOnce, MayCompact}
+use Rattle.leveldb_version.specs.Version.{borrowed_files}
+use Rattle.leveldb_version.specs.VersionEdit.{NewFile}
+use Rattle.leveldb_version.specs.declared.compaction.inputs.Inputs.{Inputs}
+
+-- the files of a level and of the next that a compaction takes
+abbrev pub input_files : Inputs → List NewFile
+input_files inputs = borrowed_files inputs.of_level.items ++ borrowed_files inputs.of_next.items
+
+-- one has the files of the level that another has
+abbrev pub KeepsFiles : Inputs → Inputs → Type 0
+KeepsFiles narrow wide = (file : NewFile) → Contains (borrowed_files narrow.of_level.items) file
+    → Contains (borrowed_files wide.of_level.items) file
+
+-- the first files, up to the one with which they have more bytes than this
+abbrev pub first_past : ℕ → List NewFile → List NewFile
+first_past limit [] = []
+first_past limit (file ∷ files) =
+    file ∷ (if nat_lt limit file.size then [] else first_past (limit - file.size) files)
+
+module _ (cmp : List ℕ → List ℕ → Ordering) where
+  -- the least first key of these files and the greatest last one, in the order of internal keys
+  pub record AreKeyEnds (files : List NewFile) (low high : List ℕ) : Type 0 where
+    pub from : (file : NewFile) → Contains files file → internal_cmp cmp file.smallest low ≢ Less
+    pub to : (file : NewFile) → Contains files file → internal_cmp cmp high file.largest ≢ Less
+    pub first : (file : NewFile) × Contains files file × (file.smallest ≡ low)
+    pub last : (file : NewFile) × Contains files file × (file.largest ≡ high)
+
+  -- no file of these begins before one key or ends after the other
+  abbrev pub AreWithin : List NewFile → List ℕ → List ℕ → Type 0
+  AreWithin files low high = (file : NewFile) → Contains files file
+      → (internal_cmp cmp file.smallest low ≢ Less) × (internal_cmp cmp high file.largest ≢ Less)
+
+  -- Files of a level with which a compaction may begin. In level 0 they are all that overlap the
+  -- range from end to end of them.
+  pub record AreChosen (files : List NewFile) (level : ℕ) (chosen : List NewFile) : Type 0 where
+    pub each : (file : NewFile) → Contains chosen file → Contains files file × (file.level ≡ level)
+    pub once : AreOnce files → AreOnce chosen
+    pub closed : (low high : List ℕ) → AreEnds cmp chosen low high
+        → AreClosed cmp level files chosen low high
+
+  -- a compaction of a level may take these files of it and of the next
+  pub record MayTake (files : List NewFile) (level : ℕ) (inputs : Inputs) : Type 0 where
+    pub may : MayCompact cmp files level (input_files inputs)
+    pub of_level : (file : NewFile) → Contains (borrowed_files inputs.of_level.items) file
+        → file.level ≡ level
+    pub of_next : (file : NewFile) → Contains (borrowed_files inputs.of_next.items) file
+        → file.level ≡ level + 1
+
+  -- no file is turned round: its last user key isn't before its first
+  abbrev pub AreOrdered : List NewFile → Type 0
+  AreOrdered files = (file : NewFile) → Contains files file
+      → cmp (user_part file.largest) (user_part file.smallest) ≢ Less

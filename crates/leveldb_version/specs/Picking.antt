@@ -1,0 +1,94 @@
+-- Compactions: what one is, and which one a version asks for.
+use Rattle.std.specs.Prelude.{◌≡◌, ◌<◌, ◌*◌, ◌+◌, ◌⊎◌, ◌↔◌, ◌||◌, ◌==◌, ◌∷◌, [], false, ℕ, Bool, if◌then◌else◌, nat_lt, List, Option, None, Some, is_some, Contains, IfSome, IsSomeAnd, find, length, option_and_then, slice_get}
+use Rattle.std.specs.List.Sorted.{IsStrictlySortedBy}
+use Rattle.std.specs.Option.{option_map_or, option_or}
+use Rattle.std.specs.Ordering.{is_gt}
+use Rattle.std.specs.declared.cmp.Ordering.{Ordering}
+use Rattle.leveldb_base.specs.KeyTypes.{internal_cmp, user_part}
+use Rattle.leveldb_version.specs.Compaction.{MayCompact}
+use Rattle.leveldb_version.specs.CompactionEdit.{SetsPointer}
+use Rattle.leveldb_version.specs.Inputs.{AreOrdered}
+use Rattle.leveldb_version.specs.Scores.{level_by_score}
+use Rattle.leveldb_version.specs.Summary.{files_of_level}
+use Rattle.leveldb_version.specs.Version.{VersionValue, new_files_of}
+use Rattle.leveldb_version.specs.VersionEdit.{Edit, LevelFile, NewFile, Pointer, empty_edit, file_order}
+use Rattle.leveldb_version.specs.VersionSet.{level_file, pointer_at}
+
+-- ---- a compaction
+
+-- The version whose files it takes, its level, whether a range was asked for, how large a file may
+-- be, the files that it takes, as a version of their own, and the edit so far.
+pub record CompactionValue (C : Type 0) : Type 0 where
+  pub version : VersionValue C
+  pub level : ℕ
+  pub manual : Bool
+  pub max_file_size : ℕ
+  pub inputs : VersionValue C
+  pub edit : Edit
+
+-- an edit that sets pointers, and changes nothing else
+abbrev pub OnlyPoints : Edit → Type 0
+OnlyPoints edit = edit ≡ record empty_edit { pointers = edit.pointers }
+
+-- these files are deleted, too, each once and in order
+pub record DeletesFiles (files : List NewFile) (old new : List LevelFile) : Type 0 where
+  pub deleted : (at : LevelFile) → Contains new at
+      ↔ (Contains old at ⊎ ((file : NewFile) × Contains files file × (level_file file ≡ at)))
+  pub in_order : IsStrictlySortedBy file_order old → IsStrictlySortedBy file_order new
+
+-- ---- which file asks for a compaction
+
+-- the pointer of a level; one of fewer than 8 bytes is no internal key, and counts as none
+abbrev pub used_pointer : List Pointer → ℕ → Option (List ℕ)
+used_pointer pointers level =
+    option_and_then (λ key. if nat_lt (length key) 8 then None else Some key)
+    (pointer_at pointers level)
+
+-- the file that reads have chosen, while it is in its level and that isn't the last one
+abbrev pub file_by_reads : {C : Type 0} → VersionValue C → Option NewFile
+file_by_reads version = option_and_then
+    (λ at. if nat_lt at.0 6
+    then find (λ file. file.number == at.1) (files_of_level at.0 (new_files_of version)) else None)
+    version.chosen
+
+-- the version asks for a compaction, by its score or by reads
+abbrev pub needs_compaction : {C : Type 0} → VersionValue C → Bool
+needs_compaction version =
+    is_some (level_by_score (new_files_of version)) || is_some (file_by_reads version)
+
+module _ (cmp : List ℕ → List ℕ → Ordering) where
+  -- the first of a level's files that ends after the pointer; the first one, if none does or there
+  -- is no pointer
+  abbrev pub file_after : Option (List ℕ) → List NewFile → Option NewFile
+  file_after None files = slice_get files 0
+  file_after (Some pointer) files =
+      option_or (find (λ file. is_gt (internal_cmp cmp file.largest pointer)) files)
+      (slice_get files 0)
+
+  -- the file for which a version asks for a compaction: by its score, else by reads
+  abbrev pub asking_file : {C : Type 0} → List Pointer → VersionValue C → Option NewFile
+  asking_file pointers version = option_map_or
+      (λ level. file_after (used_pointer pointers level)
+      (files_of_level level (new_files_of version)))
+      (level_by_score (new_files_of version)) (file_by_reads version)
+
+  -- ---- what is chosen
+
+  -- a compaction of this version, whose edit sets a pointer alone
+  pub record IsCompactionOf {C : Type 0} (version : VersionValue C) (manual : Bool)
+      (max_file_size : ℕ) (it : CompactionValue C) : Type 0 where
+    pub version_is : it.version ≡ version
+    pub manual_is : it.manual ≡ manual
+    pub size_is : it.max_file_size ≡ max_file_size
+    pub may : MayCompact cmp (new_files_of version) it.level (new_files_of it.inputs)
+    pub pointer : SetsPointer cmp it.level (new_files_of it.inputs) it.edit
+    pub only : OnlyPoints it.edit
+
+  -- the compaction for which a version asks: it takes the file that asks, and is of its level
+  pub record IsAskedFor {C : Type 0} (pointers : List Pointer) (version : VersionValue C)
+      (max_file_size : ℕ) (picked : Option (CompactionValue C)) : Type 0 where
+    pub each : IfSome picked (IsCompactionOf version false max_file_size)
+    pub some : AreOrdered cmp (new_files_of version) → (file : NewFile)
+        → asking_file pointers version ≡ Some file
+        → IsSomeAnd picked (λ it. (it.level ≡ file.level) × Contains (new_files_of it.inputs) file)
+    pub none : asking_file pointers version ≡ None → picked ≡ None
