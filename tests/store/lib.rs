@@ -17,6 +17,8 @@ mod open_tables;
 #[cfg(test)]
 mod openings;
 #[cfg(test)]
+mod outputs;
+#[cfg(test)]
 mod real_folders;
 #[cfg(test)]
 mod refusals;

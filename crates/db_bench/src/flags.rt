@@ -36,7 +36,8 @@ pub struct Flags<'a> {
     pub num: u64,
     pub value_size: usize,
     pub cache_size: usize,
-    pub db: &'a str,
+    /// The folder in whose `bench` the stores are; none for memory.
+    pub folder: Option<&'a str>,
     pub ghost some: { 0 < num },
     pub ghost few: { num ≤ 10000000 },
     pub ghost short: { value_size ≤ 1048576 },
@@ -55,7 +56,7 @@ impl fmt::Display for Fault {
     fn fmt<W: fmt::Write>(&self, f: &mut fmt::Formatter<W>) -> fmt::Result {
         match self {
             Fault::Usage => f.write_str(
-                "usage: db_bench [--benchmarks=ROW,..] [--num=N] [--value_size=N] [--cache_size=N] [--db=NAME]",
+                "usage: db_bench [--benchmarks=ROW,..] [--num=N] [--value_size=N] [--cache_size=N] [--db=DIR]",
             ),
             Fault::Failed(status) => write!(f, "db_bench: {status}"),
         }
@@ -87,14 +88,15 @@ impl From<io::Error> for Fault {
 }
 
 /// Reads the flags; a later one replaces an earlier one.
-/// Without flags each row is run, over 100000 entries of 100 bytes, with 4 MiB of blocks in memory.
+/// Without flags each row is run, over 100000 entries of 100 bytes, with 4 MiB of blocks in memory,
+/// and so are the stores.
 pub fn parse<'a>(alloc: Global, words: &'a [String]) -> Result<Flags<'a>, Fault> {
     let mut flags = Flags {
         rows: Vec::from_slice(alloc, &Row::ALL)?,
         num: 100_000,
         value_size: 100,
         cache_size: 4 << 20,
-        db: "bench",
+        folder: None,
     };
     for word in words {
         set(alloc, &mut flags, word.as_str())?;
@@ -112,8 +114,11 @@ fn set<'a>(alloc: Global, flags: &mut Flags<'a>, word: &'a str) -> Result<(), Fa
         flags.value_size = read_number(digits, 0, MOST_VALUE_SIZE as u64)? as usize;
     } else if let Some(digits) = word.strip_prefix("--cache_size=") {
         flags.cache_size = read_number(digits, LEAST_CACHE_SIZE, MOST_CACHE_SIZE)? as usize;
-    } else if let Some(name) = word.strip_prefix("--db=") {
-        flags.db = name;
+    } else if let Some(folder) = word.strip_prefix("--db=") {
+        if folder.is_empty() {
+            return Err(Fault::Usage);
+        }
+        flags.folder = Some(folder);
     } else {
         return Err(Fault::Usage);
     }

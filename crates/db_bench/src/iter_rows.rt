@@ -1,7 +1,8 @@
-//! Rows of iterators over a store that has all in tables, in memory. The walk before the one that is
+//! Rows of iterators over a store that has all in tables. The walk before the one that is
 //! timed fills the caches.
 ghost use Rattle.std.specs.Prelude.{◌≡◌, IfOk};
 
+use crate::disks::Disks;
 use crate::keys::{Numbers, key_of};
 use crate::report::{Run, Tally, Timer};
 use crate::rows::Job;
@@ -11,14 +12,19 @@ use std::alloc::Global;
 use std::time::Clock;
 
 /// Reads all pairs in order, from the first on.
-pub fn read_forward<K: Clock>(alloc: Global, clock: &K, name: &str, job: Job) -> Result<Run>
+pub fn read_forward<K: Clock, D: Disks>(
+    alloc: Global,
+    clock: &K,
+    disks: &D,
+    job: Job,
+) -> Result<Run>
     ensures { IfOk result (λ run. run.outcome.ops ≡ job.scale.num) }
 {
-    let mut env = filled(alloc, clock, name, job)?;
+    let mut env = filled(alloc, clock, disks, job)?;
     let mut options = Options::default();
     options.reuse_logs = false;
     options.block_cache_capacity_bytes = job.scale.cache_size;
-    let mut db = DB::open(alloc, name, &mut env, options)?;
+    let mut db = DB::open(alloc, disks.store(), &mut env, options)?;
     let mut it = db.new_iter()?;
     let mut tally = Tally::new(job.checked);
     let mut timer = Timer::start(clock)?;
@@ -38,14 +44,19 @@ pub fn read_forward<K: Clock>(alloc: Global, clock: &K, name: &str, job: Job) ->
 }
 
 /// Reads all pairs in reverse order, from the last on.
-pub fn read_backward<K: Clock>(alloc: Global, clock: &K, name: &str, job: Job) -> Result<Run>
+pub fn read_backward<K: Clock, D: Disks>(
+    alloc: Global,
+    clock: &K,
+    disks: &D,
+    job: Job,
+) -> Result<Run>
     ensures { IfOk result (λ run. run.outcome.ops ≡ job.scale.num) }
 {
-    let mut env = filled(alloc, clock, name, job)?;
+    let mut env = filled(alloc, clock, disks, job)?;
     let mut options = Options::default();
     options.reuse_logs = false;
     options.block_cache_capacity_bytes = job.scale.cache_size;
-    let mut db = DB::open(alloc, name, &mut env, options)?;
+    let mut db = DB::open(alloc, disks.store(), &mut env, options)?;
     let mut it = db.new_iter()?;
     it.seek_to_last()?;
     let mut tally = Tally::new(job.checked);
@@ -66,14 +77,19 @@ pub fn read_backward<K: Clock>(alloc: Global, clock: &K, name: &str, job: Job) -
 }
 
 /// Seeks keys at random, each of which is there.
-pub fn seek_at_random<K: Clock>(alloc: Global, clock: &K, name: &str, job: Job) -> Result<Run>
+pub fn seek_at_random<K: Clock, D: Disks>(
+    alloc: Global,
+    clock: &K,
+    disks: &D,
+    job: Job,
+) -> Result<Run>
     ensures { IfOk result (λ run. run.outcome.ops ≡ job.scale.num) }
 {
-    let mut env = filled(alloc, clock, name, job)?;
+    let mut env = filled(alloc, clock, disks, job)?;
     let mut options = Options::default();
     options.reuse_logs = false;
     options.block_cache_capacity_bytes = job.scale.cache_size;
-    let mut db = DB::open(alloc, name, &mut env, options)?;
+    let mut db = DB::open(alloc, disks.store(), &mut env, options)?;
     let mut it = db.new_iter()?;
     let mut numbers = Numbers::random(job.scale.num);
     let mut tally = Tally::new(job.checked);

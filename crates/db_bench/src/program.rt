@@ -1,20 +1,23 @@
 //! The program: it runs the rows that it is asked for, one after another.
 ghost use Rattle.std.specs.Prelude.{◌≡◌, ◌<◌, ◌≤◌};
 
+use crate::disks::{Disks, Folder, Memory};
 use crate::flags::{Fault, Flags, Scale, parse};
 use crate::report::Run;
 use crate::rows::{Row, Task, measure};
 use leveldb_base::error::Result;
 use std::alloc::Global;
+use std::fs::File;
 use std::io::Write;
+use std::rt::Files;
 use std::time::Clock;
 
 /// Runs the rows that the words ask for. What each did is a line of `out`, how long it took one of
 /// `err`, and so is a fault. The status is 0 if all rows were run and written, 2 if a word is none
 /// of the flags, and 1 if a call failed.
-pub fn bench_main<K: Clock, O: Write, F: Write>(
+pub fn bench_main<R: Files<File = File> + Clock + AllocGlobal + Copy + Drop, O: Write, F: Write>(
     alloc: Global,
-    clock: &K,
+    rt: R,
     words: &[String],
     out: &mut O,
     err: &mut F,
@@ -26,7 +29,7 @@ pub fn bench_main<K: Clock, O: Write, F: Write>(
         Ok(flags) => flags,
         Err(fault) => return tell_fault(err, fault),
     };
-    match run_tasks(alloc, clock, &flags, out, err) {
+    match run_on_disks(alloc, rt, &flags, out, err) {
         Ok(()) => 0,
         Err(status) => {
             tell_fault(err, Fault::Failed(status));
@@ -47,16 +50,32 @@ fn tell_fault<F: Write>(err: &mut F, fault: Fault) -> u8
     }
 }
 
+// Runs the tasks in memory, or in the folder that is asked for.
+fn run_on_disks<R: Files<File = File> + Clock + AllocGlobal + Copy + Drop, O: Write, F: Write>(
+    alloc: Global,
+    rt: R,
+    flags: &Flags<'_>,
+    out: &mut O,
+    err: &mut F,
+) -> Result<()> {
+    let Some(folder) = flags.folder else {
+        return run_tasks(alloc, &rt, &Memory(alloc), flags, out, err);
+    };
+    let path = format!(in alloc; "{folder}/bench")?;
+    run_tasks(alloc, &rt, &Folder { rt, path }, flags, out, err)
+}
+
 // Runs the tasks one after another.
-fn run_tasks<K: Clock, O: Write, F: Write>(
+fn run_tasks<K: Clock, D: Disks, O: Write, F: Write>(
     alloc: Global,
     clock: &K,
+    disks: &D,
     flags: &Flags<'_>,
     out: &mut O,
     err: &mut F,
 ) -> Result<()> {
     for task in &tasks_of(alloc, flags)? {
-        let run = measure(alloc, clock, flags.db, *task)?;
+        let run = measure(alloc, clock, disks, *task)?;
         write_run(alloc, task.row, run, out, err)?;
     }
     Ok(())

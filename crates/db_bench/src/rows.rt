@@ -2,6 +2,7 @@
 ghost use Rattle.std.specs.Prelude.{◌≡◌, IfOk};
 ghost use Rattle.db_bench.specs.Rows.{ops_of};
 
+use crate::disks::Disks;
 use crate::flags::Scale;
 use crate::report::Run;
 use crate::{block_rows, iter_rows, log_rows, mem_rows, store_rows, sum_rows, table_rows};
@@ -134,7 +135,7 @@ impl Row {
 
 /// Runs a row once to warm up, and then three times.
 /// The run has what was done, and the least of the three times.
-pub fn measure<K: Clock>(alloc: Global, clock: &K, db: &str, task: Task) -> Result<Run>
+pub fn measure<K: Clock, D: Disks>(alloc: Global, clock: &K, disks: &D, task: Task) -> Result<Run>
     ensures { IfOk result (λ run. run.outcome.ops ≡ ops_of task.row task.scale.num) }
 {
     let Task { row, scale } = task;
@@ -142,11 +143,11 @@ pub fn measure<K: Clock>(alloc: Global, clock: &K, db: &str, task: Task) -> Resu
         scale,
         checked: true,
     };
-    let warm = run_once(alloc, clock, db, row, job)?;
+    let warm = run_once(alloc, clock, disks, row, job)?;
     job.checked = false;
     let mut nanos = u64::MAX;
     for _ in 0..3u32 {
-        let run = run_once(alloc, clock, db, row, job)?;
+        let run = run_once(alloc, clock, disks, row, job)?;
         nanos = nanos.min(run.nanos);
     }
     Ok(Run {
@@ -156,20 +157,26 @@ pub fn measure<K: Clock>(alloc: Global, clock: &K, db: &str, task: Task) -> Resu
 }
 
 // Runs a row once.
-fn run_once<K: Clock>(alloc: Global, clock: &K, db: &str, row: Row, job: Job) -> Result<Run>
+fn run_once<K: Clock, D: Disks>(
+    alloc: Global,
+    clock: &K,
+    disks: &D,
+    row: Row,
+    job: Job,
+) -> Result<Run>
     ensures { IfOk result (λ run. run.outcome.ops ≡ ops_of row job.scale.num) }
 {
     match row {
-        Row::FillSeq => store_rows::fill_in_order(alloc, clock, db, job),
-        Row::FillRandom => store_rows::fill_at_random(alloc, clock, db, job),
-        Row::FillSync => store_rows::fill_synced(alloc, clock, db, job),
-        Row::Overwrite => store_rows::overwrite(alloc, clock, db, job),
-        Row::ReadRandom => store_rows::read_at_random(alloc, clock, db, job),
-        Row::ReadMissing => store_rows::read_missing(alloc, clock, db, job),
-        Row::ReadSeq => iter_rows::read_forward(alloc, clock, db, job),
-        Row::ReadReverse => iter_rows::read_backward(alloc, clock, db, job),
-        Row::SeekRandom => iter_rows::seek_at_random(alloc, clock, db, job),
-        Row::Open => store_rows::open_again(alloc, clock, db, job),
+        Row::FillSeq => store_rows::fill_in_order(alloc, clock, disks, job),
+        Row::FillRandom => store_rows::fill_at_random(alloc, clock, disks, job),
+        Row::FillSync => store_rows::fill_synced(alloc, clock, disks, job),
+        Row::Overwrite => store_rows::overwrite(alloc, clock, disks, job),
+        Row::ReadRandom => store_rows::read_at_random(alloc, clock, disks, job),
+        Row::ReadMissing => store_rows::read_missing(alloc, clock, disks, job),
+        Row::ReadSeq => iter_rows::read_forward(alloc, clock, disks, job),
+        Row::ReadReverse => iter_rows::read_backward(alloc, clock, disks, job),
+        Row::SeekRandom => iter_rows::seek_at_random(alloc, clock, disks, job),
+        Row::Open => store_rows::open_again(alloc, clock, disks, job),
         Row::Crc32c => sum_rows::crc32c(alloc, clock, job),
         Row::LogWrite => log_rows::write(alloc, clock, job),
         Row::LogRead => log_rows::read(alloc, clock, job),

@@ -1,14 +1,15 @@
-//! Rows of the store. Each makes a store of its own, in memory.
+//! Rows of the store. Each makes a store of its own.
 //!
 //! Each function opens the store that it uses: the gate refuses a crate with a function that takes one
 //! by `&mut` (docs/index.md says why).
 ghost use Rattle.std.specs.Prelude.{◌≡◌, ◌+◌, ◌/◌, IfOk};
 
+use crate::disks::Disks;
 use crate::keys::{Numbers, Values, key_of, missing_key_of};
 use crate::report::{Run, Tally, Timer};
 use crate::rows::Job;
 use leveldb_env::env::Env;
-use rusty_leveldb::{DB, MemEnv, Options, Result, WriteBatch};
+use rusty_leveldb::{DB, Options, Result, WriteBatch};
 use std::alloc::Global;
 use std::time::Clock;
 
@@ -120,68 +121,93 @@ fn get_all<K: Clock, E: Env>(
     Ok(run)
 }
 
-// An environment whose store of this name has each key, and is closed.
-pub(crate) fn filled<K: Clock>(alloc: Global, clock: &K, name: &str, job: Job) -> Result<MemEnv> {
-    let mut env = MemEnv::new(alloc);
+// An environment whose store has each key, and is closed.
+pub(crate) fn filled<K: Clock, D: Disks>(
+    alloc: Global,
+    clock: &K,
+    disks: &D,
+    job: Job,
+) -> Result<D::Env> {
+    let mut env = disks.empty()?;
     let unchecked = Job {
         checked: false,
         ..job
     };
     let numbers = Numbers::rising(job.scale.num);
-    put_all(alloc, clock, &mut env, name, unchecked, numbers)?;
+    put_all(alloc, clock, &mut env, disks.store(), unchecked, numbers)?;
     Ok(env)
 }
 
 /// Sets keys in their order.
-pub fn fill_in_order<K: Clock>(alloc: Global, clock: &K, name: &str, job: Job) -> Result<Run>
+pub fn fill_in_order<K: Clock, D: Disks>(
+    alloc: Global,
+    clock: &K,
+    disks: &D,
+    job: Job,
+) -> Result<Run>
     ensures { IfOk result (λ run. run.outcome.ops ≡ job.scale.num) }
 {
-    let mut env = MemEnv::new(alloc);
+    let mut env = disks.empty()?;
     let numbers = Numbers::rising(job.scale.num);
-    put_all(alloc, clock, &mut env, name, job, numbers)
+    put_all(alloc, clock, &mut env, disks.store(), job, numbers)
 }
 
 /// Sets keys at random.
-pub fn fill_at_random<K: Clock>(alloc: Global, clock: &K, name: &str, job: Job) -> Result<Run>
+pub fn fill_at_random<K: Clock, D: Disks>(
+    alloc: Global,
+    clock: &K,
+    disks: &D,
+    job: Job,
+) -> Result<Run>
     ensures { IfOk result (λ run. run.outcome.ops ≡ job.scale.num) }
 {
-    let mut env = MemEnv::new(alloc);
+    let mut env = disks.empty()?;
     let numbers = Numbers::random(job.scale.num);
-    put_all(alloc, clock, &mut env, name, job, numbers)
+    put_all(alloc, clock, &mut env, disks.store(), job, numbers)
 }
 
 /// Sets keys at random in a store that has each of them.
-pub fn overwrite<K: Clock>(alloc: Global, clock: &K, name: &str, job: Job) -> Result<Run>
+pub fn overwrite<K: Clock, D: Disks>(alloc: Global, clock: &K, disks: &D, job: Job) -> Result<Run>
     ensures { IfOk result (λ run. run.outcome.ops ≡ job.scale.num) }
 {
-    let mut env = filled(alloc, clock, name, job)?;
+    let mut env = filled(alloc, clock, disks, job)?;
     let numbers = Numbers::random(job.scale.num);
-    put_all(alloc, clock, &mut env, name, job, numbers)
+    put_all(alloc, clock, &mut env, disks.store(), job, numbers)
 }
 
 /// Sets keys at random with a sync after each, once for a thousand of `--num`.
-pub fn fill_synced<K: Clock>(alloc: Global, clock: &K, name: &str, job: Job) -> Result<Run>
+pub fn fill_synced<K: Clock, D: Disks>(alloc: Global, clock: &K, disks: &D, job: Job) -> Result<Run>
     ensures { IfOk result (λ run. run.outcome.ops ≡ (job.scale.num + 999) / 1000) }
 {
     let ops = (job.scale.num + 999) / 1000;
-    let mut env = MemEnv::new(alloc);
-    put_all_synced(alloc, clock, &mut env, name, job, ops)
+    let mut env = disks.empty()?;
+    put_all_synced(alloc, clock, &mut env, disks.store(), job, ops)
 }
 
 /// Gets keys at random from a store that has each of them.
-pub fn read_at_random<K: Clock>(alloc: Global, clock: &K, name: &str, job: Job) -> Result<Run>
+pub fn read_at_random<K: Clock, D: Disks>(
+    alloc: Global,
+    clock: &K,
+    disks: &D,
+    job: Job,
+) -> Result<Run>
     ensures { IfOk result (λ run. run.outcome.ops ≡ job.scale.num) }
 {
-    let mut env = filled(alloc, clock, name, job)?;
-    get_all(alloc, clock, &mut env, name, job, false)
+    let mut env = filled(alloc, clock, disks, job)?;
+    get_all(alloc, clock, &mut env, disks.store(), job, false)
 }
 
 /// Gets keys at random that the store doesn't have, between those that it has.
-pub fn read_missing<K: Clock>(alloc: Global, clock: &K, name: &str, job: Job) -> Result<Run>
+pub fn read_missing<K: Clock, D: Disks>(
+    alloc: Global,
+    clock: &K,
+    disks: &D,
+    job: Job,
+) -> Result<Run>
     ensures { IfOk result (λ run. run.outcome.ops ≡ job.scale.num) }
 {
-    let mut env = filled(alloc, clock, name, job)?;
-    get_all(alloc, clock, &mut env, name, job, true)
+    let mut env = filled(alloc, clock, disks, job)?;
+    get_all(alloc, clock, &mut env, disks.store(), job, true)
 }
 
 // Opens a store that is there, and closes it.
@@ -191,14 +217,14 @@ fn open_and_close<E: Env>(alloc: Global, env: &mut E, name: &str) -> Result<()> 
 }
 
 /// Opens a store that has each key, and closes it, once for ten thousand of `--num`.
-pub fn open_again<K: Clock>(alloc: Global, clock: &K, name: &str, job: Job) -> Result<Run>
+pub fn open_again<K: Clock, D: Disks>(alloc: Global, clock: &K, disks: &D, job: Job) -> Result<Run>
     ensures { IfOk result (λ run. run.outcome.ops ≡ (job.scale.num + 9999) / 10000) }
 {
     let ops = (job.scale.num + 9999) / 10000;
-    let mut env = filled(alloc, clock, name, job)?;
+    let mut env = filled(alloc, clock, disks, job)?;
     let timer = Timer::start(clock)?;
     for _ in 0..ops {
-        open_and_close(alloc, &mut env, name)?;
+        open_and_close(alloc, &mut env, disks.store())?;
     }
     timer.stop(Tally::new(false).outcome(ops))
 }

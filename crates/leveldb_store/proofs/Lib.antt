@@ -2,6 +2,7 @@ mod BuildTableLemmas
 mod StopsLemmas
 mod TableFileLemmas
 mod WriteTableLemmas
+mod OutputsLemmas
 pub mod WriteLemmas
 mod OpeningNamesLemmas
 mod OpeningCausesLemmas

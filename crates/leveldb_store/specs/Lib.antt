@@ -1,5 +1,6 @@
 pub mod BuildTable
 pub mod TableFile
+pub mod Outputs
 pub mod Passing
 pub mod FoundLogs
 pub mod OpenStore

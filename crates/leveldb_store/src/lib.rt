@@ -5,5 +5,6 @@
 pub mod build;
 pub mod open_store;
 mod opening;
+pub mod outputs;
 pub mod passing;
 mod table_file;
