@@ -30,6 +30,7 @@ use Rattle.leveldb_table.specs.TableLaws.{DecodesMore}
 use Rattle.leveldb_version.proofs.StoreTablesLemmas.{held_tables_by_more}
 use Rattle.leveldb_version.specs.Batches.{Each}
 use Rattle.leveldb_version.specs.Contents.{Store}
+use Rattle.leveldb_version.specs.FullEdit.{files_after}
 use Rattle.leveldb_version.specs.Levels.{LiveTable}
 use Rattle.leveldb_version.specs.LogEdit.{AppendsEdit, edit_record, with_bytes_kept}
 use Rattle.leveldb_version.specs.Opening.{FitsEdit}
@@ -44,12 +45,13 @@ use Rattle.leveldb_version.specs.Version.{VersionValue}
 use Rattle.leveldb_version.specs.Writing.{IsWrittenBy, table_edit}
 use Rattle.leveldb_version.specs.declared.version_edit.VersionEdit.{VersionEdit}
 use Rattle.leveldb_store.proofs.CurrentVersionLemmas.{lower_stay}
+use Rattle.leveldb_store.proofs.GivenNumbersLemmas.{given_after, live_given}
 use Rattle.leveldb_store.proofs.GivenTablesLemmas.{SameGiven, given_same, same_beside, same_beside_new, same_or_gone, same_then}
 use Rattle.leveldb_store.proofs.TableKeepsLemmas.{KeepsHistory-refl, KeepsHistory-trans, appending_and_syncing, is_table_path, keeps_logged, keeps_made, shows_done, shows_failed, shows_made, types_apart, w_made, written_done, written_made}
 use Rattle.leveldb_store.proofs.SoundLemmas.{edit_goes_on, goes_on_then, sound_unlogged, table_goes_on}
 use Rattle.leveldb_store.specs.BuildTable.{MakesTable, TableChoices}
 use Rattle.leveldb_version.specs.Format.{Agrees, Format, IsTableOf, Meaning}
-use Rattle.leveldb_store.specs.OpenStore.{AreNumbersGiven, HasOwnManifest, OpenStoreValue}
+use Rattle.leveldb_store.specs.OpenStore.{AreInLevels, AreNumbersGiven, HasOwnManifest, OpenStoreValue}
 use Rattle.leveldb_store.specs.SoundCall.{IsSoundCall}
 use Rattle.leveldb_store.specs.Switch.{FailsToTableWaiting, TablesWaiting}
 use Rattle.leveldb_store.specs.Written.{IsData, IsDataPath, IsWritten, KeepsStore, KeepsWritten, Shows, SparesRest, memory_of, waiting_entries}
@@ -171,6 +173,32 @@ files_left a = ⊎_elim
       ap (λ (s : VersionSetValue). s.full) now,
       ap (λ (s : VersionSetValue). s.next_file) now,
     )) a.err
+
+-- each live file's number was given, whether an edit of files whose numbers were is logged or not
+pub logged_given : {models_disk : Bool} {manifest : OpenManifest} {old : VersionSetValue}
+    {edit : Edit} {before after : Observed} {failed now_failed : ℕ} {new : VersionSetValue}
+    (result : Result (Unit {0}) Status)
+    → AppendsEdit models_disk manifest old edit before failed result new after now_failed
+    → AreNumbersGiven old old.full.added → AreNumbersGiven old edit.added
+    → AreNumbersGiven new new.full.added
+logged_given {old = old} {edit = edit} {new = new} (Ok done) logged given added =
+    given_after old new edit (ap (λ (s : VersionSetValue). s.full.added) logged.ok)
+    (ap (λ (s : VersionSetValue). s.next_file) logged.ok) given added
+logged_given {old = old} {new = new} (Err status) logged given added =
+    let left = files_left logged in live_given old new left.0 (omega (arith, left.1)) given
+
+-- and live files are in levels, if those before and those that the edit leaves are
+pub logged_levels : {models_disk : Bool} {manifest : OpenManifest} {old : VersionSetValue}
+    {edit : Edit} {before after : Observed} {failed now_failed : ℕ} {new : VersionSetValue}
+    (order : List ℕ → List ℕ → Ordering) (result : Result (Unit {0}) Status)
+    → AppendsEdit models_disk manifest old edit before failed result new after now_failed
+    → AreInLevels models_disk order old.full.added
+    → AreInLevels models_disk order (files_after edit old.full.added)
+    → AreInLevels models_disk order new.full.added
+logged_levels {models_disk} order (Ok done) logged levels next =
+    subst (AreInLevels models_disk order) (sym (ap (λ (s : VersionSetValue). s.full.added) logged.ok)) next
+logged_levels {models_disk} order (Err status) logged levels next =
+    subst (λ (full : Edit). AreInLevels models_disk order full.added) (sym (files_left logged).0) levels
 
 -- a set of the same paths has its own manifest, too
 pub own_again : (old new : VersionSetValue) → KeepsManifest old new → HasOwnManifest old

@@ -21,7 +21,7 @@ use leveldb_env::env::Env;
 use leveldb_env::filter::{FilterPolicy, InternalFilterPolicy};
 use leveldb_env::options::Options;
 use leveldb_table::table_builder::builder_core::BuilderCore;
-use leveldb_version::version_set::VersionSet;
+use leveldb_version::version_set::LiveFiles;
 use std::alloc::Global;
 use std::marker::Model;
 
@@ -76,7 +76,7 @@ impl<E: Env, C: UserCmp + Copy + Drop, FP: FilterPolicy + Copy + Drop> Outputs<E
     pub fn put(
         &mut self,
         env: &mut E,
-        versions: &mut VersionSet<E>,
+        versions: &mut LiveFiles<E>,
         store: &str,
         options: &Options<C, FP>,
         key: &[u8],
@@ -190,7 +190,7 @@ impl<E: Env, C: UserCmp + Copy + Drop, FP: FilterPolicy + Copy + Drop> Outputs<E
     fn begin(
         &mut self,
         env: &mut E,
-        versions: &mut VersionSet<E>,
+        versions: &mut LiveFiles<E>,
         store: &str,
         options: &Options<C, FP>,
         key: &[u8],
