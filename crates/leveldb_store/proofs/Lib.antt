@@ -21,6 +21,9 @@ pub mod NotTabledLemmas
 pub mod SoundLemmas
 pub mod RoomLemmas
 pub mod WrittenFromLemmas
+mod LogDamageLemmas
+pub mod DamageLemmas
+pub mod KeptFilesLemmas
 mod ReadLemmas
 pub mod LookUpLemmas
 pub mod ViewLemmas

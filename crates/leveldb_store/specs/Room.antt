@@ -1,6 +1,6 @@
 -- What making room in the memtable returns and leaves, and why it fails; and deletions whose
 -- failures are told to a sink alone.
-use Rattle.std.specs.Prelude.{◌≡◌, ◌≢◌, ◌≤◌, ◌<◌, ◌-◌, ◌^◌, ◌⊎◌, ℕ, List, [], Option, None, Some, Result, IfErr, OnErr, OnOk, IsTrue, is_some, map}
+use Rattle.std.specs.Prelude.{◌≡◌, ◌≢◌, ◌≤◌, ◌<◌, ◌-◌, ◌^◌, ◌⊎◌, ℕ, List, [], Option, None, Some, Result, Ok, Err, IfErr, OnErr, OnOk, IsTrue, is_some, map}
 use Rattle.std.specs.declared.cmp.Ordering.{Ordering}
 use Rattle.leveldb_base.specs.Entries.{internal_pair}
 use Rattle.leveldb_base.specs.Error.{IsOutOfMemory}
@@ -38,6 +38,19 @@ pub record TellsOnly {C FP : Type 0} {B : Boxed} (before after : OptionsOf C FP 
   pub rest : after ≡ record before { log = after.log }
   -- there is one if there was one
   pub sink : is_some after.log ≡ is_some before.log
+
+-- ---- removals
+
+-- what a call returned, beside what the removal at its end did
+abbrev pub but_removal : Result (Result (Unit {0}) Status) Status → Result (Unit {0}) Status
+but_removal (Ok removal) = Ok tt
+but_removal (Err status) = Err status
+
+-- the last that was done is a removal of the files of this store that are obsolete
+abbrev pub RemovesAtLast : {E F C : Type 0} → Ghosts E F → OpenStoreValue C
+    → Result (Unit {0}) Status → E → Type 0
+RemovesAtLast {E} env value removal to =
+    (at : E) × RemovesObsolete env value.set at value.keeps_files removal to
 
 -- ---- room
 
@@ -95,11 +108,8 @@ module _ {E F C : Type 0} (env : Ghosts E F) (cmp : List ℕ → List ℕ → Or
     pub rest : SparesRest env.models_disk old (env.observed from) new (env.observed to)
     pub cause : FailsFor (FailsToMakeRoom choices) (env.failures from) (env.failures to) result
 
-  -- Obsolete files are deleted, and what failed of that is told.
+  -- What a deletion of obsolete files keeps, whatever it returns.
   pub record TidiesUp (to : E) : Type 0 where
-    -- the removal, which may have failed
-    pub removal : Result (Unit {0}) Status
-    pub removes : RemovesObsolete env old.set from removal to
     pub others : IsTrue env.models_disk
         → RemovesNoOther old.set (env.observed from).disk.files (env.observed to).disk.files
     pub keeps : IsTrue env.models_disk → (meaning : Meaning)

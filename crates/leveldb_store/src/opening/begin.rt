@@ -56,6 +56,7 @@ pub(super) fn begin_writing<E: Env, C: UserCmp + Copy + Drop, FP: FilterPolicy +
         log,
         recent,
         waiting: None,
+        keeps_files: false,
     })
 }
 
