@@ -5,6 +5,7 @@ ghost use Rattle.leveldb_store.specs.OpenStore.{IsUnbroken};
 mod obsolete;
 mod read;
 mod room;
+mod store_walk;
 mod switch;
 mod table;
 mod view;
@@ -20,6 +21,7 @@ use leveldb_version::version::Version;
 use leveldb_version::version_set::VersionSet;
 use std::alloc::Global;
 use std::marker::Model;
+pub use store_walk::StoreWalk;
 pub use view::StoreView;
 
 /// A log that batches are appended to: its number, its file, and the writer of its records.
