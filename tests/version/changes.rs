@@ -3,16 +3,18 @@
 use crate::stored::Stored;
 use bytes::Bytes;
 use leveldb_base::cmp::DefaultCmp;
-use leveldb_base::error::Result;
+use leveldb_base::error::{Result, StatusCode};
 use leveldb_base::key_types::LookupKey;
 use leveldb_base::types::{FileMetaData, FileNum};
+use leveldb_env::env::Env;
 use leveldb_env::mem_env::MemEnv;
 use leveldb_env::options::Options;
 use leveldb_version::version::{GetStats, Version};
 use leveldb_version::version_edit::VersionEdit;
-use leveldb_version::version_set::VersionSet;
+use leveldb_version::version_set::{VersionSet, manifest_file_name};
 use std::alloc::Global;
 use std::process::Abort;
+use support::failed_with;
 
 /// The files of the edits are in so many levels, and have so many numbers.
 const LEVELS: u64 = 4;
@@ -82,10 +84,18 @@ impl LiveList {
             self.files.push(Live {
                 level: file.0,
                 num: file.1.num,
-                seeks: (file.1.size / 16_384).max(100),
+                seeks: first_seeks(file.1.size),
             })?;
         }
         Ok(())
+    }
+
+    /// The same files as a set has them that is recovered: each has its first seeks, none is chosen.
+    fn renew(&mut self) {
+        for file in self.files.iter_mut() {
+            file.seeks = first_seeks(size_of(file.num));
+        }
+        self.chosen = None;
     }
 
     /// Charges a file with a seek, and returns whether it is chosen by that.
@@ -103,6 +113,15 @@ impl LiveList {
     }
 }
 
+/// The seeks that a file of this size has at first.
+fn first_seeks(size: usize) -> usize {
+    (size / 16_384).max(100)
+}
+
+fn size_of(num: FileNum) -> usize {
+    200_000 * num.min(NUMBERS) as usize
+}
+
 /// A key of the only entry of a file: its number backwards, so that keys are in another order than
 /// numbers.
 fn key_of(alloc: Global, num: FileNum) -> Result<Bytes> {
@@ -114,7 +133,7 @@ fn file_of(alloc: Global, num: FileNum) -> Result<FileMetaData> {
     Ok(FileMetaData {
         allowed_seeks: 0,
         num,
-        size: 200_000 * num.min(NUMBERS) as usize,
+        size: size_of(num),
         smallest: key_of(alloc, num)?,
         largest: key_of(alloc, num)?,
     })
@@ -167,20 +186,19 @@ fn assert_same(rt: &impl Abort, version: &Version<DefaultCmp>, live: &LiveList) 
     assert!(rt; version.file_to_compact() == live.chosen);
 }
 
-/// Charges a file that may be live so often, and asserts that the list and the version choose the
-/// same one.
+/// Charges a file that may be live so often, and asserts that the list chooses the same one.
 fn charge_often(
     rt: &impl Abort,
     random: &mut Random,
-    version: &mut Version<DefaultCmp>,
     live: &mut LiveList,
+    mut charge: impl FnMut(GetStats) -> bool,
 ) {
     let (level, num) = (random.level(), random.number());
     let stats = GetStats {
         file: Some((level, num)),
     };
     for _ in 0..random.below(120) {
-        assert!(rt; version.update_stats(stats) == live.charge(level, num));
+        assert!(rt; charge(stats) == live.charge(level, num));
     }
 }
 
@@ -197,7 +215,12 @@ fn versions_after_edits(rt: HostRuntime) -> Result<()> {
         version = version.with_edit(rt.alloc(), &edit)?;
         live.apply(&edit)?;
         if random.below(8) == 0 {
-            charge_often(&rt, &mut random, &mut version, &mut live);
+            charge_often(
+                &rt,
+                &mut random,
+                &mut live,
+                |stats| version.update_stats(stats),
+            );
         }
         assert_same(&rt, &version, &live);
         if live.chosen.is_some() {
@@ -208,32 +231,97 @@ fn versions_after_edits(rt: HostRuntime) -> Result<()> {
     Ok(())
 }
 
-/// Asserts that the set lists the files of the list, in the order in which they were added.
-fn assert_lists(rt: &impl Abort, set: &VersionSet<MemEnv>, live: &LiveList) {
+/// A set beside its device.
+type StoredSet = Stored<MemEnv>;
+
+/// Asserts that the set lists the files of the list, in the order in which they were added, and that
+/// its version has them by levels.
+fn assert_lists(rt: &impl Abort, set: &VersionSet<MemEnv, DefaultCmp>, live: &LiveList) {
     let files = set.files();
     assert!(rt; files.len() == live.files.len());
     for (file, other) in files.iter().zip(live.files.as_slice()) {
         assert!(rt; file.0 == other.level && file.1.num == other.num);
     }
+    assert_same(rt, set.current(), live);
 }
 
-/// A set has the files of the plain list after each of two thousand edits, and so has one that is
-/// recovered from its manifest then.
+/// A set and its version have the files of the plain list after each of three thousand edits, which
+/// lose seeks on the way, and so has one that is recovered from its manifest then.
 #[test]
 fn sets_after_edits(rt: HostRuntime) -> Result<()> {
     let mut random = Random(7);
     let mut live = LiveList::new(rt.alloc());
-    let mut stored = Stored::beside_a_store(rt.alloc(), MemEnv::new(rt.alloc()))?;
+    let mut stored = StoredSet::beside_a_store(rt.alloc(), MemEnv::new(rt.alloc()))?;
     stored.recover()?;
     stored.set.mark_file_number_used(NUMBERS)?;
-    for _ in 0..2000 {
+    let mut chosen = 0;
+    for _ in 0..3000 {
         let edit = random_edit(rt.alloc(), &mut random)?;
         live.apply(&edit)?;
         stored.log(edit)?;
+        if random.below(8) == 0 {
+            charge_often(
+                &rt,
+                &mut random,
+                &mut live,
+                |stats| stored.set.update_stats(stats),
+            );
+        }
         assert_lists(&rt, &stored.set, &live);
+        if live.chosen.is_some() {
+            chosen += 1;
+        }
     }
+    assert!(rt; chosen > 0 && chosen < 3000);
     let mut again = VersionSet::new(rt.alloc(), "db", &DefaultCmp)?;
     again.recover(&mut stored.env, &Options::default())?;
+    live.renew();
     assert_lists(&rt, &again, &live);
+    Ok(())
+}
+
+/// An edit that isn't logged leaves the set and its version as they were, and so does a broken set
+/// with each that comes after it.
+#[test]
+fn refused_edits_leave_the_version(rt: HostRuntime) -> Result<()> {
+    let mut live = LiveList::new(rt.alloc());
+    let mut stored = StoredSet::beside_a_store(rt.alloc(), MemEnv::new(rt.alloc()))?;
+    stored.recover()?;
+    let mut edit = VersionEdit::new(rt.alloc());
+    edit.add_file(1, file_of(rt.alloc(), 3)?)?;
+    live.apply(&edit)?;
+    stored.log(edit)?;
+    let mut unfit = VersionEdit::new(rt.alloc());
+    unfit.add_file(7, file_of(rt.alloc(), 4)?)?;
+    assert!(rt; failed_with(stored.log(unfit), StatusCode::InvalidArgument)?);
+    assert_lists(&rt, &stored.set, &live);
+    let manifest = manifest_file_name(rt.alloc(), "db", stored.set.manifest_num())?;
+    stored.env.delete(&manifest)?;
+    for code in [StatusCode::Corruption, StatusCode::IOError] {
+        let mut edit = VersionEdit::new(rt.alloc());
+        edit.delete_file(1, 3)?;
+        assert!(rt; failed_with(stored.log(edit), code)?);
+        assert_lists(&rt, &stored.set, &live);
+    }
+    assert!(rt; stored.set.is_broken());
+    Ok(())
+}
+
+/// A version that takes the place of another of the same files is the set's from then on.
+#[test]
+fn versions_are_added(rt: HostRuntime) -> Result<()> {
+    let mut live = LiveList::new(rt.alloc());
+    let mut stored = StoredSet::beside_a_store(rt.alloc(), MemEnv::new(rt.alloc()))?;
+    stored.recover()?;
+    let mut edit = VersionEdit::new(rt.alloc());
+    edit.add_file(2, file_of(rt.alloc(), 5)?)?;
+    live.apply(&edit)?;
+    stored.log(edit)?;
+    let stats = GetStats { file: Some((2, 5)) };
+    while !stored.set.update_stats(stats) {}
+    assert!(rt; stored.set.current().file_to_compact() == Some((2, 5)));
+    let version = Version::of_files(rt.alloc(), DefaultCmp, stored.set.files())?;
+    stored.set.add_version(version);
+    assert_lists(&rt, &stored.set, &live);
     Ok(())
 }

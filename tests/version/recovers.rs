@@ -1,6 +1,7 @@
 //! What a version set recovers from manifests that are written by hand, and what it refuses.
 use crate::store_files::{NEW_MANIFEST, TABLE_EDIT};
 use crate::stored::Stored;
+use leveldb_base::cmp::DefaultCmp;
 use leveldb_base::error::{Result, StatusCode};
 use leveldb_base::types::{FileNum, SequenceNumber};
 use leveldb_env::env::Env;
@@ -70,7 +71,7 @@ const LACKING: [&[u8]; 4] = [
 /// number.
 type Numbers = (FileNum, FileNum, FileNum, SequenceNumber);
 
-fn numbers_of<E: Env>(set: &VersionSet<E>) -> Numbers {
+fn numbers_of<E: Env>(set: &VersionSet<E, DefaultCmp>) -> Numbers {
     (
         set.next_file_num(),
         set.manifest_num(),

@@ -10,7 +10,7 @@ use std::alloc::Global;
 /// A device, and a version set for the store `db` on it.
 pub struct Stored<E: Env> {
     pub env: E,
-    pub set: VersionSet<E>,
+    pub set: VersionSet<E, DefaultCmp>,
 }
 
 impl<E: Env + Drop> Drop for Stored<E> {

@@ -556,12 +556,6 @@ module _ {E F D FP : Type 0} (env : Ghosts E F) {order : CmpGhosts D} {filters :
           none_counted : env.failures e3 ≡ env.failures from
           none_counted = counted wanted logged ∙ opens.cause.ok ∙ replays.cause.ok
 
-          -- there is no memory for the list of live files
-          pub ended_refused : (status : Status) → IsOutOfMemory status → Begins C (Err status) e3
-          ended_refused status memory = refused_at C e3 status (all_keep (Ok done) set4 e3 logged locks) (all_spare (Ok done) set4 e3 logged locks)
-              (all_bytes (Ok done) set4 e3 logged locks) (all_locks (Ok done) set4 e3 logged locks)
-              (record { later = omega (arith, none_counted); ok = tt; uncounted = λ why. none_counted; cause = inl (inl memory) })
-
           module _ (value : OpenStoreValue C) (is : IsOpenValue set4 N (size_to_write replay.used) (entries_to_write replay.used) value) where
             opened_by : (b : Bool) → wanted ≡ b → LogsIfWanted env b N made set3 e2 (Ok done) set4 e3 → IsTrue env.models_disk → (meaning : Meaning) → Agrees format meaning → (contents : Contents)
                 → WasRecovered env format store set logs from meaning contents → IsOpenedAs format.order meaning store format.order_name contents value (env.observed e3).disk.files
@@ -593,3 +587,8 @@ module _ {E F D FP : Type 0} (env : Ghosts E F) {order : CmpGhosts D} {filters :
               locks = all_locks (Ok done) set4 e3 logged locks;
               cause = record { later = omega (arith, none_counted); ok = none_counted; uncounted = tt; cause = tt };
             }
+
+      -- there is no memory for the version of the live files
+      pub unversioned : (status : Status) → IsOutOfMemory status → Begins C (Err status) e2
+      unversioned status memory = edit_refused true (λ e. absurd (cc)) status set3 e2
+          (inl (memory, refl, refl)) (λ modelled. refl)

@@ -34,7 +34,8 @@ use Rattle.leveldb_version.specs.VersionEdit.{NewFile}
 use Rattle.leveldb_version.specs.declared.table_cache.TableCache.{TableCache}
 use Rattle.leveldb_version.specs.declared.version.GetStats.{GetStats}
 use Rattle.leveldb_store.proofs.LevelsApartLemmas.{permuted_apart}
-use Rattle.leveldb_store.specs.OpenStore.{AreNumbersGiven, IsCurrent, OpenStoreValue}
+use Rattle.leveldb_version.specs.CurrentVersion.{IsCurrent}
+use Rattle.leveldb_store.specs.OpenStore.{AreNumbersGiven, OpenStoreValue}
 use Rattle.leveldb_store.specs.OpenTables.{AreOpenTablesOf}
 use Rattle.leveldb_store.specs.Read.{FindsInMemory, HasOpenTables, LooksUpKey, charge_of, in_memory, sought_key, value_searched, with_charge}
 use Rattle.leveldb_store.specs.Written.{HasLiveTables, Shows, waiting_entries}

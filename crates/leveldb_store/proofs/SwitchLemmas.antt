@@ -27,6 +27,7 @@ use Rattle.leveldb_version.proofs.SafeLemmas.{some_is}
 use Rattle.leveldb_version.proofs.ShownLemmas.{same_memory_shows}
 use Rattle.leveldb_version.proofs.SwitchLogLemmas.{new_log_written}
 use Rattle.leveldb_version.proofs.WrittenLemmas.{written_given, written_synced}
+use Rattle.leveldb_version.specs.CurrentVersion.{VersionsValue}
 use Rattle.leveldb_version.specs.Contents.{Store}
 use Rattle.leveldb_version.specs.Levels.{LiveTable, table_entries}
 use Rattle.leveldb_version.specs.Paths.{log_path, table_path}
@@ -462,8 +463,13 @@ module _ {C : Type 0} where
   abbrev pub with_set : OpenStoreValue C → VersionSetValue → OpenStoreValue C
   with_set value set = record value { set = set }
 
-  pub after_giving : (before old : OpenStoreValue C) → before ≡ old → (set : VersionSetValue) → set ≡ with_number_given before.set → with_set before set ≡ with_set old (with_number_given old.set)
-  after_giving before old same set is = λ i. with_set (same i) ((is ∙ ap (λ (v : OpenStoreValue C). with_number_given v.set) same) i)
+  -- the store after a number was given is it with another set
+  pub after_giving : (before old : OpenStoreValue C) → before ≡ old → (now : VersionsValue C)
+      → now ≡ record { set = with_number_given before.set; current = before.current }
+      → record before { set = now.set; current = now.current } ≡ with_set old (with_number_given old.set)
+  after_giving before old same now is =
+      ap (λ (v : VersionsValue C). record before { set = v.set; current = v.current }) is
+      ∙ ap (λ (v : OpenStoreValue C). with_set v (with_number_given v.set)) same
 
 module _ {E F C : Type 0} (env : Ghosts E F) (from : E) {before now new : OpenStoreValue C} (same : new ≡ before) (given : before ≡ now) (to : E) where
   -- a sync that was made, said of the value after it

@@ -172,6 +172,32 @@ files_left a = ⊎_elim
       ap (λ (s : VersionSetValue). s.next_file) now,
     )) a.err
 
+-- each live file's number was given, whether an edit of files whose numbers were is logged or not
+pub logged_given : {models_disk : Bool} {manifest : OpenManifest} {old : VersionSetValue}
+    {edit : Edit} {before after : Observed} {failed now_failed : ℕ} {new : VersionSetValue}
+    (result : Result (Unit {0}) Status)
+    → AppendsEdit models_disk manifest old edit before failed result new after now_failed
+    → AreNumbersGiven old old.full.added → AreNumbersGiven old edit.added
+    → AreNumbersGiven new new.full.added
+logged_given {old = old} {edit = edit} {new = new} (Ok done) logged given added =
+    given_after old new edit (ap (λ (s : VersionSetValue). s.full.added) logged.ok)
+    (ap (λ (s : VersionSetValue). s.next_file) logged.ok) given added
+logged_given {old = old} {new = new} (Err status) logged given added =
+    let left = files_left logged in live_given old new left.0 (omega (arith, left.1)) given
+
+-- and live files are in levels, if those before and those that the edit leaves are
+pub logged_levels : {models_disk : Bool} {manifest : OpenManifest} {old : VersionSetValue}
+    {edit : Edit} {before after : Observed} {failed now_failed : ℕ} {new : VersionSetValue}
+    (order : List ℕ → List ℕ → Ordering) (result : Result (Unit {0}) Status)
+    → AppendsEdit models_disk manifest old edit before failed result new after now_failed
+    → AreInLevels models_disk order old.full.added
+    → AreInLevels models_disk order (files_after edit old.full.added)
+    → AreInLevels models_disk order new.full.added
+logged_levels {models_disk} order (Ok done) logged levels next =
+    subst (AreInLevels models_disk order) (sym (ap (λ (s : VersionSetValue). s.full.added) logged.ok)) next
+logged_levels {models_disk} order (Err status) logged levels next =
+    subst (λ (full : Edit). AreInLevels models_disk order full.added) (sym (files_left logged).0) levels
+
 -- a set of the same paths has its own manifest, too
 pub own_again : (old new : VersionSetValue) → KeepsManifest old new → HasOwnManifest old
     → HasOwnManifest new

@@ -32,7 +32,8 @@ use Rattle.leveldb_version.specs.VersionIters.{OrdersInternalKeys}
 use Rattle.leveldb_version.specs.declared.store_walk.StoreWalk.{StoreWalk}
 use Rattle.leveldb_version.specs.declared.store_walk.StoreWalk.TheVariants.{Memory, Tables}
 use Rattle.leveldb_version.specs.declared.table_cache.moves.ReadTables.{ReadTables}
-use Rattle.leveldb_store.specs.OpenStore.{AreInLevels, AreNumbersGiven, IsCurrent, OpenStoreValue}
+use Rattle.leveldb_version.specs.CurrentVersion.{IsCurrent}
+use Rattle.leveldb_store.specs.OpenStore.{AreInLevels, AreNumbersGiven, OpenStoreValue}
 use Rattle.leveldb_store.specs.Read.{in_memory}
 use Rattle.leveldb_store.specs.Room.{HasFailed}
 use Rattle.leveldb_store.specs.View.{AreChildrenOf, FailsBetween, IsOfNoCompressor, ShowsIn, ViewsMerge, ViewsStore, any_in_order, options_in}

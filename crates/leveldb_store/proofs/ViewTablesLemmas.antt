@@ -30,7 +30,8 @@ use Rattle.leveldb_version.specs.VersionIters.{AreTablesToWalk, AreVersionIters,
 use Rattle.leveldb_version.specs.VersionSet.{is_same_file, level_file}
 use Rattle.leveldb_version.specs.declared.table_cache.moves.ReadTables.{ReadTables}
 use Rattle.leveldb_version.specs.declared.version_iter.VersionIter.{VersionIter}
-use Rattle.leveldb_store.specs.OpenStore.{AreInLevels, AreNumbersGiven, IsCurrent, OpenStoreValue}
+use Rattle.leveldb_version.specs.CurrentVersion.{IsCurrent}
+use Rattle.leveldb_store.specs.OpenStore.{AreInLevels, AreNumbersGiven, OpenStoreValue}
 use Rattle.leveldb_store.specs.View.{IsWorldOf, options_in}
 use Rattle.leveldb_store.specs.Written.{HasLiveTables}
 

@@ -42,16 +42,6 @@ abbrev pub HasOwnManifest : VersionSetValue → Type 0
 HasOwnManifest set = (manifest : OpenManifest) → set.manifest ≡ in_use manifest
     → IsFilePath Descriptor set.store manifest.path
 
--- the version has this comparator, and the live files of the set, up to their seeks, in the order of
--- a version; their numbers and their sizes have 64 bits
-pub record IsCurrent {C : Type 0} (order : List ℕ → List ℕ → Ordering) (cmp : C)
-    (set : VersionSetValue) (version : VersionValue C) : Type 0 where
-  pub cmp_is : version.cmp ≡ cmp
-  pub same_files : IsPermutation set.full.added (new_files_of version)
-  pub in_order : AreInVersionOrder order (new_files_of version)
-  pub fit : All (λ (file : NewFile). (file.number < 2 ^ 64) × (file.size < 2 ^ 64))
-      (new_files_of version)
-
 -- files of a set: those of each level from 1 on are apart, each is listed once, and where the disk is
 -- modelled there are seven levels
 pub record AreInLevels (models_disk : Bool) (order : List ℕ → List ℕ → Ordering)

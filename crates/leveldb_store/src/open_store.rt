@@ -16,7 +16,6 @@ use leveldb_base::types::{FileNum, SequenceNumber};
 use leveldb_env::env::Env;
 use leveldb_mem::log::WriterCore;
 use leveldb_mem::memtable::MemTable;
-use leveldb_version::version::Version;
 use leveldb_version::version_set::VersionSet;
 use std::alloc::Global;
 use std::marker::Model;
@@ -36,9 +35,7 @@ pub struct OpenStore<E: Env, C: Cmp> {
     // The store's path.
     pub(crate) name: String,
     pub(crate) cmp: C,
-    pub(crate) versions: VersionSet<E>,
-    // The live files of the version set by levels.
-    pub(crate) current: Version<C>,
+    pub(crate) versions: VersionSet<E, C>,
     pub(crate) log: OpenLog<E>,
     // The entries of the log's batches.
     pub(crate) recent: MemTable<C>,
@@ -54,7 +51,6 @@ impl<E: Env, C: Cmp + Drop> Drop for OpenStore<E, C> {
             name,
             cmp,
             versions,
-            current,
             log,
             recent,
             waiting,
@@ -62,7 +58,6 @@ impl<E: Env, C: Cmp + Drop> Drop for OpenStore<E, C> {
         drop(name);
         drop(cmp);
         drop(versions);
-        drop(current);
         drop(log);
         drop(recent);
         drop(waiting);
@@ -75,14 +70,14 @@ impl<E: Env, C: Cmp> Model for OpenStore<E, C> {
     ghost use Rattle.leveldb_base.specs.History.{AreUpTo};
     ghost use Rattle.leveldb_version.specs.Paths.{log_path};
     ghost use Rattle.leveldb_version.specs.VersionSetValue.{unmade};
-    ghost use Rattle.leveldb_store.specs.OpenStore.{AreInLevels, AreNumbersGiven, HasOwnManifest, IsCurrent, OpenStoreValue};
+    ghost use Rattle.leveldb_store.specs.OpenStore.{AreInLevels, AreNumbersGiven, HasOwnManifest, OpenStoreValue};
 
     ghost Value = { OpenStoreValue C };
 
     ghost view = { λ it. record {
       cmp = it.cmp;
-      set = it.versions;
-      current = it.current;
+      set = it.versions.set;
+      current = it.versions.current;
       log = record { number = it.log.number; writer = it.log.writer };
       recent = it.recent.kept;
       waiting = option_map (λ memtable. memtable.kept) it.waiting;
@@ -91,19 +86,19 @@ impl<E: Env, C: Cmp> Model for OpenStore<E, C> {
     // The version set is of the store's path, the log's file has the log's path, and both memtables
     // have the store's order. A manifest in use is in the store's folder. The manifest is in use or
     // broken. No entry of the log's memtable has a number past the last one, and a memtable that
-    // waits has entries. The version has the live files, the number of each of them was given, and
-    // they are in levels.
-    ghost invariant = { λ it. (it.versions.store ≡ string_bytes it.name)
+    // waits has entries. The version has the store's order. The number of each live file was given,
+    // and they are in levels.
+    ghost invariant = { λ it. (it.versions.set.store ≡ string_bytes it.name)
         × (IsTrue E.models_disk → E.name_of it.log.file ≡ log_path (string_bytes it.name) it.log.number)
         × (it.recent.cmp ≡ it.cmp)
         × IfSome it.waiting (λ memtable. memtable.cmp ≡ it.cmp)
-        × (IsTrue E.models_disk → HasOwnManifest it.versions)
-        × (it.versions.manifest ≢ unmade)
-        × AreUpTo it.versions.last_sequence it.recent.kept.entries
+        × (IsTrue E.models_disk → HasOwnManifest it.versions.set)
+        × (it.versions.set.manifest ≢ unmade)
+        × AreUpTo it.versions.set.last_sequence it.recent.kept.entries
         × IfSome it.waiting (λ memtable. memtable.kept.entries ≢ [])
-        × IsCurrent (C.cmp it.cmp) it.cmp it.versions it.current
-        × AreNumbersGiven it.versions it.versions.full.added
-        × AreInLevels E.models_disk (C.cmp it.cmp) it.versions.full.added };
+        × (it.versions.current.cmp ≡ it.cmp)
+        × AreNumbersGiven it.versions.set it.versions.set.full.added
+        × AreInLevels E.models_disk (C.cmp it.cmp) it.versions.set.full.added };
 }
 
 impl<E: Env, C: UserCmp + Copy> OpenStore<E, C> {

@@ -77,6 +77,7 @@ pub mod StoreWalkLemmas
 pub mod TableCacheLemmas
 pub mod TableCacheCallLemmas
 pub mod SearchLemmas
+pub mod CurrentVersionLemmas
 pub mod ReadTableLemmas
 pub mod TableStepLemmas
 pub mod TableMoveLemmas

@@ -10,10 +10,11 @@ use Rattle.leveldb_env.specs.Env.{BeforeOrAfter, ChangesFiles, Files, HasCause, 
 use Rattle.leveldb_env.specs.EnvFile.{Appends, Opened, Syncs}
 use Rattle.leveldb_env.proofs.EnvLemmas.{Run-call, Run-mono, appended, begun, call, nothing_appended}
 use Rattle.leveldb_mem.specs.Log.Writer.{AddsRecord, FailsToAdd, Flushes, WriterState, frame}
-use Rattle.leveldb_version.specs.FullEdit.{full_after}
-use Rattle.leveldb_version.specs.LogEdit.{AppendingAndSyncing, new_manifest, set_begun, with_bytes_kept}
+use Rattle.leveldb_base.specs.Error.{IsOutOfMemory}
+use Rattle.leveldb_version.specs.FullEdit.{files_after, full_after}
+use Rattle.leveldb_version.specs.LogEdit.{AppendingAndSyncing, AppendsEdit, BeginsManifest, LogEditResult, new_manifest, set_begun, with_bytes_kept}
 use Rattle.leveldb_version.specs.NewManifest.{MakingManifest, with_manifest}
-use Rattle.leveldb_version.specs.VersionEdit.{Edit, Field, adds, comparator_is, deletes, edit_bytes, field_bytes, last_sequence_is, log_is, next_file_is, points, previous_log_is}
+use Rattle.leveldb_version.specs.VersionEdit.{Edit, Field, LevelsFit, adds, comparator_is, deletes, edit_bytes, field_bytes, last_sequence_is, log_is, next_file_is, points, previous_log_is}
 use Rattle.leveldb_version.specs.VersionSetValue.{ManifestState, OpenManifest, VersionSetValue, broken, in_use, manifest_state, unmade}
 use Rattle.leveldb_version.proofs.VersionEditLemmas.{length-field-pos}
 use Rattle.leveldb_version.proofs.VersionSetLemmas.{holds_of_element}
@@ -159,3 +160,60 @@ ok_cause {before = before} {now = now} is cause = record { later = cause.later; 
 
 pub All-unmap : {X Y : Type 0} (P : Y → Type 0) (f : X → Y) (xs : List X) → All P (map f xs) → All (λ x. P (f x)) xs
 All-unmap P f xs all = λ i d there. holds_of_element P f xs i d there all
+
+-- ---- the whole call
+
+-- an edit of levels that there are, given to a set that isn't broken, is appended or begins a manifest
+pub logged_by : {models_disk : Bool} {set : VersionSetValue} {edit : Edit} {before after : Observed} {failed now_failed : ℕ} {result : Result (Unit {0}) Status} {new : VersionSetValue}
+    → set.manifest ≢ broken → LevelsFit edit
+    → ((manifest : OpenManifest) → set.manifest ≡ in_use manifest → AppendsEdit models_disk manifest set edit before failed result new after now_failed)
+    → (set.manifest ≡ unmade → BeginsManifest models_disk set edit before failed result new after now_failed)
+    → LogEditResult models_disk set edit before failed result new after now_failed
+logged_by usable fits used not_made = record {
+  broken_before = λ is. absurd (usable is);
+  levels = λ works unfit. absurd (unfit fits);
+  used = λ fit manifest is. used manifest is;
+  not_made = λ fit is. not_made is;
+}
+
+-- memory was out before anything was done
+pub unlogged : {models_disk : Bool} {set : VersionSetValue} {edit : Edit} (before : Observed) (failed : ℕ) (status : Status)
+    → IsOutOfMemory status → set.manifest ≢ broken → LevelsFit edit
+    → LogEditResult models_disk set edit before failed (Err status) set before failed
+unlogged before failed status memory usable fits = logged_by usable fits
+    (λ manifest is. record {
+      does = λ modelled.
+          let run = begun before (inl (nothing_appended _ _ before.disk.files)) in
+          record { ok = λ t. tt; now = λ t. run.has; time = run.time };
+      ok = tt;
+      err = inl (memory, refl, λ modelled. refl);
+      cause = record { later = omega arith; ok = tt; uncounted = λ why. refl; cause = inl (inl memory) };
+    })
+    (λ is. record {
+      does = λ modelled.
+          let run = begun before (record { others = λ other a b c. refl; current = inl refl }) in
+          record { ok = λ t. tt; now = λ t. run.has; time = run.time };
+      bytes = λ modelled kept. kept;
+      ok = tt;
+      err = inl (memory, refl, λ modelled. refl);
+      cause = record { later = omega arith; ok = tt; uncounted = λ why. refl; cause = inl (inl memory) };
+    })
+
+module _ {models_disk : Bool} {set : VersionSetValue} {edit : Edit} {before after : Observed} {failed now_failed : ℕ} {new : VersionSetValue} (usable : set.manifest ≢ broken) (fits : LevelsFit edit) where
+  -- the files after an edit that is logged
+  pub files_logged : LogEditResult models_disk set edit before failed (Ok tt) new after now_failed → new.full.added ≡ files_after edit set.full.added
+  files_logged logs = by set.manifest refl
+    where
+      by : (state : ManifestState) → set.manifest ≡ state → new.full.added ≡ files_after edit set.full.added
+      by unmade is = ap (λ (s : VersionSetValue). s.full.added) (logs.not_made fits is).ok
+      by (in_use manifest) is = ap (λ (s : VersionSetValue). s.full.added) (logs.used fits manifest is).ok
+      by broken is = absurd (usable is)
+
+  -- and after one that isn't
+  pub files_unlogged : {status : Status} → LogEditResult models_disk set edit before failed (Err status) new after now_failed → new.full ≡ set.full
+  files_unlogged logs = by set.manifest refl
+    where
+      by : (state : ManifestState) → set.manifest ≡ state → new.full ≡ set.full
+      by unmade is = ⊎_elim (λ memory. ap (λ (s : VersionSetValue). s.full) memory.1) (λ breaks. ap (λ (s : VersionSetValue). s.full) breaks) (logs.not_made fits is).err
+      by (in_use manifest) is = ⊎_elim (λ memory. ap (λ (s : VersionSetValue). s.full) memory.1) (λ breaks. ap (λ (s : VersionSetValue). s.full) breaks) (logs.used fits manifest is).err
+      by broken is = absurd (usable is)

@@ -19,7 +19,7 @@ use Rattle.leveldb_version.specs.Current.{IsCurrentText}
 use Rattle.leveldb_version.specs.CurrentFile.{IsCurrentUnread}
 use Rattle.leveldb_version.specs.Paths.{current_path}
 use Rattle.leveldb_version.specs.Recover.{HasRecordOfNoEdit, IsNamed, IsRead, IsReusable, IsUsable, LeavesFiles, ReadManifest, RecoverResult, Recovers, WhyUnrecovered, WhyUnusable, lost, next_number_after, no_edit, set_going_on, set_starting_anew, too_long, unread, unusable, used_up}
-use Rattle.leveldb_version.specs.RecoverSteps.{IsLogUnread, IsManifestRead, IsManifestUnread, IsPlan, IsSizedLog, set_settled}
+use Rattle.leveldb_version.specs.RecoverSteps.{IsLogUnread, IsManifestAt, IsManifestRead, IsManifestUnread, IsPlan, IsSizedLog, set_settled}
 use Rattle.leveldb_version.specs.Replay.{AreReplayed, IsReplayOf, OneEncodesNoEdit}
 use Rattle.leveldb_version.specs.Usable.{next_number_of}
 use Rattle.leveldb_version.specs.VersionEdit.{Edit}
@@ -116,24 +116,35 @@ some_and P (Some x) h = (x, refl, h)
 pub and_some : {A : Type 0} (P : A → Type 0) (o : Option A) (x : A) → o ≡ Some x → P x → IsSomeAnd o P
 and_some {A} P o x e p = let Q : Option A → Type 0 = λ z. IsSomeAnd z P in subst Q (sym e) p
 
+-- a manifest that `CURRENT` names was read, while the files stayed as they were
+pub manifest_read : (models_disk : Bool) (store : List ℕ) (old mid : Observed) (path opened : List ℕ) (number : ℕ) (records : List (List ℕ)) (end : End) (size : ℕ)
+    → IsManifestAt models_disk store old.disk.files path number → (IsTrue models_disk → mid.disk.files ≡ old.disk.files) → opened ≡ path
+    → (IsTrue models_disk → IsSizedLog (mid.disk.files opened) records end size)
+    → IsManifestRead models_disk store old.disk.files path number records end size
+manifest_read models_disk store old mid path opened number records end size at still same read = record {
+  at = at;
+  read = λ modelled. subst (λ p. IsSizedLog (old.disk.files p) records end size) same
+      (subst (λ (f : Files). IsSizedLog (f opened) records end size) (still modelled) (read modelled));
+}
+
 module _ (models_disk : Bool) (old : VersionSetValue) (files : Files) (path : List ℕ) (number : ℕ) (records : List (List ℕ)) (end : End) (size : ℕ)
     (read : IsManifestRead models_disk old.store files path number records end size) where
   abbrev manifest_of : (left : Replayed) → AreReplayed records left → ReadManifest
-  manifest_of left replayed = record { name = read.name; number = number; size = size; edits = replayed.edits; end = end }
+  manifest_of left replayed = record { name = read.at.name; number = number; size = size; edits = replayed.edits; end = end }
 
   is_read : (left : Replayed) (replayed : AreReplayed records left) → IsTrue models_disk → IsRead old.store files (manifest_of left replayed)
   is_read left replayed modelled =
-      let current = some_and (λ (file : File). IsCurrentText (bytes_of file) read.name number) (files (current_path old.store)) (read.named modelled) in
+      let current = some_and (λ (file : File). IsCurrentText (bytes_of file) read.at.name number) (files (current_path old.store)) (read.at.named modelled) in
       let log = some_and (λ (file : File). IsLogFile (bytes_of file) records end × (length (bytes_of file) ≡ size)) (files path) (read.read modelled) in
       record {
         has_edits = record {
           current = current.0;
           current_there = current.1;
-          name = read.name;
+          name = read.at.name;
           number = number;
           named = current.2;
           manifest = log.0;
-          there = ap files (sym read.path_is) ∙ log.1;
+          there = ap files (sym read.at.path_is) ∙ log.1;
           is = record { records = records; end = end; read = log.2.0; each = replayed.each };
         };
         name = refl;
@@ -142,13 +153,13 @@ module _ (models_disk : Bool) (old : VersionSetValue) (files : Files) (path : Li
         size = log.2.1;
       }
 
-  has_no_edit : (status : Status) → OneEncodesNoEdit records status → IsTrue models_disk → IsNamed old.store files read.name number × HasRecordOfNoEdit old.store files read.name
+  has_no_edit : (status : Status) → OneEncodesNoEdit records status → IsTrue models_disk → IsNamed old.store files read.at.name number × HasRecordOfNoEdit old.store files read.at.name
   has_no_edit status one modelled =
       let log = some_and (λ (file : File). IsLogFile (bytes_of file) records end × (length (bytes_of file) ≡ size)) (files path) (read.read modelled) in (
-        read.named modelled,
+        read.at.named modelled,
         record {
           manifest = log.0;
-          there = ap files (sym read.path_is) ∙ log.1;
+          there = ap files (sym read.at.path_is) ∙ log.1;
           records = records;
           end = end;
           read = log.2.0;
@@ -212,7 +223,7 @@ module _ (models_disk : Bool) (cmp : List ℕ → List ℕ → Ordering) (compar
     pub plan_unreplayed : {U : Type 0} (status : Status) → IsOutOfMemory status ⊎ OneEncodesNoEdit records status → HasCause {T = U} (Why f0 f1) f0 f1 (Err status)
     plan_unreplayed status why = cause_uncounted status same (⊎_elim
         (λ (memory : IsOutOfMemory status). unread (inl (inl memory)))
-        (λ (one : OneEncodesNoEdit records status). no_edit read.name number same one.no_edit.code (has_no_edit models_disk old before.disk.files path number records end size read status one))
+        (λ (one : OneEncodesNoEdit records status). no_edit read.at.name number same one.no_edit.code (has_no_edit models_disk old before.disk.files path number records end size read status one))
         why)
 
     module _ (left : Replayed) (replayed : AreReplayed records left) where
@@ -236,7 +247,7 @@ module _ (models_disk : Bool) (cmp : List ℕ → List ℕ → Ordering) (compar
         manifest = manifest_of models_disk old before.disk.files (string_bytes plan.path) plan.number records end plan.size read plan.left replayed;
         read = is_read models_disk old before.disk.files (string_bytes plan.path) plan.number records end plan.size read plan.left replayed;
         usable = usable replayed.edits replayed.left;
-        path = read.path_is;
+        path = read.at.path_is;
         number = refl;
         size = refl;
         reuses = (

@@ -37,6 +37,12 @@ module _ (models_disk : Bool) (cmp : List ℕ → List ℕ → Ordering) (compar
     cause = cause;
   }
 
+  -- nothing was done but reading, and then memory was out
+  pub planned_then_out_of_memory : {after : Observed} {f0 f1 : ℕ} {status : Status} → new ≡ old → (IsTrue models_disk → Run (FilesUnchanged before.disk.files) before after) → SameLocks models_disk before after
+      → f1 ≡ f0 → IsOutOfMemory status → RecoverResult models_disk cmp comparator reuse limit old before f0 (Err status) new after f1
+  planned_then_out_of_memory {after} {f0} {f1} {status} new_is still locks same memory = nothing_recovered after f0 f1 status still locks new_is
+      (record { later = omega (arith, same); ok = tt; uncounted = λ why. same; cause = inl (unread (inl (inl memory))) })
+
   module _ (plan : Plan) (is : IsPlan models_disk cmp comparator reuse limit old before.disk.files plan) where
     starting_anew : set_settled old plan.left (plan.next_file + 1) plan.next_file unmade ≡ set_starting_anew old is.manifest
     starting_anew = λ i. record old {

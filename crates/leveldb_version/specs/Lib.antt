@@ -8,6 +8,7 @@ pub mod Summary
 pub mod VersionSetValue
 pub mod Version
 pub mod Change
+pub mod CurrentVersion
 pub mod Contents
 pub mod Paths
 pub mod Holds

@@ -1,14 +1,15 @@
 -- What the steps of recovering a version set return, and why they fail.
-use Rattle.std.specs.Prelude.{◌≡◌, ◌<◌, ◌+◌, ◌⊎◌, ◌↔◌, ◌^◌, ℕ, Bool, List, None, Option, IsSomeAnd, IsTrue, length, string_bytes}
+use Rattle.std.specs.Prelude.{◌≡◌, ◌<◌, ◌+◌, ◌⊎◌, ◌↔◌, ◌^◌, ℕ, Bool, List, None, Option, Result, IsSomeAnd, IsTrue, length, string_bytes}
 use Rattle.std.specs.Option.{unwrap_or}
 use Rattle.std.specs.declared.cmp.Ordering.{Ordering}
 use Rattle.leveldb_base.specs.declared.error.Status.{Status}
-use Rattle.leveldb_env.specs.Env.{File, Files, Observed, bytes_of, in_folder}
+use Rattle.leveldb_env.specs.declared.env.Env.{Ghosts}
+use Rattle.leveldb_env.specs.Env.{File, Files, FilesUnchanged, Observed, Run, SameLocks, bytes_of, in_folder}
 use Rattle.leveldb_env.specs.WholeFiles.{IsLost}
 use Rattle.leveldb_mem.specs.Log.{End, IsLogFile}
 use Rattle.leveldb_mem.specs.Log.Files.{IsHuge}
 use Rattle.leveldb_version.specs.CurrentFile.{IsCurrentUnread}
-use Rattle.leveldb_version.specs.Recover.{IsNamed, IsRead, IsReusable, IsUsable, ReadManifest, next_number_after}
+use Rattle.leveldb_version.specs.Recover.{IsNamed, IsRead, IsReusable, IsUsable, ReadManifest, RecoverResult, next_number_after}
 use Rattle.leveldb_version.specs.Replay.{IsReplayOf}
 use Rattle.leveldb_version.specs.VersionEdit.{edit_of}
 use Rattle.leveldb_version.specs.VersionSetValue.{ManifestState, VersionSetValue}
@@ -28,13 +29,17 @@ IsLogUnread models_disk path before failed now_failed e =
     IsLost models_disk path before failed now_failed e
     ⊎ ((now_failed ≡ failed) × IsHuge models_disk (before.disk.files path) e)
 
--- the manifest of this path and number is the one that `CURRENT` names, and has this size and these
--- records before this end
-pub record IsManifestRead (models_disk : Bool) (store : List ℕ) (files : Files) (path : List ℕ)
-    (number : ℕ) (records : List (List ℕ)) (end : End) (size : ℕ) : Type 0 where
+-- the manifest of this path and number is the one that `CURRENT` names
+pub record IsManifestAt (models_disk : Bool) (store : List ℕ) (files : Files) (path : List ℕ)
+    (number : ℕ) : Type 0 where
   pub name : List ℕ
   pub path_is : path ≡ in_folder store name
   pub named : IsTrue models_disk → IsNamed store files name number
+
+-- and it has this size and these records before this end
+pub record IsManifestRead (models_disk : Bool) (store : List ℕ) (files : Files) (path : List ℕ)
+    (number : ℕ) (records : List (List ℕ)) (end : End) (size : ℕ) : Type 0 where
+  pub at : IsManifestAt models_disk store files path number
   pub read : IsTrue models_disk → IsSizedLog (files path) records end size
 
 -- `CURRENT` names no manifest, or one that isn't read
@@ -75,3 +80,17 @@ set_settled old left next_file number manifest = record old {
   previous_log = unwrap_or left.previous_log 0;
   manifest = manifest;
 }
+
+-- Whatever reading led to the plan, so that the files stayed as they were, carrying it out does the
+-- rest of recovering.
+abbrev pub CarriesOut : {E F : Type 0} → Ghosts E F → Plan → VersionSetValue → E
+    → Result Bool Status → VersionSetValue → E → Type 0
+CarriesOut {E} env plan old read result new after =
+    (cmp : List ℕ → List ℕ → Ordering) (comparator : List ℕ) (reuse : Bool) (limit : ℕ)
+    (start : E)
+    → IsPlan env.models_disk cmp comparator reuse limit old (env.observed start).disk.files plan
+    → (IsTrue env.models_disk → Run (FilesUnchanged (env.observed start).disk.files)
+    (env.observed start) (env.observed read))
+    → SameLocks env.models_disk (env.observed start) (env.observed read)
+    → RecoverResult env.models_disk cmp comparator reuse limit old (env.observed start)
+    (env.failures read) result new (env.observed after) (env.failures after)

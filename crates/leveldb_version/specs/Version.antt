@@ -68,15 +68,6 @@ pub record IsVersionOf {C : Type 0} (order : List ℕ → List ℕ → Ordering)
   pub in_order : AreInVersionOrder order (new_files_of version)
   pub none_chosen : version.chosen ≡ None
 
--- a version with one file more, which has its first seeks: the other files are the same, with the
--- seeks that they have left, and so is the one that is chosen
-pub record HasOneFileMore {C : Type 0} (order : List ℕ → List ℕ → Ordering)
-    (file : ℕ × FileMetaData) (old new : VersionValue C) : Type 0 where
-  pub same_cmp : new.cmp ≡ old.cmp
-  pub files_are : IsPermutation (old.files ++ with_first_seeks file ∷ []) new.files
-  pub in_order : AreInVersionOrder order (new_files_of new)
-  pub same_chosen : new.chosen ≡ old.chosen
-
 -- ---- seeks
 
 -- the file has this level and number

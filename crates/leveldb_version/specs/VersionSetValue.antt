@@ -1,4 +1,4 @@
--- What a version set knows, and what its calls on numbers change of it.
+-- What a version set knows beside its version, and what its calls on numbers change of it.
 use Rattle.std.specs.Prelude.{◌≡◌, ◌+◌, ◌-◌, ◌^◌, ℕ, Bool, false, true, List, [], Option, None, Some, fold, map, max}
 use Rattle.std.specs.BTreeSet.{insert_key}
 use Rattle.std.specs.Ordering.{nat_cmp}
@@ -27,7 +27,7 @@ manifest_state true _ = broken
 manifest_state false None = unmade
 manifest_state false (Some manifest) = in_use manifest
 
--- a version set
+-- a version set without its version: the live files as one list, their numbers, and the manifest
 pub record VersionSetValue : Type 0 where
   -- the store's path
   pub store : List ℕ

@@ -1,11 +1,11 @@
 //! A version: the files of a store by levels, and the calls on them that only look.
-ghost use Rattle.std.specs.Prelude.{◌≡◌, ◌<◌, ◌≤◌, ◌^◌, [], All, None, IfOk, IfErr, length, map, string_bytes};
+ghost use Rattle.std.specs.Prelude.{◌≡◌, ◌<◌, ◌≤◌, [], None, IfOk, IfErr, length, map, string_bytes};
 ghost use Rattle.std.specs.Option.{option_copied, option_map};
 ghost use Rattle.leveldb_base.specs.Error.{IsOutOfMemory};
 ghost use Rattle.leveldb_base.specs.KeyTypes.{user_part};
 ghost use Rattle.leveldb_version.specs.Overlap.{AreDisjointRanges, AreInputs, IsFileFor, is_overlapped, may_go_to, named_range, output_level};
 ghost use Rattle.leveldb_version.specs.Summary.{files_of_level, summary_text, total_size};
-ghost use Rattle.leveldb_version.specs.Version.{AreInVersionOrder, HasOneFileMore, IsVersionOf, at_level, borrowed_files, charged, new_files_of};
+ghost use Rattle.leveldb_version.specs.Version.{AreInVersionOrder, FilesFit, IsVersionOf, at_level, borrowed_files, charged, new_files_of};
 ghost use Rattle.leveldb_version.specs.VersionEdit.{new_file_of};
 
 use crate::version_set::summary_of;
@@ -84,7 +84,7 @@ impl<C: UserCmp> Version<C> {
     where
         C: Drop,
         ensures ok { IfOk result (IsVersionOf (C.cmp cmp) cmp files.now) }
-        ensures sizes { IfOk result (λ version. All (λ file. file.1.size < 2 ^ 64) version.files) }
+        ensures fit { IfOk result (λ version. FilesFit version.files) }
         ensures memory { IfErr result IsOutOfMemory }
     {
         let mut sorted = Vec::with_capacity(alloc, files.len())?;
@@ -96,26 +96,6 @@ impl<C: UserCmp> Version<C> {
             cmp,
             files: sorted,
             chosen: None,
-        })
-    }
-
-    /// A copy of the version with a copy of one file more, which gets its first seeks. The other
-    /// files keep the seeks that they have left, and the file that was chosen for a compaction stays
-    /// chosen.
-    pub fn with_file(&self, alloc: Global, level: usize, file: &FileMetaData) -> Result<Version<C>>
-    where
-        C: Copy + Drop,
-        ensures ok { IfOk result
-            (HasOneFileMore (C.cmp self.now.cmp) (level, file.now) self.now) }
-        ensures memory { IfErr result IsOutOfMemory }
-    {
-        let mut files = self.files.to_vec(alloc)?;
-        files.push(with_first_seeks(level, file)?)?;
-        sort_files(&self.cmp, &mut files)?;
-        Ok(Version {
-            cmp: self.cmp,
-            files,
-            chosen: self.chosen,
         })
     }
 

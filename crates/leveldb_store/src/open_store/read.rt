@@ -5,7 +5,8 @@ ghost use Rattle.leveldb_base.specs.Error.{IsOutOfMemory};
 ghost use Rattle.leveldb_version.specs.Format.{format_of};
 ghost use Rattle.leveldb_version.specs.Search.{LooksUpNewest};
 ghost use Rattle.leveldb_version.specs.TableCache.{table_options};
-ghost use Rattle.leveldb_store.specs.OpenStore.{AreInLevels, AreNumbersGiven, IsCurrent};
+ghost use Rattle.leveldb_store.specs.OpenStore.{AreInLevels, AreNumbersGiven};
+ghost use Rattle.leveldb_version.specs.CurrentVersion.{IsCurrent};
 ghost use Rattle.leveldb_store.specs.Read.{FindsInMemory, LooksUpKey, sought_key};
 
 use super::OpenStore;
@@ -46,7 +47,7 @@ impl<E: Env, C: UserCmp + Copy + Drop> OpenStore<E, C> {
             return copied(self.alloc, found);
         }
         let (found, stats) = self.newest_in_tables(env, options, tables, sequence, key)?;
-        self.current.update_stats(stats);
+        self.versions.update_stats(stats);
         Ok(found.into_value())
     }
 
@@ -85,9 +86,10 @@ impl<E: Env, C: UserCmp + Copy + Drop> OpenStore<E, C> {
         ensures given { AreNumbersGiven self.now.set self.now.set.full.added }
         ensures levels { AreInLevels E.models_disk (C.cmp self.now.cmp) self.now.set.full.added }
     {
+        let version = self.versions.current();
         let last = sequence.min(MAX_SEQUENCE_NUMBER);
         let sought = LookupKey::new(self.alloc, key, last)?;
-        self.current.get(self.alloc, env, options, tables, &sought)
+        version.get(self.alloc, env, options, tables, &sought)
     }
 }
 

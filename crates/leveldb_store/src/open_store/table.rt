@@ -101,7 +101,9 @@ impl<E: Env, C: UserCmp + Copy + Drop> OpenStore<E, C> {
     {
         let (smallest, _) = split_sequence(&file.smallest);
         let (largest, _) = split_sequence(&file.largest);
-        self.current.pick_memtable_output_level(smallest, largest)
+        self.versions
+            .current()
+            .pick_memtable_output_level(smallest, largest)
     }
 
     // Logs the edit of a table in a level, which takes the place of the logs below the one to which
@@ -132,7 +134,6 @@ impl<E: Env, C: UserCmp + Copy + Drop> OpenStore<E, C> {
 
     // Logs an edit, and has the version that it leaves from then on. The numbers of the files that
     // it adds were given, and the levels are apart after it. After an Err the version is as it was.
-    // LevelDB: VersionSet::LogAndApply
     fn log_tables(&mut self, env: &mut E, edit: VersionEdit) -> Result<()>
         requires usable { self.old.set.manifest ≢ broken }
         requires fits { LevelsFit (edit_of edit) }
@@ -149,9 +150,6 @@ impl<E: Env, C: UserCmp + Copy + Drop> OpenStore<E, C> {
         ensures err { OnErr result (self.new ≡ record self.old { set = self.new.set }) }
         ensures locks { SameLocks E.models_disk (E.observed env.old) (E.observed env.new) }
     {
-        let next = self.current.with_edit(self.alloc, &edit)?;
-        self.versions.log_and_apply(env, edit)?;
-        self.current = next;
-        Ok(())
+        self.versions.log_and_apply(env, edit)
     }
 }

@@ -6,7 +6,8 @@ ghost use Rattle.leveldb_version.specs.TableCache.{options_by, table_options};
 ghost use Rattle.leveldb_version.specs.VersionIter.{reading as reading_by};
 ghost use Rattle.leveldb_version.specs.declared.store_walk.StoreWalk.TheVariants.{Tables};
 ghost use Rattle.leveldb_base.specs.Error.{IsOutOfMemory};
-ghost use Rattle.leveldb_store.specs.OpenStore.{AreInLevels, AreNumbersGiven, IsCurrent};
+ghost use Rattle.leveldb_store.specs.OpenStore.{AreInLevels, AreNumbersGiven};
+ghost use Rattle.leveldb_version.specs.CurrentVersion.{IsCurrent};
 ghost use Rattle.leveldb_store.specs.View.{AreChildrenOf, IsReadingOf, ReadsAlone, ViewsMerge, ViewsStore, WalksStore};
 
 use super::OpenStore;
@@ -177,12 +178,13 @@ impl<E: Env, C: UserCmp + Copy + Drop> OpenStore<E, C> {
         ensures levels { AreInLevels E.models_disk (C.cmp self.now.cmp) self.now.set.full.added }
         ensures memory { IfErr result IsOutOfMemory }
     {
+        let version = self.versions.current();
         let mut children = Vec::new(self.alloc);
         children.push(StoreWalk::Memory(Unlent(self.recent.iter())))?;
         if let Some(waiting) = &self.waiting {
             children.push(StoreWalk::Memory(Unlent(waiting.iter())))?;
         }
-        push_tables(self.current.new_iters(self.alloc)?, &mut children)?;
+        push_tables(version.new_iters(self.alloc)?, &mut children)?;
         Ok(children)
     }
 }

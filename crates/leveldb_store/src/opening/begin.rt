@@ -17,7 +17,6 @@ use leveldb_env::compressor::{CompressorList, Compressors};
 use leveldb_env::env::Env;
 use leveldb_env::filter::{FilterPolicy, InternalFilterPolicy};
 use leveldb_env::options::Options;
-use leveldb_version::version::Version;
 use leveldb_version::version_set::VersionSet;
 use std::alloc::Global;
 
@@ -40,19 +39,18 @@ pub(super) fn begin_writing<E: Env, C: UserCmp + Copy + Drop, FP: FilterPolicy +
 {
     let path = String::from_str(alloc, name)?;
     let is_anew = set.is_anew;
-    let mut versions = set.versions;
-    let replay = replay_logs(alloc, env, name, options, &mut versions, set.logs)?;
-    versions.set_last_seq(versions.last_seq().max(replay.last));
-    let (log, recent) = open_log(alloc, env, name, options.cmp, &mut versions, replay.used)?;
+    let mut files = set.versions;
+    let replay = replay_logs(alloc, env, name, options, &mut files, set.logs)?;
+    files.set_last_seq(files.last_seq().max(replay.last));
+    let (log, recent) = open_log(alloc, env, name, options.cmp, &mut files, replay.used)?;
+    let mut versions = VersionSet::of_files(alloc, options.cmp, files)?;
     let wanted = is_anew | replay.leaves_log;
     log_if(alloc, env, &mut versions, wanted, log.number, replay.tables)?;
-    let current = Version::of_files(alloc, options.cmp, versions.files())?;
     Ok(OpenStore {
         alloc,
         name: path,
         cmp: options.cmp,
         versions,
-        current,
         log,
         recent,
         waiting: None,
@@ -60,16 +58,17 @@ pub(super) fn begin_writing<E: Env, C: UserCmp + Copy + Drop, FP: FilterPolicy +
 }
 
 // Logs the edit that has these tables in place of the logs below a number, if it is wanted.
-fn log_if<E: Env>(
+fn log_if<E: Env, C: UserCmp + Copy + Drop>(
     alloc: Global,
     env: &mut E,
-    versions: &mut VersionSet<E>,
+    versions: &mut VersionSet<E, C>,
     wanted: bool,
     log: FileNum,
     tables: Vec<FileMetaData>,
 ) -> Result<()>
-    ensures logs { LogsIfWanted E.Env wanted log tables.items versions.old env.old result
-        versions.new env.new }
+    ensures logs { LogsIfWanted E.Env wanted log tables.items versions.old.set env.old result
+        versions.new.set env.new }
+    ensures cmp { versions.new.current.cmp ≡ versions.old.current.cmp }
     ensures locks { SameLocks E.models_disk (E.observed env.old) (E.observed env.new) }
 {
     if wanted {

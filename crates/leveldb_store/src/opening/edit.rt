@@ -6,6 +6,7 @@ ghost use Rattle.leveldb_version.specs.Opening.{tables_edit};
 ghost use Rattle.leveldb_version.specs.VersionEdit.{edit_of};
 ghost use Rattle.leveldb_store.specs.OpeningSteps.{LogsTables, made_files};
 
+use leveldb_base::cmp::UserCmp;
 use leveldb_base::error::Result;
 use leveldb_base::types::{FileMetaData, FileNum};
 use leveldb_env::env::Env;
@@ -14,15 +15,16 @@ use leveldb_version::version_set::VersionSet;
 use std::alloc::Global;
 
 // Logs the edit that has these tables in place of the logs below a number.
-pub(super) fn log_edit<E: Env>(
+pub(super) fn log_edit<E: Env, C: UserCmp + Copy + Drop>(
     alloc: Global,
     env: &mut E,
-    versions: &mut VersionSet<E>,
+    versions: &mut VersionSet<E, C>,
     log: FileNum,
     tables: Vec<FileMetaData>,
 ) -> Result<()>
-    ensures logs { LogsTables E.Env log tables.items versions.old env.old result versions.new
-        env.new }
+    ensures logs { LogsTables E.Env log tables.items versions.old.set env.old result
+        versions.new.set env.new }
+    ensures cmp { versions.new.current.cmp ≡ versions.old.current.cmp }
     ensures locks { SameLocks E.models_disk (E.observed env.old) (E.observed env.new) }
 {
     let edit = edit_of_tables(alloc, log, tables)?;

@@ -17,7 +17,7 @@ use leveldb_base::types::FileNum;
 use leveldb_env::env::Env;
 use leveldb_mem::log::WriterCore;
 use leveldb_mem::memtable::MemTable;
-use leveldb_version::version_set::VersionSet;
+use leveldb_version::version_set::LiveFiles;
 use std::alloc::Global;
 
 // The log that is used on, or a new one of the next number, and its entries.
@@ -26,7 +26,7 @@ pub(super) fn open_log<E: Env, C: UserCmp + Copy>(
     env: &mut E,
     store: &str,
     cmp: C,
-    versions: &mut VersionSet<E>,
+    versions: &mut LiveFiles<E>,
     used: Option<UsedLog<C>>,
 ) -> Result<(OpenLog<E>, MemTable<C>)>
     requires { IfSome used (λ log. log.entries.cmp ≡ cmp) }
@@ -71,7 +71,7 @@ fn make_log<E: Env>(
     alloc: Global,
     env: &mut E,
     store: &str,
-    versions: &mut VersionSet<E>,
+    versions: &mut LiveFiles<E>,
 ) -> Result<OpenLog<E>>
     ensures opens { OpensFile E.Env store.now
         (emptied (log_path store.now versions.old.next_file)) versions.old.next_file 0 env.old

@@ -23,7 +23,7 @@ use leveldb_env::env::Env;
 use leveldb_env::env::whole_files::found;
 use leveldb_env::filter::FilterPolicy;
 use leveldb_env::options::Options;
-use leveldb_version::version_set::VersionSet;
+use leveldb_version::version_set::LiveFiles;
 use std::alloc::Global;
 use std::collections::BTreeSet;
 
@@ -31,7 +31,7 @@ use std::collections::BTreeSet;
 // the logs that are replayed.
 #[derive(Drop)]
 pub(super) struct RecoveredSet<E: Env> {
-    pub(super) versions: VersionSet<E>,
+    pub(super) versions: LiveFiles<E>,
     pub(super) is_anew: bool,
     pub(super) logs: BTreeSet<FileNum>,
 }
@@ -52,7 +52,7 @@ pub(super) fn recover_set<E: Env, C: UserCmp, FP: FilterPolicy>(
         options.now.reuse_manifest options.now.max_file_size store.now env.old result env.new }
 {
     let names = names_in(alloc, env, store, listed)?;
-    let mut versions = VersionSet::new(alloc, store, &options.cmp)?;
+    let mut versions = LiveFiles::new(alloc, store, &options.cmp)?;
     mark_names(&mut versions, names.as_slice())?;
     let is_anew = versions.recover(env, options)?;
     check_tables(alloc, env, store, versions.files())?;
@@ -100,7 +100,7 @@ fn names_in<E: Env>(
 }
 
 // Makes the numbers of all names used.
-fn mark_names<E: Env>(versions: &mut VersionSet<E>, names: &[String]) -> Result<()>
+fn mark_names<E: Env>(versions: &mut LiveFiles<E>, names: &[String]) -> Result<()>
     ensures ok { OnOk result
         (MarksNames versions.old (map string_bytes names.now) versions.new) }
     ensures cause { IfErr result (λ status. (n : ℕ) × HasNumber (map string_bytes names.now) n
@@ -113,7 +113,7 @@ fn mark_names<E: Env>(versions: &mut VersionSet<E>, names: &[String]) -> Result<
 }
 
 // Makes the number of a name used, if it has one.
-fn mark_name<E: Env>(versions: &mut VersionSet<E>, name: &str) -> Result<()>
+fn mark_name<E: Env>(versions: &mut LiveFiles<E>, name: &str) -> Result<()>
     ensures gives { OnOk result (GivesNumbers versions.old versions.new) }
     ensures used { OnOk result ((n : ℕ) (kind : FileType) → IsFileName name.now n kind
         → n < versions.new.next_file) }
@@ -154,7 +154,7 @@ fn check_tables<E: Env>(
 }
 
 // Checks that the number of each live table was given.
-fn check_numbers<E: Env>(alloc: Global, versions: &VersionSet<E>) -> Result<()>
+fn check_numbers<E: Env>(alloc: Global, versions: &LiveFiles<E>) -> Result<()>
     ensures ok { OnOk result (AreNumbersGiven versions.now versions.now.full.added) }
     ensures cause { IfErr result (λ status. (status.code ≡ Corruption)
         × (AreNumbersGiven versions.now versions.now.full.added → ⊥)) }

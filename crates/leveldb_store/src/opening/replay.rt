@@ -16,7 +16,7 @@ use leveldb_env::env::Env;
 use leveldb_env::filter::{FilterPolicy, InternalFilterPolicy};
 use leveldb_env::options::Options;
 use leveldb_mem::memtable::MemTable;
-use leveldb_version::version_set::VersionSet;
+use leveldb_version::version_set::LiveFiles;
 use std::alloc::Global;
 use std::collections::BTreeSet;
 
@@ -50,7 +50,7 @@ pub(super) fn replay_logs<E: Env, C: UserCmp + Copy + Drop, FP: FilterPolicy + C
     env: &mut E,
     store: &str,
     options: &Options<C, FP>,
-    versions: &mut VersionSet<E>,
+    versions: &mut LiveFiles<E>,
     logs: BTreeSet<FileNum>,
 ) -> Result<Replay<C>>
     requires store { store.now ≡ versions.old.store }
@@ -93,7 +93,7 @@ fn replay_next<E: Env, C: UserCmp + Copy + Drop, FP: FilterPolicy + Copy + Drop>
     env: &mut E,
     store: &str,
     options: &Options<C, FP>,
-    versions: &mut VersionSet<E>,
+    versions: &mut LiveFiles<E>,
     replay: &mut Replay<C>,
     number: FileNum,
     may_go_on: bool,
@@ -141,7 +141,7 @@ fn tabled<E: Env, C: UserCmp + Copy + Drop, FP: FilterPolicy + Copy + Drop>(
     env: &mut E,
     store: &str,
     options: &Options<C, FP>,
-    versions: &mut VersionSet<E>,
+    versions: &mut LiveFiles<E>,
     log: ReplayedLog<C>,
 ) -> Result<Vec<FileMetaData>>
     requires store { store.now ≡ versions.old.store }

@@ -23,7 +23,7 @@ use leveldb_env::options::Options;
 use leveldb_mem::log::{Found, ReaderCore};
 use leveldb_mem::memtable::MemTable;
 use leveldb_mem::write_batch::WriteBatch;
-use leveldb_version::version_set::VersionSet;
+use leveldb_version::version_set::LiveFiles;
 use std::alloc::Global;
 
 /// What is in memory of a log that was replayed, and the number of the last entry.
@@ -51,7 +51,7 @@ pub(crate) fn replay_log<E: Env, C: UserCmp + Copy + Drop, FP: FilterPolicy + Co
     env: &mut E,
     store: &str,
     options: &Options<C, FP>,
-    versions: &mut VersionSet<E>,
+    versions: &mut LiveFiles<E>,
     last: SequenceNumber,
     number: FileNum,
 ) -> Result<ReplayedLog<C>>
@@ -73,7 +73,7 @@ fn replay_text<E: Env, C: UserCmp + Copy + Drop, FP: FilterPolicy + Copy + Drop>
     env: &mut E,
     store: &str,
     options: &Options<C, FP>,
-    versions: &mut VersionSet<E>,
+    versions: &mut LiveFiles<E>,
     last: SequenceNumber,
     text: &[u8],
 ) -> Result<ReplayedLog<C>>
@@ -130,7 +130,7 @@ impl<C: UserCmp + Copy + Drop> ReplayedLog<C> {
         env: &mut E,
         store: &str,
         options: &Options<C, FP>,
-        versions: &mut VersionSet<E>,
+        versions: &mut LiveFiles<E>,
         batch: &mut WriteBatch,
         text: &[u8],
     ) -> Result<()>
@@ -174,7 +174,7 @@ impl<C: UserCmp + Copy + Drop> ReplayedLog<C> {
         env: &mut E,
         store: &str,
         options: &Options<C, FP>,
-        versions: &mut VersionSet<E>,
+        versions: &mut LiveFiles<E>,
     ) -> Result<()>
         requires store { store.now ≡ versions.old.store }
         requires order { self.old.rest.cmp ≡ options.now.cmp }

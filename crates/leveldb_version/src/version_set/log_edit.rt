@@ -10,43 +10,20 @@ ghost use Rattle.leveldb_version.specs.VersionEdit.{Edit, LevelsFit, edit_bytes,
 ghost use Rattle.leveldb_version.specs.VersionSetValue.{OpenManifest, broken, in_use, unmade};
 
 use super::full_edit::{apply_reserved, reserve};
+use super::live_files::LiveFiles;
 use super::manifest::Manifest;
 use super::new_manifest::{frame_records, make_manifest};
-use super::set::VersionSet;
 use crate::version_edit::VersionEdit;
-use leveldb_base::error::{Result, StatusCode, err};
+use leveldb_base::error::Result;
 use leveldb_base::names::manifest_file_name;
 use leveldb_env::env::whole_files::found;
 use leveldb_env::env::{Env, EnvFile};
 use leveldb_mem::log::WriterCore;
 use std::alloc::Global;
 
-impl<E: Env> VersionSet<E> {
-    /// Logs an edit with the set's numbers, and then applies it: it is appended to the manifest in
-    /// use, which is synced, or it begins a new manifest, which `CURRENT` then names. A call of the
-    /// environment that fails breaks the set: from then on every call is `IOError`.
-    /// Returns `InvalidArgument` if the edit names a level of 7 or more.
-    pub fn log_and_apply(&mut self, env: &mut E, edit: VersionEdit) -> Result<()>
-        ensures log { LogEditResult E.models_disk self.old (edit_of edit) (E.observed env.old)
-            (E.failures env.old) result self.new (E.observed env.new) (E.failures env.new) }
-        ensures locks { SameLocks E.models_disk (E.observed env.old) (E.observed env.new) }
-    {
-        if self.broken {
-            return err(self.alloc, StatusCode::IOError, "reopen the store");
-        }
-        if !levels_fit(&edit) {
-            return err(
-                self.alloc,
-                StatusCode::InvalidArgument,
-                "an edit names a level that there isn't",
-            );
-        }
-        let edit = self.with_numbers(edit);
-        self.log(env, edit)
-    }
-
-    // The edit with the set's numbers.
-    fn with_numbers(&self, edit: VersionEdit) -> VersionEdit
+impl<E: Env> LiveFiles<E> {
+    /// The edit with the set's numbers.
+    pub(super) fn with_numbers(&self, edit: VersionEdit) -> VersionEdit
         ensures { edit_of result ≡ written_edit self.now (edit_of edit) }
     {
         let mut edit = edit;
@@ -57,8 +34,10 @@ impl<E: Env> VersionSet<E> {
         edit
     }
 
-    // Logs an edit that has the set's numbers, and applies it. The set is not broken.
-    fn log(&mut self, env: &mut E, edit: VersionEdit) -> Result<()>
+    /// Logs an edit that has the set's numbers, and applies it: it is appended to the manifest in use,
+    /// which is synced, or it begins a new manifest, which `CURRENT` then names. A call of the
+    /// environment that fails breaks the set, which is not broken before.
+    pub(super) fn log(&mut self, env: &mut E, edit: VersionEdit) -> Result<()>
         requires usable { self.old.manifest ≢ broken }
         requires numbered { (edit_of edit).previous_log ≡ Some 0 }
         ensures used { (logged : Edit) → edit_of edit ≡ written_edit self.old logged
@@ -110,8 +89,8 @@ impl<E: Env> VersionSet<E> {
     }
 }
 
-// Whether each level that the edit names is one of the seven.
-fn levels_fit(edit: &VersionEdit) -> bool
+/// Whether each level that the edit names is one of the seven.
+pub(super) fn levels_fit(edit: &VersionEdit) -> bool
     ensures { IsTrue result ↔ LevelsFit (edit_of edit.now) }
 {
     if !pointers_fit(edit) {

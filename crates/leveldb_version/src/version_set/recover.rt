@@ -1,17 +1,19 @@
 //! Recovering a version set from the manifest that `CURRENT` names.
-ghost use Rattle.std.specs.Prelude.{◌≡◌, ◌<◌, ◌⊎◌, ◌%◌, ◌↔◌, Bool, ℕ, List, false, if◌then◌else◌, IfOk, IfSome, IsSome, IsTrue, map, string_bytes};
+ghost use Rattle.std.specs.Prelude.{◌≡◌, ◌<◌, ◌+◌, ◌^◌, ◌%◌, ◌↔◌, false, if◌then◌else◌, IfOk, IfSome, IsSome, IsTrue, OnOk, map, string_bytes};
+ghost use Rattle.leveldb_version.specs.CurrentFile.{IsCurrentUnread};
+ghost use Rattle.leveldb_version.specs.VersionEdit.{edit_of};
 ghost use Rattle.leveldb_base.specs.Error.{IsOutOfMemory};
 ghost use Rattle.leveldb_env.specs.Env.{BeforeOrAfter, ChangesFiles, FilesUnchanged, HasCause, Run, SameLocks, synced};
 ghost use Rattle.leveldb_mem.specs.Log.{bad, clean, log_block_size};
 ghost use Rattle.leveldb_mem.specs.Log.Writer.{new_writer};
 ghost use Rattle.leveldb_version.specs.Recover.{RecoverResult, WhyUnrecovered};
-ghost use Rattle.leveldb_version.specs.RecoverSteps.{IsLogUnread, IsManifestRead, IsManifestUnread, IsPlan, IsSizedLog, set_settled};
+ghost use Rattle.leveldb_version.specs.RecoverSteps.{CarriesOut, IsLogUnread, IsManifestAt, IsPlan, IsSizedLog, set_settled};
 ghost use Rattle.leveldb_version.specs.VersionSetValue.{manifest_state};
 
 use super::current_file::read_current_file;
+use super::live_files::LiveFiles;
 use super::manifest::Manifest;
 use super::replay::{Replayed, replay};
-use super::set::VersionSet;
 use super::usable::{check_usable, next_number_after};
 use leveldb_base::cmp::Cmp;
 use leveldb_base::error::Result;
@@ -22,28 +24,19 @@ use leveldb_env::options::Options;
 use leveldb_mem::log::{WriterCore, read_log_file};
 use std::alloc::Global;
 
-// What was read of a manifest.
+/// What a set is to become by a manifest that was read: where that is, what its edits leave, and
+/// whether it goes on to be used.
 #[derive(Drop)]
-struct ManifestRead {
-    path: String,
-    number: FileNum,
-    records: Vec<Vec<u8>>,
-    is_clean: bool,
-    size: usize,
-}
-
-// What a set is to become, and whether it goes on with the manifest that was read.
-#[derive(Drop)]
-struct Plan {
+pub(super) struct Plan {
     path: String,
     number: FileNum,
     size: usize,
     reuses: bool,
-    left: Replayed,
+    pub(super) left: Replayed,
     next_file: FileNum,
 }
 
-impl<E: Env> VersionSet<E> {
+impl<E: Env> LiveFiles<E> {
     /// Makes it the set that the manifest leaves which `CURRENT` names. Returns whether the next
     /// edit begins a new manifest: this one is used on, and synced, where the options say so, its
     /// end is clean and it is below the greatest size of a table.
@@ -55,17 +48,11 @@ impl<E: Env> VersionSet<E> {
             result self.new (E.observed env.new) (E.failures env.new) }
     {
         let plan = self.plan(env, options)?;
-        if plan.reuses {
-            let manifest = reopen(self.alloc, env, plan.path, plan.size)?;
-            self.settle(plan.left, plan.next_file, plan.number, Some(manifest));
-            return Ok(false);
-        }
-        self.settle(plan.left, plan.next_file + 1, plan.next_file, None);
-        Ok(true)
+        self.carry_out(env, plan)
     }
 
-    // What the set is to become, by the manifest that `CURRENT` names.
-    fn plan<C: Cmp, FP>(&self, env: &mut E, options: &Options<C, FP>) -> Result<Plan>
+    /// What the set is to become, by the manifest that `CURRENT` names.
+    pub(super) fn plan<C: Cmp, FP>(&self, env: &mut E, options: &Options<C, FP>) -> Result<Plan>
         ensures still { IsTrue E.models_disk
             → Run (FilesUnchanged (E.observed env.old).disk.files) (E.observed env.old)
             (E.observed env.new) }
@@ -78,24 +65,42 @@ impl<E: Env> VersionSet<E> {
             self.now (E.observed env.old) (E.failures env.old) (E.failures env.new))
             (E.failures env.old) (E.failures env.new) result }
     {
-        let read = read_manifest(self.alloc, env, &self.store)?;
-        let left = replay(self.alloc, read.records.as_slice())?;
+        let (path, number) = named_manifest(self.alloc, env, &self.store)?;
+        let (records, is_clean, size) = read_sized_log(self.alloc, env, &path)?;
+        let left = replay(self.alloc, records.as_slice())?;
         check_usable(self.alloc, &options.cmp, &left)?;
-        let next_file = next_number_after(self.alloc, self.next_file, read.number, &left)?;
+        let next_file = next_number_after(self.alloc, self.next_file, number, &left)?;
         let reuses = is_reusable(
             options.reuse_manifest,
             options.max_file_size,
-            read.is_clean,
-            read.size,
+            is_clean,
+            size,
         );
         Ok(Plan {
-            path: read.path,
-            number: read.number,
-            size: read.size,
+            path,
+            number,
+            size,
             reuses,
             left,
             next_file,
         })
+    }
+
+    /// Becomes what was planned. Returns whether the next edit begins a new manifest.
+    pub(super) fn carry_out(&mut self, env: &mut E, plan: Plan) -> Result<bool>
+        requires there { IsTrue E.models_disk
+            → IsSome ((E.observed env.old).disk.files (string_bytes plan.path)) }
+        requires fits { plan.next_file + 1 < 2 ^ 64 }
+        ensures recovers { CarriesOut E.Env plan self.old env.old result self.new env.new }
+        ensures files { OnOk result (self.new.full ≡ edit_of plan.left.full) }
+    {
+        if plan.reuses {
+            let manifest = reopen(self.alloc, env, plan.path, plan.size)?;
+            self.settle(plan.left, plan.next_file, plan.number, Some(manifest));
+            return Ok(false);
+        }
+        self.settle(plan.left, plan.next_file + 1, plan.next_file, None);
+        Ok(true)
     }
 
     // Becomes what edits left. It takes no memory.
@@ -123,29 +128,21 @@ impl<E: Env> VersionSet<E> {
     }
 }
 
-// The manifest that `CURRENT` names.
-fn read_manifest<E: Env>(alloc: Global, env: &mut E, store: &str) -> Result<ManifestRead>
+// The path and the number of the manifest that `CURRENT` names.
+fn named_manifest<E: Env>(alloc: Global, env: &mut E, store: &str) -> Result<(String, FileNum)>
     ensures still { IsTrue E.models_disk
         → Run (FilesUnchanged (E.observed env.old).disk.files) (E.observed env.old)
         (E.observed env.new) }
     ensures locks { SameLocks E.models_disk (E.observed env.old) (E.observed env.new) }
-    ensures ok { IfOk result (λ read. IsManifestRead E.models_disk store.now
-        (E.observed env.old).disk.files (string_bytes read.path) read.number
-        (map (λ v. v.items) read.records.items) (if read.is_clean then clean else bad) read.size) }
-    ensures cause { HasCause (IsManifestUnread E.models_disk store.now (E.observed env.old)
+    ensures ok { IfOk result (λ found. IsManifestAt E.models_disk store.now
+        (E.observed env.old).disk.files (string_bytes found.0) found.1) }
+    ensures cause { HasCause (IsCurrentUnread E.models_disk store.now (E.observed env.old)
         (E.failures env.old) (E.failures env.new))
         (E.failures env.old) (E.failures env.new) result }
 {
     let (name, number) = read_current_file(alloc, env, store)?;
     let path = format!(in alloc; "{store}/{name}")?;
-    let (records, is_clean, size) = read_sized_log(alloc, env, &path)?;
-    Ok(ManifestRead {
-        path,
-        number,
-        records,
-        is_clean,
-        size,
-    })
+    Ok((path, number))
 }
 
 // The records of a log's file, whether it ends between two of them, and its size.

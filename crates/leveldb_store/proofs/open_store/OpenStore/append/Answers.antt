@@ -11,7 +11,7 @@ use Rattle.leveldb_store.proofs.open_store.OpenStore.append.Goals as goal
 pub returns-in_err-found-clause-appends : goal.returns-in_err-found-clause-appends
 returns-in_err-found-clause-appends g c =
     let p = err_from_is_err_and c.from_residual.result c.from_residual.ensures.1 in
-    let store = c.self.inside.versions.store in
+    let store = c.self.inside.versions.set.store in
     let number = c.self.inside.log.number in
     let path : c.args.path.now ≡ log_path store number = c.requires ∙ ap open_log_path (sym c.self.view_is) in
     let named : IsTrue g.E.Env.models_disk → g.E.Env.name_of c.self.inside.log.file ≡ log_path store number =
@@ -24,7 +24,7 @@ returns-in_err-found-clause-appends g c =
 
 pub returns-clause-appends : goal.returns-clause-appends
 returns-clause-appends g c =
-    let store = c.self.inside.versions.store in
+    let store = c.self.inside.versions.set.store in
     let number = c.self.inside.log.number in
     let path : c.args.path.now ≡ log_path store number = c.requires ∙ ap open_log_path (sym c.self.view_is) in
     let named : IsTrue g.E.Env.models_disk → g.E.Env.name_of c.self.inside.log.file ≡ log_path store number =

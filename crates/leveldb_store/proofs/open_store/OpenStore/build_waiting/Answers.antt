@@ -3,7 +3,7 @@ use Rattle.leveldb_store.proofs.open_store.OpenStore.build_waiting.Goals as goal
 
 pub returns-clause-makes : goal.returns-clause-makes
 returns-clause-makes g c =
-    let named : c.deref.result.now ≡ c.self.inside.versions.store = c.deref.ensures ∙ sym c.self.invariant.0 in
+    let named : c.deref.result.now ≡ c.self.inside.versions.set.store = c.deref.ensures ∙ sym c.self.invariant.0 in
     rw (← c.self.view_is, c.in-Some.is) (rw named at c.build_memtable.ensures.makes)
 
 pub returns-clause-rising : goal.returns-clause-rising

@@ -15,6 +15,7 @@ use Rattle.leveldb_version.specs.declared.store_walk.StoreWalk.TheVariants.{Memo
 use Rattle.leveldb_version.specs.declared.version_iter.VersionIter.{VersionIter}
 use Rattle.leveldb_store.specs.OpenStore.{OpenStoreValue}
 use Rattle.leveldb_store.specs.View.{AreChildrenOf, IsOverMemory, waiting_layers}
+use Rattle.leveldb_store.proofs.CurrentVersionLemmas.{current_by}
 use Rattle.leveldb_store.proofs.open_store.OpenStore.children.Goals.{in-Some+in_ok-push-2, in_default}
 use Rattle.leveldb_store.proofs.open_store.OpenStore.children.Goals as goal
 
@@ -83,6 +84,26 @@ returns-in_err-push_tables-clause-given g c = rw (← c.self.view_is) c.self.inv
 pub returns-clause-given : goal.returns-clause-given
 returns-clause-given g c = rw (← c.self.view_is) c.self.invariant.9
 
+pub returns-in_err-push-clause-current : goal.returns-in_err-push-clause-current
+returns-in_err-push-clause-current g c =
+    rw (← c.self.view_is) (current_by g.C.Cmp c.self.invariant.8 c.current-version.ensures.current)
+
+pub returns-in_err-push-2-clause-current : goal.returns-in_err-push-2-clause-current
+returns-in_err-push-2-clause-current g c =
+    rw (← c.self.view_is) (current_by g.C.Cmp c.self.invariant.8 c.current-version.ensures.current)
+
+pub returns-in_err-new_iters-clause-current : goal.returns-in_err-new_iters-clause-current
+returns-in_err-new_iters-clause-current g c =
+    rw (← c.self.view_is) (current_by g.C.Cmp c.self.invariant.8 c.current-version.ensures.current)
+
+pub returns-in_err-push_tables-clause-current : goal.returns-in_err-push_tables-clause-current
+returns-in_err-push_tables-clause-current g c =
+    rw (← c.self.view_is) (current_by g.C.Cmp c.self.invariant.8 c.current-version.ensures.current)
+
+pub returns-clause-current : goal.returns-clause-current
+returns-clause-current g c =
+    rw (← c.self.view_is) (current_by g.C.Cmp c.self.invariant.8 c.current-version.ensures.current)
+
 pub returns-clause-ok : goal.returns-clause-ok
 returns-clause-ok g c =
     rw (← c.self.view_is)
@@ -90,13 +111,13 @@ returns-clause-ok g c =
       | in-Some+in_ok-push-2 w ↦ children_are _ _ _ (record { 0 = c.iter.result }) (record { 0 = w.iter-in-Some.result } ∷ []) c.in_ok-new_iters.field-0.items c.match-self.children.items c.push_tables.new.children.items
           (over_memtable _ g.C.Cmp _ c.self.inside.recent.cmp c.self.inside.cmp c.self.inside.recent.kept.entries c.self.invariant.2 c.iter.ensures.pairs c.iter.ensures.order c.iter.ensures.sorted c.iter.ensures.numbered)
           (waits_one _ g.C.Cmp c.self.inside.cmp _ c.self.inside.waiting w.in-Some.waiting w.in-Some.is c.self.invariant.3 w.iter-in-Some.ensures.pairs w.iter-in-Some.ensures.order w.iter-in-Some.ensures.sorted w.iter-in-Some.ensures.numbered)
-          c.in_ok-new_iters.ensures.ok
+          (rw c.current-version.ensures.version at c.in_ok-new_iters.ensures.ok)
           (two_more c.new-children.result.items c.push.new.self.items c.match-self.children.items _ _ (ap (λ v. v.items) w.children-is ∙ w.in_ok-push-2.ensures.items) c.in_ok-push.ensures.items c.new-children.ensures.items)
           c.in_ok-push_tables.ensures.ok
       | in_default w ↦ children_alone _ _ _ (record { 0 = c.iter.result }) c.in_ok-new_iters.field-0.items c.match-self.children.items c.push_tables.new.children.items
           (over_memtable _ g.C.Cmp _ c.self.inside.recent.cmp c.self.inside.cmp c.self.inside.recent.kept.entries c.self.invariant.2 c.iter.ensures.pairs c.iter.ensures.order c.iter.ensures.sorted c.iter.ensures.numbered)
           (ap (option_map (λ one. one.kept)) w.in_default.is)
-          c.in_ok-new_iters.ensures.ok
+          (rw c.current-version.ensures.version at c.in_ok-new_iters.ensures.ok)
           (one_more c.new-children.result.items c.match-self.children.items _ (ap (λ v. v.items) w.children-is ∙ c.in_ok-push.ensures.items) c.new-children.ensures.items)
           c.in_ok-push_tables.ensures.ok
     ])

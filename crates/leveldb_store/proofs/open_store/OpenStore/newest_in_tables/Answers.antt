@@ -3,6 +3,7 @@ use Rattle.std.proofs.lemmas.Result.{err_from_is_err_and}
 use Rattle.leveldb_base.specs.KeyTypes.{greatest_sequence, internal_key}
 use Rattle.leveldb_base.specs.declared.key_types.ValueType.TheVariants.{TypeValue}
 use Rattle.leveldb_store.specs.Read.{sought_key}
+use Rattle.leveldb_store.proofs.CurrentVersionLemmas.{current_by}
 use Rattle.leveldb_store.proofs.ReadLemmas.{not_searched}
 use Rattle.leveldb_store.proofs.open_store.OpenStore.newest_in_tables.Goals as goal
 
@@ -15,4 +16,12 @@ pub returns-clause-searches : goal.returns-clause-searches
 returns-clause-searches g c =
     let number : c.min-last.result ≡ min c.args.sequence greatest_sequence = c.min-last.ensures in
     let sought : c.in_ok-sought.sought ≡ sought_key c.args.sequence c.args.key.now = c.in_ok-sought.ensures.ok ∙ ap (λ n. internal_key c.args.key.now n TypeValue) number in
-    rw (← sought, ← c.self.view_is) c.get.ensures
+    rw (← sought, ← c.self.view_is, ← c.current-version.ensures.version) c.get.ensures
+
+pub returns-in_err-sought-clause-current : goal.returns-in_err-sought-clause-current
+returns-in_err-sought-clause-current g c =
+    rw (← c.self.view_is) (current_by g.C.Cmp c.self.invariant.8 c.current-version.ensures.current)
+
+pub returns-clause-current : goal.returns-clause-current
+returns-clause-current g c =
+    rw (← c.self.view_is) (current_by g.C.Cmp c.self.invariant.8 c.current-version.ensures.current)

@@ -20,7 +20,7 @@ pub returns-in_err-names-clause-removes : goal.returns-in_err-names-clause-remov
 returns-in_err-names-clause-removes g c =
     let set = c.args.self.now.set in
     let failed = err_from_is_err_and c.from_residual-in_err-names.result c.from_residual-in_err-names.ensures.1 in
-    let same_set : c.self.inside.versions ≡ set = ap (λ v. v.set) c.self.view_is in
+    let same_set : c.self.inside.versions.set ≡ set = ap (λ v. v.set) c.self.view_is in
     let usable : set.manifest ≢ broken = λ is. let never : false ≡ true = c.if-is_broken.ensures.1 (ap (λ v. v.manifest) same_set ∙ is) in cc in
     let folder : c.deref.result.now ≡ set.store = c.deref.ensures ∙ sym c.self.invariant.0 ∙ ap (λ v. v.store) same_set in
     rw (failed.1, failed.2) (RemovesObsolete-unlisted g.E.Env set c.args.env.now usable c.children.new.self _ (λ modelled. Run-call modelled c.in_err-names.ensures.does) c.in_err-names.ensures.locks
@@ -31,7 +31,7 @@ returns-clause-removes g c =
     let set = c.args.self.now.set in
     let from = c.args.env.now in
     let mid = c.children.new.self in
-    let same_set : c.self.inside.versions ≡ set = ap (λ v. v.set) c.self.view_is in
+    let same_set : c.self.inside.versions.set ≡ set = ap (λ v. v.set) c.self.view_is in
     let usable : set.manifest ≢ broken = λ is. let never : false ≡ true = c.if-is_broken.ensures.1 (ap (λ v. v.manifest) same_set ∙ is) in cc in
     let folder : c.deref.result.now ≡ set.store = c.deref.ensures ∙ sym c.self.invariant.0 ∙ ap (λ v. v.store) same_set in
     let listed : IsTrue g.E.Env.models_disk → ListsChildren (g.E.Env.observed from).disk.files set.store (map string_bytes c.deref-2.result.now) = λ modelled.

@@ -5,9 +5,9 @@ use Rattle.leveldb_env.proofs.AppendedLemmas.{emptied_bytes, synced_bytes}
 use Rattle.leveldb_base.specs.History.{AreUpTo}
 use Rattle.leveldb_env.specs.Env.{BeforeOrAfter, ChangesFiles, emptied}
 use Rattle.leveldb_version.specs.Paths.{log_path}
+use Rattle.leveldb_version.specs.CurrentVersion.{VersionsValue}
 use Rattle.leveldb_version.specs.VersionEdit.{Edit}
 use Rattle.leveldb_version.specs.VersionSetValue.{VersionSetValue}
-use Rattle.leveldb_store.proofs.CurrentVersionLemmas.{still_current}
 use Rattle.leveldb_store.proofs.GivenNumbersLemmas.{live_given}
 use Rattle.leveldb_store.specs.OpenStore.{AreInLevels, HasOwnManifest}
 use Rattle.leveldb_store.specs.Write.{SyncsLog}
@@ -57,7 +57,7 @@ returns-in_err-file-clause-switches g c =
     let given = after_giving _ old c.self.view_is c.new_file_number.new.self c.in_ok-number.ensures.ok in
     let sync = sync_made g.E.Env from c.in_ok-sync.ensures.syncs.ok given mid c.in_ok-sync.ensures.syncs in
     let rest = spared_by_sync g.E.Env from c.in_ok-sync.ensures.syncs.ok given mid c.in_ok-sync.ensures.spares in
-    let store = c.self.inside.versions.store in
+    let store = c.self.inside.versions.set.store in
     let number = c.in_ok-number.number in
     let path : c.deref-2.result.now ≡ log_path old.set.store old.set.next_file = c.deref-2.ensures ∙ c.in_ok-path.ensures.ok
     ∙ ap (λ (s : List ℕ). log_path s number) (c.deref.ensures ∙ sym c.self.invariant.0) ∙ ap (log_path store) c.in_ok-number.ensures.number ∙ ap (λ v. log_path v.set.store v.set.next_file) c.self.view_is in
@@ -77,7 +77,7 @@ returns-in_err-file-clause-keeps g c = λ modelled meaning allowed w.
     let more : old.set.next_file + 1 < 2 ^ 64 = subst (λ v. v.set.next_file + 1 < 2 ^ 64) c.self.view_is c.in_ok-number.ensures.fits in
     let given = after_giving _ old c.self.view_is c.new_file_number.new.self c.in_ok-number.ensures.ok in
     let sync = sync_made g.E.Env from c.in_ok-sync.ensures.syncs.ok given mid c.in_ok-sync.ensures.syncs in
-    let store = c.self.inside.versions.store in
+    let store = c.self.inside.versions.set.store in
     let number = c.in_ok-number.number in
     let path : c.deref-2.result.now ≡ log_path old.set.store old.set.next_file = c.deref-2.ensures ∙ c.in_ok-path.ensures.ok
     ∙ ap (λ (s : List ℕ). log_path s number) (c.deref.ensures ∙ sym c.self.invariant.0) ∙ ap (log_path store) c.in_ok-number.ensures.number ∙ ap (λ v. log_path v.set.store v.set.next_file) c.self.view_is in
@@ -97,7 +97,7 @@ returns-clause-switches g c =
     let given = after_giving _ old c.self.view_is c.new_file_number.new.self c.in_ok-number.ensures.ok in
     let sync = sync_made g.E.Env from c.in_ok-sync.ensures.syncs.ok given mid c.in_ok-sync.ensures.syncs in
     let rest = spared_by_sync g.E.Env from c.in_ok-sync.ensures.syncs.ok given mid c.in_ok-sync.ensures.spares in
-    let store = c.self.inside.versions.store in
+    let store = c.self.inside.versions.set.store in
     let number = c.in_ok-number.number in
     let path : c.deref-2.result.now ≡ log_path old.set.store old.set.next_file = c.deref-2.ensures ∙ c.in_ok-path.ensures.ok
     ∙ ap (λ (s : List ℕ). log_path s number) (c.deref.ensures ∙ sym c.self.invariant.0) ∙ ap (log_path store) c.in_ok-number.ensures.number ∙ ap (λ v. log_path v.set.store v.set.next_file) c.self.view_is in
@@ -120,7 +120,7 @@ returns-clause-keeps g c = λ modelled meaning allowed w.
     let more : old.set.next_file + 1 < 2 ^ 64 = subst (λ v. v.set.next_file + 1 < 2 ^ 64) c.self.view_is c.in_ok-number.ensures.fits in
     let given = after_giving _ old c.self.view_is c.new_file_number.new.self c.in_ok-number.ensures.ok in
     let sync = sync_made g.E.Env from c.in_ok-sync.ensures.syncs.ok given mid c.in_ok-sync.ensures.syncs in
-    let store = c.self.inside.versions.store in
+    let store = c.self.inside.versions.set.store in
     let number = c.in_ok-number.number in
     let path : c.deref-2.result.now ≡ log_path old.set.store old.set.next_file = c.deref-2.ensures ∙ c.in_ok-path.ensures.ok
     ∙ ap (λ (s : List ℕ). log_path s number) (c.deref.ensures ∙ sym c.self.invariant.0) ∙ ap (log_path store) c.in_ok-number.ensures.number ∙ ap (λ v. log_path v.set.store v.set.next_file) c.self.view_is in
@@ -139,7 +139,8 @@ returns-clause-keeps g c = λ modelled meaning allowed w.
 
 pub invariant_of-self-in_err-path : goal.invariant_of-self-in_err-path
 invariant_of-self-in_err-path g c =
-    let given = c.in_ok-number.ensures.ok in (
+    let versions = c.in_ok-number.ensures.ok in
+    let given = ap (λ (v : VersionsValue g.row.C.Denot). v.set) versions in (
       ap (λ set. set.store) given ∙ c.self.invariant.0,
       c.self.invariant.1,
       c.self.invariant.2,
@@ -148,14 +149,15 @@ invariant_of-self-in_err-path g c =
       λ e. c.self.invariant.5 (sym (ap (λ set. set.manifest) given) ∙ e),
       subst (λ set. AreUpTo set.last_sequence c.self.inside.recent.kept.entries) (sym given) c.self.invariant.6,
       c.self.invariant.7,
-      still_current c.self.inside.cmp c.self.inside.versions c.new_file_number.new.self c.self.inside.current (ap (λ (s : VersionSetValue). s.full) given) c.self.invariant.8,
-      live_given c.self.inside.versions c.new_file_number.new.self (ap (λ (s : VersionSetValue). s.full) given) (omega (arith, ap (λ (s : VersionSetValue). s.next_file) given)) c.self.invariant.9,
+      ap (λ (v : VersionsValue g.row.C.Denot). v.current.cmp) versions ∙ c.self.invariant.8,
+      live_given c.self.inside.versions.set c.new_file_number.new.self.set (ap (λ (s : VersionSetValue). s.full) given) (omega (arith, ap (λ (s : VersionSetValue). s.next_file) given)) c.self.invariant.9,
       subst (λ (full : Edit). AreInLevels g.E.Env.models_disk (g.C.Cmp.cmp c.self.inside.cmp) full.added) (sym (ap (λ (s : VersionSetValue). s.full) given)) c.self.invariant.10,
     )
 
 pub invariant_of-self-2 : goal.invariant_of-self-2
 invariant_of-self-2 g c =
-    let given = c.in_ok-number.ensures.ok in (
+    let versions = c.in_ok-number.ensures.ok in
+    let given = ap (λ (v : VersionsValue g.row.C.Denot). v.set) versions in (
       ap (λ set. set.store) given ∙ c.self.invariant.0,
       c.self.invariant.1,
       c.self.invariant.2,
@@ -164,14 +166,15 @@ invariant_of-self-2 g c =
       λ e. c.self.invariant.5 (sym (ap (λ set. set.manifest) given) ∙ e),
       subst (λ set. AreUpTo set.last_sequence c.self.inside.recent.kept.entries) (sym given) c.self.invariant.6,
       c.self.invariant.7,
-      still_current c.self.inside.cmp c.self.inside.versions c.new_file_number.new.self c.self.inside.current (ap (λ (s : VersionSetValue). s.full) given) c.self.invariant.8,
-      live_given c.self.inside.versions c.new_file_number.new.self (ap (λ (s : VersionSetValue). s.full) given) (omega (arith, ap (λ (s : VersionSetValue). s.next_file) given)) c.self.invariant.9,
+      ap (λ (v : VersionsValue g.row.C.Denot). v.current.cmp) versions ∙ c.self.invariant.8,
+      live_given c.self.inside.versions.set c.new_file_number.new.self.set (ap (λ (s : VersionSetValue). s.full) given) (omega (arith, ap (λ (s : VersionSetValue). s.next_file) given)) c.self.invariant.9,
       subst (λ (full : Edit). AreInLevels g.E.Env.models_disk (g.C.Cmp.cmp c.self.inside.cmp) full.added) (sym (ap (λ (s : VersionSetValue). s.full) given)) c.self.invariant.10,
     )
 
 pub invariant_of-self : goal.invariant_of-self
 invariant_of-self g c =
-    let same = c.in_err-number.ensures.err in (
+    let versions = c.in_err-number.ensures.err in
+    let same = ap (λ (v : VersionsValue g.row.C.Denot). v.set) versions in (
       ap (λ set. set.store) same ∙ c.self.invariant.0,
       c.self.invariant.1,
       c.self.invariant.2,
@@ -180,8 +183,8 @@ invariant_of-self g c =
       λ e. c.self.invariant.5 (sym (ap (λ set. set.manifest) same) ∙ e),
       subst (λ set. AreUpTo set.last_sequence c.self.inside.recent.kept.entries) (sym same) c.self.invariant.6,
       c.self.invariant.7,
-      still_current c.self.inside.cmp c.self.inside.versions c.new_file_number.new.self c.self.inside.current (ap (λ (s : VersionSetValue). s.full) same) c.self.invariant.8,
-      live_given c.self.inside.versions c.new_file_number.new.self (ap (λ (s : VersionSetValue). s.full) same) (omega (arith, ap (λ (s : VersionSetValue). s.next_file) same)) c.self.invariant.9,
+      ap (λ (v : VersionsValue g.row.C.Denot). v.current.cmp) versions ∙ c.self.invariant.8,
+      live_given c.self.inside.versions.set c.new_file_number.new.self.set (ap (λ (s : VersionSetValue). s.full) same) (omega (arith, ap (λ (s : VersionSetValue). s.next_file) same)) c.self.invariant.9,
       subst (λ (full : Edit). AreInLevels g.E.Env.models_disk (g.C.Cmp.cmp c.self.inside.cmp) full.added) (sym (ap (λ (s : VersionSetValue). s.full) same)) c.self.invariant.10,
     )
 

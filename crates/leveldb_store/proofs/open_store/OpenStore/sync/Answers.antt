@@ -10,7 +10,7 @@ use Rattle.leveldb_store.proofs.open_store.OpenStore.sync.Goals as goal
 
 pub sync_log-requires : goal.sync_log-requires
 sync_log-requires g c =
-    let store = c.self.inside.versions.store in
+    let store = c.self.inside.versions.set.store in
     let number = c.self.inside.log.number in
     let at_store : log_path c.deref.result.now number ≡ log_path store number = ap (λ (s : List ℕ). log_path s number) (c.deref.ensures ∙ sym c.self.invariant.0) in
     c.deref-2.ensures ∙ c.in_ok-path.ensures.ok ∙ at_store ∙ ap open_log_path c.self.view_is

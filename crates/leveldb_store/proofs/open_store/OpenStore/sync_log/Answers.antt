@@ -8,7 +8,7 @@ use Rattle.leveldb_store.proofs.open_store.OpenStore.sync_log.Goals as goal
 
 pub returns-clause-syncs : goal.returns-clause-syncs
 returns-clause-syncs g c =
-    let store = c.self.inside.versions.store in
+    let store = c.self.inside.versions.set.store in
     let number = c.self.inside.log.number in
     let path : c.args.path.now ≡ log_path store number = c.requires ∙ ap open_log_path (sym c.self.view_is) in
     let named : IsTrue g.E.Env.models_disk → g.E.Env.name_of c.self.inside.log.file ≡ log_path store number =
@@ -20,7 +20,7 @@ returns-clause-syncs g c =
 
 pub returns-clause-breaks : goal.returns-clause-breaks
 returns-clause-breaks g c =
-    let path : c.args.path.now ≡ log_path c.self.inside.versions.store c.self.inside.log.number = c.requires ∙ ap open_log_path (sym c.self.view_is) in
+    let path : c.args.path.now ≡ log_path c.self.inside.versions.set.store c.self.inside.log.number = c.requires ∙ ap open_log_path (sym c.self.view_is) in
     rw (← c.self.view_is)
     (sync_breaks g.E.Env _ c.args.env.now c.self.inside.log.file c.sync_file-synced.result c.found.result
     c.sync_file-synced.ensures.usable c.sync_file-synced.ensures.broken

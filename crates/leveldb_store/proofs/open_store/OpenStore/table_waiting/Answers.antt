@@ -6,10 +6,10 @@ use Rattle.leveldb_version.specs.VersionEdit.{new_file_of}
 use Rattle.leveldb_store.specs.Written.{waiting_entries}
 use Rattle.std.proofs.lemmas.Result.{err_from_is_err_and}
 use Rattle.leveldb_base.specs.CmpLaws.{total_order}
+use Rattle.leveldb_version.specs.CurrentVersion.{VersionsValue}
 use Rattle.leveldb_version.specs.VersionEdit.{Edit}
 use Rattle.leveldb_version.specs.VersionSetValue.{VersionSetValue, broken}
 use Rattle.leveldb_base.specs.History.{AreUpTo}
-use Rattle.leveldb_store.proofs.CurrentVersionLemmas.{still_current}
 use Rattle.leveldb_store.proofs.GivenNumbersLemmas.{live_given}
 use Rattle.leveldb_store.specs.OpenStore.{AreInLevels, HasOwnManifest, OpenStoreValue}
 use Rattle.leveldb_store.proofs.LevelsApartLemmas.{levels_with_picked, range_in_order}
@@ -23,7 +23,7 @@ not_broken set b says is e = let never : false ≡ true = sym is ∙ says e in c
 pub returns-in_err-file-clause-tables : goal.returns-in_err-file-clause-tables
 returns-in_err-file-clause-tables g c =
     let p = err_from_is_err_and c.from_residual-in_err-file.result c.from_residual-in_err-file.ensures.1 in
-    let usable = not_broken c.self.inside.versions c.is_broken.result c.is_broken.ensures.1 c.if-is_broken.false in
+    let usable = not_broken c.self.inside.versions.set c.is_broken.result c.is_broken.ensures.1 c.if-is_broken.false in
     let made = rw (c.in_ok-number.ensures.number, c.in_ok-number.ensures.ok) at c.in_err-file.ensures.makes in
     rw (← c.self.view_is, c.in_ok-number.ensures.ok, p.1, p.2)
     (tables_unbuilt g.E.Env _ _ c.args.env.now usable c.in_ok-number.ensures.fits c.build_waiting.new.env _ made)
@@ -38,11 +38,11 @@ returns-in_err-file-clause-keeps g c =
 pub returns-in_err-log_table-clause-tables : goal.returns-in_err-log_table-clause-tables
 returns-in_err-log_table-clause-tables g c =
     let p = err_from_is_err_and c.from_residual-in_err-log_table.result c.from_residual-in_err-log_table.ensures.1 in
-    let usable = not_broken c.self.inside.versions c.is_broken.result c.is_broken.ensures.1 c.if-is_broken.false in
+    let usable = not_broken c.self.inside.versions.set c.is_broken.result c.is_broken.ensures.1 c.if-is_broken.false in
     let made = rw (c.in_ok-number.ensures.number, c.in_ok-number.ensures.ok) at c.in_ok-file.ensures.makes in
     let logs = rw c.in_ok-number.ensures.ok at c.in_err-log_table.ensures.logs in
-    let used = in_use_of c.self.inside.versions.manifest c.self.invariant.5 usable in
-    rw (← c.self.view_is, c.in_err-log_table.ensures.err, p.1, p.2)
+    let used = in_use_of c.self.inside.versions.set.manifest c.self.invariant.5 usable in
+    rw (← c.self.view_is, c.in_err-log_table.ensures.err, c.in_ok-number.ensures.ok, p.1, p.2)
     (tables_unlogged g.E.Env _ _ c.args.env.now usable c.in_ok-number.ensures.fits c.build_waiting.new.env c.level_for-level.result c.in_ok-file.file made used.0 used.1 c.self.invariant.4 c.log_table.ensures.locks
     c.log_table.new.self.set _ (logs used.0 used.1))
 
@@ -55,16 +55,16 @@ returns-in_err-log_table-clause-keeps g c =
     let order = rw (← c.self.view_is) at c.requires.order in
     let total : IsTotalOrder (g.C.Cmp.cmp cmp) = total_order (g.met.C.Cmp.preorder cmp) (g.met.C.UserCmp.accepts_all cmp) in
     let picked = rw c.in_ok-number.ensures.ok at c.level_for-level.ensures.level in
-    rw (← c.self.view_is, c.in_err-log_table.ensures.err)
+    rw (← c.self.view_is, c.in_err-log_table.ensures.err, c.in_ok-number.ensures.ok)
     (λ modelled meaning agrees. keeps_failed g.E.Env _ _ c.args.env.now c.build_waiting.new.env c.level_for-level.result c.in_ok-file.file some c.build_waiting.ensures.entries made modelled (g.C.Cmp.cmp cmp) order meaning agrees
     c.in_ok-number.ensures.fits total picked c.log_table.new.env c.log_table.new.self.set _ logs)
 
 pub returns-clause-tables : goal.returns-clause-tables
 returns-clause-tables g c =
-    let usable = not_broken c.self.inside.versions c.is_broken.result c.is_broken.ensures.1 c.if-is_broken.false in
+    let usable = not_broken c.self.inside.versions.set c.is_broken.result c.is_broken.ensures.1 c.if-is_broken.false in
     let made = rw (c.in_ok-number.ensures.number, c.in_ok-number.ensures.ok) at c.in_ok-file.ensures.makes in
     let logs = rw c.in_ok-number.ensures.ok at c.in_ok-log_table.ensures.logs in
-    let used = in_use_of c.self.inside.versions.manifest c.self.invariant.5 usable in
+    let used = in_use_of c.self.inside.versions.set.manifest c.self.invariant.5 usable in
     let gone = ap (λ (v : OpenStoreValue g.row.C.Denot). record v { waiting = None }) (c.self-2.view_is ∙ c.log_table.ensures.rest) in
     let order = rw (← c.self.view_is) at c.requires.order in
     let picked = rw (c.in_ok-number.ensures.ok, ← order) at c.level_for-level.ensures.level in
@@ -89,7 +89,8 @@ returns-clause-keeps g c =
 
 pub invariant_of-self : goal.invariant_of-self
 invariant_of-self g c =
-    let same = c.in_err-number.ensures.err in (
+    let versions = c.in_err-number.ensures.err in
+    let same = ap (λ (v : VersionsValue g.row.C.Denot). v.set) versions in (
       ap (λ (set : VersionSetValue). set.store) same ∙ c.self.invariant.0,
       c.self.invariant.1,
       c.self.invariant.2,
@@ -98,14 +99,15 @@ invariant_of-self g c =
       λ e. c.self.invariant.5 (sym (ap (λ (set : VersionSetValue). set.manifest) same) ∙ e),
       subst (λ (set : VersionSetValue). AreUpTo set.last_sequence c.self.inside.recent.kept.entries) (sym same) c.self.invariant.6,
       c.self.invariant.7,
-      still_current c.self.inside.cmp c.self.inside.versions c.new_file_number.new.self c.self.inside.current (ap (λ (s : VersionSetValue). s.full) same) c.self.invariant.8,
-      live_given c.self.inside.versions c.new_file_number.new.self (ap (λ (s : VersionSetValue). s.full) same) (omega (arith, ap (λ (s : VersionSetValue). s.next_file) same)) c.self.invariant.9,
+      ap (λ (v : VersionsValue g.row.C.Denot). v.current.cmp) versions ∙ c.self.invariant.8,
+      live_given c.self.inside.versions.set c.new_file_number.new.self.set (ap (λ (s : VersionSetValue). s.full) same) (omega (arith, ap (λ (s : VersionSetValue). s.next_file) same)) c.self.invariant.9,
       subst (λ (full : Edit). AreInLevels g.E.Env.models_disk (g.C.Cmp.cmp c.self.inside.cmp) full.added) (sym (ap (λ (s : VersionSetValue). s.full) same)) c.self.invariant.10,
     )
 
 pub invariant_of-self-2 : goal.invariant_of-self-2
 invariant_of-self-2 g c =
-    let given = c.in_ok-number.ensures.ok in (
+    let versions = c.in_ok-number.ensures.ok in
+    let given = ap (λ (v : VersionsValue g.row.C.Denot). v.set) versions in (
       ap (λ (set : VersionSetValue). set.store) given ∙ c.self.invariant.0,
       c.self.invariant.1,
       c.self.invariant.2,
@@ -114,8 +116,8 @@ invariant_of-self-2 g c =
       λ e. c.self.invariant.5 (sym (ap (λ (set : VersionSetValue). set.manifest) given) ∙ e),
       subst (λ (set : VersionSetValue). AreUpTo set.last_sequence c.self.inside.recent.kept.entries) (sym given) c.self.invariant.6,
       c.self.invariant.7,
-      still_current c.self.inside.cmp c.self.inside.versions c.new_file_number.new.self c.self.inside.current (ap (λ (s : VersionSetValue). s.full) given) c.self.invariant.8,
-      live_given c.self.inside.versions c.new_file_number.new.self (ap (λ (s : VersionSetValue). s.full) given) (omega (arith, ap (λ (s : VersionSetValue). s.next_file) given)) c.self.invariant.9,
+      ap (λ (v : VersionsValue g.row.C.Denot). v.current.cmp) versions ∙ c.self.invariant.8,
+      live_given c.self.inside.versions.set c.new_file_number.new.self.set (ap (λ (s : VersionSetValue). s.full) given) (omega (arith, ap (λ (s : VersionSetValue). s.next_file) given)) c.self.invariant.9,
       subst (λ (full : Edit). AreInLevels g.E.Env.models_disk (g.C.Cmp.cmp c.self.inside.cmp) full.added) (sym (ap (λ (s : VersionSetValue). s.full) given)) c.self.invariant.10,
     )
 
@@ -130,11 +132,11 @@ returns-in_err-file-clause-sound g c =
 pub returns-in_err-log_table-clause-sound : goal.returns-in_err-log_table-clause-sound
 returns-in_err-log_table-clause-sound g c =
     let p = err_from_is_err_and c.from_residual-in_err-log_table.result c.from_residual-in_err-log_table.ensures.1 in
-    let usable = not_broken c.self.inside.versions c.is_broken.result c.is_broken.ensures.1 c.if-is_broken.false in
+    let usable = not_broken c.self.inside.versions.set c.is_broken.result c.is_broken.ensures.1 c.if-is_broken.false in
     let made = rw (c.in_ok-number.ensures.number, c.in_ok-number.ensures.ok) at c.in_ok-file.ensures.makes in
     let logs = rw c.in_ok-number.ensures.ok at c.in_err-log_table.ensures.logs in
-    let used = in_use_of c.self.inside.versions.manifest c.self.invariant.5 usable in
-    rw (← c.self.view_is, c.in_err-log_table.ensures.err, p.1, p.2)
+    let used = in_use_of c.self.inside.versions.set.manifest c.self.invariant.5 usable in
+    rw (← c.self.view_is, c.in_err-log_table.ensures.err, c.in_ok-number.ensures.ok, p.1, p.2)
     (unlogged_sound g.E.Env _ _ c.args.env.now usable c.in_ok-number.ensures.fits c.build_waiting.new.env c.level_for-level.result c.in_ok-file.file made used.0 used.1 c.self.invariant.4 c.log_table.ensures.locks
     c.log_table.new.self.set _ _ _ _ (logs used.0 used.1))
 
@@ -142,9 +144,9 @@ pub returns-clause-sound : goal.returns-clause-sound
 returns-clause-sound g c =
     let mid = c.build_waiting.new.env in
     let to = c.log_table.new.env in
-    let usable = not_broken c.self.inside.versions c.is_broken.result c.is_broken.ensures.1 c.if-is_broken.false in
+    let usable = not_broken c.self.inside.versions.set c.is_broken.result c.is_broken.ensures.1 c.if-is_broken.false in
     let logs = rw c.in_ok-number.ensures.ok at c.in_ok-log_table.ensures.logs in
-    let used = in_use_of c.self.inside.versions.manifest c.self.invariant.5 usable in
+    let used = in_use_of c.self.inside.versions.set.manifest c.self.invariant.5 usable in
     let logged = logs used.0 used.1 in
     sound_ok g.E.Env _ _ _ c.args.env.now tt _ to
     (goes_on_then g.E.Env (table_goes_on g.E.Env c.in_ok-file.ensures.makes)
@@ -164,4 +166,4 @@ log_table-requires-clause-levels g c =
     let in_order = range_in_order cmp total (map internal_pair entries) rising c.in_ok-file.file.smallest c.in_ok-file.file.largest made.smallest made.largest in
     let picked = rw c.in_ok-number.ensures.ok at c.level_for-level.ensures.level in
     rw c.in_ok-number.ensures.ok
-    (levels_with_picked g.E.Env.models_disk cmp c.self.inside.versions.full.added (new_file_of (c.level_for-level.result, c.in_ok-file.file)) picked (let deepest = c.level_for-level.ensures.deepest in omega (arith, deepest)) in_order c.self.invariant.10)
+    (levels_with_picked g.E.Env.models_disk cmp c.self.inside.versions.set.full.added (new_file_of (c.level_for-level.result, c.in_ok-file.file)) picked (let deepest = c.level_for-level.ensures.deepest in omega (arith, deepest)) in_order c.self.invariant.10)

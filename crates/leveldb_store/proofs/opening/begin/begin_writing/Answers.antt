@@ -2,8 +2,7 @@ use Rattle.std.proofs.Common.{◌∙◌, ◌<◌, ◌^◌, ℕ, ap, refl, rules,
 use Rattle.std.specs.Prelude.{max}
 use Rattle.std.proofs.lemmas.Result.{err_from_is_err_and}
 use Rattle.leveldb_version.specs.Paths.{log_path}
-use Rattle.leveldb_store.proofs.CurrentVersionLemmas.{made_current}
-use Rattle.leveldb_store.proofs.OpeningBeginLemmas.{all_begun, edit_refused, ended_levels, ended_given, ended_made, ended_own, ended_path, ended_refused, ended_up_to, log_refused, neither, replay_refused}
+use Rattle.leveldb_store.proofs.OpeningBeginLemmas.{all_begun, edit_refused, ended_levels, ended_given, ended_made, ended_own, ended_path, ended_up_to, log_refused, neither, replay_refused, unversioned}
 use Rattle.leveldb_store.proofs.opening.begin.begin_writing.Goals as goal
 
 pub returns-in_err-replay-clause-begins : goal.returns-in_err-replay-clause-begins
@@ -27,21 +26,21 @@ returns-in_err-log_if-clause-begins g c =
     let set1 = c.replay_logs.new.versions in
     let last = c.max.ensures ∙ ap (λ (n : ℕ). max n c.in_ok-replay.replay.last) c.last_seq.ensures in
     let set2 = c.set_last_seq.ensures ∙ ap (λ (n : ℕ). record set1 { last_sequence = n }) last in
+    let logs = rw c.in_ok-versions.ensures.set at c.in_err-log_if.ensures.logs in
     rw (failed.1, failed.2) (edit_refused g.E.Env _ _ c.args.name.now c.args.set.is_anew c.args.set.versions c.args.set.logs.keys c.args.env.now c.requires c.in_ok-replay.replay set1
     c.replay_logs.new.env c.in_ok-replay.ensures.replays c.set_last_seq.new.self set2 c.args.options.now.cmp (c.in_ok-log.log, c.in_ok-log.recent) c.open_log.new.versions c.open_log.new.env
-    c.in_ok-log.ensures.opens _ (neither c.args.set.is_anew c.in_ok-replay.replay.leaves_log) _ c.log_if.new.versions c.log_if.new.env c.in_err-log_if.ensures.logs
+    c.in_ok-log.ensures.opens _ (neither c.args.set.is_anew c.in_ok-replay.replay.leaves_log) _ c.log_if.new.versions.set c.log_if.new.env logs
     c.in_err-log_if.ensures.locks)
 
-pub returns-in_err-current-clause-begins : goal.returns-in_err-current-clause-begins
-returns-in_err-current-clause-begins g c =
-    let failed = err_from_is_err_and c.from_residual-in_err-current.result c.from_residual-in_err-current.ensures.1 in
+pub returns-in_err-versions-clause-begins : goal.returns-in_err-versions-clause-begins
+returns-in_err-versions-clause-begins g c =
+    let failed = err_from_is_err_and c.from_residual-in_err-versions.result c.from_residual-in_err-versions.ensures.1 in
     let set1 = c.replay_logs.new.versions in
     let last = c.max.ensures ∙ ap (λ (n : ℕ). max n c.in_ok-replay.replay.last) c.last_seq.ensures in
     let set2 = c.set_last_seq.ensures ∙ ap (λ (n : ℕ). record set1 { last_sequence = n }) last in
-    rw failed.1 (ended_refused g.E.Env _ _ c.args.name.now c.args.set.is_anew c.args.set.versions c.args.set.logs.keys c.args.env.now c.requires c.in_ok-replay.replay set1
+    rw failed.1 (unversioned g.E.Env _ _ c.args.name.now c.args.set.is_anew c.args.set.versions c.args.set.logs.keys c.args.env.now c.requires c.in_ok-replay.replay set1
     c.replay_logs.new.env c.in_ok-replay.ensures.replays c.set_last_seq.new.self set2 c.args.options.now.cmp (c.in_ok-log.log, c.in_ok-log.recent) c.open_log.new.versions c.open_log.new.env
-    c.in_ok-log.ensures.opens _ (neither c.args.set.is_anew c.in_ok-replay.replay.leaves_log) c.in_ok-log_if.field-0 c.log_if.new.versions c.log_if.new.env c.in_ok-log_if.ensures.logs
-    c.in_ok-log_if.ensures.locks _ (rw failed.2 c.in_err-current.ensures.memory))
+    c.in_ok-log.ensures.opens _ (rw failed.2 c.in_err-versions.ensures.memory))
 
 pub invariant_of-result : goal.invariant_of-result
 invariant_of-result g c =
@@ -49,9 +48,10 @@ invariant_of-result g c =
     let last = c.max.ensures ∙ ap (λ (n : ℕ). max n c.in_ok-replay.replay.last) c.last_seq.ensures in
     let set2 = c.set_last_seq.ensures ∙ ap (λ (n : ℕ). record set1 { last_sequence = n }) last in
     let opens = c.in_ok-log.ensures.opens in
+    let logs = rw c.in_ok-versions.ensures.set at c.in_ok-log_if.ensures.logs in
     let path = ended_path g.E.Env _ _ c.args.name.now c.args.set.is_anew c.args.set.versions c.args.set.logs.keys c.args.env.now c.requires c.in_ok-replay.replay set1
     c.replay_logs.new.env c.in_ok-replay.ensures.replays c.set_last_seq.new.self set2 c.args.options.now.cmp (c.in_ok-log.log, c.in_ok-log.recent) c.open_log.new.versions c.open_log.new.env
-    opens _ (neither c.args.set.is_anew c.in_ok-replay.replay.leaves_log) c.in_ok-log_if.field-0 c.log_if.new.versions c.log_if.new.env c.in_ok-log_if.ensures.logs
+    opens _ (neither c.args.set.is_anew c.in_ok-replay.replay.leaves_log) c.in_ok-log_if.field-0 c.log_if.new.versions.set c.log_if.new.env logs
     c.in_ok-log_if.ensures.locks in
     let named = c.in_ok-path.ensures.ok in (
       path ∙ sym named,
@@ -60,31 +60,25 @@ invariant_of-result g c =
       tt,
       ended_own g.E.Env _ _ c.args.name.now c.args.set.is_anew c.args.set.versions c.args.set.logs.keys c.args.env.now c.requires c.in_ok-replay.replay set1
           c.replay_logs.new.env c.in_ok-replay.ensures.replays c.set_last_seq.new.self set2 c.args.options.now.cmp (c.in_ok-log.log, c.in_ok-log.recent) c.open_log.new.versions c.open_log.new.env
-          opens _ (neither c.args.set.is_anew c.in_ok-replay.replay.leaves_log) c.in_ok-log_if.field-0 c.log_if.new.versions c.log_if.new.env c.in_ok-log_if.ensures.logs
+          opens _ (neither c.args.set.is_anew c.in_ok-replay.replay.leaves_log) c.in_ok-log_if.field-0 c.log_if.new.versions.set c.log_if.new.env logs
           c.in_ok-log_if.ensures.locks,
       ended_made g.E.Env _ _ c.args.name.now c.args.set.is_anew c.args.set.versions c.args.set.logs.keys c.args.env.now c.requires c.in_ok-replay.replay set1
           c.replay_logs.new.env c.in_ok-replay.ensures.replays c.set_last_seq.new.self set2 c.args.options.now.cmp (c.in_ok-log.log, c.in_ok-log.recent) c.open_log.new.versions c.open_log.new.env
-          opens _ (neither c.args.set.is_anew c.in_ok-replay.replay.leaves_log) c.in_ok-log_if.field-0 c.log_if.new.versions c.log_if.new.env c.in_ok-log_if.ensures.logs
+          opens _ (neither c.args.set.is_anew c.in_ok-replay.replay.leaves_log) c.in_ok-log_if.field-0 c.log_if.new.versions.set c.log_if.new.env logs
           c.in_ok-log_if.ensures.locks,
       ended_up_to g.E.Env _ _ c.args.name.now c.args.set.is_anew c.args.set.versions c.args.set.logs.keys c.args.env.now c.requires c.in_ok-replay.replay set1
           c.replay_logs.new.env c.in_ok-replay.ensures.replays c.set_last_seq.new.self set2 c.args.options.now.cmp (c.in_ok-log.log, c.in_ok-log.recent) c.open_log.new.versions c.open_log.new.env
-          opens _ (neither c.args.set.is_anew c.in_ok-replay.replay.leaves_log) c.in_ok-log_if.field-0 c.log_if.new.versions c.log_if.new.env c.in_ok-log_if.ensures.logs
+          opens _ (neither c.args.set.is_anew c.in_ok-replay.replay.leaves_log) c.in_ok-log_if.field-0 c.log_if.new.versions.set c.log_if.new.env logs
           c.in_ok-log_if.ensures.locks c.in_ok-log.recent.kept.entries opens.entries,
       tt,
-      made_current (g.C.Cmp.cmp c.args.options.now.cmp) c.args.options.now.cmp c.log_if.new.versions c.files.result.now c.in_ok-current.current c.in_ok-current.ensures.ok c.files.ensures
-          (ended_given g.E.Env _ _ c.args.name.now c.args.set.is_anew c.args.set.versions c.args.set.logs.keys c.args.env.now c.requires c.in_ok-replay.replay set1
-          c.replay_logs.new.env c.in_ok-replay.ensures.replays c.set_last_seq.new.self set2 c.args.options.now.cmp (c.in_ok-log.log, c.in_ok-log.recent) c.open_log.new.versions c.open_log.new.env
-          opens _ (neither c.args.set.is_anew c.in_ok-replay.replay.leaves_log) c.in_ok-log_if.field-0 c.log_if.new.versions c.log_if.new.env c.in_ok-log_if.ensures.logs
-          c.in_ok-log_if.ensures.locks)
-          (let next : c.log_if.new.versions.next_file < 2 ^ 64 = search rules in next)
-          c.in_ok-current.ensures.sizes,
+      c.log_if.ensures.cmp ∙ c.in_ok-versions.ensures.cmp,
       ended_given g.E.Env _ _ c.args.name.now c.args.set.is_anew c.args.set.versions c.args.set.logs.keys c.args.env.now c.requires c.in_ok-replay.replay set1
           c.replay_logs.new.env c.in_ok-replay.ensures.replays c.set_last_seq.new.self set2 c.args.options.now.cmp (c.in_ok-log.log, c.in_ok-log.recent) c.open_log.new.versions c.open_log.new.env
-          opens _ (neither c.args.set.is_anew c.in_ok-replay.replay.leaves_log) c.in_ok-log_if.field-0 c.log_if.new.versions c.log_if.new.env c.in_ok-log_if.ensures.logs
+          opens _ (neither c.args.set.is_anew c.in_ok-replay.replay.leaves_log) c.in_ok-log_if.field-0 c.log_if.new.versions.set c.log_if.new.env logs
           c.in_ok-log_if.ensures.locks,
       ended_levels g.E.Env _ _ c.args.name.now c.args.set.is_anew c.args.set.versions c.args.set.logs.keys c.args.env.now c.requires c.in_ok-replay.replay set1
           c.replay_logs.new.env c.in_ok-replay.ensures.replays c.set_last_seq.new.self set2 c.args.options.now.cmp (c.in_ok-log.log, c.in_ok-log.recent) c.open_log.new.versions c.open_log.new.env
-          opens _ (neither c.args.set.is_anew c.in_ok-replay.replay.leaves_log) c.in_ok-log_if.field-0 c.log_if.new.versions c.log_if.new.env c.in_ok-log_if.ensures.logs
+          opens _ (neither c.args.set.is_anew c.in_ok-replay.replay.leaves_log) c.in_ok-log_if.field-0 c.log_if.new.versions.set c.log_if.new.env logs
           c.in_ok-log_if.ensures.locks,
     )
 
@@ -94,7 +88,8 @@ returns-clause-begins g c =
     let last = c.max.ensures ∙ ap (λ (n : ℕ). max n c.in_ok-replay.replay.last) c.last_seq.ensures in
     let set2 = c.set_last_seq.ensures ∙ ap (λ (n : ℕ). record set1 { last_sequence = n }) last in
     let opens = c.in_ok-log.ensures.opens in
+    let logs = rw c.in_ok-versions.ensures.set at c.in_ok-log_if.ensures.logs in
     all_begun g.E.Env _ _ c.args.name.now c.args.set.is_anew c.args.set.versions c.args.set.logs.keys c.args.env.now c.requires c.in_ok-replay.replay set1
     c.replay_logs.new.env c.in_ok-replay.ensures.replays c.set_last_seq.new.self set2 c.args.options.now.cmp (c.in_ok-log.log, c.in_ok-log.recent) c.open_log.new.versions c.open_log.new.env
-    opens _ (neither c.args.set.is_anew c.in_ok-replay.replay.leaves_log) c.in_ok-log_if.field-0 c.log_if.new.versions c.log_if.new.env c.in_ok-log_if.ensures.logs
+    opens _ (neither c.args.set.is_anew c.in_ok-replay.replay.leaves_log) c.in_ok-log_if.field-0 c.log_if.new.versions.set c.log_if.new.env logs
     c.in_ok-log_if.ensures.locks _ (record { set_is = refl; number = refl; writer = opens.writer; recent_is = opens.entries; waiting = refl })

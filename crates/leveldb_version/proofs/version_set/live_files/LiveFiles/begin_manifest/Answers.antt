@@ -9,7 +9,7 @@ use Rattle.leveldb_version.specs.Paths.{manifest_path}
 use Rattle.leveldb_version.specs.VersionEdit.{Edit, edit_bytes, edit_of}
 use Rattle.leveldb_version.specs.VersionSetValue.{OpenManifest, VersionSetValue}
 use Rattle.leveldb_version.proofs.LogEditLemmas.{begun_view, log_of, made_changes, ok_cause, state_of}
-use Rattle.leveldb_version.proofs.version_set.set.VersionSet.begin_manifest.Goals as goal
+use Rattle.leveldb_version.proofs.version_set.live_files.LiveFiles.begin_manifest.Goals as goal
 
 pub returns-clause-begins : goal.returns-clause-begins
 returns-clause-begins g c = λ logged is.

@@ -4,7 +4,7 @@ use Rattle.leveldb_version.specs.LogEdit.{edit_record}
 use Rattle.leveldb_version.specs.VersionEdit.{edit_bytes, edit_of}
 use Rattle.leveldb_version.specs.VersionSetValue.{OpenManifest, VersionSetValue, manifest_state, unmade}
 use Rattle.leveldb_version.proofs.LogEditLemmas.{broken_view, has_bytes, is_made, is_so, same_view, state_of, used_one}
-use Rattle.leveldb_version.proofs.version_set.set.VersionSet.log.Goals as goal
+use Rattle.leveldb_version.proofs.version_set.live_files.LiveFiles.log.Goals as goal
 
 pub append_record-appended-requires-clause-some : goal.append_record-appended-requires-clause-some
 append_record-appended-requires-clause-some g c = λ none. has_bytes (edit_of c.args.edit) c.requires.numbered (sym c.in_ok-text.ensures.ok ∙ sym c.deref.ensures.value ∙ none)
