@@ -78,6 +78,7 @@ module _ {E F : Type 0} (env : Ghosts E F) (old : LogFileState) (from : E) where
     does = λ modelled. still status (inl refl);
     undone = λ modelled. refl;
     locks = λ modelled. refl;
+    path = refl;
     ok = tt;
     usable = tt;
     err = broken_is is;
@@ -93,6 +94,7 @@ module _ {E F : Type 0} (env : Ghosts E F) (old : LogFileState) (from : E) where
           (subst (λ p. ChangesFiles env.models_disk (synced p) (BeforeOrAfter (synced p)) (env.observed from) (env.observed to) answer) (named modelled) flushes.flushed.does);
       undone = err_found (IsTrue env.models_disk → (env.observed to).disk.files ≡ (env.observed from).disk.files) old.path answer result found flushes.flushed.undone;
       locks = flushes.flushed.locks;
+      path = refl;
       ok = ok_found (with last ≡ old) old.path answer result found (same_of answer flushes.ok);
       usable = of_ok result usable;
       err = err_found (with last ≡ broken_log old) old.path answer result found (broken_of answer flushes.err);
@@ -141,6 +143,7 @@ module _ {E F : Type 0} (env : Ghosts E F) (old : LogFileState) (from : E) where
     not_appended status lost stays = record {
       does = λ modelled. still status (inl refl);
       locks = λ modelled. refl;
+      path = refl;
       ok = tt;
       usable = tt;
       err = stays;
@@ -161,6 +164,7 @@ module _ {E F : Type 0} (env : Ghosts E F) (old : LogFileState) (from : E) where
         record {
           does = put_does put;
           locks = put.locks;
+          path = refl;
           ok = ap with adds.writer;
           usable = unbroken old.writer.broken refl;
           err = tt;
@@ -182,6 +186,7 @@ module _ {E F : Type 0} (env : Ghosts E F) (old : LogFileState) (from : E) where
         (λ (failed : Appends env (opened from file) bytes (Err raw) (opened to after) × (last ≡ broken_writer old.writer)). record {
           does = λ modelled. ChangesFiles-found old.path (Err raw) (Err status) found (put_does failed.0 modelled);
           locks = failed.0.locks;
+          path = refl;
           ok = tt;
           usable = tt;
           err = inr (ap with failed.1);

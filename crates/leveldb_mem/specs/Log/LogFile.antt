@@ -39,6 +39,8 @@ module _ {E F : Type 0} (env : Ghosts E F) (old : LogFileState) (from : E) where
         (env.observed from) (env.observed to) result
     -- no lock changes
     pub locks : SameLocks env.models_disk (env.observed from) (env.observed to)
+    -- the log keeps its path
+    pub path : new.path ≡ old.path
     -- the log after an Ok, which none that is broken gives
     pub ok : OnOk result (new ≡ with_record old text)
     pub usable : OnOk result (old.writer.broken ≡ false)
@@ -60,6 +62,8 @@ module _ {E F : Type 0} (env : Ghosts E F) (old : LogFileState) (from : E) where
         → (env.observed to).disk.files ≡ (env.observed from).disk.files)
     -- no lock changes
     pub locks : SameLocks env.models_disk (env.observed from) (env.observed to)
+    -- the log keeps its path
+    pub path : new.path ≡ old.path
     -- an Ok leaves the log as it was, and none that is broken gives one
     pub ok : OnOk result (new ≡ old)
     pub usable : OnOk result (old.writer.broken ≡ false)

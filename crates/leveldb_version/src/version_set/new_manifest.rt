@@ -10,13 +10,12 @@ ghost use Rattle.leveldb_version.specs.NewManifest.{MakingManifest, manifest_byt
 ghost use Rattle.leveldb_version.specs.Paths.{manifest_path};
 
 use super::current_file::set_current_file;
-use super::manifest::Manifest;
 use leveldb_base::error::Result;
 use leveldb_base::names::manifest_file_name;
 use leveldb_base::types::FileNum;
 use leveldb_env::env::Env;
 use leveldb_env::env::whole_files::found;
-use leveldb_mem::log::WriterCore;
+use leveldb_mem::log::{LogFile, WriterCore};
 use std::alloc::Global;
 
 /// The bytes of a manifest of some records, and the writer of the records after them.
@@ -68,7 +67,7 @@ pub(super) fn make_manifest<E: Env>(
     number: FileNum,
     path: String,
     records: FramedRecords,
-) -> Result<Manifest<E>>
+) -> Result<LogFile<E>>
     requires { string_bytes path ≡ manifest_path store.now number }
     ensures does { IsTrue E.models_disk
         → ChangesFiles E.models_disk (with_manifest store.now number records.bytes.items)
@@ -87,9 +86,5 @@ pub(super) fn make_manifest<E: Env>(
 {
     let file = make_file(alloc, env, &path, &records.bytes)?;
     set_current_file(alloc, env, store, number)?;
-    Ok(Manifest {
-        path,
-        file,
-        writer: records.writer,
-    })
+    Ok(LogFile::new(alloc, path, file, records.writer))
 }
