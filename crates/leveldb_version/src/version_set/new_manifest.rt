@@ -14,7 +14,7 @@ use leveldb_base::error::Result;
 use leveldb_base::names::manifest_file_name;
 use leveldb_base::types::FileNum;
 use leveldb_env::env::Env;
-use leveldb_env::env::whole_files::found;
+use leveldb_env::env::whole_files::write_file;
 use leveldb_mem::log::{LogFile, WriterCore};
 use std::alloc::Global;
 
@@ -42,23 +42,6 @@ pub(super) fn frame_records(alloc: Global, records: &[Vec<u8>]) -> Result<Framed
     Ok(FramedRecords { bytes, writer })
 }
 
-/// Makes a file of these bytes, all of which a crash keeps.
-fn make_file<E: Env>(alloc: Global, env: &mut E, path: &str, bytes: &[u8]) -> Result<E::File>
-    ensures does { IsTrue E.models_disk
-        → ChangesFiles E.models_disk (with_file path.now (Some (kept_file bytes.now)))
-        (SameBut path.now) (E.observed env.old) (E.observed env.new) result }
-    ensures bytes { IsTrue E.models_disk → AppendedAreBytes (E.observed env.old).disk.files
-        → AppendedAreBytes (E.observed env.new).disk.files }
-    ensures locks { SameLocks E.models_disk (E.observed env.old) (E.observed env.new) }
-    ensures file { IfOk result (λ f. IsTrue E.models_disk → E.name_of f ≡ path.now) }
-    ensures cause { HasCause IsOutOfMemory (E.failures env.old) (E.failures env.new) result }
-{
-    let mut file = env.open_writable_file(path)?;
-    found(alloc, path, env.append(&mut file, bytes))?;
-    found(alloc, path, env.sync(&mut file))?;
-    Ok(file)
-}
-
 /// Makes a manifest of a number, and then has `CURRENT` name it.
 pub(super) fn make_manifest<E: Env>(
     alloc: Global,
@@ -84,7 +67,7 @@ pub(super) fn make_manifest<E: Env>(
         (E.failures env.old) (E.failures env.new))
         (E.failures env.old) (E.failures env.new) result }
 {
-    let file = make_file(alloc, env, &path, &records.bytes)?;
+    let file = write_file(alloc, env, &path, &records.bytes)?;
     set_current_file(alloc, env, store, number)?;
     Ok(LogFile::new(alloc, path, file, records.writer))
 }

@@ -1,8 +1,8 @@
 use Rattle.std.proofs.Common.{◌≡◌, ◌∙◌, Ok, arith}
 use Rattle.leveldb_env.proofs.AppendedLemmas.{appended_bytes, emptied_bytes, synced_bytes}
 use Rattle.leveldb_env.proofs.WholeFilesLemmas.{found_ok}
-use Rattle.leveldb_version.proofs.NewManifestLemmas.{file_made}
-use Rattle.leveldb_version.proofs.version_set.new_manifest.make_file.Goals as goal
+use Rattle.leveldb_env.proofs.WholeFilesLemmas.{file_made}
+use Rattle.leveldb_env.proofs.env.whole_files.write_file.Goals as goal
 
 pub returns-clause-does : goal.returns-clause-does
 returns-clause-does g c = λ modelled.
