@@ -64,3 +64,4 @@ mod ViewListsLemmas
 mod ViewTablesLemmas
 mod ViewChildrenLemmas
 mod ViewStoreLemmas
+mod StoreWalkLemmas

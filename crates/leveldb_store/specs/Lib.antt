@@ -20,3 +20,5 @@ pub mod OpeningState
 pub mod OpeningSteps
 pub mod SoundCall
 pub mod RoomSteps
+pub mod StoreWalk
+pub mod StoreWalkLaws

@@ -5,6 +5,7 @@ ghost use Rattle.leveldb_store.specs.OpenStore.{IsUnbroken};
 mod obsolete;
 mod read;
 mod room;
+mod store_walk;
 mod switch;
 mod table;
 mod view;
@@ -19,6 +20,7 @@ use leveldb_mem::memtable::MemTable;
 use leveldb_version::version_set::VersionSet;
 use std::alloc::Global;
 use std::marker::Model;
+pub use store_walk::StoreWalk;
 pub use view::StoreView;
 
 /// A log that batches are appended to: its number, its file, and the writer of its records.
