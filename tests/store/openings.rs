@@ -104,6 +104,20 @@ const LEFT_OVER_FILES: &[Act] = &[
     Act::HasFiles("000008.log:0 CURRENT:16 LOCK:0 MANIFEST-000001:41 "),
 ];
 
+/// A name that is of no file of a store stays, and its digits are no number.
+const OTHER_NAMES: &[Act] = &[
+    Act::Make("+92.ldb", b"x"),
+    Act::Make("000090.txt", b"x"),
+    Act::Make("LOG.old", b"x"),
+    Act::Make("x000091.log", b"x"),
+    Act::Open(Setting::Defaults),
+    Act::HasFiles(
+        "+92.ldb:1 000003.log:0 000090.txt:1 CURRENT:16 LOCK:0 LOG.old:1 MANIFEST-000001:41 x000091.log:1 ",
+    ),
+    Act::Put(Setting::Reuses(false, true), &[("a", "1")]),
+    Act::Holds("1: 1a"),
+];
+
 const OPENINGS: &[(&str, &[Act])] = &[
     ("new store", NEW_STORE),
     ("used on", USED_ON),
@@ -113,6 +127,7 @@ const OPENINGS: &[(&str, &[Act])] = &[
     ("torn log", TORN_LOG),
     ("small memtable", SMALL_MEMTABLE),
     ("left over files", LEFT_OVER_FILES),
+    ("other names", OTHER_NAMES),
 ];
 
 #[test]

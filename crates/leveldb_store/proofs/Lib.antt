@@ -5,6 +5,7 @@ mod WriteTableLemmas
 mod OutputsLemmas
 pub mod WriteLemmas
 mod OpeningNamesLemmas
+mod ListingLemmas
 mod OpeningCausesLemmas
 mod OpeningSyncsLemmas
 pub mod SwitchLemmas

@@ -12,13 +12,14 @@ use Rattle.leveldb_base.proofs.HistoryLemmas.{in_cases, in_none}
 use Rattle.leveldb_base.specs.Error.{IsOutOfMemory}
 use Rattle.leveldb_base.specs.Names.{IsFileName, IsNumber, IsNumbered}
 use Rattle.leveldb_base.specs.declared.error.Status.{Status}
-use Rattle.leveldb_base.specs.declared.error.StatusCode.TheVariants.{AlreadyExists}
+use Rattle.leveldb_base.specs.declared.error.StatusCode.TheVariants.{AlreadyExists, Corruption}
 use Rattle.leveldb_base.specs.declared.types.FileType.{FileType}
 use Rattle.leveldb_base.specs.declared.types.FileType.TheVariants.{Current, DBLock, Descriptor, InfoLog, Log, Table, Temp}
 use Rattle.leveldb_env.proofs.EnvLemmas.{Run-call, Run-mono, Run-trans}
-use Rattle.leveldb_env.specs.Env.{ChangesFiles, Files, FilesUnchanged, HasCause, IsEmptyFolder, ListsChildren, Run, SameLocks, in_folder, same}
-use Rattle.leveldb_env.specs.WholeFiles.{IsFoundOr, IsLostUnobserved}
+use Rattle.leveldb_env.specs.Env.{ChangesFiles, Files, FilesUnchanged, HasCause, ListsChildren, Run, SameLocks, in_folder}
+use Rattle.leveldb_env.specs.WholeFiles.{IsLostUnobserved}
 use Rattle.leveldb_env.specs.declared.env.Env.{Ghosts}
+use Rattle.leveldb_version.proofs.RecoverLemmas.{cause_of_error}
 use Rattle.leveldb_version.specs.CurrentFile.{temp_path}
 use Rattle.leveldb_version.specs.NewManifest.{MakingManifest, with_manifest}
 use Rattle.leveldb_version.specs.NewStore.{MakeStoreResult, first_edit, first_manifest}
@@ -27,9 +28,8 @@ use Rattle.leveldb_version.specs.Store.{HasNoStore}
 use Rattle.leveldb_version.specs.StoreSteps.{AppendedAreBytes}
 use Rattle.leveldb_version.specs.VersionEdit.{FieldFits, IsEncodable, comparator_is, file_order, last_sequence_is, log_is, next_file_is}
 use Rattle.leveldb_store.specs.OpeningSteps.{FindsStore, HasTableOrLog, IsBeingMade, IsMade, WhyNotFound}
-use Rattle.leveldb_store.specs.OpensStore.{IsForbidden, LacksCurrent}
+use Rattle.leveldb_store.specs.OpensStore.{IsBareFolder, IsForbidden, LacksCurrent}
 use Rattle.leveldb_store.specs.ReplayLog.{HasCauseOr}
-use Rattle.leveldb_store.proofs.OpeningCausesLemmas.{folder_bare}
 
 -- ---- names have no slash
 
@@ -161,7 +161,7 @@ module _ {E F : Type 0} (env : Ghosts E F) (store comparator : List ℕ) (create
   abbrev Refused : Type 0
   Refused = IsForbidden store create_if_missing error_if_exists (env.observed from).disk.files ⊎ LacksCurrent store (env.observed from).disk.files
 
-  module _ {T : Type 0} (listing : Result T Status) (does : ChangesFiles env.models_disk same FilesUnchanged (env.observed from) (env.observed mid) listing)
+  module _ (still : IsTrue env.models_disk → Run (FilesUnchanged (env.observed from).disk.files) (env.observed from) (env.observed mid))
       (locks : SameLocks env.models_disk (env.observed from) (env.observed mid)) where
     -- no call but the listing was made
     stayed : {U : Type 0} (result : Result U Status) → OnOk result (IsTrue env.models_disk → ((env.observed from).disk.files (current_path store) ≢ None) × ((env.observed mid).disk.files ≡ (env.observed from).disk.files))
@@ -169,9 +169,9 @@ module _ {E F : Type 0} (env : Ghosts E F) (store comparator : List ℕ) (create
         → HasCauseOr (WhyNotFound env store comparator create_if_missing error_if_exists from) (env.failures from) (env.failures mid) result → Found result mid
     stayed result there never cause = record {
       ok = found_there result there;
-      stays = λ modelled is. (never modelled is, Run-call modelled does);
-      run = λ modelled. Run-mono (λ files same. inl same) (Run-call modelled does);
-      bytes = λ modelled. subst AppendedAreBytes (sym (does.now modelled));
+      stays = λ modelled is. (never modelled is, still modelled);
+      run = λ modelled. Run-mono (λ files same. inl same) (still modelled);
+      bytes = λ modelled. subst AppendedAreBytes (sym ((still modelled).has));
       locks = locks;
       cause = cause;
     }
@@ -184,9 +184,16 @@ module _ {E F : Type 0} (env : Ghosts E F) (store comparator : List ℕ) (create
         found_there (Err status) there = tt
 
     -- nothing is listed
-    pub unlisted : {U : Type 0} (status : Status) → IsFoundOr store listing (Err status) → HasCause (IsEmptyFolder env.models_disk store (env.observed from)) (env.failures from) (env.failures mid) listing → Found {T = U} (Err status) mid
-    unlisted status found cause = stayed (Err status) tt (λ modelled is. tt)
-        (folder_bare env.models_disk store (env.observed from) (env.failures from) (env.failures mid) listing status (λ code bare. inl (code, bare)) found cause)
+    pub unlisted : {T U : Type 0} (status : Status)
+        → HasCauseOr {T = T} (λ e. (e.code ≡ Corruption) × (IsTrue env.models_disk → IsBareFolder store (env.observed from).disk.files)) (env.failures from) (env.failures mid) (Err status)
+        → Found {T = U} (Err status) mid
+    unlisted status cause = stayed (Err status) tt (λ modelled is. tt) (cause_of_error status
+        (λ why. ⊎_elim
+        (λ (memory : IsOutOfMemory status). inl memory)
+        (λ (it : ((status.code ≡ Corruption) × (IsTrue env.models_disk → IsBareFolder store (env.observed from).disk.files)) × (env.failures mid ≡ env.failures from)).
+        inr (inl it.0, it.1))
+        why)
+        (λ excused. ⊎_elim (λ memory. inl (inl memory)) (λ it. inr it.1) excused) cause)
 
     module _ (uncounted : env.failures mid ≡ env.failures from) where
       pub refused : {U : Type 0} (status : Status) → WhyNotFound env store comparator create_if_missing error_if_exists from status → Found {T = U} (Err status) mid
@@ -203,7 +210,7 @@ module _ {E F : Type 0} (env : Ghosts E F) (store comparator : List ℕ) (create
           must_not_be forbids status code = refused status (inr (inl (inl (code, forbids, current_there))))
 
           pub is_found : {U : Type 0} (value : U) → error_if_exists ≡ false → Found (Ok value) mid
-          is_found value may = stayed (Ok value) (λ modelled. (current_there modelled, does.now modelled))
+          is_found value may = stayed (Ok value) (λ modelled. (current_there modelled, (still modelled).has))
               may_find
               (record { later = omega (arith, uncounted); ok = uncounted; uncounted = tt; cause = tt })
             where
@@ -230,13 +237,13 @@ module _ {E F : Type 0} (env : Ghosts E F) (store comparator : List ℕ) (create
           being_made modelled files making = inr (record {
             bare = bare modelled;
             encodable = first_is_encodable comparator text;
-            making = subst (λ old. MakingManifest store 1 (first_manifest comparator) old files) (does.now modelled) making;
+            making = subst (λ old. MakingManifest store 1 (first_manifest comparator) old files) ((still modelled).has) making;
           })
 
           run_made : {U : Type 0} (result : Result U Status)
               → ChangesFiles env.models_disk (with_manifest store 1 (first_manifest comparator)) (MakingManifest store 1 (first_manifest comparator)) (env.observed mid) (env.observed to) result
               → IsTrue env.models_disk → Run (λ files. (files ≡ (env.observed from).disk.files) ⊎ IsBeingMade store comparator (env.observed from).disk.files files) (env.observed from) (env.observed to)
-          run_made result made modelled = Run-trans (Run-mono (λ files same. inl same) (Run-call modelled does)) (being_made modelled) (Run-call modelled made)
+          run_made result made modelled = Run-trans (Run-mono (λ files same. inl same) (still modelled)) (being_made modelled) (Run-call modelled made)
 
           lost_is_why : (status : Status) → IsLostUnobserved env.models_disk (temp_path store 1) (env.failures mid) (env.failures to) status
               → IsOutOfMemory status ⊎ (WhyNotFound env store comparator create_if_missing error_if_exists from status × (env.failures to ≡ env.failures from))
@@ -248,11 +255,11 @@ module _ {E F : Type 0} (env : Ghosts E F) (store comparator : List ℕ) (create
             ok = λ modelled. inr (record {
               bare = bare modelled;
               encodable = first_is_encodable comparator text;
-              made = (makes.does modelled).ok modelled ∙ ap (with_manifest store 1 (first_manifest comparator)) (does.now modelled);
+              made = (makes.does modelled).ok modelled ∙ ap (with_manifest store 1 (first_manifest comparator)) ((still modelled).has);
             });
             stays = λ modelled is. absurd (may_make modelled is);
             run = λ modelled. run_made (Ok done) (makes.does modelled) modelled;
-            bytes = λ modelled before. makes.bytes modelled (subst AppendedAreBytes (sym (does.now modelled)) before);
+            bytes = λ modelled before. makes.bytes modelled (subst AppendedAreBytes (sym ((still modelled).has)) before);
             locks = λ modelled. makes.locks modelled ∙ locks modelled;
             cause = let cause = cause_or (Ok done) uncounted lost_is_why (λ e memory. inl memory) makes.cause in record { later = cause.later; ok = cause.ok; uncounted = tt; cause = tt };
           }
@@ -262,7 +269,7 @@ module _ {E F : Type 0} (env : Ghosts E F) (store comparator : List ℕ) (create
             ok = tt;
             stays = λ modelled is. absurd (may_make modelled is);
             run = λ modelled. run_made (Err status) (makes.does modelled) modelled;
-            bytes = λ modelled before. makes.bytes modelled (subst AppendedAreBytes (sym (does.now modelled)) before);
+            bytes = λ modelled before. makes.bytes modelled (subst AppendedAreBytes (sym ((still modelled).has)) before);
             locks = λ modelled. makes.locks modelled ∙ locks modelled;
             cause = let cause = cause_or (Err status) uncounted lost_is_why (λ e memory. inl memory) makes.cause in record { later = cause.later; ok = tt; uncounted = cause.uncounted; cause = cause.cause };
           }

@@ -17,6 +17,7 @@ pub mod ReplayLog
 pub mod WriteBatch
 pub mod Room
 pub mod OpeningState
+pub mod Listing
 pub mod OpeningSteps
 pub mod SoundCall
 pub mod RoomSteps

@@ -34,6 +34,7 @@ use Rattle.leveldb_version.specs.VersionSetValue.{AreFileNumbersUsedUp, OpenMani
 use Rattle.leveldb_version.specs.Writing.{NumbersAreBelow}
 use Rattle.leveldb_store.specs.BuildTable.{TableChoices}
 use Rattle.leveldb_version.specs.Format.{Agrees, Format, Meaning}
+use Rattle.leveldb_store.specs.Listing.{AreNamesIn}
 use Rattle.leveldb_store.specs.OpenStore.{AreInLevels, AreNumbersGiven, HasOwnManifest, IsUnbroken, OpenStoreValue}
 use Rattle.leveldb_store.specs.Opening.{AreMadeTables, GivesNumbers, SameButTables}
 use Rattle.leveldb_store.specs.OpeningState.{HasComparator, IsRecoveredWith, with_comparator}
@@ -100,11 +101,6 @@ module _ {E F : Type 0} (env : Ghosts E F) (store comparator : List ℕ)
     pub bytes : BytesAreAppended env from to
     pub locks : SameLocks env.models_disk (env.observed from) (env.observed to)
     pub cause : HasCauseOr WhyNotFound (env.failures from) (env.failures to) result
-
--- these are the names of the files in the store's folder
-abbrev pub AreNamesIn : {E F : Type 0} → Ghosts E F → List ℕ → E → List (List ℕ) → Type 0
-AreNamesIn env store at names =
-    IsTrue env.models_disk → ListsChildren (env.observed at).disk.files store names
 
 -- ---- names and their numbers
 

@@ -1,40 +1,39 @@
 //! Which store is there: one that is opened, or none, so that one is made.
-ghost use Rattle.std.specs.Prelude.{◌≡◌, ◌⊎◌, ◌↔◌, Contains, IfOk, IfSome, IsTrue, codes, map, string_bytes};
-ghost use Rattle.leveldb_base.specs.declared.types.FileType.TheVariants.{Log, Table};
-ghost use Rattle.leveldb_store.specs.OpeningSteps.{AreNamesIn, FindsStore, HasTableOrLog};
-ghost use Rattle.leveldb_store.specs.OpensStore.{IsTableOrLog};
+ghost use Rattle.std.specs.Prelude.{◌≡◌, ◌⊎◌, ◌↔◌, Any, IfOk, IfSome, IsTrue};
+ghost use Rattle.leveldb_base.specs.declared.types.FileType.TheVariants.{Current, Log, Table};
+ghost use Rattle.leveldb_store.specs.Listing.{AreFilesIn};
+ghost use Rattle.leveldb_store.specs.OpeningSteps.{FindsStore};
 
+use super::listing::{ListedFile, list_files};
 use leveldb_base::cmp::Cmp;
 use leveldb_base::error::{Result, StatusCode, err};
-use leveldb_base::names::file_name_parts;
 use leveldb_base::types::FileType;
 use leveldb_env::env::Env;
-use leveldb_env::env::whole_files::found;
 use leveldb_env::options::Options;
 use leveldb_version::version_set::make_store;
 use std::alloc::Global;
 
-// Finds the store, or makes it where there is none. Returns the names of the files in its folder,
-// or none where the store was made, since its files are listed nowhere then.
+// Finds the store, or makes it where there is none. Returns the files in its folder, or none where
+// the store was made, since its files are listed nowhere then.
 pub(super) fn find_store<E: Env, C: Cmp, FP>(
     alloc: Global,
     env: &mut E,
     store: &str,
     options: &Options<C, FP>,
-) -> Result<Option<Vec<String>>>
+) -> Result<Option<Vec<ListedFile>>>
     ensures finds { FindsStore E.Env store.now (C.name options.now.cmp)
         options.now.create_if_missing options.now.error_if_exists env.old result env.new }
     ensures listed { IfOk result (λ listed. IfSome listed
-        (λ names. AreNamesIn E.Env store.now env.new (map string_bytes names.items))) }
+        (λ files. AreFilesIn E.Env store.now env.new files.items)) }
 {
-    let names = found(alloc, store, env.children(alloc, store))?;
-    if has_current(names.as_slice()) {
+    let files = list_files(alloc, env, store)?;
+    if has_current(files.as_slice()) {
         if options.error_if_exists {
             return err(alloc, StatusCode::AlreadyExists, "there is a store");
         }
-        return Ok(Some(names));
+        return Ok(Some(files));
     }
-    if has_table_or_log(names.as_slice()) {
+    if has_table_or_log(files.as_slice()) {
         return err(
             alloc,
             StatusCode::Corruption,
@@ -50,38 +49,38 @@ pub(super) fn find_store<E: Env, C: Cmp, FP>(
     Ok(None)
 }
 
-// Whether `CURRENT` is one of the names.
-fn has_current(names: &[String]) -> bool
-    ensures { IsTrue result ↔ Contains (map string_bytes names.now) (codes "CURRENT") }
+// Whether `CURRENT` is one of the files.
+fn has_current(files: &[ListedFile]) -> bool
+    ensures { IsTrue result ↔ Any (λ file. file.kind ≡ Current) files.now }
 {
-    for name in names {
-        if name.as_str() == "CURRENT" {
+    for file in files {
+        if is_current(file.kind) {
             return true;
         }
     }
     false
 }
 
-// Whether one of the names is a table's or a log's.
-fn has_table_or_log(names: &[String]) -> bool
-    ensures { IsTrue result ↔ HasTableOrLog (map string_bytes names.now) }
+// Whether one of the files is a table or a log.
+fn has_table_or_log(files: &[ListedFile]) -> bool
+    ensures { IsTrue result ↔ Any (λ file. (file.kind ≡ Table) ⊎ (file.kind ≡ Log)) files.now }
 {
-    for name in names {
-        if is_table_or_log(name.as_str()) {
+    for file in files {
+        if kind_has_entries(file.kind) {
             return true;
         }
     }
     false
 }
 
-// Whether the name is a table's or a log's.
-fn is_table_or_log(name: &str) -> bool
-    ensures { IsTrue result ↔ IsTableOrLog name.now }
+// Whether a file of this type is `CURRENT`.
+fn is_current(kind: FileType) -> bool
+    ensures { IsTrue result ↔ (kind ≡ Current) }
 {
-    let Some((_, kind)) = file_name_parts(name) else {
-        return false;
-    };
-    kind_has_entries(kind)
+    match kind {
+        FileType::Current => true,
+        _ => false,
+    }
 }
 
 // Whether a file of this type has entries.

@@ -1,74 +1,68 @@
 //! Which logs of a store are replayed.
-ghost use Rattle.std.specs.Prelude.{◌≡◌, ◌≢◌, ◌⊎◌, ◌↔◌, ℕ, [], ◌∷◌, IfErr, IfNone, IfOk, IfSome, IsTrue, OnOk, map, string_bytes};
+ghost use Rattle.std.specs.Prelude.{◌≡◌, ◌≢◌, ◌⊎◌, ◌↔◌, [], ◌∷◌, All, IfErr, IfOk, IsTrue, OnOk, string_bytes};
 ghost use Rattle.leveldb_base.specs.Error.{IsOutOfMemory};
-ghost use Rattle.leveldb_base.specs.Names.{IsFileName, file_name};
+ghost use Rattle.leveldb_base.specs.Names.{file_name};
 ghost use Rattle.leveldb_base.specs.declared.error.StatusCode.TheVariants.{Corruption};
 ghost use Rattle.leveldb_base.specs.declared.types.FileType.TheVariants.{Log};
+ghost use Rattle.leveldb_store.specs.Listing.{MatchesName, names_of};
 ghost use Rattle.leveldb_store.specs.OpeningSteps.{AddsLog, AreReplayedLogs, HasMisnamedLog, IsReplayed};
 
+use super::listing::ListedFile;
 use leveldb_base::error::{Result, StatusCode, err};
-use leveldb_base::names::{file_name_parts, log_file_name};
+use leveldb_base::names::log_file_name;
 use leveldb_base::types::{FileNum, FileType};
 use std::alloc::Global;
 use std::collections::BTreeSet;
 
-// The numbers of the logs among these names that are replayed, each of which is under its own name.
+// The numbers of the logs among these files that are replayed, each of which is under its own name.
 pub(super) fn find_logs(
     alloc: Global,
     store: &str,
-    names: &[String],
+    files: &[ListedFile],
     log: FileNum,
     previous: FileNum,
 ) -> Result<BTreeSet<FileNum>>
+    requires { All MatchesName files.now }
     ensures ok { IfOk result (λ logs.
-        AreReplayedLogs (map string_bytes names.now) log previous logs.keys) }
+        AreReplayedLogs (names_of files.now) log previous logs.keys) }
     ensures cause { IfErr result (λ status. IsOutOfMemory status ⊎ ((status.code ≡ Corruption)
-        × HasMisnamedLog (map string_bytes names.now) log previous)) }
+        × HasMisnamedLog (names_of files.now) log previous)) }
 {
     let mut logs = BTreeSet::new(alloc);
-    for name in names {
-        add_log(alloc, store, name.as_str(), log, previous, &mut logs)?;
+    for file in files {
+        add_log(alloc, store, file, log, previous, &mut logs)?;
     }
     Ok(logs)
 }
 
-// Adds the number of the log of this name, if it is one that is replayed.
+// Adds the number of this file, if it is a log that is replayed.
 fn add_log(
     alloc: Global,
     store: &str,
-    name: &str,
+    file: &ListedFile,
     log: FileNum,
     previous: FileNum,
     logs: &mut BTreeSet<FileNum>,
 ) -> Result<()>
-    ensures ok { OnOk result (AddsLog log previous name.now logs.old.keys logs.new.keys) }
+    requires { MatchesName file.now }
+    ensures ok { OnOk result
+        (AddsLog log previous (string_bytes file.now.name) logs.old.keys logs.new.keys) }
     ensures cause { IfErr result (λ status. IsOutOfMemory status ⊎ ((status.code ≡ Corruption)
-        × HasMisnamedLog (name.now ∷ []) log previous)) }
+        × HasMisnamedLog (string_bytes file.now.name ∷ []) log previous)) }
 {
-    let Some(number) = replayed_log(name, log, previous) else {
+    if !is_replayed_log(file, log, previous) {
         return Ok(());
-    };
-    check_log_name(alloc, store, name, number)?;
-    logs.insert(number)?;
+    }
+    check_log_name(alloc, store, file.name.as_str(), file.number)?;
+    logs.insert(file.number)?;
     Ok(())
 }
 
-// The number of the log of this name, if it is one that is replayed.
-fn replayed_log(name: &str, log: FileNum, previous: FileNum) -> Option<FileNum>
-    ensures some { IfSome result (λ n. IsFileName name.now n Log × IsReplayed log previous n) }
-    ensures none { IfNone result ((n : ℕ) → IsFileName name.now n Log
-        → IsReplayed log previous n → ⊥) }
+// Whether the file is a log that is replayed.
+fn is_replayed_log(file: &ListedFile, log: FileNum, previous: FileNum) -> bool
+    ensures { IsTrue result ↔ ((file.now.kind ≡ Log) × IsReplayed log previous file.now.number) }
 {
-    let Some((number, kind)) = file_name_parts(name) else {
-        return None;
-    };
-    if !is_log(kind) {
-        return None;
-    }
-    if is_replayed(number, log, previous) {
-        return Some(number);
-    }
-    None
+    is_log(file.kind) && is_replayed(file.number, log, previous)
 }
 
 // Whether the type is a log's.

@@ -1,22 +1,21 @@
 //! The version set that a store's manifest leaves, with the logs that are replayed.
-ghost use Rattle.std.specs.Prelude.{◌≡◌, ◌<◌, ◌+◌, ◌⊎◌, ◌↔◌, ℕ, All, IfErr, IfOk, IfSome, IsTrue, OnOk, map, string_bytes};
-ghost use Rattle.leveldb_base.specs.Names.{IsFileName};
+ghost use Rattle.std.specs.Prelude.{◌≡◌, ◌<◌, ◌↔◌, ℕ, All, IfErr, IfOk, IfSome, IsTrue, OnOk, map};
 ghost use Rattle.leveldb_base.specs.declared.error.StatusCode.TheVariants.{Corruption};
-ghost use Rattle.leveldb_base.specs.declared.types.FileType.{FileType};
 ghost use Rattle.leveldb_env.specs.Env.{FilesUnchanged, Run, SameLocks};
 ghost use Rattle.leveldb_version.specs.VersionEdit.{new_file_of};
 ghost use Rattle.leveldb_version.specs.VersionSetValue.{AreFileNumbersUsedUp};
 ghost use Rattle.leveldb_version.specs.Format.{format_of};
+ghost use Rattle.leveldb_store.specs.Listing.{AreFilesIn, MatchesName, names_of};
 ghost use Rattle.leveldb_store.specs.OpenStore.{AreNumbersGiven};
-ghost use Rattle.leveldb_store.specs.Opening.{GivesNumbers};
-ghost use Rattle.leveldb_store.specs.OpeningSteps.{AreNamesIn, HasNumber, LacksTable, MarksNames, RecoversSet};
+ghost use Rattle.leveldb_store.specs.OpeningSteps.{HasNumber, LacksTable, MarksNames, RecoversSet};
 ghost use Rattle.leveldb_store.specs.OpensStore.{AreTablesThere, IsBareFolder};
 ghost use Rattle.leveldb_store.specs.ReplayLog.{HasCauseOr};
 
+use super::listing::{ListedFile, list_files};
 use super::logs::find_logs;
 use leveldb_base::cmp::UserCmp;
 use leveldb_base::error::{Result, StatusCode, err};
-use leveldb_base::names::{file_name_parts, table_file_name};
+use leveldb_base::names::table_file_name;
 use leveldb_base::types::{FileMetaData, FileNum};
 use leveldb_env::compressor::{CompressorList, Compressors};
 use leveldb_env::env::Env;
@@ -43,24 +42,23 @@ pub(super) fn recover_set<E: Env, C: UserCmp, FP: FilterPolicy>(
     env: &mut E,
     store: &str,
     options: &Options<C, FP>,
-    listed: Option<Vec<String>>,
+    listed: Option<Vec<ListedFile>>,
 ) -> Result<RecoveredSet<E>>
-    requires { IfSome listed
-        (λ names. AreNamesIn E.Env store.now env.old (map string_bytes names.items)) }
+    requires { IfSome listed (λ files. AreFilesIn E.Env store.now env.old files.items) }
     ensures { RecoversSet E.Env (format_of C.Cmp FP.FilterPolicy
         ⟦<CompressorList as Compressors>⟧.codings options.now)
         options.now.reuse_manifest options.now.max_file_size store.now env.old result env.new }
 {
-    let names = names_in(alloc, env, store, listed)?;
+    let files = files_in(alloc, env, store, listed)?;
     let mut versions = LiveFiles::new(alloc, store, &options.cmp)?;
-    mark_names(&mut versions, names.as_slice())?;
+    mark_numbers(&mut versions, files.as_slice())?;
     let is_anew = versions.recover(env, options)?;
     check_tables(alloc, env, store, versions.files())?;
     check_numbers(alloc, &versions)?;
     let logs = find_logs(
         alloc,
         store,
-        names.as_slice(),
+        files.as_slice(),
         versions.log_num(),
         versions.prev_log_num(),
     )?;
@@ -71,62 +69,40 @@ pub(super) fn recover_set<E: Env, C: UserCmp, FP: FilterPolicy>(
     })
 }
 
-// The names of the files in the store's folder, which is listed unless it was.
-fn names_in<E: Env>(
+// The files in the store's folder, which is listed unless it was.
+fn files_in<E: Env>(
     alloc: Global,
     env: &mut E,
     store: &str,
-    listed: Option<Vec<String>>,
-) -> Result<Vec<String>>
-    requires { IfSome listed
-        (λ names. AreNamesIn E.Env store.now env.old (map string_bytes names.items)) }
+    listed: Option<Vec<ListedFile>>,
+) -> Result<Vec<ListedFile>>
+    requires { IfSome listed (λ files. AreFilesIn E.Env store.now env.old files.items) }
     ensures still { IsTrue E.models_disk
         → Run (FilesUnchanged (E.observed env.old).disk.files) (E.observed env.old)
         (E.observed env.new) }
     ensures locks { SameLocks E.models_disk (E.observed env.old) (E.observed env.new) }
-    ensures lists { IfOk result
-        (λ names. AreNamesIn E.Env store.now env.old (map string_bytes names.items)) }
+    ensures lists { IfOk result (λ files. AreFilesIn E.Env store.now env.old files.items) }
     ensures cause { HasCauseOr (λ status. (status.code ≡ Corruption) × (IsTrue E.models_disk
         → IsBareFolder store.now (E.observed env.old).disk.files))
         (E.failures env.old) (E.failures env.new) result }
 {
     match listed {
-        Some(names) => Ok(names),
-        None => {
-            let names = found(alloc, store, env.children(alloc, store))?;
-            Ok(names)
-        }
+        Some(files) => Ok(files),
+        None => list_files(alloc, env, store),
     }
 }
 
-// Makes the numbers of all names used.
-fn mark_names<E: Env>(versions: &mut LiveFiles<E>, names: &[String]) -> Result<()>
-    ensures ok { OnOk result
-        (MarksNames versions.old (map string_bytes names.now) versions.new) }
-    ensures cause { IfErr result (λ status. (n : ℕ) × HasNumber (map string_bytes names.now) n
+// Makes the numbers of all files used.
+fn mark_numbers<E: Env>(versions: &mut LiveFiles<E>, files: &[ListedFile]) -> Result<()>
+    requires { All MatchesName files.now }
+    ensures ok { OnOk result (MarksNames versions.old (names_of files.now) versions.new) }
+    ensures cause { IfErr result (λ status. (n : ℕ) × HasNumber (names_of files.now) n
         × AreFileNumbersUsedUp n status) }
 {
-    for name in names {
-        mark_name(versions, name.as_str())?;
+    for file in files {
+        versions.mark_file_number_used(file.number)?;
     }
     Ok(())
-}
-
-// Makes the number of a name used, if it has one.
-fn mark_name<E: Env>(versions: &mut LiveFiles<E>, name: &str) -> Result<()>
-    ensures gives { OnOk result (GivesNumbers versions.old versions.new) }
-    ensures used { OnOk result ((n : ℕ) (kind : FileType) → IsFileName name.now n kind
-        → n < versions.new.next_file) }
-    ensures reached { OnOk result ((versions.new.next_file ≡ versions.old.next_file)
-        ⊎ ((n : ℕ) × (kind : FileType) × IsFileName name.now n kind
-        × (versions.new.next_file ≡ n + 1))) }
-    ensures cause { IfErr result (λ status. (n : ℕ) × (kind : FileType)
-        × IsFileName name.now n kind × AreFileNumbersUsedUp n status) }
-{
-    let Some((number, _)) = file_name_parts(name) else {
-        return Ok(());
-    };
-    versions.mark_file_number_used(number)
 }
 
 // Checks that each of the tables is there.

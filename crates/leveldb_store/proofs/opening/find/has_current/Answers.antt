@@ -1,18 +1,20 @@
-use Rattle.std.proofs.Common.{◌≡◌, ◌∙◌, refl, subst, sym, string_bytes}
-use Rattle.std.specs.Prelude.{Contains, codes}
-use Rattle.std.proofs.lemmas.Slice.Eq.{bytes_eq-Decides}
-use Rattle.leveldb_store.proofs.OpeningNamesLemmas.{each_name, name_is_one, texts_of}
+use Rattle.std.proofs.Common.{◌≡◌, ◌∙◌, refl, sym, true, false}
+use Rattle.std.proofs.lemmas.List.Elements.{All-nil}
+use Rattle.leveldb_base.specs.declared.types.FileType.TheVariants.{Current}
+use Rattle.leveldb_store.specs.declared.opening.listing.ListedFile.{ListedFile}
+use Rattle.leveldb_store.proofs.ListingLemmas.{all_more, any_one, none_at_all}
 use Rattle.leveldb_store.proofs.opening.find.has_current.Goals as goal
 
-pub returns-then-eq : goal.returns-then-eq
-returns-then-eq c =
-    let same : c.as_str.result.now ≡ codes "CURRENT" = (bytes_eq-Decides c.as_str.result.now (codes "CURRENT")).0 (sym c.eq.ensures ∙ c.if-eq.true) in
-    let is : string_bytes c.name-item.result ≡ codes "CURRENT" = sym c.as_str.ensures.value ∙ same in
-    (λ true. subst (λ n. Contains (texts_of c.args.names.now) n) is (name_is_one c.args.names.now c.loop-name.name-index c.name-item.result c.loop-name-test.true c.name-item.is), λ there. refl)
+pub loop-file-init : goal.loop-file-init
+loop-file-init c = All-nil (λ (file : ListedFile). file.kind ≡ Current → ⊥)
+
+pub loop-file-preserved : goal.loop-file-preserved
+loop-file-preserved c = all_more (λ (file : ListedFile). file.kind ≡ Current → ⊥) c.args.files.now c.loop-file.file-index c.file-item.result c.loop-file-test.true c.file-item.is c.loop-file.invariant
+    (λ it. let never : true ≡ false = sym (c.is_current.ensures.1 it) ∙ c.if-is_current.false in absurd (cc never))
+
+pub returns-then-is_current : goal.returns-then-is_current
+returns-then-is_current c =
+    (λ true. any_one (λ (file : ListedFile). file.kind ≡ Current) c.args.files.now c.loop-file.file-index c.file-item.result c.loop-file-test.true c.file-item.is (c.is_current.ensures.0 c.if-is_current.true), λ some. refl)
 
 pub returns : goal.returns
-returns c = (
-  λ never. absurd (cc never),
-  λ there. absurd (each_name (λ a. a ≡ codes "CURRENT" → ⊥) c.args.names.now c.loop-name.name-index c.loop-name-test.false
-      (λ a at is. c.loop-name.invariant (subst (Contains _) is at)) (codes "CURRENT") there refl),
-)
+returns c = (λ never. absurd (cc never), λ some. absurd (none_at_all (λ (file : ListedFile). file.kind ≡ Current) c.args.files.now c.loop-file.file-index c.loop-file-test.false c.loop-file.invariant some))

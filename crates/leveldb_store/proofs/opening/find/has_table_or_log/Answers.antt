@@ -1,11 +1,20 @@
-use Rattle.std.proofs.Common.{◌≡◌, ◌∙◌, subst, sym, true, false}
-use Rattle.leveldb_store.specs.OpensStore.{IsTableOrLog}
-use Rattle.leveldb_store.proofs.OpeningNamesLemmas.{each_name, each_name_more}
+use Rattle.std.proofs.Common.{◌≡◌, ◌⊎◌, ◌∙◌, refl, sym, true, false}
+use Rattle.std.proofs.lemmas.List.Elements.{All-nil}
+use Rattle.leveldb_base.specs.declared.types.FileType.TheVariants.{Log, Table}
+use Rattle.leveldb_store.specs.declared.opening.listing.ListedFile.{ListedFile}
+use Rattle.leveldb_store.proofs.ListingLemmas.{all_more, any_one, none_at_all}
 use Rattle.leveldb_store.proofs.opening.find.has_table_or_log.Goals as goal
 
-pub loop-name-preserved : goal.loop-name-preserved
-loop-name-preserved c = each_name_more (λ a. IsTableOrLog a → ⊥) c.args.names.now c.loop-name.name-index c.name-item.result c.loop-name-test.true c.name-item.is c.loop-name.invariant
-    (λ it. let never : true ≡ false = sym (c.is_table_or_log.ensures.1 (subst IsTableOrLog (sym c.as_str.ensures.value) it)) ∙ c.if-is_table_or_log.false in absurd (cc never))
+pub loop-file-init : goal.loop-file-init
+loop-file-init c = All-nil (λ (file : ListedFile). (file.kind ≡ Table) ⊎ (file.kind ≡ Log) → ⊥)
+
+pub loop-file-preserved : goal.loop-file-preserved
+loop-file-preserved c = all_more (λ (file : ListedFile). (file.kind ≡ Table) ⊎ (file.kind ≡ Log) → ⊥) c.args.files.now c.loop-file.file-index c.file-item.result c.loop-file-test.true c.file-item.is c.loop-file.invariant
+    (λ it. let never : true ≡ false = sym (c.kind_has_entries.ensures.1 it) ∙ c.if-kind_has_entries.false in absurd (cc never))
+
+pub returns-then-kind_has_entries : goal.returns-then-kind_has_entries
+returns-then-kind_has_entries c =
+    (λ true. any_one (λ (file : ListedFile). (file.kind ≡ Table) ⊎ (file.kind ≡ Log)) c.args.files.now c.loop-file.file-index c.file-item.result c.loop-file-test.true c.file-item.is (c.kind_has_entries.ensures.0 c.if-kind_has_entries.true), λ some. refl)
 
 pub returns : goal.returns
-returns c = (λ never. absurd (cc never), λ has. absurd (each_name (λ a. IsTableOrLog a → ⊥) c.args.names.now c.loop-name.name-index c.loop-name-test.false c.loop-name.invariant has.0 has.1 has.2))
+returns c = (λ never. absurd (cc never), λ some. absurd (none_at_all (λ (file : ListedFile). (file.kind ≡ Table) ⊎ (file.kind ≡ Log)) c.args.files.now c.loop-file.file-index c.loop-file-test.false c.loop-file.invariant some))

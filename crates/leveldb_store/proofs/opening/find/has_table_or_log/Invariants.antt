@@ -1,8 +1,8 @@
-use Rattle.std.proofs.Common.{ℕ, List, take}
-use Rattle.std.specs.Prelude.{Contains}
-use Rattle.leveldb_store.specs.OpensStore.{IsTableOrLog}
-use Rattle.leveldb_store.proofs.OpeningNamesLemmas.{texts_of}
+use Rattle.std.proofs.Common.{◌≡◌, ◌⊎◌, take}
+use Rattle.std.specs.Prelude.{All}
+use Rattle.leveldb_base.specs.declared.types.FileType.TheVariants.{Log, Table}
+use Rattle.leveldb_store.specs.declared.opening.listing.ListedFile.{ListedFile}
 use Rattle.leveldb_store.proofs.opening.find.has_table_or_log.Given as goal
 
-abbrev pub invariant-loop-name : goal.invariant-loop-name
-invariant-loop-name l = (name : List ℕ) → Contains (texts_of (take l.name-index l.names)) name → IsTableOrLog name → ⊥
+abbrev pub invariant-loop-file : goal.invariant-loop-file
+invariant-loop-file l = All (λ (file : ListedFile). (file.kind ≡ Table) ⊎ (file.kind ≡ Log) → ⊥) (take l.file-index l.files)

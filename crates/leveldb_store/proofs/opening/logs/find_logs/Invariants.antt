@@ -1,7 +1,7 @@
 use Rattle.std.proofs.Common.{take}
+use Rattle.leveldb_store.specs.Listing.{names_of}
 use Rattle.leveldb_store.specs.OpeningSteps.{AreReplayedLogs}
-use Rattle.leveldb_store.proofs.OpeningNamesLemmas.{texts_of}
 use Rattle.leveldb_store.proofs.opening.logs.find_logs.Given as goal
 
-abbrev pub invariant-loop-name : goal.invariant-loop-name
-invariant-loop-name l = AreReplayedLogs (texts_of (take l.name-index l.names)) l.log l.previous l.logs.keys
+abbrev pub invariant-loop-file : goal.invariant-loop-file
+invariant-loop-file l = AreReplayedLogs (names_of (take l.file-index l.files)) l.log l.previous l.logs.keys
