@@ -3,6 +3,8 @@
 #[cfg(test)]
 mod checks;
 #[cfg(test)]
+mod log_files;
+#[cfg(test)]
 mod logs;
 #[cfg(test)]
 mod memtables;

@@ -1,5 +1,6 @@
 pub mod FragmentLemmas
 pub mod LogLemmas
+pub mod LogFileLemmas
 pub mod CrashLemmas
 pub mod LawsLemmas
 mod LogRowLemmas

@@ -6,10 +6,12 @@ ghost use Rattle.std.specs.Prelude.{◌≡◌};
 ghost use Rattle.leveldb_mem.specs.Log.{record_type};
 
 mod files;
+mod log_file;
 mod reader;
 mod writer;
 
 pub use files::read_log_file;
+pub use log_file::LogFile;
 pub use reader::{Found, LogReader, ReaderCore, read_records};
 pub use writer::{LogWriter, WriterCore};
 
