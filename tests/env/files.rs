@@ -4,7 +4,7 @@
 use crate::disks::no_tails;
 use leveldb_base::error::{Result, Status, StatusCode};
 use leveldb_env::env::source::read_to_end;
-use leveldb_env::env::whole_files::{found, read_file, replace_file};
+use leveldb_env::env::whole_files::{found, read_file, replace_file, write_file};
 use leveldb_env::env::{Env, EnvFile, Sink, Source};
 use leveldb_env::mem_env::{MemEnv, MemHandle};
 use std::alloc::Global;
@@ -168,6 +168,19 @@ fn pieces_go_into_a_file_and_come_back(rt: HostRuntime) -> Result<()> {
     let all = pair(rt.alloc(), b"ab", &long)?;
     assert!(rt; all.len() == 10_002);
     assert_flushed(&rt, &mut env, &mut file, &all)
+}
+
+#[test]
+fn a_written_file_is_kept(rt: HostRuntime) -> Result<()> {
+    let mut env = MemEnv::new(rt.alloc());
+    for text in [b"a longer text".as_slice(), b"", b"text"] {
+        let mut file = write_file(rt.alloc(), &mut env, LOG, text)?;
+        assert!(rt; keeps(&env, rt.alloc(), LOG, text)?);
+        put_pair_in_file(&mut env, &mut file, b", and", b" more")?;
+        let longer = pair(rt.alloc(), text, b", and more")?;
+        assert!(rt; has_bytes(&mut env, rt.alloc(), LOG, &longer)?);
+    }
+    Ok(())
 }
 
 const MANIFESTS: [&[u8]; 2] = [b"MANIFEST-000001\n", b"MANIFEST-000005\n"];

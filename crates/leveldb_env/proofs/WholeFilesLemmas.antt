@@ -6,31 +6,54 @@ use Rattle.leveldb_base.specs.declared.error.Status.{Status}
 use Rattle.leveldb_base.specs.declared.error.StatusCode.TheVariants.{NotFound}
 use Rattle.leveldb_base.specs.Error.{IsOutOfMemory}
 use Rattle.leveldb_env.specs.Env.{Files, with_file, kept_file, longer_file, file_kept, emptied, deleted, renamed, extended, synced, Observed, ChangesFiles, BeforeOrAfter, PrefixAppended, SameBut, Run, HasCause}
-use Rattle.leveldb_env.proofs.EnvLemmas.{at_same, at_other, with_file-twice, bytes_eq-apart, SameBut-refl, SameBut-trans, SameBut-emptied, SameBut-appending, SameBut-synced, extended-same, synced-same, renamed-there, Run-mono, begun, call}
+use Rattle.leveldb_env.proofs.EnvLemmas.{at_same, at_other, with_file-twice, bytes_eq-apart, SameBut-refl, SameBut-trans, SameBut-emptied, SameBut-appending, SameBut-synced, extended-same, renamed-there, Run-call, Run-mono, begun, call}
 use Rattle.leveldb_env.specs.WholeFiles.{replaced, Replacing, IsMissingFile, IsFoundOr}
 
--- the four changes, one after another
-replaced_by : (temp name bytes : List ℕ) (files : Files) → renamed temp name (synced temp (extended temp bytes (emptied temp files))) ≡ replaced temp name bytes files
-replaced_by temp name bytes files =
-    let f1 = emptied temp files in
-    let f2 = extended temp bytes f1 in
-    let there1 : f1 temp ≡ Some (kept_file []) = at_same temp (Some (kept_file [])) files in
-    let there2 = extended-same temp bytes f1 (kept_file []) there1 in
-    let there3 = synced-same temp f2 (longer_file bytes (kept_file [])) there2 in
-    renamed-there temp name (synced temp f2) (kept_file bytes) there3
-    ∙ ap (with_file name (Some (kept_file bytes)))
-    (with_file-twice temp None (option_map file_kept (f2 temp)) f2
-    ∙ with_file-twice temp None (option_map (longer_file bytes) (f1 temp)) f1
-    ∙ with_file-twice temp None (Some (kept_file [])) files)
+-- ---- a file that is written and synced
 
--- the temporary file is there once it was made, whatever it got
-there_when_synced : (temp bytes : List ℕ) (files : Files) → synced temp (extended temp bytes (emptied temp files)) temp ≡ None → ⊥
-there_when_synced temp bytes files gone =
-    let f1 = emptied temp files in
-    let there1 : f1 temp ≡ Some (kept_file []) = at_same temp (Some (kept_file [])) files in
-    let there2 = extended-same temp bytes f1 (kept_file []) there1 in
-    let there3 = synced-same temp (extended temp bytes f1) (longer_file bytes (kept_file [])) there2 in
-    absurd (cc (sym gone ∙ there3))
+module _ (name bytes : List ℕ) {T : Type 0} {x : T} {models_disk : Bool} {v0 v1 : Observed} (modelled : IsTrue models_disk) (opening : ChangesFiles {T = T} models_disk (emptied name) (BeforeOrAfter (emptied name)) v0 v1 (Ok x)) where
+  abbrev first : Files
+  first = v0.disk.files
+
+  at_open : Run (SameBut name first) v0 v1
+  at_open = call modelled (begun v0 (SameBut-refl name first)) (SameBut-emptied name first) opening
+
+  pub at_append : {v2 : Observed} {result : Result (Unit {0}) Status} → ChangesFiles models_disk (extended name bytes) (PrefixAppended name bytes) v1 v2 result → Run (SameBut name first) v0 v2
+  at_append append = call modelled at_open (λ files passes. SameBut-trans name at_open.has (SameBut-appending name bytes v1.disk.files files passes)) append
+
+  pub at_sync : {v2 v3 : Observed} {appended result : Result (Unit {0}) Status} → ChangesFiles models_disk (extended name bytes) (PrefixAppended name bytes) v1 v2 appended
+      → ChangesFiles models_disk (synced name) (BeforeOrAfter (synced name)) v2 v3 result → Run (SameBut name first) v0 v3
+  at_sync {v2} append sync = call modelled (at_append append) (λ files passes. SameBut-trans name (at_append append).has (SameBut-synced name v2.disk.files files passes)) sync
+
+  -- the file is made: it has its bytes, all kept
+  pub file_made : {U : Type 0} {y : U} {v2 v3 : Observed} → ChangesFiles {T = Unit {0}} models_disk (extended name bytes) (PrefixAppended name bytes) v1 v2 (Ok tt)
+      → ChangesFiles {T = Unit {0}} models_disk (synced name) (BeforeOrAfter (synced name)) v2 v3 (Ok tt)
+      → ChangesFiles {T = U} models_disk (with_file name (Some (kept_file bytes))) (SameBut name) v0 v3 (Ok y)
+  file_made {v2 = v2} append sync =
+      let f1 = emptied name first in
+      let f2 = extended name bytes f1 in
+      let there1 : f1 name ≡ Some (kept_file []) = at_same name (Some (kept_file [])) first in
+      let there2 = extended-same name bytes f1 (kept_file []) there1 in
+      let made : synced name f2 ≡ with_file name (Some (kept_file bytes)) first =
+      ap (λ file. with_file name (option_map file_kept file) f2) there2
+      ∙ with_file-twice name (Some (kept_file bytes)) (option_map (longer_file bytes) (f1 name)) f1
+      ∙ with_file-twice name (Some (kept_file bytes)) (Some (kept_file [])) first in
+      let run = at_sync append sync in
+      record {
+        ok = λ t. sync.ok modelled ∙ ap (synced name) (append.ok modelled ∙ ap (extended name bytes) (opening.ok modelled)) ∙ made;
+        now = λ t. run.has;
+        time = run.time;
+      }
+
+-- ---- a file that is replaced
+
+-- a file that is renamed takes the other's place
+replaced_by : (temp name bytes : List ℕ) (files : Files)
+    → renamed temp name (with_file temp (Some (kept_file bytes)) files) ≡ replaced temp name bytes files
+replaced_by temp name bytes files =
+    let made = with_file temp (Some (kept_file bytes)) files in
+    renamed-there temp name made (kept_file bytes) (at_same temp (Some (kept_file bytes)) files)
+    ∙ ap (with_file name (Some (kept_file bytes))) (with_file-twice temp None (Some (kept_file bytes)) files)
 
 module _ (temp name bytes : List ℕ) (apart : temp ≢ name) where
   -- where the temporary file alone has changed
@@ -44,40 +67,30 @@ module _ (temp name bytes : List ℕ) (apart : temp ≢ name) where
     others = λ other a b. ap (λ (f : Files). f other) is ∙ at_other name (Some (kept_file bytes)) (deleted temp old) other b ∙ at_other temp None old other a;
   }
 
-  module _ {T : Type 0} {x : T} {models_disk : Bool} {v0 v1 : Observed} (modelled : IsTrue models_disk) (opening : ChangesFiles {T = T} models_disk (emptied temp) (BeforeOrAfter (emptied temp)) v0 v1 (Ok x)) where
-    abbrev first : Files
-    first = v0.disk.files
+  module _ {models_disk : Bool} {v0 v1 : Observed} (modelled : IsTrue models_disk) where
+    -- the temporary file was written, or a part of it
+    pub written_aside : {T : Type 0} {result : Result T Status} → ChangesFiles models_disk (with_file temp (Some (kept_file bytes))) (SameBut temp) v0 v1 result → Run (Replacing temp name bytes v0.disk.files) v0 v1
+    written_aside writes = Run-mono (aside v0.disk.files) (Run-call modelled writes)
 
-    at_open : Run (SameBut temp first) v0 v1
-    at_open = call modelled (begun v0 (SameBut-refl temp first)) (SameBut-emptied temp first) opening
+    -- it is there then
+    pub there_at_rename : {T : Type 0} {x : T} → ChangesFiles models_disk (with_file temp (Some (kept_file bytes))) (SameBut temp) v0 v1 (Ok x) → v1.disk.files temp ≡ None → ⊥
+    there_at_rename writes gone =
+        let there : v1.disk.files temp ≡ Some (kept_file bytes) =
+        ap (λ (f : Files). f temp) (writes.ok modelled) ∙ at_same temp (Some (kept_file bytes)) v0.disk.files in
+        absurd (cc (sym gone ∙ there))
 
-    at_append : {v2 : Observed} {result : Result (Unit {0}) Status} → ChangesFiles models_disk (extended temp bytes) (PrefixAppended temp bytes) v1 v2 result → Run (SameBut temp first) v0 v2
-    at_append append = call modelled at_open (λ files passes. SameBut-trans temp at_open.has (SameBut-appending temp bytes v1.disk.files files passes)) append
-
-    at_sync : {v2 v3 : Observed} {appended synced' : Result (Unit {0}) Status} → ChangesFiles models_disk (extended temp bytes) (PrefixAppended temp bytes) v1 v2 appended → ChangesFiles models_disk (synced temp) (BeforeOrAfter (synced temp)) v2 v3 synced' → Run (SameBut temp first) v0 v3
-    at_sync {v2} append sync = call modelled (at_append append) (λ files passes. SameBut-trans temp (at_append append).has (SameBut-synced temp v2.disk.files files passes)) sync
-
-    pub failed_at_append : {v2 : Observed} {result : Result (Unit {0}) Status} → ChangesFiles models_disk (extended temp bytes) (PrefixAppended temp bytes) v1 v2 result → Run (Replacing temp name bytes first) v0 v2
-    failed_at_append append = Run-mono (aside first) (at_append append)
-
-    pub failed_at_sync : {v2 v3 : Observed} {appended synced' : Result (Unit {0}) Status} → ChangesFiles models_disk (extended temp bytes) (PrefixAppended temp bytes) v1 v2 appended → ChangesFiles models_disk (synced temp) (BeforeOrAfter (synced temp)) v2 v3 synced' → Run (Replacing temp name bytes first) v0 v3
-    failed_at_sync append sync = Run-mono (aside first) (at_sync append sync)
-
-    pub there_at_rename : {v2 v3 : Observed} → ChangesFiles {T = Unit {0}} models_disk (extended temp bytes) (PrefixAppended temp bytes) v1 v2 (Ok tt) → ChangesFiles {T = Unit {0}} models_disk (synced temp) (BeforeOrAfter (synced temp)) v2 v3 (Ok tt)
-        → v3.disk.files temp ≡ None → ⊥
-    there_at_rename append sync gone =
-        let made = sync.ok modelled ∙ ap (synced temp) (append.ok modelled ∙ ap (extended temp bytes) (opening.ok modelled)) in
-        there_when_synced temp bytes first (ap (λ (f : Files). f temp) (sym made) ∙ gone)
-
-    pub at_rename : {v2 v3 v4 : Observed} {result : Result (Unit {0}) Status} → ChangesFiles {T = Unit {0}} models_disk (extended temp bytes) (PrefixAppended temp bytes) v1 v2 (Ok tt) → ChangesFiles {T = Unit {0}} models_disk (synced temp) (BeforeOrAfter (synced temp)) v2 v3 (Ok tt)
-        → ChangesFiles models_disk (renamed temp name) (BeforeOrAfter (renamed temp name)) v3 v4 result → ChangesFiles models_disk (replaced temp name bytes) (Replacing temp name bytes) v0 v4 result
-    at_rename {v2} {v3} {v4} {result} append sync rename =
-        let run = at_sync append sync in
-        let done : renamed temp name v3.disk.files ≡ replaced temp name bytes first =
-        ap (renamed temp name) (sync.ok modelled ∙ ap (synced temp) (append.ok modelled ∙ ap (extended temp bytes) (opening.ok modelled))) ∙ replaced_by temp name bytes first in
-        let last : Run (Replacing temp name bytes first) v0 v4 = call modelled (Run-mono (aside first) run)
-        (λ files passes. ⊎_elim (λ is. aside first files (subst (SameBut temp first) (sym is) run.has)) (λ is. in_place first files (is ∙ done)) passes) rename in
-        record { ok = λ t. subst (λ (f : Files). OnOk result (v4.disk.files ≡ f)) done (rename.ok t); now = λ t. last.has; time = last.time }
+    -- and is renamed
+    pub at_rename : {T : Type 0} {x : T} {v2 : Observed} {result : Result (Unit {0}) Status} → ChangesFiles models_disk (with_file temp (Some (kept_file bytes))) (SameBut temp) v0 v1 (Ok x)
+        → ChangesFiles models_disk (renamed temp name) (BeforeOrAfter (renamed temp name)) v1 v2 result
+        → ChangesFiles models_disk (replaced temp name bytes) (Replacing temp name bytes) v0 v2 result
+    at_rename {v2 = v2} {result = result} writes rename =
+        let first = v0.disk.files in
+        let same : SameBut temp first v1.disk.files = (Run-call modelled writes).has in
+        let done : renamed temp name v1.disk.files ≡ replaced temp name bytes first =
+        ap (renamed temp name) (writes.ok modelled) ∙ replaced_by temp name bytes first in
+        let last : Run (Replacing temp name bytes first) v0 v2 = call modelled (written_aside writes)
+        (λ files passes. ⊎_elim (λ is. aside first files (subst (SameBut temp first) (sym is) same)) (λ is. in_place first files (is ∙ done)) passes) rename in
+        record { ok = λ t. subst (λ (f : Files). OnOk result (v2.disk.files ≡ f)) done (rename.ok t); now = λ t. last.has; time = last.time }
 
 -- ---- files that must be there
 

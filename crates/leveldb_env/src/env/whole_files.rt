@@ -1,6 +1,7 @@
 //! Files that are read or replaced whole, and files that must be there.
-ghost use Rattle.std.specs.Prelude.{◌≡◌, ◌≢◌, IsTrue, IfOk, IfErr, IsSomeAnd};
-ghost use Rattle.leveldb_env.specs.Env.{bytes_of, same, AppendedAreBytes, ChangesFiles, FilesUnchanged, SameLocks, HasCause};
+ghost use Rattle.std.specs.Prelude.{◌≡◌, ◌≢◌, Some, IsTrue, IfOk, IfErr, IsSomeAnd};
+ghost use Rattle.leveldb_env.specs.Env.{bytes_of, kept_file, same, with_file, AppendedAreBytes, ChangesFiles, FilesUnchanged, SameBut, SameLocks, HasCause};
+ghost use Rattle.leveldb_base.specs.Error.{IsOutOfMemory};
 ghost use Rattle.leveldb_env.specs.EnvFile.{opened, IsReadOut, IsGivenUp};
 ghost use Rattle.leveldb_env.specs.WholeFiles.{replaced, Replacing, IsFoundOr, IsLost, IsLostUnobserved};
 
@@ -52,6 +53,24 @@ fn read_rest<E: Env>(alloc: Global, env: &mut E, file: &mut E::File) -> Result<V
     read_to_end(alloc, &mut EnvFile { env, file })
 }
 
+/// Writes these bytes into a file, which is made or emptied before, and syncs it: a crash keeps all
+/// of them. Returns the file, open. After an Err it may be there, whole or in part.
+pub fn write_file<E: Env>(alloc: Global, env: &mut E, path: &str, bytes: &[u8]) -> Result<E::File>
+    ensures does { IsTrue E.models_disk
+        → ChangesFiles E.models_disk (with_file path.now (Some (kept_file bytes.now)))
+        (SameBut path.now) (E.observed env.old) (E.observed env.new) result }
+    ensures bytes { IsTrue E.models_disk → AppendedAreBytes (E.observed env.old).disk.files
+        → AppendedAreBytes (E.observed env.new).disk.files }
+    ensures locks { SameLocks E.models_disk (E.observed env.old) (E.observed env.new) }
+    ensures file { IfOk result (λ f. IsTrue E.models_disk → E.name_of f ≡ path.now) }
+    ensures cause { HasCause IsOutOfMemory (E.failures env.old) (E.failures env.new) result }
+{
+    let mut file = env.open_writable_file(path)?;
+    found(alloc, path, env.append(&mut file, bytes))?;
+    found(alloc, path, env.sync(&mut file))?;
+    Ok(file)
+}
+
 /// Puts these bytes under a name, where they replace what is there, by way of a temporary file: it
 /// is made, synced and then renamed. `Corruption` where it is missing once it was made. After an
 /// Err the temporary file may be there.
@@ -74,8 +93,6 @@ pub fn replace_file<E: Env>(
         (E.failures env.old) (E.failures env.new))
         (E.failures env.old) (E.failures env.new) result }
 {
-    let mut file = env.open_writable_file(temp)?;
-    found(alloc, temp, env.append(&mut file, bytes))?;
-    found(alloc, temp, env.sync(&mut file))?;
+    write_file(alloc, env, temp, bytes)?;
     found(alloc, temp, env.rename(temp, name))
 }
