@@ -1,15 +1,16 @@
 -- What the files and the set are at each step of logging an edit.
-use Rattle.std.specs.Prelude.{◌≢◌, IsTrue, OnOk, IfOk, IfErr}
-use Rattle.std.proofs.Common.{◌≡◌, ◌⊎◌, ◌++◌, ◌∷◌, ◌≤◌, ◌+◌, inl, inr, ⊎_elim, ℕ, Bool, true, false, List, [], Option, None, Some, Result, Ok, Err, sym, subst, ◌∙◌, ap, refl, length, length-append, flat_map, map, arith}
+use Rattle.std.specs.Prelude.{◌≢◌, IsTrue, OnErr, OnOk, IfErr}
+use Rattle.std.proofs.Common.{◌≡◌, ◌⊎◌, ◌++◌, ◌∷◌, ◌≤◌, inl, inr, ⊎_elim, ℕ, Bool, true, false, List, [], Option, None, Some, Result, Ok, Err, sym, subst, ◌∙◌, ap, refl, length, length-append, flat_map, map, arith}
 use Rattle.std.proofs.lemmas.List.Concat.{flat_map-cons}
 use Rattle.std.specs.List.{All}
-use Rattle.std.specs.Option.{option_or, option_to_list, unwrap_or}
+use Rattle.std.specs.Option.{option_map, option_or, option_to_list, unwrap_or}
 use Rattle.leveldb_base.specs.declared.error.Status.{Status}
 use Rattle.leveldb_env.specs.declared.env.Env.{Ghosts}
-use Rattle.leveldb_env.specs.Env.{BeforeOrAfter, ChangesFiles, Files, HasCause, Observed, PrefixAppended, Run, extended, synced}
-use Rattle.leveldb_env.specs.EnvFile.{Appends, Opened, Syncs}
-use Rattle.leveldb_env.proofs.EnvLemmas.{Run-call, Run-mono, appended, begun, call, nothing_appended}
-use Rattle.leveldb_mem.specs.Log.Writer.{AddsRecord, FailsToAdd, Flushes, WriterState, frame}
+use Rattle.leveldb_env.specs.Env.{BeforeOrAfter, ChangesFiles, File, Files, HasCause, Observed, PrefixAppended, Run, extended, longer_file, synced}
+use Rattle.leveldb_env.proofs.EnvLemmas.{Run-call, Run-mono, appended, at_same, begun, call, cause_same, nothing_appended}
+use Rattle.leveldb_env.specs.WholeFiles.{IsLost}
+use Rattle.leveldb_mem.specs.Log.LogFile.{AppendsRecord, IsFileLost, LogFileState, SyncsRecords, broken_log, with_record}
+use Rattle.leveldb_mem.specs.Log.Writer.{frame}
 use Rattle.leveldb_base.specs.Error.{IsOutOfMemory}
 use Rattle.leveldb_version.specs.FullEdit.{files_after, full_after}
 use Rattle.leveldb_version.specs.LogEdit.{AppendingAndSyncing, AppendsEdit, BeginsManifest, LogEditResult, new_manifest, set_begun, with_bytes_kept}
@@ -37,35 +38,79 @@ module _ (path bytes : List ℕ) {models_disk : Bool} {v0 v1 v2 : Observed} {res
         time = run.time;
       }
 
-module _ {E F : Type 0} (env : Ghosts E F) (path text : List ℕ) (writer new : WriterState) (old mid : Opened E F) (modelled : IsTrue env.models_disk)
-    (named : env.name_of old.file ≡ path) (some : text ≢ []) where
-  at_append : {result : Result (Unit {0}) Status} → Appends env old (frame writer text) result mid
-      → ChangesFiles env.models_disk (extended path (frame writer text)) (PrefixAppended path (frame writer text)) (env.observed old.env) (env.observed mid.env) result
-  at_append {result} appends =
-      subst (λ name. ChangesFiles env.models_disk (extended name (frame writer text)) (PrefixAppended name (frame writer text)) (env.observed old.env) (env.observed mid.env) result) named appends.does
+-- ---- a record in a manifest, which is synced
 
-  run_of : (answer : Result ℕ Status) → IfOk answer (λ count. AddsRecord (Appends env) writer old text count new mid) → IfErr answer (λ status. FailsToAdd (Appends env) writer old text status new mid)
-      → Run (PrefixAppended path (frame writer text) (env.observed old.env).disk.files) (env.observed old.env) (env.observed mid.env)
-  run_of (Ok count) done none = Run-call modelled (at_append (done.put some))
-  run_of (Err status) none fails = ⊎_elim
-      (λ memory. subst (λ (to : Opened E F). Run (PrefixAppended path (frame writer text) (env.observed old.env).disk.files) (env.observed old.env) (env.observed to.env)) (sym memory.1.same_sink)
-      (begun (env.observed old.env) (nothing_appended path (frame writer text) (env.observed old.env).disk.files)))
-      (λ failed. Run-call modelled (at_append failed.0)) fails.why
+-- a file that isn't there isn't there once bytes are appended
+none_longer : (path bytes : List ℕ) (files : Files) → (extended path bytes files path ≡ None → files path ≡ None) × (files path ≡ None → extended path bytes files path ≡ None)
+none_longer path bytes files =
+    let here = at_same path (option_map (longer_file bytes) (files path)) files in
+    (λ none. never_longer (files path) (sym here ∙ none), λ none. here ∙ ap (option_map (longer_file bytes)) none)
+  where
+    never_longer : (file : Option File) → option_map (longer_file bytes) file ≡ None → file ≡ None
+    never_longer None none = refl
+    never_longer (Some file) none = absurd (cc)
 
-  -- the record was put, or a part of it
-  pub at_put : (added : Result ℕ Status) → IfOk added (λ count. AddsRecord (Appends env) writer old text count new mid) → IfErr added (λ status. FailsToAdd (Appends env) writer old text status new mid)
-      → Run (AppendingAndSyncing path (frame writer text) (env.observed old.env).disk.files) (env.observed old.env) (env.observed mid.env)
-  at_put added ok err = Run-mono (λ files p. inl p) (run_of added ok err)
+module _ {E F : Type 0} (env : Ghosts E F) (old : LogFileState) (usable : old.writer.broken ≡ false) (from : E) where
+  -- a log that isn't broken loses its file, or is out of memory
+  only_lost : {result : Result (Unit {0}) Status} {to : E} → HasCause (IsFileLost env old from to) (env.failures from) (env.failures to) result
+      → HasCause (IsLost env.models_disk old.path (env.observed from) (env.failures from) (env.failures to)) (env.failures from) (env.failures to) result
+  only_lost {result} cause = cause_same result
+      (λ e lost. ⊎_elim (λ its. its) (λ broken. absurd (let never : false ≡ true = sym usable ∙ broken.0 in cc)) lost)
+      (λ e lost. inl lost) cause
 
-  -- and then synced
-  pub at_flush : {count : ℕ} {added : Result ℕ Status} {flushed : Result (Unit {0}) Status} {last : WriterState} {after : Opened E F} → IfOk added (λ count. AddsRecord (Appends env) writer old text count new mid)
-      → added ≡ Ok count → Flushes (Syncs env) new mid flushed last after
-      → ChangesFiles env.models_disk (with_bytes_kept path (frame writer text)) (AppendingAndSyncing path (frame writer text)) (env.observed old.env) (env.observed after.env) flushed
-  at_flush {flushed = flushed} {after = after} ok is flush =
-      let done = subst (λ r. IfOk r (λ count. AddsRecord (Appends env) writer old text count new mid)) is ok in
-      let put = done.put some in
-      append_and_sync path (frame writer text) modelled (at_append put)
-      (subst (λ name. ChangesFiles env.models_disk (synced name) (BeforeOrAfter (synced name)) (env.observed mid.env) (env.observed after.env) flushed) (put.file modelled ∙ named) flush.flushed.does)
+  module _ (text : List ℕ) where
+    abbrev bytes : List ℕ
+    bytes = frame old.writer text
+
+    -- the record wasn't appended
+    pub unappended : {status : Status} {new : LogFileState} {to : E} → AppendsRecord env old from text (Err status) new to
+        → (IsOutOfMemory status × (new ≡ old) × (IsTrue env.models_disk → (env.observed to).disk.files ≡ (env.observed from).disk.files)) ⊎ (new.writer.broken ≡ true)
+    unappended appends = ⊎_elim
+        (λ memory. inl (memory.0, memory.1, λ modelled. ap (λ e. (env.observed e).disk.files) memory.2))
+        (λ breaks. inr (ap (λ (l : LogFileState). l.writer.broken) breaks)) appends.err
+
+    pub unappended_does : {status : Status} {new : LogFileState} {to : E} → AppendsRecord env old from text (Err status) new to → IsTrue env.models_disk
+        → Run (AppendingAndSyncing old.path bytes (env.observed from).disk.files) (env.observed from) (env.observed to)
+    unappended_does appends modelled = Run-mono (λ files p. inl p) (Run-call modelled (appends.does modelled))
+
+    pub unappended_cause : {status : Status} {new : LogFileState} {to : E} → AppendsRecord env old from text (Err status) new to
+        → HasCause {T = Unit {0}} (IsLost env.models_disk old.path (env.observed from) (env.failures from) (env.failures to)) (env.failures from) (env.failures to) (Err status)
+    unappended_cause appends = only_lost appends.cause
+
+    module _ {mid : LogFileState} {e1 : E} (appends : AppendsRecord env old from text (Ok tt) mid e1) {result : Result (Unit {0}) Status} {new : LogFileState} {to : E}
+        (syncs : SyncsRecords env mid e1 result new to) where
+      abbrev At : LogFileState → Type 0
+      At log = SyncsRecords env log e1 result new to
+
+      abbrev synced_then : At (with_record old text)
+      synced_then = subst At appends.ok syncs
+
+      pub appended_does : IsTrue env.models_disk → ChangesFiles env.models_disk (with_bytes_kept old.path bytes) (AppendingAndSyncing old.path bytes) (env.observed from) (env.observed to) result
+      appended_does modelled = append_and_sync old.path bytes modelled (appends.does modelled) (synced_then.does modelled)
+
+      pub appended_ok : OnOk result (new ≡ with_record old text)
+      appended_ok = synced_then.ok
+
+      pub appended_err : (Other : Status → Type 0) → IfErr result (λ status. Other status ⊎ (new.writer.broken ≡ true))
+      appended_err Other = by result synced_then.err
+        where
+          by : (answer : Result (Unit {0}) Status) → OnErr answer (new ≡ broken_log (with_record old text)) → IfErr answer (λ status. Other status ⊎ (new.writer.broken ≡ true))
+          by (Ok value) err = tt
+          by (Err status) err = inr (ap (λ (l : LogFileState). l.writer.broken) err)
+
+      pub appended_cause : HasCause (IsLost env.models_disk old.path (env.observed from) (env.failures from) (env.failures to)) (env.failures from) (env.failures to) result
+      appended_cause =
+          let same = appends.cause.ok in
+          let there = λ (modelled : IsTrue env.models_disk). (appends.does modelled).ok modelled in
+          subst (λ f. HasCause (IsLost env.models_disk old.path (env.observed from) f (env.failures to)) f (env.failures to) result) same
+          (cause_same result
+          (λ e lost. ⊎_elim
+          (λ its. ⊎_elim (λ memory. inl memory)
+          (λ gone. inr (gone.0, (λ modelled. (none_longer old.path bytes (env.observed from).disk.files).0 (sym (ap (λ (f : Files). f old.path) (there modelled)) ∙ gone.1 modelled)), gone.2)) its)
+          (λ broken. absurd (let never : false ≡ true = sym usable ∙ broken.0 in cc)) lost)
+          (λ e lost. inl (⊎_elim (λ memory. inl memory)
+          (λ gone. inr (gone.0, (λ modelled. ap (λ (f : Files). f old.path) (there modelled) ∙ (none_longer old.path bytes (env.observed from).disk.files).1 (gone.1 modelled)), gone.2)) lost))
+          synced_then.cause)
 
 -- ---- the bytes of an edit
 

@@ -1,18 +1,16 @@
 -- What the files are at each step of making a manifest, and what its bytes are.
-use Rattle.std.specs.Prelude.{◌≢◌, IsTrue, OnOk}
-use Rattle.std.proofs.Common.{◌≡◌, ◌⊎◌, ◌++◌, ◌∷◌, ◌^◌, ◌<◌, inl, inr, ⊎_elim, ℕ, Bool, false, List, [], Some, Result, Ok, Err, sym, subst, ◌∙◌, ap, append_assoc, refl}
+use Rattle.std.specs.Prelude.{IsTrue}
+use Rattle.std.proofs.Common.{◌≡◌, ◌++◌, ◌∷◌, ◌^◌, ◌<◌, inl, inr, ⊎_elim, ℕ, Bool, false, List, [], Some, Result, Ok, sym, subst, ◌∙◌, ap, append_assoc, refl}
 use Rattle.std.proofs.lemmas.List.{append-nil}
-use Rattle.std.specs.Option.{option_map}
 use Rattle.std.specs.Str.{bytes_eq}
-use Rattle.leveldb_base.specs.Names.{file_path}
 use Rattle.leveldb_base.specs.declared.error.Status.{Status}
 use Rattle.leveldb_base.specs.declared.types.FileType.TheVariants.{Current, Descriptor, Temp}
 use Rattle.leveldb_base.proofs.NamesLemmas.{made_paths_apart}
-use Rattle.leveldb_env.specs.Env.{BeforeOrAfter, ChangesFiles, Files, Observed, PrefixAppended, Run, SameBut, emptied, extended, file_kept, kept_file, longer_file, synced, with_file}
+use Rattle.leveldb_env.specs.Env.{ChangesFiles, Files, Observed, Run, SameBut, kept_file, with_file}
 use Rattle.leveldb_env.specs.Sink.{AppendsBytes}
-use Rattle.leveldb_env.proofs.EnvLemmas.{Run-call, Run-mono, SameBut-appending, SameBut-emptied, SameBut-refl, SameBut-synced, SameBut-trans, at_other, at_same, begun, bytes_eq-apart, call, extended-same, with_file-twice}
+use Rattle.leveldb_env.proofs.EnvLemmas.{Run-call, Run-mono, at_other, at_same, bytes_eq-apart, call}
 use Rattle.leveldb_mem.specs.Log.{framed, framed_record, log_block_size, offset_after}
-use Rattle.leveldb_mem.specs.Log.Writer.{AddsRecord, WriterState, after_frame, frame}
+use Rattle.leveldb_mem.specs.Log.Writer.{AddsRecord, WriterState, frame}
 use Rattle.leveldb_version.specs.CurrentFile.{SettingCurrent, temp_path, with_current}
 use Rattle.leveldb_version.specs.NewManifest.{MakingManifest, with_manifest}
 use Rattle.leveldb_version.specs.Paths.{current_path, manifest_path}
@@ -39,42 +37,6 @@ module _ {S : Type 0} (items : S → List ℕ) where
       is ∙ sym (append_assoc (items sink) framing (framed log_block_size texts (offset_after log_block_size old.offset framing)))
       ∙ ap (λ z. z ++ framed log_block_size texts (offset_after log_block_size old.offset framing)) (sym put)
       ∙ ap (λ o. items after ++ framed log_block_size texts o) (sym offset_is)
-
--- ---- a file
-
-module _ (name bytes : List ℕ) {T : Type 0} {x : T} {models_disk : Bool} {v0 v1 : Observed} (modelled : IsTrue models_disk) (opening : ChangesFiles {T = T} models_disk (emptied name) (BeforeOrAfter (emptied name)) v0 v1 (Ok x)) where
-  abbrev first : Files
-  first = v0.disk.files
-
-  at_open : Run (SameBut name first) v0 v1
-  at_open = call modelled (begun v0 (SameBut-refl name first)) (SameBut-emptied name first) opening
-
-  pub at_append : {v2 : Observed} {result : Result (Unit {0}) Status} → ChangesFiles models_disk (extended name bytes) (PrefixAppended name bytes) v1 v2 result → Run (SameBut name first) v0 v2
-  at_append append = call modelled at_open (λ files passes. SameBut-trans name at_open.has (SameBut-appending name bytes v1.disk.files files passes)) append
-
-  pub at_sync : {v2 v3 : Observed} {appended result : Result (Unit {0}) Status} → ChangesFiles models_disk (extended name bytes) (PrefixAppended name bytes) v1 v2 appended
-      → ChangesFiles models_disk (synced name) (BeforeOrAfter (synced name)) v2 v3 result → Run (SameBut name first) v0 v3
-  at_sync {v2} append sync = call modelled (at_append append) (λ files passes. SameBut-trans name (at_append append).has (SameBut-synced name v2.disk.files files passes)) sync
-
-  -- the file is made: it has its bytes, all kept
-  pub file_made : {U : Type 0} {y : U} {v2 v3 : Observed} → ChangesFiles {T = Unit {0}} models_disk (extended name bytes) (PrefixAppended name bytes) v1 v2 (Ok tt)
-      → ChangesFiles {T = Unit {0}} models_disk (synced name) (BeforeOrAfter (synced name)) v2 v3 (Ok tt)
-      → ChangesFiles {T = U} models_disk (with_file name (Some (kept_file bytes))) (SameBut name) v0 v3 (Ok y)
-  file_made {v2 = v2} append sync =
-      let f1 = emptied name first in
-      let f2 = extended name bytes f1 in
-      let there1 : f1 name ≡ Some (kept_file []) = at_same name (Some (kept_file [])) first in
-      let there2 = extended-same name bytes f1 (kept_file []) there1 in
-      let made : synced name f2 ≡ with_file name (Some (kept_file bytes)) first =
-      ap (λ file. with_file name (option_map file_kept file) f2) there2
-      ∙ with_file-twice name (Some (kept_file bytes)) (option_map (longer_file bytes) (f1 name)) f1
-      ∙ with_file-twice name (Some (kept_file bytes)) (Some (kept_file [])) first in
-      let run = at_sync append sync in
-      record {
-        ok = λ t. sync.ok modelled ∙ ap (synced name) (append.ok modelled ∙ ap (extended name bytes) (opening.ok modelled)) ∙ made;
-        now = λ t. run.has;
-        time = run.time;
-      }
 
 -- ---- a manifest
 

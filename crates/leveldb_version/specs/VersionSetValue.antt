@@ -4,15 +4,12 @@ use Rattle.std.specs.BTreeSet.{insert_key}
 use Rattle.std.specs.Ordering.{nat_cmp}
 use Rattle.leveldb_base.specs.declared.error.Status.{Status}
 use Rattle.leveldb_base.specs.declared.error.StatusCode.TheVariants.{NotSupported}
-use Rattle.leveldb_mem.specs.Log.Writer.{WriterState}
+use Rattle.leveldb_mem.specs.Log.LogFile.{LogFileState}
 use Rattle.leveldb_version.specs.VersionEdit.{Edit, NewFile, empty_edit}
 
--- a manifest that edits are appended to
-pub record OpenManifest : Type 0 where
-  -- its path, under the store's
-  pub path : List ℕ
-  -- the writer of its records
-  pub writer : WriterState
+-- a manifest that edits are appended to: a log, with its path under the store's
+abbrev pub OpenManifest : Type 0
+OpenManifest = LogFileState
 
 -- Which manifest a version set has: none yet, so that the next edit begins a new one; one in use;
 -- or one that is broken, since a call on it failed, so that no edit is taken any more.

@@ -15,7 +15,6 @@ mod current_file;
 mod full_edit;
 mod live_files;
 mod log_edit;
-mod manifest;
 mod new_manifest;
 mod new_store;
 mod recover;

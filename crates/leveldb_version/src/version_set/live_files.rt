@@ -6,13 +6,13 @@ ghost use Rattle.leveldb_version.specs.Summary.{summary_text};
 ghost use Rattle.leveldb_version.specs.VersionEdit.{new_file_of};
 ghost use Rattle.leveldb_version.specs.VersionSetValue.{new_version_set, with_number_given, with_number_free, with_numbers_used, AreFileNumbersUsedUp, broken, numbers_in_order};
 
-use super::manifest::Manifest;
 use super::summary::summary_of;
 use crate::version_edit::VersionEdit;
 use leveldb_base::cmp::Cmp;
 use leveldb_base::error::{Result, StatusCode, err};
 use leveldb_base::types::{FileMetaData, FileNum, SequenceNumber};
 use leveldb_env::env::Env;
+use leveldb_mem::log::LogFile;
 use std::alloc::Global;
 use std::collections::BTreeSet;
 use std::marker::Model;
@@ -37,7 +37,7 @@ pub struct LiveFiles<E: Env> {
     pub(super) last_sequence: SequenceNumber,
     pub(super) log_number: FileNum,
     pub(super) previous_log: FileNum,
-    pub(super) manifest: Option<Manifest<E>>,
+    pub(super) manifest: Option<LogFile<E>>,
 
     // Whether a call on the manifest has failed.
     pub(super) broken: bool,

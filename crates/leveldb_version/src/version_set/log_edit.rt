@@ -2,24 +2,20 @@
 ghost use Rattle.std.specs.Prelude.{◌≡◌, ◌≢◌, ◌⊎◌, ◌↔◌, ◌<◌, [], All, Some, true, false, IfOk, IfErr, OnOk, IsTrue};
 ghost use Rattle.leveldb_base.specs.Error.{IsOutOfMemory};
 ghost use Rattle.leveldb_env.specs.Env.{ChangesFiles, HasCause, SameLocks};
-ghost use Rattle.leveldb_env.specs.EnvFile.{Appends, Syncs, opened};
 ghost use Rattle.leveldb_env.specs.WholeFiles.{IsLost};
-ghost use Rattle.leveldb_mem.specs.Log.Writer.{AddsRecord, FailsToAdd, Flushes, after_frame, frame};
+ghost use Rattle.leveldb_mem.specs.Log.Writer.{after_frame, frame};
 ghost use Rattle.leveldb_version.specs.LogEdit.{AppendingAndSyncing, AppendsEdit, BeginsManifest, LogEditResult, with_bytes_kept, written_edit};
 ghost use Rattle.leveldb_version.specs.VersionEdit.{Edit, LevelsFit, edit_bytes, edit_of};
 ghost use Rattle.leveldb_version.specs.VersionSetValue.{OpenManifest, broken, in_use, unmade};
 
 use super::full_edit::{apply_reserved, reserve};
 use super::live_files::LiveFiles;
-use super::manifest::Manifest;
 use super::new_manifest::{frame_records, make_manifest};
 use crate::version_edit::VersionEdit;
 use leveldb_base::error::Result;
 use leveldb_base::names::manifest_file_name;
-use leveldb_env::env::whole_files::found;
-use leveldb_env::env::{Env, EnvFile};
-use leveldb_mem::log::WriterCore;
-use std::alloc::Global;
+use leveldb_env::env::Env;
+use leveldb_mem::log::LogFile;
 
 impl<E: Env> LiveFiles<E> {
     /// The edit with the set's numbers.
@@ -55,8 +51,8 @@ impl<E: Env> LiveFiles<E> {
             return self.begin_manifest(env, edit, text);
         };
         reserve(&mut self.full, &edit)?;
-        let appended = append_record(self.alloc, env, manifest, &text);
-        self.broken = manifest.writer.is_broken();
+        let appended = append_record(env, manifest, &text);
+        self.broken = manifest.is_broken();
         appended?;
         self.given = None;
         self.log_number = edit.log_number.unwrap_or(self.log_number);
@@ -124,12 +120,7 @@ fn new_files_fit(edit: &VersionEdit) -> bool
 }
 
 // Appends a record to a manifest, and syncs it. What fails on the device breaks the writer.
-fn append_record<E: Env>(
-    alloc: Global,
-    env: &mut E,
-    manifest: &mut Manifest<E>,
-    text: &[u8],
-) -> Result<()>
+fn append_record<E: Env>(env: &mut E, manifest: &mut LogFile<E>, text: &[u8]) -> Result<()>
     requires some { text.now ≢ [] }
     requires usable { manifest.old.writer.broken ≡ false }
     ensures does { IsTrue E.models_disk → ChangesFiles E.models_disk
@@ -147,33 +138,6 @@ fn append_record<E: Env>(
         (E.failures env.old) (E.failures env.new))
         (E.failures env.old) (E.failures env.new) result }
 {
-    let added = put_record(&mut manifest.writer, env, &mut manifest.file, text);
-    found(alloc, &manifest.path, added)?;
-    let flushed = sync_file(&mut manifest.writer, env, &mut manifest.file);
-    found(alloc, &manifest.path, flushed)
-}
-
-// Puts a record into a file.
-fn put_record<E: Env>(
-    writer: &mut WriterCore,
-    env: &mut E,
-    file: &mut E::File,
-    text: &[u8],
-) -> Result<usize>
-    requires { writer.old.broken ≡ false }
-    ensures ok { IfOk result (λ count. AddsRecord (Appends E.Env) writer.old
-        (opened env.old file.old) text.now count writer.new (opened env.new file.new)) }
-    ensures err { IfErr result (λ status. FailsToAdd (Appends E.Env) writer.old
-        (opened env.old file.old) text.now status writer.new (opened env.new file.new)) }
-{
-    writer.add_record(&mut EnvFile { env, file }, text)
-}
-
-// Syncs a file.
-fn sync_file<E: Env>(writer: &mut WriterCore, env: &mut E, file: &mut E::File) -> Result<()>
-    requires { writer.old.broken ≡ false }
-    ensures { Flushes (Syncs E.Env) writer.old (opened env.old file.old) result writer.new
-        (opened env.new file.new) }
-{
-    writer.flush(&mut EnvFile { env, file })
+    manifest.append(env, text)?;
+    manifest.sync(env)
 }

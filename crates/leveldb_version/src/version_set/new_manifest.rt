@@ -10,13 +10,12 @@ ghost use Rattle.leveldb_version.specs.NewManifest.{MakingManifest, manifest_byt
 ghost use Rattle.leveldb_version.specs.Paths.{manifest_path};
 
 use super::current_file::set_current_file;
-use super::manifest::Manifest;
 use leveldb_base::error::Result;
 use leveldb_base::names::manifest_file_name;
 use leveldb_base::types::FileNum;
 use leveldb_env::env::Env;
-use leveldb_env::env::whole_files::found;
-use leveldb_mem::log::WriterCore;
+use leveldb_env::env::whole_files::write_file;
+use leveldb_mem::log::{LogFile, WriterCore};
 use std::alloc::Global;
 
 /// The bytes of a manifest of some records, and the writer of the records after them.
@@ -43,23 +42,6 @@ pub(super) fn frame_records(alloc: Global, records: &[Vec<u8>]) -> Result<Framed
     Ok(FramedRecords { bytes, writer })
 }
 
-/// Makes a file of these bytes, all of which a crash keeps.
-fn make_file<E: Env>(alloc: Global, env: &mut E, path: &str, bytes: &[u8]) -> Result<E::File>
-    ensures does { IsTrue E.models_disk
-        → ChangesFiles E.models_disk (with_file path.now (Some (kept_file bytes.now)))
-        (SameBut path.now) (E.observed env.old) (E.observed env.new) result }
-    ensures bytes { IsTrue E.models_disk → AppendedAreBytes (E.observed env.old).disk.files
-        → AppendedAreBytes (E.observed env.new).disk.files }
-    ensures locks { SameLocks E.models_disk (E.observed env.old) (E.observed env.new) }
-    ensures file { IfOk result (λ f. IsTrue E.models_disk → E.name_of f ≡ path.now) }
-    ensures cause { HasCause IsOutOfMemory (E.failures env.old) (E.failures env.new) result }
-{
-    let mut file = env.open_writable_file(path)?;
-    found(alloc, path, env.append(&mut file, bytes))?;
-    found(alloc, path, env.sync(&mut file))?;
-    Ok(file)
-}
-
 /// Makes a manifest of a number, and then has `CURRENT` name it.
 pub(super) fn make_manifest<E: Env>(
     alloc: Global,
@@ -68,7 +50,7 @@ pub(super) fn make_manifest<E: Env>(
     number: FileNum,
     path: String,
     records: FramedRecords,
-) -> Result<Manifest<E>>
+) -> Result<LogFile<E>>
     requires { string_bytes path ≡ manifest_path store.now number }
     ensures does { IsTrue E.models_disk
         → ChangesFiles E.models_disk (with_manifest store.now number records.bytes.items)
@@ -85,11 +67,7 @@ pub(super) fn make_manifest<E: Env>(
         (E.failures env.old) (E.failures env.new))
         (E.failures env.old) (E.failures env.new) result }
 {
-    let file = make_file(alloc, env, &path, &records.bytes)?;
+    let file = write_file(alloc, env, &path, &records.bytes)?;
     set_current_file(alloc, env, store, number)?;
-    Ok(Manifest {
-        path,
-        file,
-        writer: records.writer,
-    })
+    Ok(LogFile::new(alloc, path, file, records.writer))
 }

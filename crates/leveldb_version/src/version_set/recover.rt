@@ -12,7 +12,6 @@ ghost use Rattle.leveldb_version.specs.VersionSetValue.{manifest_state};
 
 use super::current_file::read_current_file;
 use super::live_files::LiveFiles;
-use super::manifest::Manifest;
 use super::replay::{Replayed, replay};
 use super::usable::{check_usable, next_number_after};
 use leveldb_base::cmp::Cmp;
@@ -21,7 +20,7 @@ use leveldb_base::types::FileNum;
 use leveldb_env::env::Env;
 use leveldb_env::env::whole_files::found;
 use leveldb_env::options::Options;
-use leveldb_mem::log::{WriterCore, read_log_file};
+use leveldb_mem::log::{LogFile, WriterCore, read_log_file};
 use std::alloc::Global;
 
 /// What a set is to become by a manifest that was read: where that is, what its edits leave, and
@@ -109,7 +108,7 @@ impl<E: Env> LiveFiles<E> {
         left: Replayed,
         next_file: FileNum,
         number: FileNum,
-        manifest: Option<Manifest<E>>,
+        manifest: Option<LogFile<E>>,
     )
         requires { IfSome manifest (λ manifest.
             (manifest.writer.broken ≡ false) × (manifest.writer.size ≡ log_block_size)) }
@@ -175,7 +174,7 @@ fn is_reusable(reuse: bool, limit: usize, is_clean: bool, size: usize) -> bool
 }
 
 // Opens a manifest that is there, to be appended to, with all its bytes kept.
-fn reopen<E: Env>(alloc: Global, env: &mut E, path: String, size: usize) -> Result<Manifest<E>>
+fn reopen<E: Env>(alloc: Global, env: &mut E, path: String, size: usize) -> Result<LogFile<E>>
     requires { IsTrue E.models_disk
         → IsSome ((E.observed env.old).disk.files (string_bytes path)) }
     ensures does { IsTrue E.models_disk
@@ -191,9 +190,5 @@ fn reopen<E: Env>(alloc: Global, env: &mut E, path: String, size: usize) -> Resu
 {
     let mut file = env.open_appendable_file(&path)?;
     env.sync(&mut file)?;
-    Ok(Manifest {
-        path,
-        file,
-        writer: WriterCore::new_with_off(alloc, size),
-    })
+    Ok(LogFile::new(alloc, path, file, WriterCore::new_with_off(alloc, size)))
 }

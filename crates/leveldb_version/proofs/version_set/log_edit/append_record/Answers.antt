@@ -1,24 +1,30 @@
-use Rattle.std.proofs.Common.{◌≡◌, ◌∙◌, List, ℕ, Ok, ap, rules, sym}
+use Rattle.std.proofs.lemmas.Result.{err_from_is_err_and}
 use Rattle.leveldb_env.proofs.EnvLemmas.{ChangesFiles-refused}
-use Rattle.leveldb_env.proofs.WholeFilesLemmas.{ChangesFiles-found, found_ok}
-use Rattle.leveldb_mem.specs.Log.Writer.{WriterState}
-use Rattle.leveldb_version.specs.VersionSetValue.{OpenManifest}
-use Rattle.leveldb_version.proofs.LogEditLemmas.{at_flush, at_put}
+use Rattle.leveldb_version.proofs.LogEditLemmas.{appended_cause, appended_does, appended_err, appended_ok, unappended, unappended_cause, unappended_does}
 use Rattle.leveldb_version.proofs.version_set.log_edit.append_record.Goals as goal
 
-pub returns-in_err-found-clause-does : goal.returns-in_err-found-clause-does
-returns-in_err-found-clause-does g c = λ modelled.
-    let path : g.E.Env.name_of c.manifest.inside.file ≡ c.args.manifest.now.path = c.manifest.invariant modelled ∙ ap (λ (m : OpenManifest). m.path) c.manifest.view_is in
-    let writer : c.manifest.inside.writer ≡ c.args.manifest.now.writer = ap (λ (m : OpenManifest). m.writer) c.manifest.view_is in
-    let ok = rw writer at c.put_record-added.ensures.ok in
-    let err = rw writer at c.put_record-added.ensures.err in
-    ChangesFiles-refused c.from_residual.ensures.0 (at_put g.E.Env c.args.manifest.now.path c.args.text.now c.args.manifest.now.writer _ _ _ modelled path c.requires.some c.put_record-added.result ok err)
+pub returns-in_err-append-clause-does : goal.returns-in_err-append-clause-does
+returns-in_err-append-clause-does g c = λ modelled.
+    ChangesFiles-refused c.from_residual.ensures.0 (unappended_does g.E.Env _ c.requires.usable _ _ c.in_err-append.ensures modelled)
+
+pub returns-in_err-append-clause-err : goal.returns-in_err-append-clause-err
+returns-in_err-append-clause-err g c =
+    let p = err_from_is_err_and c.from_residual.result c.from_residual.ensures.1 in
+    rw (p.1, p.2) (unappended g.E.Env _ c.requires.usable _ _ c.in_err-append.ensures)
+
+pub returns-in_err-append-clause-cause : goal.returns-in_err-append-clause-cause
+returns-in_err-append-clause-cause g c =
+    let p = err_from_is_err_and c.from_residual.result c.from_residual.ensures.1 in
+    rw (p.1, p.2) (unappended_cause g.E.Env _ c.requires.usable _ _ c.in_err-append.ensures)
 
 pub returns-clause-does : goal.returns-clause-does
-returns-clause-does g c = λ modelled.
-    let path : g.E.Env.name_of c.manifest.inside.file ≡ c.args.manifest.now.path = c.manifest.invariant modelled ∙ ap (λ (m : OpenManifest). m.path) c.manifest.view_is in
-    let writer : c.manifest.inside.writer ≡ c.args.manifest.now.writer = ap (λ (m : OpenManifest). m.writer) c.manifest.view_is in
-    let ok = rw writer at c.put_record-added.ensures.ok in
-    let added : c.put_record-added.result ≡ Ok _ = found_ok c.deref.result.now c.put_record-added.result _ c.in_ok-found.ensures in
-    ChangesFiles-found c.deref-2.result.now c.sync_file-flushed.result c.found-2.result c.found-2.ensures
-    (at_flush g.E.Env c.args.manifest.now.path c.args.text.now c.args.manifest.now.writer _ _ _ modelled path c.requires.some ok added c.sync_file-flushed.ensures)
+returns-clause-does g c = appended_does g.E.Env _ c.requires.usable _ _ c.in_ok-append.ensures c.sync.ensures
+
+pub returns-clause-ok : goal.returns-clause-ok
+returns-clause-ok g c = appended_ok g.E.Env _ c.requires.usable _ _ c.in_ok-append.ensures c.sync.ensures
+
+pub returns-clause-err : goal.returns-clause-err
+returns-clause-err g c = appended_err g.E.Env _ c.requires.usable _ _ c.in_ok-append.ensures c.sync.ensures _
+
+pub returns-clause-cause : goal.returns-clause-cause
+returns-clause-cause g c = appended_cause g.E.Env _ c.requires.usable _ _ c.in_ok-append.ensures c.sync.ensures

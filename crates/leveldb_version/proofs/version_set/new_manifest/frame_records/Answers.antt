@@ -1,10 +1,9 @@
-use Rattle.std.proofs.Common.{◌≡◌, ◌∙◌, ◌∷◌, ◌++◌, ◌+◌, List, Vec, ℕ, ap, drop, fold, map, rules, subst, sym}
+use Rattle.std.proofs.Common.{◌≡◌, ◌∙◌, ◌∷◌, ◌++◌, ◌+◌, List, Vec, ℕ, ap, drop, fold, map, sym}
 use Rattle.std.specs.Global.{Global}
 use Rattle.std.proofs.lemmas.List.{drop_more}
 use Rattle.leveldb_mem.specs.Log.{framed, log_block_size}
 use Rattle.leveldb_mem.specs.Log.Writer.{WriterState, after_frame}
 use Rattle.leveldb_version.proofs.NewManifestLemmas.{framed_more}
-use Rattle.leveldb_version.specs.NewManifest.{manifest_bytes}
 use Rattle.leveldb_version.proofs.version_set.new_manifest.frame_records.Goals as goal
 
 pub loop-record-preserved : goal.loop-record-preserved

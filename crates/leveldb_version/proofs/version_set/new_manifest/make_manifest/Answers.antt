@@ -1,4 +1,4 @@
-use Rattle.std.proofs.Common.{◌≡◌, List, ℕ, rules}
+use Rattle.std.proofs.Common.{◌≡◌, rules}
 use Rattle.leveldb_env.proofs.EnvLemmas.{ChangesFiles-refused, Run-call, Run-mono}
 use Rattle.leveldb_version.specs.Paths.{manifest_path}
 use Rattle.leveldb_version.proofs.NewManifestLemmas.{at_current, beside, manifest_made}
@@ -7,7 +7,7 @@ use Rattle.leveldb_version.proofs.version_set.new_manifest.make_manifest.Goals a
 pub returns-in_err-file-clause-does : goal.returns-in_err-file-clause-does
 returns-in_err-file-clause-does g c = λ modelled.
     let path : c.deref.result.now ≡ manifest_path c.args.store.now c.args.number = search rules in
-    let making = rw (path, c.deref-2.ensures.value) at c.make_file.ensures.does in
+    let making = rw (path, c.deref-2.ensures.value) at c.write_file.ensures.does in
     ChangesFiles-refused c.from_residual.ensures.0
     (Run-mono (beside c.args.store.now c.args.number c.ranges.number.fits c.args.records.bytes.items _) (Run-call modelled (making modelled)))
 
