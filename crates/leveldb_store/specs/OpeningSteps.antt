@@ -217,10 +217,10 @@ module _ {E F : Type 0} (env : Ghosts E F) (store : List ℕ) where
         (env.observed to) result
     pub locks : SameLocks env.models_disk (env.observed from) (env.observed to)
     pub number : IfOk result (λ log. log.number ≡ n)
-    pub file : IfOk result (λ log. IsTrue env.models_disk
-        → env.name_of log.file ≡ log_path store n)
-    pub writer : IfOk result (λ log.
-        log.writer ≡ new_writer log_block_size (size % log_block_size))
+    pub file : IfOk result (λ log. log.file ≡ record {
+      path = log_path store n;
+      writer = new_writer log_block_size (size % log_block_size);
+    })
 
   -- What opening the log to write returns and leaves, with its entries.
   pub record OpensLog {C : Type 0} (cmp : C) (used : Option (UsedLog C)) (old : VersionSetValue)
@@ -236,10 +236,10 @@ module _ {E F : Type 0} (env : Ghosts E F) (store : List ℕ) where
         (env.observed to) result
     pub locks : SameLocks env.models_disk (env.observed from) (env.observed to)
     pub number : IfOk result (λ it. it.0.number ≡ number_to_write used old.next_file)
-    pub file : IfOk result (λ it. IsTrue env.models_disk
-        → env.name_of it.0.file ≡ log_path store (number_to_write used old.next_file))
-    pub writer : IfOk result (λ it.
-        it.0.writer ≡ new_writer log_block_size (size_to_write used % log_block_size))
+    pub file : IfOk result (λ it. it.0.file ≡ record {
+      path = log_path store (number_to_write used old.next_file);
+      writer = new_writer log_block_size (size_to_write used % log_block_size);
+    })
     pub order : IfOk result (λ it. it.1.cmp ≡ cmp)
     pub entries : IfOk result (λ it. it.1.kept.entries ≡ entries_to_write used)
     pub cause : HasCauseOr (AreFileNumbersUsedUp old.next_file) (env.failures from)

@@ -15,7 +15,7 @@ mod write_batch;
 use leveldb_base::cmp::{Cmp, UserCmp};
 use leveldb_base::types::{FileNum, SequenceNumber};
 use leveldb_env::env::Env;
-use leveldb_mem::log::WriterCore;
+use leveldb_mem::log::LogFile;
 use leveldb_mem::memtable::MemTable;
 use leveldb_version::version_set::VersionSet;
 use std::alloc::Global;
@@ -23,12 +23,11 @@ use std::marker::Model;
 pub use store_walk::StoreWalk;
 pub use view::StoreView;
 
-/// A log that batches are appended to: its number, its file, and the writer of its records.
+/// A log that batches are appended to: its number, and its file with the writer of its records.
 #[derive(Drop)]
 pub(crate) struct OpenLog<E: Env> {
     pub(crate) number: FileNum,
-    pub(crate) file: E::File,
-    pub(crate) writer: WriterCore,
+    pub(crate) file: LogFile<E>,
 }
 
 /// A store that is open, without its lock and its environment, which each call is given.
@@ -67,7 +66,7 @@ impl<E: Env, C: Cmp + Drop> Drop for OpenStore<E, C> {
 }
 
 impl<E: Env, C: Cmp> Model for OpenStore<E, C> {
-    ghost use Rattle.std.specs.Prelude.{◌≡◌, ◌≢◌, [], IfSome, IsTrue, string_bytes};
+    ghost use Rattle.std.specs.Prelude.{◌≡◌, ◌≢◌, ◌<◌, ◌^◌, [], IfSome, IsTrue, string_bytes};
     ghost use Rattle.std.specs.Option.{option_map};
     ghost use Rattle.leveldb_base.specs.History.{AreUpTo};
     ghost use Rattle.leveldb_version.specs.Paths.{log_path};
@@ -80,18 +79,19 @@ impl<E: Env, C: Cmp> Model for OpenStore<E, C> {
       cmp = it.cmp;
       set = it.versions.set;
       current = it.versions.current;
-      log = record { number = it.log.number; writer = it.log.writer };
+      log = record { number = it.log.number; writer = it.log.file.writer };
       recent = it.recent.kept;
       waiting = option_map (λ memtable. memtable.kept) it.waiting;
     } };
 
-    // The version set is of the store's path, the log's file has the log's path, and both memtables
-    // have the store's order. A manifest in use is in the store's folder. The manifest is in use or
-    // broken. No entry of the log's memtable has a number past the last one, and a memtable that
-    // waits has entries. The version has the store's order. The number of each live file was given,
-    // and they are in levels.
+    // The version set is of the store's path, the log's file has the path of the log's number, which
+    // has 64 bits, and both memtables have the store's order. A manifest in use is in the store's
+    // folder. The manifest is in use or broken. No entry of the log's memtable has a number past the
+    // last one, and a memtable that waits has entries. The version has the store's order. The number
+    // of each live file was given, and they are in levels.
     ghost invariant = { λ it. (it.versions.set.store ≡ string_bytes it.name)
-        × (IsTrue E.models_disk → E.name_of it.log.file ≡ log_path (string_bytes it.name) it.log.number)
+        × ((it.log.file.path ≡ log_path (string_bytes it.name) it.log.number)
+        × (it.log.number < 2 ^ 64))
         × (it.recent.cmp ≡ it.cmp)
         × IfSome it.waiting (λ memtable. memtable.cmp ≡ it.cmp)
         × (IsTrue E.models_disk → HasOwnManifest it.versions.set)
@@ -123,6 +123,6 @@ impl<E: Env, C: UserCmp + Copy> OpenStore<E, C> {
     pub fn is_broken(&self) -> bool
         ensures { (result ≡ false) ↔ IsUnbroken self.now }
     {
-        self.versions.is_broken() || self.log.writer.is_broken()
+        self.versions.is_broken() || self.log.file.is_broken()
     }
 }

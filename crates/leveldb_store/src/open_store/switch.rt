@@ -11,7 +11,7 @@ use leveldb_base::cmp::UserCmp;
 use leveldb_base::error::Result;
 use leveldb_base::names::log_file_name;
 use leveldb_env::env::Env;
-use leveldb_mem::log::WriterCore;
+use leveldb_mem::log::LogFile;
 use leveldb_mem::memtable::MemTable;
 
 impl<E: Env, C: UserCmp + Copy> OpenStore<E, C> {
@@ -39,14 +39,10 @@ impl<E: Env, C: UserCmp + Copy> OpenStore<E, C> {
         let number = self.versions.new_file_number()?;
         let path = log_file_name(self.alloc, &self.name, number)?;
         self.sync(env)?;
-        let file = env.open_writable_file(&path)?;
+        let file = LogFile::make(self.alloc, env, path)?;
         let fresh = MemTable::new(self.alloc, self.cmp);
         self.waiting = Some(std::mem::replace(&mut self.recent, fresh));
-        self.log = OpenLog {
-            number,
-            file,
-            writer: WriterCore::new(self.alloc),
-        };
+        self.log = OpenLog { number, file };
         Ok(())
     }
 }

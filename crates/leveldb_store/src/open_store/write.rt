@@ -1,22 +1,18 @@
 //! The parts of writing a batch: memory for it, its record, and its entries; and syncs of the log.
-ghost use Rattle.std.specs.Prelude.{◌≡◌, ◌+◌, true, false, IfErr, IfOk, IsErrAnd, OnErr, OnOk};
+ghost use Rattle.std.specs.Prelude.{◌≡◌, ◌+◌, IfErr, IfOk, OnErr, OnOk};
 ghost use Rattle.leveldb_env.specs.Env.{AreBytes};
-ghost use Rattle.leveldb_env.specs.EnvFile.{Appends, Syncs, opened};
-ghost use Rattle.leveldb_mem.specs.Log.Writer.{AddsRecord, FailsToAdd, Flushes, IsWriterBroken, broken_writer};
+ghost use Rattle.leveldb_mem.specs.Log.Writer.{broken_writer};
 ghost use Rattle.leveldb_mem.specs.WriteBatch.{BatchOf, batch_bytes};
 ghost use Rattle.leveldb_store.specs.SoundCall.{IsSoundCall, any_meaning};
-ghost use Rattle.leveldb_store.specs.Write.{AppendsToLog, AreNumbersUsedUp, CanBeInserted, HasNumbers, InsertsBatch, PreparesBatch, SyncsLog, open_log_path, with_writer};
+ghost use Rattle.leveldb_store.specs.Write.{AppendsToLog, AreNumbersUsedUp, CanBeInserted, HasNumbers, InsertsBatch, PreparesBatch, SyncsLog, with_writer};
 ghost use Rattle.leveldb_store.specs.WriteBatch.{SyncsBatches};
 ghost use Rattle.leveldb_store.specs.Written.{SparesRest};
 
 use super::OpenStore;
 use leveldb_base::cmp::UserCmp;
 use leveldb_base::error::{Result, StatusCode, err};
-use leveldb_base::names::log_file_name;
 use leveldb_base::types::{MAX_SEQUENCE_NUMBER, SequenceNumber};
-use leveldb_env::env::whole_files::found;
-use leveldb_env::env::{Env, EnvFile};
-use leveldb_mem::log::WriterCore;
+use leveldb_env::env::Env;
 use leveldb_mem::write_batch::WriteBatch;
 
 impl<E: Env, C: UserCmp + Copy> OpenStore<E, C> {
@@ -59,9 +55,11 @@ impl<E: Env, C: UserCmp + Copy> OpenStore<E, C> {
         Ok(last + 1)
     }
 
-    /// Makes a crash keep all batches. If it fails once it has begun, the store is broken.
+    /// Makes a crash keep all batches. An error breaks the store.
     pub fn sync(&mut self, env: &mut E) -> Result<()>
         ensures syncs { SyncsLog E.Env self.old env.old result self.new env.new }
+        ensures breaks { OnErr result
+            (self.new ≡ with_writer self.old (broken_writer self.old.log.writer)) }
         ensures spares { SparesRest E.models_disk self.old (E.observed env.old) self.new
             (E.observed env.new) }
         ensures batches { SyncsBatches E.Env (C.cmp self.old.cmp) self.old env.old result self.new
@@ -69,62 +67,18 @@ impl<E: Env, C: UserCmp + Copy> OpenStore<E, C> {
         ensures sound { IsSoundCall E.Env (C.cmp self.old.cmp) any_meaning self.old env.old result
             self.new env.new }
     {
-        let path = log_file_name(self.alloc, &self.name, self.log.number)?;
-        self.sync_log(env, &path)
+        self.log.file.sync(env)
     }
 
-    // Syncs the log, which has this path. It takes no memory, so that an error breaks the store.
-    pub(super) fn sync_log(&mut self, env: &mut E, path: &str) -> Result<()>
-        requires { path.now ≡ open_log_path self.old }
-        ensures syncs { SyncsLog E.Env self.old env.old result self.new env.new }
-        ensures breaks { OnErr result
-            (self.new ≡ with_writer self.old (broken_writer self.old.log.writer)) }
-    {
-        let synced = sync_file(&mut self.log.writer, env, &mut self.log.file);
-        found(self.alloc, path, synced)
-    }
-
-    // Appends the record of a batch to the log, which has this path. If that fails once it has
-    // begun, the store is broken, and the batch may be found when it is opened again.
-    pub(super) fn append(&mut self, env: &mut E, path: &str, batch: &WriteBatch) -> Result<()>
-        requires { path.now ≡ open_log_path self.old }
+    // Appends the record of a batch to the log. If that fails once it has begun, the store is broken,
+    // and the batch may be found when it is opened again.
+    pub(super) fn append(&mut self, env: &mut E, batch: &WriteBatch) -> Result<()>
         ensures appends { AppendsToLog E.Env self.old env.old
             (batch_bytes batch.now.first batch.now.items) result self.new env.new }
         ensures encoded { BatchOf (batch_bytes batch.now.first batch.now.items) batch.now.first
             batch.now.items }
         ensures bytes { AreBytes (batch_bytes batch.now.first batch.now.items) }
     {
-        let text = batch.contents();
-        let added = put_record(&mut self.log.writer, env, &mut self.log.file, text);
-        found(self.alloc, path, added)?;
-        Ok(())
+        self.log.file.append(env, batch.contents())
     }
-}
-
-// Adds a record to a log's file.
-fn put_record<E: Env>(
-    writer: &mut WriterCore,
-    env: &mut E,
-    file: &mut E::File,
-    text: &[u8],
-) -> Result<usize>
-    ensures ok { IfOk result (λ count. AddsRecord (Appends E.Env) writer.old
-        (opened env.old file.old) text.now count writer.new (opened env.new file.new)) }
-    ensures err { writer.old.broken ≡ false → IfErr result (λ status.
-        FailsToAdd (Appends E.Env) writer.old (opened env.old file.old) text.now status writer.new
-        (opened env.new file.new)) }
-    ensures broken { writer.old.broken ≡ true → IsErrAnd result IsWriterBroken
-        × (writer.new ≡ writer.old) × (env.new ≡ env.old) × (file.new ≡ file.old) }
-{
-    writer.add_record(&mut EnvFile { env, file }, text)
-}
-
-// Syncs a log's file.
-fn sync_file<E: Env>(writer: &mut WriterCore, env: &mut E, file: &mut E::File) -> Result<()>
-    ensures usable { writer.old.broken ≡ false → Flushes (Syncs E.Env) writer.old
-        (opened env.old file.old) result writer.new (opened env.new file.new) }
-    ensures broken { writer.old.broken ≡ true → IsErrAnd result IsWriterBroken
-        × (writer.new ≡ writer.old) × (env.new ≡ env.old) × (file.new ≡ file.old) }
-{
-    writer.flush(&mut EnvFile { env, file })
 }

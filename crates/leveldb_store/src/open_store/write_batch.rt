@@ -4,13 +4,12 @@ ghost use Rattle.leveldb_env.specs.Env.{AreBytes};
 ghost use Rattle.leveldb_mem.specs.WriteBatch.{BatchOf, batch_bytes, max_length};
 ghost use Rattle.leveldb_store.specs.OpenStore.{IsUnbroken};
 ghost use Rattle.leveldb_store.specs.SoundCall.{IsSoundCall, any_meaning};
-ghost use Rattle.leveldb_store.specs.Write.{LogsText, open_log_path};
+ghost use Rattle.leveldb_store.specs.Write.{LogsText};
 ghost use Rattle.leveldb_store.specs.WriteBatch.{WritesBatch};
 
 use super::OpenStore;
 use leveldb_base::cmp::UserCmp;
 use leveldb_base::error::Result;
-use leveldb_base::names::log_file_name;
 use leveldb_env::env::Env;
 use leveldb_mem::write_batch::WriteBatch;
 
@@ -30,26 +29,20 @@ impl<E: Env, C: UserCmp + Copy> OpenStore<E, C> {
     {
         let mut batch = batch;
         self.prepare(&mut batch)?;
-        let path = log_file_name(self.alloc, &self.name, self.log.number)?;
-        self.log_batch(env, &path, &batch, sync)?;
+        self.log_batch(env, &batch, sync)?;
         self.insert(&batch);
         Ok(())
     }
 
-    // Appends the record of a batch to the log, which has this path, and syncs it if `sync` is set.
-    fn log_batch(&mut self, env: &mut E, path: &str, batch: &WriteBatch, sync: bool) -> Result<()>
-        requires { path.now ≡ open_log_path self.old }
+    // Appends the record of a batch to the log, and syncs it if `sync` is set.
+    fn log_batch(&mut self, env: &mut E, batch: &WriteBatch, sync: bool) -> Result<()>
         ensures logs { LogsText E.Env self.old env.old
             (batch_bytes batch.now.first batch.now.items) sync result self.new env.new }
         ensures encoded { BatchOf (batch_bytes batch.now.first batch.now.items) batch.now.first
             batch.now.items }
         ensures bytes { AreBytes (batch_bytes batch.now.first batch.now.items) }
     {
-        self.append(env, path, batch)?;
-        if sync {
-            self.sync_log(env, path)
-        } else {
-            Ok(())
-        }
+        self.append(env, batch)?;
+        if sync { self.sync(env) } else { Ok(()) }
     }
 }

@@ -15,7 +15,7 @@ use leveldb_base::error::Result;
 use leveldb_base::names::log_file_name;
 use leveldb_base::types::FileNum;
 use leveldb_env::env::Env;
-use leveldb_mem::log::WriterCore;
+use leveldb_mem::log::LogFile;
 use leveldb_mem::memtable::MemTable;
 use leveldb_version::version_set::LiveFiles;
 use std::alloc::Global;
@@ -58,12 +58,8 @@ fn reopen_log<E: Env>(
     ensures cause { HasCause IsOutOfMemory (E.failures env.old) (E.failures env.new) result }
 {
     let path = log_file_name(alloc, store, number)?;
-    let file = env.open_appendable_file(&path)?;
-    Ok(OpenLog {
-        number,
-        file,
-        writer: WriterCore::new_with_off(alloc, size),
-    })
+    let file = LogFile::open(alloc, env, path, size)?;
+    Ok(OpenLog { number, file })
 }
 
 // A new log of the next number.
@@ -85,10 +81,6 @@ fn make_log<E: Env>(
 {
     let number = versions.new_file_number()?;
     let path = log_file_name(alloc, store, number)?;
-    let file = env.open_writable_file(&path)?;
-    Ok(OpenLog {
-        number,
-        file,
-        writer: WriterCore::new(alloc),
-    })
+    let file = LogFile::make(alloc, env, path)?;
+    Ok(OpenLog { number, file })
 }

@@ -14,7 +14,7 @@ pub returns-then-sync-clause-logs : goal.returns-then-sync-clause-logs
 returns-then-sync-clause-logs g c =
     rw c.if-sync.true
     (logs_then_synced g.E.Env c.args.self.now c.args.env.now (batch_bytes c.args.batch.now.first c.args.batch.now.items) c.append.new.self c.append.new.env c.in_ok-append.ensures.appends
-    c.sync_log.result c.sync_log.new.self c.sync_log.new.env c.sync_log.ensures.syncs c.sync_log.ensures.breaks)
+    c.sync.result c.sync.new.self c.sync.new.env c.sync.ensures.syncs c.sync.ensures.breaks)
 
 pub returns-else-sync-clause-logs : goal.returns-else-sync-clause-logs
 returns-else-sync-clause-logs g c =

@@ -1,9 +1,10 @@
 use Rattle.std.proofs.Common.{◌≡◌, ◌∙◌, ◌+◌, ◌<◌, ◌^◌, List, ℕ, Ok, Err, Some, ap, arith, subst, sym}
-use Rattle.std.specs.Prelude.{IsTrue}
+use Rattle.std.specs.Prelude.{IsTrue, string_bytes}
 use Rattle.std.proofs.lemmas.Result.{err_from_is_err_and}
 use Rattle.leveldb_env.proofs.AppendedLemmas.{emptied_bytes, synced_bytes}
 use Rattle.leveldb_base.specs.History.{AreUpTo}
 use Rattle.leveldb_env.specs.Env.{BeforeOrAfter, ChangesFiles, emptied}
+use Rattle.leveldb_mem.specs.Log.LogFile.{LogFileState}
 use Rattle.leveldb_version.specs.Paths.{log_path}
 use Rattle.leveldb_version.specs.CurrentVersion.{VersionsValue}
 use Rattle.leveldb_version.specs.VersionEdit.{Edit}
@@ -52,14 +53,14 @@ returns-in_err-file-clause-switches g c =
     let old = c.args.self.now in
     let from = c.args.env.now in
     let mid = c.sync.new.env in
-    let to = c.open_writable_file.new.self in
+    let to = c.make.new.env in
     let more : old.set.next_file + 1 < 2 ^ 64 = subst (λ v. v.set.next_file + 1 < 2 ^ 64) c.self.view_is c.in_ok-number.ensures.fits in
     let given = after_giving _ old c.self.view_is c.new_file_number.new.self c.in_ok-number.ensures.ok in
     let sync = sync_made g.E.Env from c.in_ok-sync.ensures.syncs.ok given mid c.in_ok-sync.ensures.syncs in
     let rest = spared_by_sync g.E.Env from c.in_ok-sync.ensures.syncs.ok given mid c.in_ok-sync.ensures.spares in
     let store = c.self.inside.versions.set.store in
     let number = c.in_ok-number.number in
-    let path : c.deref-2.result.now ≡ log_path old.set.store old.set.next_file = c.deref-2.ensures ∙ c.in_ok-path.ensures.ok
+    let path : string_bytes c.in_ok-path.path ≡ log_path old.set.store old.set.next_file = c.in_ok-path.ensures.ok
     ∙ ap (λ (s : List ℕ). log_path s number) (c.deref.ensures ∙ sym c.self.invariant.0) ∙ ap (log_path store) c.in_ok-number.ensures.number ∙ ap (λ v. log_path v.set.store v.set.next_file) c.self.view_is in
     let status = c.in_err-file.field-0.0 in
     let opening : ChangesFiles g.E.Env.models_disk (emptied (log_path old.set.store old.set.next_file)) (BeforeOrAfter (emptied (log_path old.set.store old.set.next_file))) (g.E.Env.observed mid) (g.E.Env.observed to) (Err status) =
@@ -73,17 +74,17 @@ returns-in_err-file-clause-keeps g c = λ modelled meaning allowed w.
     let old = c.args.self.now in
     let from = c.args.env.now in
     let mid = c.sync.new.env in
-    let to = c.open_writable_file.new.self in
+    let to = c.make.new.env in
     let more : old.set.next_file + 1 < 2 ^ 64 = subst (λ v. v.set.next_file + 1 < 2 ^ 64) c.self.view_is c.in_ok-number.ensures.fits in
     let given = after_giving _ old c.self.view_is c.new_file_number.new.self c.in_ok-number.ensures.ok in
     let sync = sync_made g.E.Env from c.in_ok-sync.ensures.syncs.ok given mid c.in_ok-sync.ensures.syncs in
     let store = c.self.inside.versions.set.store in
     let number = c.in_ok-number.number in
-    let path : c.deref-2.result.now ≡ log_path old.set.store old.set.next_file = c.deref-2.ensures ∙ c.in_ok-path.ensures.ok
+    let path : string_bytes c.in_ok-path.path ≡ log_path old.set.store old.set.next_file = c.in_ok-path.ensures.ok
     ∙ ap (λ (s : List ℕ). log_path s number) (c.deref.ensures ∙ sym c.self.invariant.0) ∙ ap (log_path store) c.in_ok-number.ensures.number ∙ ap (λ v. log_path v.set.store v.set.next_file) c.self.view_is in
     let status = c.in_err-file.field-0.0 in
-    let opening : ChangesFiles {T = g.row.E-File.Denot} g.E.Env.models_disk (emptied (log_path old.set.store old.set.next_file)) (BeforeOrAfter (emptied (log_path old.set.store old.set.next_file))) (g.E.Env.observed mid) (g.E.Env.observed to) (Err status) =
-    subst (λ s. ChangesFiles {T = g.row.E-File.Denot} g.E.Env.models_disk (emptied s) (BeforeOrAfter (emptied s)) (g.E.Env.observed mid) (g.E.Env.observed to) (Err status)) path c.in_err-file.ensures.does in
+    let opening : ChangesFiles {T = LogFileState} g.E.Env.models_disk (emptied (log_path old.set.store old.set.next_file)) (BeforeOrAfter (emptied (log_path old.set.store old.set.next_file))) (g.E.Env.observed mid) (g.E.Env.observed to) (Err status) =
+    subst (λ s. ChangesFiles {T = LogFileState} g.E.Env.models_disk (emptied s) (BeforeOrAfter (emptied s)) (g.E.Env.observed mid) (g.E.Env.observed to) (Err status)) path c.in_err-file.ensures.does in
     rw (c.in_ok-sync.ensures.syncs.ok ∙ given)
     (keeps_unmade (g.C.Cmp.cmp old.cmp) meaning (λ store. IsTrue (allowed store)) old (g.E.Env.observed from) w modelled (g.E.Env.observed mid) (g.E.Env.observed to) (sync.does modelled) (Err status) opening more)
 
@@ -92,21 +93,21 @@ returns-clause-switches g c =
     let old = c.args.self.now in
     let from = c.args.env.now in
     let mid = c.sync.new.env in
-    let to = c.open_writable_file.new.self in
+    let to = c.make.new.env in
     let more : old.set.next_file + 1 < 2 ^ 64 = subst (λ v. v.set.next_file + 1 < 2 ^ 64) c.self.view_is c.in_ok-number.ensures.fits in
     let given = after_giving _ old c.self.view_is c.new_file_number.new.self c.in_ok-number.ensures.ok in
     let sync = sync_made g.E.Env from c.in_ok-sync.ensures.syncs.ok given mid c.in_ok-sync.ensures.syncs in
     let rest = spared_by_sync g.E.Env from c.in_ok-sync.ensures.syncs.ok given mid c.in_ok-sync.ensures.spares in
     let store = c.self.inside.versions.set.store in
     let number = c.in_ok-number.number in
-    let path : c.deref-2.result.now ≡ log_path old.set.store old.set.next_file = c.deref-2.ensures ∙ c.in_ok-path.ensures.ok
+    let path : string_bytes c.in_ok-path.path ≡ log_path old.set.store old.set.next_file = c.in_ok-path.ensures.ok
     ∙ ap (λ (s : List ℕ). log_path s number) (c.deref.ensures ∙ sym c.self.invariant.0) ∙ ap (log_path store) c.in_ok-number.ensures.number ∙ ap (λ v. log_path v.set.store v.set.next_file) c.self.view_is in
     let opening : ChangesFiles g.E.Env.models_disk (emptied (log_path old.set.store old.set.next_file)) (BeforeOrAfter (emptied (log_path old.set.store old.set.next_file))) (g.E.Env.observed mid) (g.E.Env.observed to) (Ok c.in_ok-file.file) =
     subst (λ s. ChangesFiles g.E.Env.models_disk (emptied s) (BeforeOrAfter (emptied s)) (g.E.Env.observed mid) (g.E.Env.observed to) (Ok c.in_ok-file.file)) path c.in_ok-file.ensures.does in
     let same = c.self-2.view_is ∙ c.in_ok-sync.ensures.syncs.ok ∙ given in
     let number_is = c.in_ok-number.ensures.number ∙ ap (λ v. v.set.next_file) c.self.view_is in
     switched g.E.Env old from more mid sync rest to (Ok c.in_ok-file.file) opening c.in_ok-file.ensures.locks _
-    (ap (λ v. v.cmp) same) (ap (λ v. v.current) same) (ap (λ v. v.set) same) (λ i. record { number = number_is i; writer = c.new.ensures i })
+    (ap (λ v. v.cmp) same) (ap (λ v. v.current) same) (ap (λ v. v.set) same) (λ i. record { number = number_is i; writer = (c.in_ok-file.ensures.log i).writer })
     (ap (λ m. m.kept.entries) c.replace.ensures.after ∙ c.new-fresh.ensures.entries)
     (ap (λ m. m.kept.places) c.replace.ensures.after ∙ c.new-fresh.ensures.places)
     (ap (λ m. Some m.kept) c.replace.ensures.value ∙ ap (λ v. Some v.recent) same) c.in_ok-file.ensures.cause.ok
@@ -116,13 +117,13 @@ returns-clause-keeps g c = λ modelled meaning allowed w.
     let old = c.args.self.now in
     let from = c.args.env.now in
     let mid = c.sync.new.env in
-    let to = c.open_writable_file.new.self in
+    let to = c.make.new.env in
     let more : old.set.next_file + 1 < 2 ^ 64 = subst (λ v. v.set.next_file + 1 < 2 ^ 64) c.self.view_is c.in_ok-number.ensures.fits in
     let given = after_giving _ old c.self.view_is c.new_file_number.new.self c.in_ok-number.ensures.ok in
     let sync = sync_made g.E.Env from c.in_ok-sync.ensures.syncs.ok given mid c.in_ok-sync.ensures.syncs in
     let store = c.self.inside.versions.set.store in
     let number = c.in_ok-number.number in
-    let path : c.deref-2.result.now ≡ log_path old.set.store old.set.next_file = c.deref-2.ensures ∙ c.in_ok-path.ensures.ok
+    let path : string_bytes c.in_ok-path.path ≡ log_path old.set.store old.set.next_file = c.in_ok-path.ensures.ok
     ∙ ap (λ (s : List ℕ). log_path s number) (c.deref.ensures ∙ sym c.self.invariant.0) ∙ ap (log_path store) c.in_ok-number.ensures.number ∙ ap (λ v. log_path v.set.store v.set.next_file) c.self.view_is in
     let opening : ChangesFiles g.E.Env.models_disk (emptied (log_path old.set.store old.set.next_file)) (BeforeOrAfter (emptied (log_path old.set.store old.set.next_file))) (g.E.Env.observed mid) (g.E.Env.observed to) (Ok c.in_ok-file.file) =
     subst (λ s. ChangesFiles g.E.Env.models_disk (emptied s) (BeforeOrAfter (emptied s)) (g.E.Env.observed mid) (g.E.Env.observed to) (Ok c.in_ok-file.file)) path c.in_ok-file.ensures.does in
@@ -131,7 +132,7 @@ returns-clause-keeps g c = λ modelled meaning allowed w.
     keeps_switched (g.C.Cmp.cmp old.cmp) meaning (λ store. IsTrue (allowed store)) old (g.E.Env.observed from) w modelled (g.E.Env.observed mid) (g.E.Env.observed to) (sync.does modelled) (Ok c.in_ok-file.file) opening more _
     (record {
       set = ap (λ v. v.set) same;
-      log = λ i. record { number = number i; writer = c.new.ensures i };
+      log = λ i. record { number = number i; writer = (c.in_ok-file.ensures.log i).writer };
       recent = ap (λ m. m.kept.entries) c.replace.ensures.after ∙ c.new-fresh.ensures.entries;
       waiting = ap (λ m. Some m.kept) c.replace.ensures.value ∙ ap (λ v. Some v.recent) same;
     })
@@ -216,7 +217,7 @@ returns-in_err-file-clause-sound g c =
     let old = c.args.self.now in
     let from = c.args.env.now in
     let mid = c.sync.new.env in
-    let to = c.open_writable_file.new.self in
+    let to = c.make.new.env in
     let status = c.in_err-file.field-0.0 in
     let given = after_giving _ old c.self.view_is c.new_file_number.new.self c.in_ok-number.ensures.ok in
     let sync = sync_made g.E.Env from c.in_ok-sync.ensures.syncs.ok given mid c.in_ok-sync.ensures.syncs in
@@ -231,7 +232,7 @@ returns-clause-sound g c =
     let old = c.args.self.now in
     let from = c.args.env.now in
     let mid = c.sync.new.env in
-    let to = c.open_writable_file.new.self in
+    let to = c.make.new.env in
     let given = after_giving _ old c.self.view_is c.new_file_number.new.self c.in_ok-number.ensures.ok in
     let sync = sync_made g.E.Env from c.in_ok-sync.ensures.syncs.ok given mid c.in_ok-sync.ensures.syncs in
     sound_ok g.E.Env (g.C.Cmp.cmp old.cmp) any_meaning old from tt _ to

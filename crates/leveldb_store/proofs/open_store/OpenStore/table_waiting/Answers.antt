@@ -73,7 +73,7 @@ returns-clause-tables g c =
       cmp = c.self.inside.cmp;
       set = c.self.inside.versions.set;
       current = c.self.inside.versions.current;
-      log = record { number = c.self.inside.log.number; writer = c.self.inside.log.writer };
+      log = record { number = c.self.inside.log.number; writer = c.self.inside.log.file.writer };
       recent = c.self.inside.recent.kept;
       waiting = option_map (λ memtable. memtable.kept) c.self.inside.waiting;
     } in

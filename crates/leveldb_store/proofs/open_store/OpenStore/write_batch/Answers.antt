@@ -17,14 +17,6 @@ returns-in_err-prepare-clause-writes g c =
     (wrote_nothing g.E.Env (g.C.Cmp.cmp c.args.self.now.cmp) c.args.self.now c.args.env.now c.args.batch c.args.sync _ c.prepare.new.self c.prepare.new.batch prepares
     c.in_err-prepare.field-0.0 (inl prepares.cause))
 
-pub returns-in_err-path-clause-writes : goal.returns-in_err-path-clause-writes
-returns-in_err-path-clause-writes g c =
-    let p = err_from_is_err_and c.from_residual-in_err-path.result c.from_residual-in_err-path.ensures.1 in
-    let prepares = c.in_ok-prepare.ensures in
-    rw (p.1, p.2)
-    (wrote_nothing g.E.Env (g.C.Cmp.cmp c.args.self.now.cmp) c.args.self.now c.args.env.now c.args.batch c.args.sync _ c.prepare.new.self c.prepare.new.batch prepares
-    c.in_err-path.field-0.0 (inr (inl (inl c.in_err-path.ensures.cause))))
-
 pub returns-in_err-log_batch-clause-writes : goal.returns-in_err-log_batch-clause-writes
 returns-in_err-log_batch-clause-writes g c =
     let p = err_from_is_err_and c.from_residual-in_err-log_batch.result c.from_residual-in_err-log_batch.ensures.1 in
@@ -49,12 +41,6 @@ returns-in_err-prepare-clause-sound g c =
     let p = err_from_is_err_and c.from_residual.result c.from_residual.ensures.1 in
     rw (p.1, p.2)
     (prepare_sound g.E.Env (g.C.Cmp.cmp c.args.self.now.cmp) c.args.self.now c.args.env.now c.args.batch _ c.prepare.new.self c.prepare.new.batch c.in_err-prepare.ensures c.in_err-prepare.field-0.0)
-
-pub returns-in_err-path-clause-sound : goal.returns-in_err-path-clause-sound
-returns-in_err-path-clause-sound g c =
-    let p = err_from_is_err_and c.from_residual-in_err-path.result c.from_residual-in_err-path.ensures.1 in
-    rw (p.1, p.2)
-    (prepare_sound g.E.Env (g.C.Cmp.cmp c.args.self.now.cmp) c.args.self.now c.args.env.now c.args.batch _ c.prepare.new.self c.prepare.new.batch c.in_ok-prepare.ensures c.in_err-path.field-0.0)
 
 pub returns-in_err-log_batch-clause-sound : goal.returns-in_err-log_batch-clause-sound
 returns-in_err-log_batch-clause-sound g c =

@@ -1,6 +1,7 @@
-use Rattle.std.proofs.Common.{◌∙◌, ◌<◌, ◌^◌, ℕ, ap, refl, rules, sym}
+use Rattle.std.proofs.Common.{◌∙◌, ◌<◌, ◌^◌, ℕ, ap, arith, refl, rules, sym}
 use Rattle.std.specs.Prelude.{max}
 use Rattle.std.proofs.lemmas.Result.{err_from_is_err_and}
+use Rattle.leveldb_mem.specs.Log.LogFile.{LogFileState}
 use Rattle.leveldb_version.specs.Paths.{log_path}
 use Rattle.leveldb_store.proofs.OpeningBeginLemmas.{all_begun, edit_refused, ended_levels, ended_given, ended_made, ended_own, ended_path, ended_up_to, log_refused, neither, replay_refused, unversioned}
 use Rattle.leveldb_store.proofs.opening.begin.begin_writing.Goals as goal
@@ -55,7 +56,10 @@ invariant_of-result g c =
     c.in_ok-log_if.ensures.locks in
     let named = c.in_ok-path.ensures.ok in (
       path ∙ sym named,
-      λ modelled. opens.file modelled ∙ ap (log_path c.args.name.now) (sym opens.number) ∙ ap (λ s. log_path s c.in_ok-log.log.number) (sym named),
+      (
+        ap (λ (f : LogFileState). f.path) opens.file ∙ ap (log_path c.args.name.now) (sym opens.number) ∙ ap (λ s. log_path s c.in_ok-log.log.number) (sym named),
+        (let number = opens.number in let fits = opens.number_fits in omega (arith, number, fits)),
+      ),
       opens.order,
       tt,
       ended_own g.E.Env _ _ c.args.name.now c.args.set.is_anew c.args.set.versions c.args.set.logs.keys c.args.env.now c.requires c.in_ok-replay.replay set1
@@ -92,4 +96,4 @@ returns-clause-begins g c =
     all_begun g.E.Env _ _ c.args.name.now c.args.set.is_anew c.args.set.versions c.args.set.logs.keys c.args.env.now c.requires c.in_ok-replay.replay set1
     c.replay_logs.new.env c.in_ok-replay.ensures.replays c.set_last_seq.new.self set2 c.args.options.now.cmp (c.in_ok-log.log, c.in_ok-log.recent) c.open_log.new.versions c.open_log.new.env
     opens _ (neither c.args.set.is_anew c.in_ok-replay.replay.leaves_log) c.in_ok-log_if.field-0 c.log_if.new.versions.set c.log_if.new.env logs
-    c.in_ok-log_if.ensures.locks _ (record { set_is = refl; number = refl; writer = opens.writer; recent_is = opens.entries; waiting = refl })
+    c.in_ok-log_if.ensures.locks _ (record { set_is = refl; number = refl; writer = ap (λ (f : LogFileState). f.writer) opens.file; recent_is = opens.entries; waiting = refl })

@@ -26,7 +26,6 @@ not_made env store cmp old from status new to opens fits given cause = record {
   locks = opens.locks;
   number = tt;
   file = tt;
-  writer = tt;
   order = tt;
   entries = tt;
   cause = cause_of_error status (λ why. why) (λ why. inl why) cause;
