@@ -79,6 +79,7 @@ impl<E: Env, C: UserCmp + Copy> OpenStore<E, C> {
             batch.now.items }
         ensures bytes { AreBytes (batch_bytes batch.now.first batch.now.items) }
     {
-        self.log.file.append(env, batch.contents())
+        let text = batch.contents();
+        self.log.file.append(env, text)
     }
 }
