@@ -1,7 +1,10 @@
 //! The program over a disk in memory, with readers and writers that refuse.
+use leveldb_base::error::Result;
 use leveldb_env::env::Env;
+use leveldb_env::infolog::Logger;
 use leveldb_env::mem_env::MemEnv;
 use rusty_leveldb::shell::ldb_main;
+use rusty_leveldb::{DB, Options};
 use std::alloc::Global;
 use std::io::{self, Read, Write};
 use std::process::Abort;
@@ -140,12 +143,24 @@ fn run_into<E: Env, R: Read, W: Write>(
     input: &mut R,
     out: &mut W,
 ) -> io::Result<(u8, Vec<u8>)> {
+    run_with_log(alloc, env, words, None, input, out)
+}
+
+/// The same with a log of what the store says of its files.
+fn run_with_log<E: Env, R: Read, W: Write>(
+    alloc: Global,
+    env: &mut E,
+    words: &[&str],
+    log: Option<Logger>,
+    input: &mut R,
+    out: &mut W,
+) -> io::Result<(u8, Vec<u8>)> {
     let mut args = Vec::new(alloc);
     for word in words {
         args.push(String::from_str(alloc, word)?)?;
     }
     let mut err = Vec::new(alloc);
-    let status = ldb_main(alloc, env, &args, input, out, &mut err);
+    let status = ldb_main(alloc, env, &args, log, input, out, &mut err);
     Ok((status, err))
 }
 
@@ -326,5 +341,65 @@ fn locked_store(rt: HostRuntime) -> io::Result<()> {
     assert!(rt; env.lock("db/LOCK").is_ok());
     let mut input = b"get 61\n".as_slice();
     assert!(rt; is_of_a_lock(&run_program(alloc, &mut env, &["db"], &mut input)?));
+    Ok(())
+}
+
+const DAMAGED: &str =
+    "db/000003.log: 48 bytes from byte 0 on are left out, whole records among them\n";
+
+/// What the store says of a damaged log is a line, and changes no reply.
+#[test]
+fn a_damaged_log(rt: HostRuntime) -> Result<()> {
+    let alloc = rt.alloc();
+    let mut env = MemEnv::new(alloc);
+    let mut input = b"put 61 31\nput 62 32\n".as_slice();
+    let ending = run_program(alloc, &mut env, &["db"], &mut input)?;
+    assert_ending(&rt, &ending, 0, b"ok\nok\n", b"");
+    support::damage_file(alloc, &mut env, "db/000003.log", 10)?;
+    let lines = support::Lines::new(alloc)?;
+    let mut out = Vec::new(alloc);
+    let log = Some(lines.log(alloc, DAMAGED)?);
+    let mut input = b"get 61\nget 62\n".as_slice();
+    let (status, err) = run_with_log(alloc, &mut env, &["db"], log, &mut input, &mut out)?;
+    assert_ending(&rt, &Ending { status, out, err }, 0, b"none\nnone\n", b"");
+    assert!(rt; lines.counts().1 == 1);
+    assert!(rt; env.exists("db/000003.log")?);
+    Ok(())
+}
+
+const DAMAGED_MANIFEST: &str =
+    "db/MANIFEST-000001: 80 bytes from byte 41 on are left out, whole records among them\n";
+
+/// Of three keys two are in tables that a damaged edit names: they aren't found, and their tables stay.
+#[test]
+fn a_damaged_manifest(rt: HostRuntime) -> Result<()> {
+    let alloc = rt.alloc();
+    let mut env = MemEnv::new(alloc);
+    let mut options = Options::default();
+    options.write_buffer_size = 1;
+    let mut db = DB::open(alloc, "db", &mut env, options)?;
+    db.put(b"a", b"1")?;
+    db.put(b"b", b"2")?;
+    db.put(b"c", b"3")?;
+    db.close()?;
+    db.abandon()?;
+    support::damage_file(alloc, &mut env, "db/MANIFEST-000001", 53)?;
+    let lines = support::Lines::new(alloc)?;
+    let mut out = Vec::new(alloc);
+    let log = Some(lines.log(alloc, DAMAGED_MANIFEST)?);
+    let mut input = b"get 61\nget 62\nget 63\n".as_slice();
+    let (status, err) = run_with_log(alloc, &mut env, &["db"], log, &mut input, &mut out)?;
+    assert_ending(
+        &rt,
+        &Ending { status, out, err },
+        0,
+        b"none\nnone\nvalue 33\n",
+        b"",
+    );
+    assert!(rt; lines.counts().1 == 1);
+    for name in ["MANIFEST-000001", "000005.ldb", "000007.ldb"] {
+        let path = format!(in alloc; "db/{name}")?;
+        assert!(rt; env.exists(&path)?);
+    }
     Ok(())
 }

@@ -7,6 +7,8 @@ mod batches;
 #[cfg(test)]
 mod build_table;
 #[cfg(test)]
+mod damage;
+#[cfg(test)]
 mod engines;
 #[cfg(test)]
 mod iterators;

@@ -1,14 +1,16 @@
 //! What suites of several crates share: questions to answers, changed bytes, a list to walk over,
-//! compressors and devices.
+//! compressors, devices, and a log that expects a line.
 
 mod answers;
 mod compressors;
 mod damage;
 mod lists;
 mod short_reads;
+mod sinks;
 
 pub use answers::{code_of, failed_with};
 pub use compressors::{Raised, Refusing};
 pub use damage::{change_byte, damage_file};
 pub use lists::Listed;
 pub use short_reads::ShortReads;
+pub use sinks::Lines;

@@ -23,6 +23,9 @@ pub mod NotTabledLemmas
 pub mod SoundLemmas
 pub mod RoomLemmas
 pub mod WrittenFromLemmas
+mod LogDamageLemmas
+mod DamageLemmas
+pub mod KeptFilesLemmas
 mod ReadLemmas
 pub mod LookUpLemmas
 pub mod ViewLemmas

@@ -24,7 +24,7 @@ use Rattle.leveldb_base.specs.Error.{IsOutOfMemory}
 use Rattle.leveldb_base.specs.History.{History}
 use Rattle.leveldb_base.specs.Names.{IsFileName, IsNumber, IsNumbered, file_name}
 use Rattle.leveldb_base.specs.declared.error.Status.{Status}
-use Rattle.leveldb_base.specs.declared.error.StatusCode.TheVariants.{NotFound}
+use Rattle.leveldb_base.specs.declared.error.StatusCode.TheVariants.{Corruption, NotFound}
 use Rattle.leveldb_base.specs.declared.types.FileType.{FileType}
 use Rattle.leveldb_base.specs.declared.types.FileType.TheVariants.{Current, DBLock, Descriptor, InfoLog, Log, Table, Temp}
 use Rattle.leveldb_env.proofs.EnvLemmas.{Run-mono, Run-trans, SameBut-deleted, at_other, at_same, begun, bytes_eq-apart, call, with_file-itself}
@@ -488,7 +488,7 @@ module _ {E F : Type 0} (env : Ghosts E F) (set : VersionSetValue) (from : E) wh
 -- ---- a list of names
 
 -- the next item, in what is done and in what is left
-next_item : {A B : Type 0} (f : A → B) (items : List A) (i : ℕ) (item : A) → i < length items → item ≡ get_or items i item
+pub next_item : {A B : Type 0} (f : A → B) (items : List A) (i : ℕ) (item : A) → i < length items → item ≡ get_or items i item
     → (take (i + 1) (map f items) ≡ take i (map f items) ++ f item ∷ []) × (drop i (map f items) ≡ f item ∷ drop (i + 1) (map f items))
 next_item f [] i item within is = absurd (omega (arith, within))
 next_item f (first ∷ items) zero item within is = (ap (λ x. f x ∷ []) (sym is), ap (λ x. f x ∷ map f items) (sym is))
@@ -547,19 +547,32 @@ module _ {E F : Type 0} (env : Ghosts E F) (set : VersionSetValue) (from : E) wh
   -- the folder isn't listed
   pub RemovesObsolete-unlisted : {T : Type 0} (usable : set.manifest ≢ broken) (mid : E) (status : Status) → (IsTrue env.models_disk → Run (FilesUnchanged (env.observed from).disk.files) (env.observed from) (env.observed mid))
       → SameLocks env.models_disk (env.observed from) (env.observed mid) → HasCause {T = T} (IsEmptyFolder env.models_disk set.store (env.observed from)) (env.failures from) (env.failures mid) (Err status)
-      → RemovesObsolete env set from (Err status) mid
-  RemovesObsolete-unlisted usable mid status still locks cause = record {
+      → {keeps_files : Bool} → keeps_files ≡ false → RemovesObsolete env set from keeps_files (Err status) mid
+  RemovesObsolete-unlisted usable mid status still locks cause {keeps_files} deletes = record {
     run = λ modelled. Run-mono (λ files same path. inl (ap (λ (f : Files). f path) same)) (still modelled);
     all = λ again. tt;
     left = λ again. inr (inl (tt, λ modelled. (still modelled).has));
     broken_keeps = λ is. absurd (usable is);
+    keeps = λ again kept. let never : false ≡ true = sym deletes ∙ kept in absurd (cc never);
     locks = locks;
     cause = record {
       later = cause.later;
       ok = tt;
-      cause = ⊎_elim (λ excused. inl excused)
+      cause = ⊎_elim (λ excused. inl (inl excused))
           (λ counted. inr (⊎_elim (λ one. inl (omega (arith, one))) (λ most. inr most) counted)) cause.cause;
     };
+  }
+
+  -- files are kept
+  pub RemovesObsolete-kept : set.manifest ≢ broken → {keeps_files : Bool} → IsTrue keeps_files → (status : Status) → status.code ≡ Corruption → RemovesObsolete env set from keeps_files (Err status) from
+  RemovesObsolete-kept usable kept status code = record {
+    run = λ modelled. begun (env.observed from) (λ path. inl refl);
+    all = λ again. tt;
+    left = λ again. inr (inl (tt, λ modelled. refl));
+    broken_keeps = λ is. absurd (usable is);
+    keeps = λ again yes. (code, refl);
+    locks = λ modelled. refl;
+    cause = record { later = omega arith; ok = tt; cause = inl (inr (kept, code)) };
   }
 
   module _ (usable : set.manifest ≢ broken) (mid : E) (listing : IsTrue env.models_disk → Run (FilesUnchanged (env.observed from).disk.files) (env.observed from) (env.observed mid)) (counted : env.failures mid ≡ env.failures from)
@@ -602,22 +615,23 @@ module _ {E F : Type 0} (env : Ghosts E F) (set : VersionSetValue) (from : E) wh
             by None none = absurd (let never : false ≡ true = subst IsSome (gone_at modelled (in_folder set.store name) none) some in cc)
             by (Some file) is = subst IsSome (sym is) refl
 
-    pub RemovesObsolete-after : SameLocks env.models_disk (env.observed from) (env.observed mid) → RemovesObsolete env set from result to
-    RemovesObsolete-after locks = record {
+    pub RemovesObsolete-after : SameLocks env.models_disk (env.observed from) (env.observed mid) → {keeps_files : Bool} → keeps_files ≡ false → RemovesObsolete env set from keeps_files result to
+    RemovesObsolete-after locks {keeps_files} deletes = record {
       run = λ modelled. Run-mono (removes_no_other set first_files) (removing modelled);
       all = λ again. all_gone result removes.all;
       left = λ again. ⊎_elim (λ memory. inl memory) (λ before. inr (inr (λ modelled. left_here modelled (before modelled)))) removes.left;
       broken_keeps = λ is. absurd (usable is);
+      keeps = λ again kept. let never : false ≡ true = sym deletes ∙ kept in absurd (cc never);
       locks = λ modelled. removes.locks modelled ∙ locks modelled;
       cause = widened result (subst (λ n. HasFirstCause (λ status. IsOutOfMemory status ⊎ ((status.code ≡ NotFound) × (IsTrue env.models_disk → ⊥))) n (env.failures to) result) counted removes.cause);
     }
       where
         widened : {before now : ℕ} (result' : Result (Unit {0}) Status) → HasFirstCause (λ status. IsOutOfMemory status ⊎ ((status.code ≡ NotFound) × (IsTrue env.models_disk → ⊥))) before now result'
-            → HasFirstCause (IsEmptyFolder env.models_disk set.store (env.observed from)) before now result'
+            → HasFirstCause (λ status. IsEmptyFolder env.models_disk set.store (env.observed from) status ⊎ (IsTrue keeps_files × (status.code ≡ Corruption))) before now result'
         widened (Ok x) cause = record { later = cause.later; ok = cause.ok; cause = tt }
         widened (Err e) cause = record {
           later = cause.later;
           ok = tt;
-          cause = ⊎_elim (λ excused. inl (⊎_elim (λ memory. inl memory)
-              (λ (missing : (e.code ≡ NotFound) × (IsTrue env.models_disk → ⊥)). inr (missing.0, λ modelled. absurd (missing.1 modelled))) excused)) (λ counted'. inr counted') cause.cause;
+          cause = ⊎_elim (λ excused. inl (inl (⊎_elim (λ memory. inl memory)
+              (λ (missing : (e.code ≡ NotFound) × (IsTrue env.models_disk → ⊥)). inr (missing.0, λ modelled. absurd (missing.1 modelled))) excused))) (λ counted'. inr counted') cause.cause;
         }

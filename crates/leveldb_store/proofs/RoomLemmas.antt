@@ -72,6 +72,7 @@ module _ {C : Type 0} {models_disk : Bool} where
     store = second.store ∙ first.store;
     cmp = second.cmp ∙ first.cmp;
     last = second.last ∙ first.last;
+    keeps_files = second.keeps_files ∙ first.keeps_files;
     files = λ modelled path spared. second.files modelled path
         (λ its. spared (subst (λ (s : List ℕ). IsDataPath s path) first.store its))
         ∙ first.files modelled path spared;
@@ -134,6 +135,7 @@ module _ {E F C : Type 0} (env : Ghosts E F) (cmp : List ℕ → List ℕ → Or
       store = refl;
       cmp = refl;
       last = refl;
+      keeps_files = refl;
       files = λ modelled path spared. refl;
       numbers = omega arith;
       tables = λ modelled. given_same old.set (env.observed from).disk.files
@@ -155,6 +157,7 @@ module _ {E F C : Type 0} (env : Ghosts E F) (cmp : List ℕ → List ℕ → Or
       store = refl;
       cmp = refl;
       last = refl;
+      keeps_files = refl;
       files = λ modelled. others_stay old.set (env.observed from).disk.files
           (env.observed to).disk.files (tidied.others modelled);
       numbers = omega arith;

@@ -9,6 +9,7 @@ pub mod Write
 pub mod Written
 pub mod WrittenFrom
 pub mod Switch
+pub mod Damage
 pub mod Read
 pub mod View
 pub mod Opening

@@ -31,6 +31,8 @@ pub record OpenStoreValue (C : Type 0) : Type 0 where
   -- the memtable of that log, and the one of the logs before it, which waits to be a table
   pub recent : Kept
   pub waiting : Option Kept
+  -- whether no file of it is deleted, since one of them is damaged
+  pub keeps_files : Bool
 
 -- no call on its manifest or its log has failed
 pub record IsUnbroken {C : Type 0} (value : OpenStoreValue C) : Type 0 where

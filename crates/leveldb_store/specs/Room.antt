@@ -1,6 +1,6 @@
 -- What making room in the memtable returns and leaves, and why it fails; and deletions whose
 -- failures are told to a sink alone.
-use Rattle.std.specs.Prelude.{◌≡◌, ◌≢◌, ◌≤◌, ◌<◌, ◌-◌, ◌^◌, ◌⊎◌, ℕ, List, [], Option, None, Some, Result, IfErr, OnErr, OnOk, IsTrue, is_some, map}
+use Rattle.std.specs.Prelude.{◌≡◌, ◌≢◌, ◌≤◌, ◌<◌, ◌-◌, ◌^◌, ◌⊎◌, ℕ, List, [], Option, None, Some, Result, Ok, Err, IfErr, OnErr, OnOk, IsTrue, is_some, map}
 use Rattle.std.specs.declared.cmp.Ordering.{Ordering}
 use Rattle.leveldb_base.specs.Entries.{internal_pair}
 use Rattle.leveldb_base.specs.Error.{IsOutOfMemory}
@@ -13,8 +13,10 @@ use Rattle.leveldb_env.specs.Options.{Boxed, OptionsOf}
 use Rattle.leveldb_env.specs.declared.env.Env.{Ghosts}
 use Rattle.leveldb_env.specs.declared.filter.FilterPolicy.{Ghosts as FilterGhosts}
 use Rattle.leveldb_mem.specs.MemTable.{Kept, memory_of_entries}
+use Rattle.leveldb_table.specs.TableBlock.{KeepsDisk}
 use Rattle.leveldb_store.specs.BuildTable.{IsNotTabled, TableChoices}
 use Rattle.leveldb_version.specs.Format.{Agrees, Format, Meaning}
+use Rattle.leveldb_store.specs.Damage.{HasDamagedFile}
 use Rattle.leveldb_store.specs.OpenStore.{IsUnbroken, OpenStoreValue}
 use Rattle.leveldb_store.specs.Switch.{AreFileNumbersTooFew, RemovesNoOther, RemovesObsolete}
 use Rattle.leveldb_store.specs.Written.{IsWritten, KeepsWritten, SparesRest}
@@ -38,6 +40,19 @@ pub record TellsOnly {C FP : Type 0} {B : Boxed} (before after : OptionsOf C FP 
   pub rest : after ≡ record before { log = after.log }
   -- there is one if there was one
   pub sink : is_some after.log ≡ is_some before.log
+
+-- ---- removals
+
+-- what a call returned, beside what the removal at its end did
+abbrev pub but_removal : Result (Result (Unit {0}) Status) Status → Result (Unit {0}) Status
+but_removal (Ok removal) = Ok tt
+but_removal (Err status) = Err status
+
+-- the last that was done is a removal of the files of this store that are obsolete
+abbrev pub RemovesAtLast : {E F C : Type 0} → Ghosts E F → OpenStoreValue C
+    → Result (Unit {0}) Status → E → Type 0
+RemovesAtLast {E} env value removal to =
+    (at : E) × RemovesObsolete env value.set at value.keeps_files removal to
 
 -- ---- room
 
@@ -95,14 +110,23 @@ module _ {E F C : Type 0} (env : Ghosts E F) (cmp : List ℕ → List ℕ → Or
     pub rest : SparesRest env.models_disk old (env.observed from) new (env.observed to)
     pub cause : FailsFor (FailsToMakeRoom choices) (env.failures from) (env.failures to) result
 
-  -- Obsolete files are deleted, and what failed of that is told.
+  -- What a deletion of obsolete files keeps, whatever it returns.
   pub record TidiesUp (to : E) : Type 0 where
-    -- the removal, which may have failed
-    pub removal : Result (Unit {0}) Status
-    pub removes : RemovesObsolete env old.set from removal to
     pub others : IsTrue env.models_disk
         → RemovesNoOther old.set (env.observed from).disk.files (env.observed to).disk.files
     pub keeps : IsTrue env.models_disk → (meaning : Meaning)
         → KeepsWritten cmp meaning old (env.observed from) old (env.observed to)
     pub locks : SameLocks env.models_disk (env.observed from) (env.observed to)
     pub later : env.failures from ≤ env.failures to
+
+-- What an opening does at its end: it looks at the logs and manifests that were left aside, and then
+-- removes what is obsolete.
+pub record TidiesOpened {E F C : Type 0} (env : Ghosts E F) (old : OpenStoreValue C) (from : E)
+    (new : OpenStoreValue C) (result : Result (Unit {0}) Status) (to : E) : Type 0 where
+  pub same : new ≡ record old { keeps_files = new.keeps_files }
+  -- where one of them is damaged no file changes, and no removal changes one later
+  pub damaged : IsTrue env.models_disk → HasDamagedFile old.set (env.observed from).disk.files
+      → IsTrue new.keeps_files × ((env.observed to).disk.files ≡ (env.observed from).disk.files)
+  -- files were only read before the removal
+  pub removes : (at : E) × KeepsDisk env from at
+      × RemovesObsolete env old.set at new.keeps_files result to

@@ -1,13 +1,13 @@
 -- What a switch of the log, the table of the entries that wait, and the removal of obsolete files
 -- change of an open store, and why each fails.
-use Rattle.std.specs.Prelude.{◌≡◌, ◌≢◌, ◌⊎◌, ◌≤◌, ◌<◌, ◌+◌, ◌-◌, ◌^◌, ℕ, List, [], ◌∷◌, All, Contains, None, Some, Result, Ok, Err, IfErr, IsErrAnd, IsSome, OnErr, OnOk, IsTrue, length}
+use Rattle.std.specs.Prelude.{◌≡◌, ◌≢◌, ◌⊎◌, ◌≤◌, ◌<◌, ◌+◌, ◌-◌, ◌^◌, ℕ, Bool, List, [], ◌∷◌, All, Contains, None, Some, Result, Ok, Err, IfErr, IsErrAnd, IsSome, OnErr, OnOk, IsTrue, length}
 use Rattle.leveldb_base.specs.Error.{IsOutOfMemory}
 use Rattle.leveldb_base.specs.Names.{IsFileName}
 use Rattle.leveldb_base.specs.Types.{Pair}
 use Rattle.std.specs.declared.cmp.Ordering.{Ordering}
 use Rattle.leveldb_base.specs.declared.cmp.Cmp.{Ghosts as CmpGhosts}
 use Rattle.leveldb_base.specs.declared.error.Status.{Status}
-use Rattle.leveldb_base.specs.declared.error.StatusCode.TheVariants.{NotFound, NotSupported, OutOfMemory}
+use Rattle.leveldb_base.specs.declared.error.StatusCode.TheVariants.{Corruption, NotFound, NotSupported, OutOfMemory}
 use Rattle.leveldb_base.specs.declared.types.FileType.{FileType}
 use Rattle.leveldb_env.specs.Env.{BeforeOrAfter, ChangesFiles, Files, HasCause, IsEmptyFolder, IsMissing, Run, SameLocks, deleted, in_folder}
 use Rattle.leveldb_env.specs.WholeFiles.{IsLost}
@@ -197,8 +197,9 @@ module _ {E F : Type 0} (env : Ghosts E F) (set : VersionSetValue) (from : E) wh
       → (env.observed to).disk.files ≡ (env.observed from).disk.files)
 
   -- Obsolete files were removed, and no others; after an Err some of them may be there still. A
-  -- set that is broken removes none.
-  pub record RemovesObsolete (result : Result (Unit {0}) Status) (to : E) : Type 0 where
+  -- set that is broken removes none, and a store that keeps files does neither.
+  pub record RemovesObsolete (keeps_files : Bool) (result : Result (Unit {0}) Status) (to : E)
+      : Type 0 where
     -- now and at each moment on the way
     pub run : IsTrue env.models_disk → Run (RemovesNoOther set (env.observed from).disk.files)
         (env.observed from) (env.observed to)
@@ -208,11 +209,15 @@ module _ {E F : Type 0} (env : Ghosts E F) (set : VersionSetValue) (from : E) wh
     pub left : set.manifest ≢ broken → IsMemoryOut result ⊎ IsUnlisted result to
         ⊎ (IsTrue env.models_disk → LeavesFailed (IsObsoleteName set) to)
     pub broken_keeps : set.manifest ≡ broken → (result ≡ Ok tt) × (to ≡ from)
+    pub keeps : set.manifest ≢ broken → IsTrue keeps_files
+        → IsErrAnd result (λ status. status.code ≡ Corruption) × (to ≡ from)
     pub locks : SameLocks env.models_disk (env.observed from) (env.observed to)
-    -- out of memory, the folder has no file, or a call of the device failed; where no disk is
-    -- modelled, a file may be missing that was listed
-    pub cause : HasFirstCause (IsEmptyFolder env.models_disk set.store (env.observed from))
-        (env.failures from) (env.failures to) result
+    -- out of memory, the folder has no file, files are kept, or a call of the device failed; where
+    -- no disk is modelled, a file may be missing that was listed
+    pub cause : HasFirstCause (λ status.
+        IsEmptyFolder env.models_disk set.store (env.observed from) status
+        ⊎ (IsTrue keeps_files × (status.code ≡ Corruption))) (env.failures from)
+        (env.failures to) result
 
   -- ---- one file after the other
 

@@ -2,6 +2,7 @@
 ghost use Rattle.std.specs.Prelude.{◌≡◌, ◌↔◌, IsTrue, false};
 ghost use Rattle.leveldb_store.specs.OpenStore.{IsUnbroken};
 
+mod damage;
 mod obsolete;
 mod read;
 mod room;
@@ -42,6 +43,8 @@ pub struct OpenStore<E: Env, C: Cmp> {
     pub(crate) recent: MemTable<C>,
     // Those of the logs before it, until they are in a table.
     pub(crate) waiting: Option<MemTable<C>>,
+    // Whether no file is deleted, since a log or a manifest that was left aside is damaged.
+    pub(crate) keeps_files: bool,
 }
 
 impl<E: Env, C: Cmp + Drop> Drop for OpenStore<E, C> {
@@ -55,6 +58,7 @@ impl<E: Env, C: Cmp + Drop> Drop for OpenStore<E, C> {
             log,
             recent,
             waiting,
+            keeps_files: _,
         } = self;
         drop(name);
         drop(cmp);
@@ -82,6 +86,7 @@ impl<E: Env, C: Cmp> Model for OpenStore<E, C> {
       log = record { number = it.log.number; writer = it.log.file.writer };
       recent = it.recent.kept;
       waiting = option_map (λ memtable. memtable.kept) it.waiting;
+      keeps_files = it.keeps_files;
     } };
 
     // The version set is of the store's path, the log's file has the path of the log's number, which

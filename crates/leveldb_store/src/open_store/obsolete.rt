@@ -1,6 +1,6 @@
 //! Deletions of the store's files that nothing needs any more.
 ghost use Rattle.std.specs.Prelude.{◌≡◌, ◌↔◌, IsTrue, map, string_bytes};
-ghost use Rattle.leveldb_base.specs.declared.types.FileType.TheVariants.{Table};
+ghost use Rattle.leveldb_base.specs.declared.types.FileType.TheVariants.{Log, Table};
 ghost use Rattle.leveldb_env.specs.Env.{ListsChildren};
 ghost use Rattle.leveldb_version.specs.VersionSetValue.{numbers_in_order};
 ghost use Rattle.leveldb_version.specs.Writing.{IsObsolete};
@@ -11,7 +11,7 @@ ghost use Rattle.leveldb_store.specs.Written.{KeepsWritten};
 
 use super::OpenStore;
 use leveldb_base::cmp::UserCmp;
-use leveldb_base::error::{Result, StatusCode};
+use leveldb_base::error::{Result, StatusCode, err};
 use leveldb_base::names::file_name_parts;
 use leveldb_base::types::{FileNum, FileType};
 use leveldb_env::env::Env;
@@ -24,13 +24,15 @@ impl<E: Env, C: UserCmp + Copy + Drop> OpenStore<E, C> {
     /// manifests below the one in use, tables that aren't live, and temporary files. A table is
     /// closed before its file is deleted. It goes on after a deletion that fails, and returns the
     /// first error, or `OutOfMemory` if memory was out for one of them. Where a call on the manifest
-    /// failed it deletes nothing, since the manifest may know of more than the set does.
+    /// failed it deletes nothing, since the manifest may know of more than the set does. Where the
+    /// store keeps its files it makes no call and returns `Corruption`.
     pub fn remove_obsolete<FP: FilterPolicy + Copy + Drop>(
         &self,
         env: &mut E,
         tables: &mut TableCache<E, C, FP>,
     ) -> Result<()>
-        ensures removes { RemovesObsolete E.Env self.now.set env.old result env.new }
+        ensures removes { RemovesObsolete E.Env self.now.set env.old self.now.keeps_files result
+            env.new }
         ensures keeps { IsTrue E.models_disk → (meaning : Meaning)
             → KeepsWritten (C.cmp self.now.cmp) meaning self.now (E.observed env.old) self.now
             (E.observed env.new) }
@@ -38,6 +40,13 @@ impl<E: Env, C: UserCmp + Copy + Drop> OpenStore<E, C> {
     {
         if self.versions.is_broken() {
             return Ok(());
+        }
+        if self.keeps_files {
+            return err(
+                self.alloc,
+                StatusCode::Corruption,
+                "files are kept, since one of them is damaged",
+            );
         }
         let live = self.versions.live_files()?;
         let names = env.children(self.alloc, &self.name)?;
@@ -98,15 +107,19 @@ impl<E: Env, C: UserCmp + Copy + Drop> OpenStore<E, C> {
         ensures { IsTrue result ↔ IsObsolete self.now.set kind number }
     {
         match kind {
-            FileType::Log => {
-                number < self.versions.log_num()
-                    && (number == 0 || number != self.versions.prev_log_num())
-            }
+            FileType::Log => self.is_past_log(number),
             FileType::Descriptor => number < self.versions.manifest_num(),
             FileType::Table => !live.contains(&number),
             FileType::Temp => true,
             FileType::DBLock | FileType::Current | FileType::InfoLog => false,
         }
+    }
+
+    // Whether a log of this number is obsolete.
+    pub(super) fn is_past_log(&self, number: FileNum) -> bool
+        ensures { IsTrue result ↔ IsObsolete self.now.set Log number }
+    {
+        number < self.versions.log_num() && (number == 0 || number != self.versions.prev_log_num())
     }
 }
 

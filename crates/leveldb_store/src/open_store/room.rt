@@ -1,14 +1,15 @@
 //! Room in the memtable: entries of one that is full become a table, and obsolete files are
 //! deleted.
-ghost use Rattle.std.specs.Prelude.{◌≡◌, ◌≢◌, ◌↔◌, ◌≤◌, ◌+◌, None, Contains, IsTrue, OnErr, OnOk, is_some};
+ghost use Rattle.std.specs.Prelude.{◌≡◌, ◌≢◌, ◌↔◌, ◌≤◌, ◌+◌, None, Contains, IfOk, IsTrue, OnErr, OnOk, is_some};
 ghost use Rattle.leveldb_store.specs.BuildTable.{choices_of};
 ghost use Rattle.leveldb_version.specs.Format.{Agrees, format_of};
 ghost use Rattle.leveldb_version.specs.VersionEdit.{NewFile};
 ghost use Rattle.leveldb_store.specs.OpenStore.{IsUnbroken};
 ghost use Rattle.leveldb_store.specs.OpenTables.{ClosesObsolete};
-ghost use Rattle.leveldb_store.specs.Room.{IsFull, MakesRoom, TidiesUp};
+ghost use Rattle.leveldb_store.specs.Room.{IsFull, MakesRoom, RemovesAtLast, TidiesUp, but_removal};
 ghost use Rattle.leveldb_store.specs.RoomSteps.{FailsToTableIfWaiting, IsStepToRoom};
 ghost use Rattle.leveldb_store.specs.SoundCall.{BytesAreAppended, IsSoundCall, TimeGoesOn};
+ghost use Rattle.leveldb_store.specs.Switch.{RemovesObsolete};
 
 use super::OpenStore;
 use leveldb_base::cmp::{Cmp, InternalKeyCmp, UserCmp};
@@ -31,31 +32,35 @@ impl<E: Env, C: UserCmp + Copy> OpenStore<E, C> {
 }
 
 impl<E: Env, C: UserCmp + Copy + Drop> OpenStore<E, C> {
-    /// Deletes obsolete files, and closes their tables. A failure is no error, but a line for
-    /// `log`: nothing reads the files that are left, and the next call deletes them.
+    /// Deletes obsolete files, and closes their tables. An Err is what the removal returned, and a
+    /// line for `log`: nothing reads the files that are left, and the next call deletes them.
     pub fn tidy_up<FP: FilterPolicy + Copy + Drop>(
         &self,
         env: &mut E,
         tables: &mut TableCache<E, C, FP>,
         log: &mut Option<Logger>,
-    )
+    ) -> Result<()>
         requires usable { IsUnbroken self.now }
+        ensures removes { RemovesObsolete E.Env self.now.set env.old self.now.keeps_files result
+            env.new }
         ensures tidies { TidiesUp E.Env (C.cmp self.now.cmp) self.now env.old env.new }
         ensures closes { ClosesObsolete E.Env self.now.set env.old tables.old env.new tables.new }
         ensures time { TimeGoesOn E.Env env.old env.new }
         ensures bytes { BytesAreAppended E.Env env.old env.new }
         ensures log { is_some log.new ≡ is_some log.old }
     {
-        if let Err(e) = self.remove_obsolete(env, tables) {
+        let removal = self.remove_obsolete(env, tables);
+        if let Err(e) = &removal {
             log!(*log, self.alloc; "obsolete files may be left: {e}");
         }
+        removal
     }
 
     /// Makes room in the memtable, if its entries take `write_buffer_size` bytes or more. They wait
     /// while batches go to a new log, and become a table. Where they wait already, since a call
     /// before made no table of them, they become one before anything else, so that one memtable
     /// waits at most. Obsolete files are deleted after each table, and their tables closed; what
-    /// fails of that is a line for `log`.
+    /// fails of that is a line for `log`. An Ok has what the last of these removals returned.
     ///
     /// After an Err the memtable is full still, or one waits; of a store that is written no entry is
     /// lost. The next call goes on from there, unless the store broke.
@@ -65,36 +70,39 @@ impl<E: Env, C: UserCmp + Copy + Drop> OpenStore<E, C> {
         options: &Options<C, FP>,
         tables: &mut TableCache<E, C, FP>,
         log: &mut Option<Logger>,
-    ) -> Result<()>
+    ) -> Result<Result<()>>
         requires usable { IsUnbroken self.old }
         requires order { C.cmp options.now.cmp ≡ C.cmp self.old.cmp }
         ensures makes { MakesRoom E.Env (C.cmp self.old.cmp) self.old env.old (choices_of C.Cmp
             FP.FilterPolicy ⟦<InternalKeyCmp<C> as Cmp>⟧
             ⟦<InternalFilterPolicy<FP> as FilterPolicy>⟧ ⟦<CompressorList as Compressors>⟧.codings
-            options.now) options.now.write_buffer_size result self.new env.new }
+            options.now) options.now.write_buffer_size (but_removal result) self.new env.new }
+        ensures removes { IfOk result (λ removal.
+            IsFull options.now.write_buffer_size self.old.recent
+            → RemovesAtLast E.Env self.new removal env.new) }
         ensures sound { IsSoundCall E.Env (C.cmp self.old.cmp) (Agrees (format_of C.Cmp
             FP.FilterPolicy ⟦<CompressorList as Compressors>⟧.codings options.now)) self.old
-            env.old result self.new env.new }
+            env.old (but_removal result) self.new env.new }
         ensures closes { ClosesObsolete E.Env self.old.set env.old tables.old env.new tables.new }
         ensures log { is_some log.new ≡ is_some log.old }
     {
         if !self.is_full(options.write_buffer_size) {
-            return Ok(());
+            return Ok(Ok(()));
         }
-        self.table_if_waiting(env, options, tables, log)?;
+        let _ = self.table_if_waiting(env, options, tables, log)?;
         self.switch_log(env)?;
         self.table_if_waiting(env, options, tables, log)
     }
 
     // Makes a table of the entries that wait, if some do, and deletes the files that are obsolete
-    // then.
+    // then. An Ok has what the removal returned.
     fn table_if_waiting<FP: FilterPolicy + Copy + Drop>(
         &mut self,
         env: &mut E,
         options: &Options<C, FP>,
         tables: &mut TableCache<E, C, FP>,
         log: &mut Option<Logger>,
-    ) -> Result<()>
+    ) -> Result<Result<()>>
         requires usable { IsUnbroken self.old }
         requires order { C.cmp options.now.cmp ≡ C.cmp self.old.cmp }
         ensures step { let choices = choices_of C.Cmp FP.FilterPolicy
@@ -102,20 +110,22 @@ impl<E: Env, C: UserCmp + Copy + Drop> OpenStore<E, C> {
             ⟦<CompressorList as Compressors>⟧.codings options.now in
             IsStepToRoom E.Env (C.cmp self.old.cmp) choices.format
             (FailsToTableIfWaiting E.Env (C.cmp self.old.cmp) choices self.old env.old)
-            self.old env.old result self.new env.new }
+            self.old env.old (but_removal result) self.new env.new }
+        ensures removes { IfOk result (λ removal. self.old.waiting ≢ None
+            → RemovesAtLast E.Env self.new removal env.new) }
         ensures numbers { OnOk result (self.new.set.next_file ≤ self.old.set.next_file + 1) }
-        ensures none_waits { OnOk result (self.new.waiting ≡ None) }
-        ensures waits { OnErr result (self.new.waiting ≢ None) }
+        ensures none_waits { OnOk (but_removal result) (self.new.waiting ≡ None) }
+        ensures waits { OnErr (but_removal result) (self.new.waiting ≢ None) }
         ensures recent { self.new.recent ≡ self.old.recent }
         ensures live { (file : NewFile) → Contains self.old.set.full.added file
             → Contains self.new.set.full.added file }
         ensures closes { ClosesObsolete E.Env self.old.set env.old tables.old env.new tables.new }
         ensures log { is_some log.new ≡ is_some log.old }
     {
-        if self.has_waiting() {
-            self.table_waiting(env, options)?;
-            self.tidy_up(env, tables, log);
+        if !self.has_waiting() {
+            return Ok(Ok(()));
         }
-        Ok(())
+        self.table_waiting(env, options)?;
+        Ok(self.tidy_up(env, tables, log))
     }
 }

@@ -54,6 +54,7 @@ pub(super) fn begin_writing<E: Env, C: UserCmp + Copy + Drop, FP: FilterPolicy +
         log,
         recent,
         waiting: None,
+        keeps_files: false,
     })
 }
 

@@ -48,7 +48,8 @@ impl<E: Env, C: UserCmp + Copy, FP: FilterPolicy + Copy> Engine<E, C, FP> {
         let mut options = options;
         match OpenStore::open(alloc, env, name, &options) {
             Ok(store) => {
-                store.tidy_up(env, &mut tables, &mut options.log);
+                let mut store = store;
+                let _ = store.tidy_opened(env, &mut tables, &mut options.log);
                 Ok(Engine {
                     alloc,
                     options,

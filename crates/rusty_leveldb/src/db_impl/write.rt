@@ -1,11 +1,11 @@
 //! Writing to a store: batches, and syncs of its log.
-ghost use Rattle.std.specs.Prelude.{◌≡◌, ◌∷◌, [], Some, None, false, is_some};
+ghost use Rattle.std.specs.Prelude.{◌≡◌, ◌∷◌, [], Some, None, false, IfOk, is_some};
 ghost use Rattle.leveldb_mem.specs.WriteBatch.{item_of};
 ghost use Rattle.rusty_leveldb.specs.State.{open_mode};
 ghost use Rattle.leveldb_store.specs.BuildTable.{choices_of};
 ghost use Rattle.leveldb_version.specs.Format.{Agrees, format_of};
 ghost use Rattle.leveldb_store.specs.OpenTables.{ClosesObsolete};
-ghost use Rattle.leveldb_store.specs.Room.{MakesRoom};
+ghost use Rattle.leveldb_store.specs.Room.{IsFull, MakesRoom, RemovesAtLast, but_removal};
 ghost use Rattle.leveldb_store.specs.SoundCall.{IsSoundCall};
 ghost use Rattle.rusty_leveldb.specs.Engine.{options_in};
 ghost use Rattle.rusty_leveldb.specs.EngineValue.{FollowsStore};
@@ -58,24 +58,27 @@ impl<E: Env, C: UserCmp + Copy, FP: FilterPolicy + Copy> Engine<E, C, FP> {
             EngineWrites E.Env choices self.old env.old batch.items sync result self.new env.new }
     {
         self.check_open()?;
-        self.make_room(env)?;
+        let _ = self.make_room(env)?;
         let written = self.store.write_batch(env, batch, sync);
         self.mode = mode_by(&self.store);
         written
     }
 
     // Makes room in the memtable of an engine that is open, where it is full. If that breaks the
-    // store, the engine is broken.
-    fn make_room(&mut self, env: &mut E) -> Result<()>
+    // store, the engine is broken. An Ok has what the removal of obsolete files returned.
+    fn make_room(&mut self, env: &mut E) -> Result<Result<()>>
         requires { self.old.mode ≡ open_mode }
         ensures makes { MakesRoom E.Env (C.cmp self.old.store.cmp) self.old.store env.old
             (choices_of C.Cmp FP.FilterPolicy ⟦<InternalKeyCmp<C> as Cmp>⟧
             ⟦<InternalFilterPolicy<FP> as FilterPolicy>⟧ ⟦<CompressorList as Compressors>⟧.codings
-            (options_in self.old)) self.old.options.write_buffer_size result self.new.store
-            env.new }
+            (options_in self.old)) self.old.options.write_buffer_size (but_removal result)
+            self.new.store env.new }
+        ensures removes { IfOk result (λ removal.
+            IsFull self.old.options.write_buffer_size self.old.store.recent
+            → RemovesAtLast E.Env self.new.store removal env.new) }
         ensures sound { IsSoundCall E.Env (C.cmp self.old.store.cmp) (Agrees (format_of C.Cmp
             FP.FilterPolicy ⟦<CompressorList as Compressors>⟧.codings (options_in self.old)))
-            self.old.store env.old result self.new.store env.new }
+            self.old.store env.old (but_removal result) self.new.store env.new }
         ensures closes { ClosesObsolete E.Env self.old.store.set env.old self.old.tables env.new
             self.new.tables }
         ensures rest { self.new ≡ record self.old {

@@ -14,6 +14,7 @@ use super::replies::put_replies;
 use super::runs::run;
 use leveldb_base::error::Status;
 use leveldb_env::env::Env;
+use leveldb_env::infolog::Logger;
 use leveldb_env::options::Options;
 use std::alloc::{AllocError, Global};
 use std::fmt;
@@ -50,12 +51,14 @@ impl fmt::Display for Fault {
 }
 
 /// Runs the commands of `input` over the store in the folder that is the one argument, and writes
-/// their replies to `out`; a fault is told on `err`. The status is 0 if all was answered and
+/// their replies to `out`; a fault is told on `err`, and what the store says of its files is a line
+/// for `log`. The status is 0 if all was answered and
 /// written, 2 if the arguments, a line or the length of the input is wrong, and 1 if a call failed.
 pub fn ldb_main<E: Env, I: Read, O: Write, F: Write>(
     alloc: Global,
     env: &mut E,
     args: &[String],
+    log: Option<Logger>,
     input: &mut I,
     out: &mut O,
     err: &mut F,
@@ -70,7 +73,7 @@ pub fn ldb_main<E: Env, I: Read, O: Write, F: Write>(
         → IsStopped E.Env args.now env.old env.new (I.remaining input.old) }
     ensures statuses { result ≤ 2 }
 {
-    match serve(alloc, env, args, input, out) {
+    match serve(alloc, env, args, log, input, out) {
         Ok(()) => 0,
         Err(fault) => tell_fault(err, fault),
     }
@@ -93,6 +96,7 @@ fn serve<E: Env, I: Read, O: Write>(
     alloc: Global,
     env: &mut E,
     args: &[String],
+    log: Option<Logger>,
     input: &mut I,
     out: &mut O,
 ) -> Result<(), Fault>
@@ -110,7 +114,7 @@ fn serve<E: Env, I: Read, O: Write>(
         return Err(Fault::Usage);
     };
     let commands = read_commands(alloc, input)?;
-    Ok(play(alloc, env, folder.as_str(), &commands, out)?)
+    Ok(play(alloc, env, folder.as_str(), log, &commands, out)?)
 }
 
 // Runs the commands, and writes the replies that were given.
@@ -118,6 +122,7 @@ fn play<E: Env, O: Write>(
     alloc: Global,
     env: &mut E,
     folder: &str,
+    log: Option<Logger>,
     commands: &[Command],
     out: &mut O,
 ) -> Result<(), Status>
@@ -128,7 +133,9 @@ fn play<E: Env, O: Write>(
         env.new }
 {
     let mut replies = Vec::new(alloc);
-    let played = run(env, folder, Options::default(), commands, &mut replies);
+    let mut options = Options::default();
+    options.log = log;
+    let played = run(env, folder, options, commands, &mut replies);
     let printed = print(alloc, out, &replies);
     played?;
     printed

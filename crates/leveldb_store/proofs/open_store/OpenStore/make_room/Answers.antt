@@ -1,7 +1,8 @@
-use Rattle.std.proofs.Common.{◌∙◌, Ok, ap, inl, refl}
-use Rattle.std.proofs.lemmas.Result.{err_from_is_err_and}
+use Rattle.std.proofs.Common.{◌≡◌, ◌∙◌, None, Ok, Some, ap, false, inl, refl, sym, true}
+use Rattle.std.proofs.lemmas.Result.{IfOk-weaker, err_from_is_err_and}
 use Rattle.leveldb_store.proofs.OpenTablesLemmas.{closes_after, closes_none, closes_then, no_removal}
 use Rattle.leveldb_store.proofs.RoomLemmas.{fails_first, no_room_made, room_tried, step_for, step_switched, step_tabled, usable_switched}
+use Rattle.leveldb_store.specs.Room.{but_removal}
 use Rattle.leveldb_store.proofs.open_store.OpenStore.make_room.Goals as goal
 
 pub returns-in_err-table_if_waiting-clause-makes : goal.returns-in_err-table_if_waiting-clause-makes
@@ -62,7 +63,7 @@ returns-clause-makes g c =
     let begun = c.switch_log.new.env in
     let new = c.table_if_waiting-2.new.self in
     let to = c.table_if_waiting-2.new.env in
-    let result = c.table_if_waiting-2.result in
+    let result = but_removal c.table_if_waiting-2.result in
     let first = c.in_ok-table_if_waiting.ensures in
     let done = c.in_ok-switch_log.ensures in
     let last = c.table_if_waiting-2.ensures in
@@ -83,9 +84,20 @@ returns-clause-sound g c =
     let first = c.in_ok-table_if_waiting.ensures in
     let done = c.in_ok-switch_log.ensures in
     let second = step_switched g.E.Env order _ old mid from at first.step first.numbers (Ok tt) switched begun done.switches done.keeps done.sound in
-    let all = step_tabled g.E.Env order _ old mid from at first.step first.numbers first.recent switched begun done.switches second c.table_if_waiting-2.result c.table_if_waiting-2.new.self c.table_if_waiting-2.new.env
+    let all = step_tabled g.E.Env order _ old mid from at first.step first.numbers first.recent switched begun done.switches second (but_removal c.table_if_waiting-2.result) c.table_if_waiting-2.new.self c.table_if_waiting-2.new.env
     c.table_if_waiting-2.ensures.step in
     all.sound
+
+-- ---- the removal
+
+pub returns-then-not-is_full-clause-removes : goal.returns-then-not-is_full-clause-removes
+returns-then-not-is_full-clause-removes g c = λ full. absurd (let never : false ≡ true = c.if-not-is_full.ensures.1 full in cc)
+
+pub returns-clause-removes : goal.returns-clause-removes
+returns-clause-removes g c =
+    let done = c.in_ok-switch_log.ensures.switches in
+    IfOk-weaker c.table_if_waiting-2.result _ _ (λ removal removes full. removes (λ none. let never : Some c.table_if_waiting.new.self.recent ≡ None = sym done.waits ∙ none in cc))
+    c.table_if_waiting-2.ensures.removes
 
 -- ---- the open tables
 

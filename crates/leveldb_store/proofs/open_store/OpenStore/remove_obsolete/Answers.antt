@@ -5,7 +5,7 @@ use Rattle.leveldb_env.proofs.EnvLemmas.{Run-call, Run-mono}
 use Rattle.leveldb_env.specs.Env.{ListsChildren}
 use Rattle.leveldb_version.specs.VersionSetValue.{broken}
 use Rattle.leveldb_store.proofs.OpenTablesLemmas.{no_removal, removal_then}
-use Rattle.leveldb_store.proofs.RemoveLemmas.{RemovesObsolete-after, RemovesObsolete-unlisted, none_removed, removal_keeps, removing_after}
+use Rattle.leveldb_store.proofs.RemoveLemmas.{RemovesObsolete-after, RemovesObsolete-kept, RemovesObsolete-unlisted, none_removed, removal_keeps, removing_after}
 use Rattle.leveldb_store.proofs.open_store.OpenStore.remove_obsolete.Goals as goal
 
 pub returns-in_err-names-clause-keeps : goal.returns-in_err-names-clause-keeps
@@ -16,6 +16,15 @@ returns-in_err-names-clause-keeps g c = λ modelled meaning allowed w.
     removal_keeps (g.C.Cmp.cmp old.cmp) meaning (λ store. IsTrue (allowed store)) old from to
     (Run-mono (λ files same. none_removed old.set from.disk.files files same) (Run-call modelled c.in_err-names.ensures.does)) w
 
+pub returns-then-self-clause-removes : goal.returns-then-self-clause-removes
+returns-then-self-clause-removes g c =
+    let set = c.args.self.now.set in
+    let failed = err_from_is_err_and c.err.result c.err.ensures.code in
+    let same_set : c.self.inside.versions.set ≡ set = ap (λ v. v.set) c.self.view_is in
+    let usable : set.manifest ≢ broken = λ is. let never : false ≡ true = c.if-is_broken.ensures.1 (ap (λ v. v.manifest) same_set ∙ is) in cc in
+    let kept : IsTrue c.args.self.now.keeps_files = sym (ap (λ v. v.keeps_files) c.self.view_is) ∙ c.if-self.true in
+    rw failed.1 (RemovesObsolete-kept g.E.Env set c.args.env.now usable kept failed.0 failed.2)
+
 pub returns-in_err-names-clause-removes : goal.returns-in_err-names-clause-removes
 returns-in_err-names-clause-removes g c =
     let set = c.args.self.now.set in
@@ -24,7 +33,7 @@ returns-in_err-names-clause-removes g c =
     let usable : set.manifest ≢ broken = λ is. let never : false ≡ true = c.if-is_broken.ensures.1 (ap (λ v. v.manifest) same_set ∙ is) in cc in
     let folder : c.deref.result.now ≡ set.store = c.deref.ensures ∙ sym c.self.invariant.0 ∙ ap (λ v. v.store) same_set in
     rw (failed.1, failed.2) (RemovesObsolete-unlisted g.E.Env set c.args.env.now usable c.children.new.self _ (λ modelled. Run-call modelled c.in_err-names.ensures.does) c.in_err-names.ensures.locks
-    (rw folder at c.in_err-names.ensures.cause))
+    (rw folder at c.in_err-names.ensures.cause) (sym (ap (λ v. v.keeps_files) c.self.view_is) ∙ c.if-self.false))
 
 pub returns-clause-removes : goal.returns-clause-removes
 returns-clause-removes g c =
@@ -38,7 +47,7 @@ returns-clause-removes g c =
     subst (λ s. ListsChildren (g.E.Env.observed from).disk.files s (map string_bytes c.deref-2.result.now)) folder
     (subst (λ items. ListsChildren (g.E.Env.observed from).disk.files c.deref.result.now (map string_bytes items)) (sym c.deref-2.ensures.value) (c.in_ok-names.ensures.ok modelled)) in
     RemovesObsolete-after g.E.Env set from usable mid (λ modelled. Run-call modelled c.in_ok-names.ensures.does) c.in_ok-names.ensures.cause.ok (map string_bytes c.deref-2.result.now) listed
-    c.remove_all.result c.remove_all.new.env c.remove_all.ensures.removes c.in_ok-names.ensures.locks
+    c.remove_all.result c.remove_all.new.env c.remove_all.ensures.removes c.in_ok-names.ensures.locks (sym (ap (λ v. v.keeps_files) c.self.view_is) ∙ c.if-self.false)
 
 pub returns-clause-keeps : goal.returns-clause-keeps
 returns-clause-keeps g c = λ modelled meaning allowed w.

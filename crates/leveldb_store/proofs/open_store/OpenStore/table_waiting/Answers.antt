@@ -76,6 +76,7 @@ returns-clause-tables g c =
       log = record { number = c.self.inside.log.number; writer = c.self.inside.log.file.writer };
       recent = c.self.inside.recent.kept;
       waiting = option_map (λ memtable. memtable.kept) c.self.inside.waiting;
+      keeps_files = c.self.inside.keeps_files;
     } in
     rw (← c.self.view_is, gone)
     (tables_logged g.E.Env _ old c.args.env.now usable c.in_ok-number.ensures.fits c.build_waiting.new.env c.level_for-level.result c.in_ok-file.file made used.0 used.1 c.self.invariant.4 c.log_table.ensures.locks

@@ -5,6 +5,7 @@ use Rattle.std.proofs.lemmas.Result.{err_from_is_err_and}
 use Rattle.leveldb_env.proofs.EnvLemmas.{Run-call}
 use Rattle.leveldb_env.specs.contracts.compressor.CompressorListCompressors.TheImpl.{ghosts as compressors}
 use Rattle.leveldb_version.specs.Format.{format_of}
+use Rattle.leveldb_store.proofs.KeptFilesLemmas.{keeping, opens_keeping}
 use Rattle.leveldb_store.specs.Room.{TidiesUp}
 use Rattle.rusty_leveldb.specs.Engine.{opening_of}
 use Rattle.rusty_leveldb.proofs.AskedLemmas.{within_if, within_is}
@@ -123,9 +124,19 @@ returns-in_err-lock-2 g c =
     ))))
 
 pub returns-in-Ok : goal.returns-in-Ok
-returns-in-Ok g c = done_opens g.E.Env _ c.args.name.now c.args.options
+returns-in-Ok g c =
+    let kept = c.tidy_opened.new.self in
+    let tidied = c.tidy_opened.ensures in
+    let opened = keeping c.in-Ok.store kept.keeps_files in
+    let from = c.open.new.env in
+    let to = c.tidy_opened.new.env in
+    let order = g.C.Cmp.cmp in
+    let same : kept ≡ opened = tidied.opened.same in
+    let tidies : TidiesUp g.E.Env (order c.in-Ok.store.cmp) opened from to =
+    subst (λ v. TidiesUp g.E.Env (order v.cmp) v from to) same tidied.tidies in
+    rw same (done_opens g.E.Env _ c.args.name.now c.args.options
     (opening_of g.C.Cmp g.FP.FilterPolicy (compressors g.dyn-2).codings c.args.options)
-    c.args.env.now c.lock.new.self c.open.new.env c.tidy_up.new.env _
+    c.args.env.now c.lock.new.self c.open.new.env to _
     (λ modelled. lock_taken c.args.name.now c.deref.result.now (g.E.Env.observed c.args.env.now)
     (g.E.Env.observed c.mkdir.new.self) (g.E.Env.observed c.lock.new.self) modelled
     (c.deref.ensures ∙ c.in_ok-lock.ensures.ok)
@@ -134,20 +145,21 @@ returns-in-Ok g c = done_opens g.E.Env _ c.args.name.now c.args.options
     (c.deref.ensures ∙ c.in_ok-lock.ensures.ok) (Run-call modelled c.mkdir.ensures.does)
     c.in_ok-lock-2.ensures.does) (c.mkdir.ensures.locks modelled) c.in_ok-lock-2.ensures.does
     c.in_ok-lock-2.ensures.locks (c.in_ok-lock-2.ensures.was_free modelled))
-    c.args.options.write_buffer_size c.in-Ok.ensures.opens c.in-Ok.ensures.cause.ok c.in-Ok.ensures.bytes
-    (subst (λ cmp. TidiesUp g.E.Env (g.C.Cmp.cmp cmp) c.in-Ok.store c.open.new.env c.tidy_up.new.env)
-    c.in-Ok.ensures.cmp c.tidy_up.ensures.tidies)
-    c.tidy_up.ensures.time refl c.new-in-Ok.ensures c.in_ok-lock.ensures.ok
-    (record { rest = refl; sink = c.tidy_up.ensures.log }) c.in-Ok.ensures.cmp
+    c.args.options.write_buffer_size
+    (opens_keeping c.in-Ok.store kept.keeps_files g.E.Env _ _ _ _ _ _ _ c.in-Ok.ensures.opens)
+    c.in-Ok.ensures.cause.ok c.in-Ok.ensures.bytes
+    (subst (λ cmp. TidiesUp g.E.Env (order cmp) opened from to) c.in-Ok.ensures.cmp tidies)
+    tidied.time refl c.new-in-Ok.ensures c.in_ok-lock.ensures.ok
+    (record { rest = refl; sink = tidied.log }) c.in-Ok.ensures.cmp
     (λ a b is. ap (format_of g.C.Cmp g.FP.FilterPolicy (compressors g.dyn-2).codings) is.rest) refl
     (c.in_ok-lock-2.ensures.cause.ok ∙ c.in_ok-mkdir.ensures.cause.ok)
-    (opened_tables g.E.Env _ (g.C.Cmp.cmp c.in-Ok.store.cmp) c.in-Ok.store c.args.options
-    c.in_ok-tables.tables _ c.open.new.env c.tidy_up.new.env c.args.name.now c.in-Ok.ensures.opens.path c.in_ok-tables.ensures.ok
-    c.in_ok-tables.ensures.matches c.tidy_up.ensures.tidies c.tidy_up.ensures.closes) (
+    (opened_tables g.E.Env _ (g.C.Cmp.cmp c.in-Ok.store.cmp) opened c.args.options
+    c.in_ok-tables.tables _ from to c.args.name.now c.in-Ok.ensures.opens.path c.in_ok-tables.ensures.ok
+    c.in_ok-tables.ensures.matches tidies tidied.closes) (
       c.in_ok-check_name.ensures.ok,
       within_is c.args.options c.in_ok-check.ensures.limits,
       c.in_ok-check.ensures.compressor,
-    )
+    ))
 
 pub returns-in-Err : goal.returns-in-Err
 returns-in-Err g c = late_opens g.E.Env _ c.args.options c.args.name.now

@@ -1,0 +1,16 @@
+use Rattle.std.proofs.Common.{◌≡◌, ◌∙◌, false, sym, true}
+use Rattle.leveldb_store.proofs.LogDamageLemmas.{lost_later}
+use Rattle.leveldb_store.proofs.damage.left_out.Goals as goal
+
+pub returns-then-is_torn-clause-loses : goal.returns-then-is_torn-clause-loses
+returns-then-is_torn-clause-loses c = λ loses.
+    let scan = c.scan_of-scan.ensures in
+    let has = c.has_end_from-has_records.ensures
+    (lost_later c.args.text.now c.scan_of-scan.result.end scan.within scan.whole loses) in
+    let never : false ≡ true = sym c.if-not-has_records.true ∙ has in absurd (cc never)
+
+pub returns-clause-loses : goal.returns-clause-loses
+returns-clause-loses c = λ loses.
+    let scan = c.scan_of-scan.ensures in
+    c.has_end_from-has_records.ensures
+    (lost_later c.args.text.now c.scan_of-scan.result.end scan.within scan.whole loses)

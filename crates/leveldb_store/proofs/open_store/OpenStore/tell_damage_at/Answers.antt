@@ -1,0 +1,10 @@
+use Rattle.std.proofs.Common.{◌≡◌, false, true}
+use Rattle.leveldb_store.proofs.DamageLemmas.{not_aside}
+use Rattle.leveldb_store.proofs.open_store.OpenStore.tell_damage_at.Goals as goal
+
+pub returns-then-not-is_left_aside-clause-damaged :
+    goal.returns-then-not-is_left_aside-clause-damaged
+returns-then-not-is_left_aside-clause-damaged g c = λ modelled it.
+    absurd (not_aside c.args.self.now.set (g.E.Env.observed c.args.env.now).disk.files
+    c.args.name.now c.in-Some.number c.in-Some.kind c.in-Some.ensures
+    (λ aside. let never : false ≡ true = c.if-not-is_left_aside.ensures.1 aside in cc) it)

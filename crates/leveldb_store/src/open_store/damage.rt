@@ -1,0 +1,151 @@
+//! Logs and manifests that an opening left aside: what it left out of them, and what is kept then.
+ghost use Rattle.std.specs.Prelude.{◌≡◌, ◌≤◌, ◌↔◌, ℕ, List, Contains, IsTrue, is_some, map, string_bytes};
+ghost use Rattle.leveldb_table.specs.TableBlock.{KeepsDisk};
+ghost use Rattle.leveldb_store.specs.Damage.{HasDamagedFile, IsDamagedFile, IsLeftAside};
+ghost use Rattle.leveldb_store.specs.OpenStore.{IsUnbroken};
+ghost use Rattle.leveldb_store.specs.OpenTables.{ClosesObsolete};
+ghost use Rattle.leveldb_store.specs.Room.{TidiesOpened, TidiesUp};
+ghost use Rattle.leveldb_store.specs.SoundCall.{TimeGoesOn};
+
+use super::OpenStore;
+use crate::damage::{LeftOut, left_out};
+use leveldb_base::cmp::UserCmp;
+use leveldb_base::error::Result;
+use leveldb_base::names::file_name_parts;
+use leveldb_base::types::{FileNum, FileType};
+use leveldb_env::env::Env;
+use leveldb_env::env::whole_files::read_file;
+use leveldb_env::filter::FilterPolicy;
+use leveldb_env::infolog::Logger;
+use leveldb_version::table_cache::TableCache;
+use std::alloc::Global;
+
+impl<E: Env, C: UserCmp + Copy + Drop> OpenStore<E, C> {
+    /// Ends an opening: looks at each log and each manifest that is obsolete, and then deletes the
+    /// files that are, as `tidy_up` does. A log or a manifest that is damaged is a line for `log`:
+    /// where whole records are left out of it, or what is left out isn't the end that a crash
+    /// leaves. If there is one, or if one can't be read, the store keeps its files: it deletes none
+    /// now or while it is open, so that a repair can find what was left out, and the tables that it
+    /// names.
+    pub fn tidy_opened<FP: FilterPolicy + Copy + Drop>(
+        &mut self,
+        env: &mut E,
+        tables: &mut TableCache<E, C, FP>,
+        log: &mut Option<Logger>,
+    ) -> Result<()>
+        requires usable { IsUnbroken self.old }
+        ensures opened { TidiesOpened E.Env self.old env.old self.new result env.new }
+        ensures tidies { TidiesUp E.Env (C.cmp self.new.cmp) self.new env.old env.new }
+        ensures closes { ClosesObsolete E.Env self.old.set env.old tables.old env.new tables.new }
+        ensures time { TimeGoesOn E.Env env.old env.new }
+        ensures log { is_some log.new ≡ is_some log.old }
+    {
+        self.keep_damaged_files(env, log);
+        self.tidy_up(env, tables, log)
+    }
+
+    // Looks at each log and each manifest that is obsolete, and has the store keep its files if one is
+    // damaged or can't be read.
+    fn keep_damaged_files(&mut self, env: &mut E, log: &mut Option<Logger>)
+        ensures same { self.new ≡ record self.old { keeps_files = self.new.keeps_files } }
+        ensures damaged { IsTrue E.models_disk
+            → HasDamagedFile self.old.set (E.observed env.old).disk.files
+            → IsTrue self.new.keeps_files }
+        ensures keeps { KeepsDisk E.Env env.old env.new }
+        ensures later { E.failures env.old ≤ E.failures env.new }
+        ensures log { is_some log.new ≡ is_some log.old }
+    {
+        self.keeps_files = self.tell_damage(env, log);
+    }
+
+    // Tells of each damaged file that was left aside. Returns whether there is one, or one that can't
+    // be read.
+    fn tell_damage(&self, env: &mut E, log: &mut Option<Logger>) -> bool
+        ensures damaged { IsTrue E.models_disk
+            → HasDamagedFile self.now.set (E.observed env.old).disk.files → IsTrue result }
+        ensures keeps { KeepsDisk E.Env env.old env.new }
+        ensures later { E.failures env.old ≤ E.failures env.new }
+        ensures log { is_some log.new ≡ is_some log.old }
+    {
+        let Ok(names) = env.children(self.alloc, &self.name) else {
+            return true;
+        };
+        self.tell_damage_of(env, &names, log)
+    }
+
+    // The same for those of the files of these names.
+    fn tell_damage_of(&self, env: &mut E, names: &[String], log: &mut Option<Logger>) -> bool
+        ensures damaged { IsTrue E.models_disk → (name : List ℕ)
+            → Contains (map string_bytes names.now) name
+            → IsDamagedFile self.now.set (E.observed env.old).disk.files name → IsTrue result }
+        ensures keeps { KeepsDisk E.Env env.old env.new }
+        ensures later { E.failures env.old ≤ E.failures env.new }
+        ensures log { is_some log.new ≡ is_some log.old }
+    {
+        let mut is_damaged = false;
+        for name in names {
+            is_damaged |= self.tell_damage_at(env, name, log);
+        }
+        is_damaged
+    }
+
+    // The same for the file of this name.
+    fn tell_damage_at(&self, env: &mut E, name: &str, log: &mut Option<Logger>) -> bool
+        ensures damaged { IsTrue E.models_disk
+            → IsDamagedFile self.now.set (E.observed env.old).disk.files name.now → IsTrue result }
+        ensures keeps { KeepsDisk E.Env env.old env.new }
+        ensures later { E.failures env.old ≤ E.failures env.new }
+        ensures log { is_some log.new ≡ is_some log.old }
+    {
+        let Some((number, kind)) = file_name_parts(name) else {
+            return false;
+        };
+        if !self.is_left_aside(number, kind) {
+            return false;
+        }
+        let Ok(path) = format!(in self.alloc; "{}/{name}", self.name) else {
+            return true;
+        };
+        let Ok(text) = read_file(self.alloc, env, &path) else {
+            return true;
+        };
+        let Some(left) = left_out(&text) else {
+            return false;
+        };
+        tell(self.alloc, &path, left, log);
+        true
+    }
+
+    // Whether a file of this number and type is a log or a manifest that was left aside.
+    fn is_left_aside(&self, number: FileNum, kind: FileType) -> bool
+        ensures { IsTrue result ↔ IsLeftAside self.now.set kind number }
+    {
+        match kind {
+            FileType::Log => self.is_past_log(number),
+            FileType::Descriptor => number < self.versions.manifest_num(),
+            _ => false,
+        }
+    }
+}
+
+// Tells what was left out of a file. The line is lost if the sink fails or there is no memory for it,
+// which is no error.
+fn tell(alloc: Global, path: &str, left: LeftOut, log: &mut Option<Logger>)
+    ensures { is_some log.new ≡ is_some log.old }
+{
+    let Some(Logger(sink)) = log else {
+        return;
+    };
+    let from = left.from;
+    let count = left.count;
+    let records = if left.has_records {
+        "whole records"
+    } else {
+        "no whole record"
+    };
+    if let Ok(line) = format!(in alloc;
+        "{path}: {count} bytes from byte {from} on are left out, {records} among them\n"
+    ) {
+        let _ = sink.write(line.as_bytes());
+    }
+}

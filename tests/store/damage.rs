@@ -1,0 +1,293 @@
+//! Openings of files whose bytes were changed: which lines the sink gets, and which files stay.
+use crate::stores::{
+    DefaultOptions, STORE, buffered, damage_file, file_bytes, has_files, opened, put_all, put_file,
+    reopen, reusing,
+};
+use leveldb_base::error::Result;
+use leveldb_env::env::Env;
+use leveldb_env::mem_env::RecordEnv;
+use leveldb_env::options::Options;
+use leveldb_mem::log::{BLOCK_SIZE, LogWriter};
+use leveldb_store::damage::{LeftOut, left_out};
+use std::alloc::Global;
+use std::process::Abort;
+use support::{Lines, change_byte};
+
+/// How many lines an opening with these options gives, and how many of them are this one.
+fn opened_with_lines(
+    alloc: Global,
+    env: &mut RecordEnv,
+    mut options: DefaultOptions,
+    line: &'static str,
+) -> Result<(usize, usize)> {
+    let lines = Lines::new(alloc)?;
+    options.log = Some(lines.log(alloc, line)?);
+    reopen(alloc, env, options)?;
+    Ok(lines.counts())
+}
+
+/// Whether the store has all these files.
+fn are_there(alloc: Global, env: &mut RecordEnv, names: &[&str]) -> Result<bool> {
+    for name in names {
+        let path = format!(in alloc; "{STORE}/{name}")?;
+        if !env.exists(&path)? {
+            return Ok(false);
+        }
+    }
+    Ok(true)
+}
+
+const KEYS: &[(&str, &str)] = &[("a", "1"), ("b", "2"), ("c", "3")];
+
+/// Three puts, of which each but the last is in a table that an edit of the manifest names.
+fn with_two_tables(alloc: Global) -> Result<RecordEnv> {
+    let mut env = RecordEnv::new(alloc);
+    put_all(alloc, &mut env, buffered(1), KEYS)?;
+    Ok(env)
+}
+
+const TABLES: &[&str] = &["000005.ldb", "000007.ldb"];
+
+const IN_MANIFEST: &str =
+    "db/MANIFEST-000001: 80 bytes from byte 41 on are left out, whole records among them\n";
+
+/// One byte of a manifest's second record is changed. What it names stays, at each opening, until the manifest is taken away.
+#[test]
+fn a_manifest_with_a_changed_byte(rt: HostRuntime) -> Result<()> {
+    let alloc = rt.alloc();
+    let mut env = with_two_tables(alloc)?;
+    let before =
+        "000005.ldb:177 000006.log:24 000007.ldb:177 CURRENT:16 LOCK:0 MANIFEST-000001:121 ";
+    assert!(rt; has_files(alloc, &mut env, before)?);
+    damage_file(alloc, &mut env, "MANIFEST-000001", 53)?;
+    for _ in 0..3 {
+        let lines = opened_with_lines(alloc, &mut env, Options::default(), IN_MANIFEST)?;
+        // The other line says that no obsolete file is deleted.
+        assert!(rt; lines == (2, 1));
+        assert!(rt; are_there(alloc, &mut env, TABLES)?);
+        assert!(rt; are_there(alloc, &mut env, &["MANIFEST-000001", "000006.log"])?);
+    }
+    env.delete("db/MANIFEST-000001")?;
+    let lines = opened_with_lines(alloc, &mut env, Options::default(), IN_MANIFEST)?;
+    assert!(rt; lines == (0, 0));
+    assert!(rt; !env.exists("db/000005.ldb")? && !env.exists("db/000007.ldb")?);
+    Ok(())
+}
+
+/// The same where new manifests are made at each opening.
+#[test]
+fn new_manifests_after_one_with_a_changed_byte(rt: HostRuntime) -> Result<()> {
+    let alloc = rt.alloc();
+    let mut env = with_two_tables(alloc)?;
+    damage_file(alloc, &mut env, "MANIFEST-000001", 53)?;
+    for _ in 0..3 {
+        let lines = opened_with_lines(alloc, &mut env, reusing(false, false), IN_MANIFEST)?;
+        assert!(rt; lines == (2, 1));
+        assert!(rt; are_there(alloc, &mut env, TABLES)?);
+    }
+    Ok(())
+}
+
+/// The same where the store is written then: each table that a write makes would have the obsolete files deleted.
+#[test]
+fn writes_after_a_manifest_with_a_changed_byte(rt: HostRuntime) -> Result<()> {
+    let alloc = rt.alloc();
+    let mut env = with_two_tables(alloc)?;
+    damage_file(alloc, &mut env, "MANIFEST-000001", 53)?;
+    let mut engine = opened(alloc, &mut env, buffered(1))?;
+    engine.put(&mut env, b"d", b"4")?;
+    engine.put(&mut env, b"e", b"5")?;
+    engine.abandon(&mut env)?;
+    assert!(rt; are_there(alloc, &mut env, TABLES)?);
+    assert!(rt; env.exists("db/MANIFEST-000001")?);
+    Ok(())
+}
+
+/// Whichever byte of a manifest is changed, an opening fails or keeps all tables: no edit is lost in silence.
+#[test]
+fn each_byte_of_a_manifest(rt: HostRuntime) -> Result<()> {
+    let alloc = rt.alloc();
+    let mut tried: usize = 0;
+    for at in 0..121 {
+        let mut env = with_two_tables(alloc)?;
+        damage_file(alloc, &mut env, "MANIFEST-000001", at)?;
+        // The length of the last record: with it the bytes end in a record that is cut short.
+        if at == 85 || at == 86 {
+            continue;
+        }
+        if reopen(alloc, &mut env, Options::default()).is_ok() {
+            tried = tried.saturating_add(1);
+        }
+        assert!(rt; are_there(alloc, &mut env, TABLES)?, "byte {at}");
+    }
+    assert!(rt; tried > 70, "{tried} openings");
+    Ok(())
+}
+
+const IN_LOG: &str =
+    "db/000003.log: 48 bytes from byte 24 on are left out, whole records among them\n";
+
+/// One byte of a log's second record is changed: the log stays.
+#[test]
+fn a_log_with_a_changed_byte(rt: HostRuntime) -> Result<()> {
+    let alloc = rt.alloc();
+    let mut env = RecordEnv::new(alloc);
+    put_all(alloc, &mut env, Options::default(), KEYS)?;
+    damage_file(alloc, &mut env, "000003.log", 30)?;
+    for _ in 0..2 {
+        let lines = opened_with_lines(alloc, &mut env, Options::default(), IN_LOG)?;
+        assert!(rt; lines == (2, 1));
+        assert!(rt; env.exists("db/000003.log")?);
+    }
+    Ok(())
+}
+
+const LAST_IN_LOG: &str =
+    "db/000003.log: 24 bytes from byte 48 on are left out, no whole record among them\n";
+
+/// One byte of a log's last record is changed, which is all there: no crash leaves this, and the log stays.
+#[test]
+fn a_log_with_a_changed_last_record(rt: HostRuntime) -> Result<()> {
+    let alloc = rt.alloc();
+    let mut env = RecordEnv::new(alloc);
+    put_all(alloc, &mut env, Options::default(), KEYS)?;
+    damage_file(alloc, &mut env, "000003.log", 60)?;
+    let lines = opened_with_lines(alloc, &mut env, Options::default(), LAST_IN_LOG)?;
+    assert!(rt; lines == (2, 1));
+    assert!(rt; env.exists("db/000003.log")?);
+    Ok(())
+}
+
+/// A log that is torn, as a crash leaves it, is deleted once its records are in a table, and nothing is told.
+fn open_torn(rt: &impl Abort, alloc: Global, kept: usize, zeros: usize) -> Result<()> {
+    let mut env = RecordEnv::new(alloc);
+    put_all(alloc, &mut env, Options::default(), KEYS)?;
+    let bytes = file_bytes(alloc, &mut env, "000003.log")?;
+    let mut torn = Vec::new(alloc);
+    torn.extend_from_slice(bytes.as_slice().get(..kept).unwrap_or_default())?;
+    torn.resize(kept.saturating_add(zeros), 0)?;
+    put_file(alloc, &mut env, "000003.log", &torn)?;
+    let lines = opened_with_lines(alloc, &mut env, Options::default(), "")?;
+    assert!(rt; lines == (0, 0));
+    assert!(rt; !env.exists("db/000003.log")?);
+    Ok(())
+}
+
+#[test]
+fn torn_logs(rt: HostRuntime) -> Result<()> {
+    let alloc = rt.alloc();
+    open_torn(&rt, alloc, 50, 0)?;
+    open_torn(&rt, alloc, 62, 0)?;
+    open_torn(&rt, alloc, 71, 0)?;
+    open_torn(&rt, alloc, 48, 5)?;
+    open_torn(&rt, alloc, 48, 4000)?;
+    Ok(())
+}
+
+/// Nothing is told of files that are whole, whether they are used on or not.
+#[test]
+fn whole_files(rt: HostRuntime) -> Result<()> {
+    let alloc = rt.alloc();
+    let mut env = RecordEnv::new(alloc);
+    put_all(alloc, &mut env, Options::default(), KEYS)?;
+    let lines = opened_with_lines(alloc, &mut env, Options::default(), "")?;
+    assert!(rt; lines == (0, 0));
+    let lines = opened_with_lines(alloc, &mut env, reusing(false, false), "")?;
+    assert!(rt; lines == (0, 0));
+    assert!(rt; !env.exists("db/000003.log")? && !env.exists("db/MANIFEST-000001")?);
+    Ok(())
+}
+
+/// An opening that can't read a manifest that was left aside keeps all files.
+#[test]
+fn a_manifest_that_cannot_be_read(rt: HostRuntime) -> Result<()> {
+    let alloc = rt.alloc();
+    let mut kept: usize = 0;
+    for nth in 0..60 {
+        let mut env = with_two_tables(alloc)?;
+        damage_file(alloc, &mut env, "MANIFEST-000001", 53)?;
+        env.fail(nth, false);
+        if reopen(alloc, &mut env, reusing(false, false)).is_ok() {
+            kept = kept.saturating_add(1);
+        }
+        env.fail(0, false);
+        assert!(rt; are_there(alloc, &mut env, TABLES)?, "call {nth}");
+        assert!(rt; env.exists("db/MANIFEST-000001")?, "call {nth}");
+    }
+    assert!(rt; kept > 20, "{kept} openings");
+    Ok(())
+}
+
+/// A log of these lengths of records, whose bytes are those that no fragment's type is.
+fn log_of(alloc: Global, lengths: &[usize]) -> Result<Vec<u8>> {
+    let mut writer = LogWriter::new(alloc, Vec::new(alloc));
+    let mut record = Vec::new(alloc);
+    for length in lengths {
+        record.clear();
+        record.resize(*length, 200)?;
+        writer.add_record(&record)?;
+    }
+    Ok(writer.sink)
+}
+
+/// Each prefix of a log is a torn one, or a whole one.
+#[test]
+fn prefixes_of_logs(rt: HostRuntime) -> Result<()> {
+    let alloc = rt.alloc();
+    let text = log_of(alloc, &[20, 0x101, 1, BLOCK_SIZE, 7])?;
+    let mut size: usize = 0;
+    while size <= text.len() {
+        let found = left_out(text.as_slice().get(..size).unwrap_or_default());
+        assert!(rt; found.is_none(), "{size} bytes");
+        // Each size near the blocks' ends, and a few of the others.
+        let offset = size % BLOCK_SIZE;
+        let step = if offset < 400 || offset > BLOCK_SIZE - 50 {
+            1
+        } else {
+            509
+        };
+        size = size.saturating_add(step);
+    }
+    Ok(())
+}
+
+/// What is left out of a log with one changed byte.
+fn left_of_changed(text: &mut [u8], at: usize, amount: u8) -> Option<LeftOut> {
+    change_byte(text, at, amount);
+    let found = left_out(text);
+    change_byte(text, at, 0u8.wrapping_sub(amount));
+    found
+}
+
+/// Where a byte before the last record is changed, whole records are left out, from its own record on.
+#[test]
+fn changed_bytes_of_logs(rt: HostRuntime) -> Result<()> {
+    let alloc = rt.alloc();
+    let mut text = log_of(alloc, &[20, 257, 1, 40, 7])?;
+    let starts: [usize; 5] = [0, 27, 291, 299, 346];
+    for at in 0..text.len() {
+        for amount in [1, 128, 255] {
+            let found = left_of_changed(text.as_mut_slice(), at, amount);
+            let from = starts
+                .iter()
+                .filter(|start| **start <= at)
+                .max()
+                .copied()
+                .unwrap_or(0);
+            if from == 346 {
+                assert!(rt;
+                    !found.is_some_and(|left| left.has_records),
+                    "byte {at} by {amount}"
+                );
+                continue;
+            }
+            let wanted = LeftOut {
+                from,
+                count: text.len() - from,
+                has_records: true,
+            };
+            assert!(rt; found == Some(wanted), "byte {at} by {amount}");
+        }
+    }
+    Ok(())
+}
