@@ -1,10 +1,11 @@
 //! What suites of several crates share: questions to answers, changed bytes, a list to walk over,
-//! compressors, devices, and a log that expects a line.
+//! numbers that look random, compressors, devices, and a log that expects a line.
 
 mod answers;
 mod compressors;
 mod damage;
 mod lists;
+mod random;
 mod short_reads;
 mod sinks;
 
@@ -12,5 +13,6 @@ pub use answers::{code_of, failed_with};
 pub use compressors::{Raised, Refusing};
 pub use damage::{change_byte, damage_file};
 pub use lists::Listed;
+pub use random::Random;
 pub use short_reads::ShortReads;
 pub use sinks::Lines;

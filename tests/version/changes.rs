@@ -14,33 +14,15 @@ use leveldb_version::version_edit::VersionEdit;
 use leveldb_version::version_set::{VersionSet, manifest_file_name};
 use std::alloc::Global;
 use std::process::Abort;
-use support::failed_with;
+use support::{Random, failed_with};
 
 /// The files of the edits are in so many levels, and have so many numbers.
 const LEVELS: u64 = 4;
 
 const NUMBERS: u64 = 12;
 
-/// Numbers that look random, the same in each run.
-#[derive(Drop)]
-struct Random(u64);
-
-impl Random {
-    fn below(&mut self, bound: u64) -> u64 {
-        self.0 = self
-            .0
-            .wrapping_mul(6_364_136_223_846_793_005)
-            .wrapping_add(1_442_695_040_888_963_407);
-        (self.0 >> 33) % bound
-    }
-
-    fn level(&mut self) -> usize {
-        self.below(LEVELS) as usize
-    }
-
-    fn number(&mut self) -> FileNum {
-        self.below(NUMBERS)
-    }
+fn level_of(random: &mut Random) -> usize {
+    random.below(LEVELS) as usize
 }
 
 /// A live file: its level and number, and the seeks that it has left.
@@ -143,11 +125,11 @@ fn file_of(alloc: Global, num: FileNum) -> Result<FileMetaData> {
 fn random_edit(alloc: Global, random: &mut Random) -> Result<VersionEdit> {
     let mut edit = VersionEdit::new(alloc);
     for _ in 0..random.below(3) {
-        edit.delete_file(random.level(), random.number())?;
+        edit.delete_file(level_of(random), random.below(NUMBERS))?;
     }
     for _ in 0..random.below(3) {
-        let num = random.number();
-        edit.add_file(random.level(), file_of(alloc, num)?)?;
+        let num = random.below(NUMBERS);
+        edit.add_file(level_of(random), file_of(alloc, num)?)?;
     }
     Ok(edit)
 }
@@ -193,7 +175,7 @@ fn charge_often(
     live: &mut LiveList,
     mut charge: impl FnMut(GetStats) -> bool,
 ) {
-    let (level, num) = (random.level(), random.number());
+    let (level, num) = (level_of(random), random.below(NUMBERS));
     let stats = GetStats {
         file: Some((level, num)),
     };

@@ -47,7 +47,7 @@ pub fn key_at(alloc: Global, user: u8, number: u64) -> Result<Bytes> {
 /// The number of each entry that is the first or the last one of a file.
 pub const NUMBER: u64 = 30;
 
-fn file_of(alloc: Global, row: &Row) -> Result<FileMetaData> {
+pub fn file_of(alloc: Global, row: &Row) -> Result<FileMetaData> {
     Ok(FileMetaData {
         allowed_seeks: 0,
         num: row.num,
@@ -311,17 +311,19 @@ fn edit_of_a_compaction(rt: HostRuntime) -> Result<()> {
 
 // ---- by reads
 
-/// Chooses the file by the seeks that it may take.
-fn read_often(rt: &impl Abort, version: &mut Version<DefaultCmp>, level: usize, num: FileNum) {
-    let stats = GetStats {
-        file: Some((level, num)),
-    };
+/// Chooses the file of this level and number by the seeks that it may take.
+pub fn read_often(rt: &impl Abort, at: (usize, FileNum), mut charge: impl FnMut(GetStats) -> bool) {
+    let stats = GetStats { file: Some(at) };
     for _ in 0..1000 {
-        if version.update_stats(stats) {
+        if charge(stats) {
             return;
         }
     }
     assert!(rt; false);
+}
+
+fn read_version(rt: &impl Abort, version: &mut Version<DefaultCmp>, level: usize, num: FileNum) {
+    read_often(rt, (level, num), |stats| version.update_stats(stats));
 }
 
 /// The file that reads have chosen is taken where no level asks by its score, as long as it is in its
@@ -338,7 +340,7 @@ fn chosen_by_reads(rt: HostRuntime) -> Result<()> {
     ];
     let mut version = version_of(alloc, &rows)?;
     assert!(rt; !needs_compaction(&version));
-    read_often(&rt, &mut version, 1, 4);
+    read_version(&rt, &mut version, 1, 4);
     assert!(rt; needs_compaction(&version));
     let picked = pick_compaction(alloc, &version, &[], MIB)?;
     assert!(rt; takes(alloc, &picked, 1, &[4], &[])?);
@@ -352,12 +354,12 @@ fn chosen_by_reads(rt: HostRuntime) -> Result<()> {
     assert!(rt; !needs_compaction(&version));
     assert!(rt; pick_compaction(alloc, &version, &[], MIB)?.is_none());
 
-    read_often(&rt, &mut version, 6, 5);
+    read_version(&rt, &mut version, 6, 5);
     assert!(rt; !needs_compaction(&version));
     assert!(rt; pick_compaction(alloc, &version, &[], MIB)?.is_none());
 
     let mut version = version_of(alloc, &rows)?;
-    read_often(&rt, &mut version, 0, 2);
+    read_version(&rt, &mut version, 0, 2);
     let picked = pick_compaction(alloc, &version, &[], MIB)?;
     assert!(rt; takes(alloc, &picked, 0, &[1, 2], &[3])?);
     Ok(())
@@ -368,7 +370,7 @@ fn chosen_by_reads(rt: HostRuntime) -> Result<()> {
 fn score_before_reads(rt: HostRuntime) -> Result<()> {
     let alloc = rt.alloc();
     let mut version = version_of(alloc, &three())?;
-    read_often(&rt, &mut version, 1, 3);
+    read_version(&rt, &mut version, 1, 3);
     let picked = pick_compaction(alloc, &version, &[], MIB)?;
     assert!(rt; takes(alloc, &picked, 1, &[1], &[])?);
     Ok(())

@@ -1,64 +1,51 @@
 //! Compactions of versions at random, beside a chooser that goes through all files for each question.
 
-use crate::choices::{NUMBER, Row, key_at, pointer, row, taken, version_of};
+use crate::choices::{NUMBER, Row, key_at, pointer, read_often, row, taken, version_of};
 use leveldb_base::cmp::DefaultCmp;
 use leveldb_base::error::Result;
 use leveldb_base::types::FileNum;
 use leveldb_version::compaction::Compaction;
 use leveldb_version::compaction::pick::{compact_range, needs_compaction, pick_compaction};
-use leveldb_version::version::{GetStats, Version};
+use leveldb_version::version::Version;
 use leveldb_version::version_edit::CompactionPointer;
 use std::alloc::Global;
 use std::process::Abort;
+use support::Random;
 
 const MIB: usize = 1 << 20;
 
 /// The greatest user key of a version at random.
-const GREATEST: u8 = 24;
+pub const GREATEST: u8 = 24;
 
-/// Numbers that look random, the same in each run.
-#[derive(Drop)]
-struct Random(u64);
+pub fn key_at_random(random: &mut Random) -> u8 {
+    random.below(u64::from(GREATEST) + 1) as u8
+}
 
-impl Random {
-    fn below(&mut self, bound: u64) -> u64 {
-        self.0 = self
-            .0
-            .wrapping_mul(6_364_136_223_846_793_005)
-            .wrapping_add(1_442_695_040_888_963_407);
-        (self.0 >> 33) % bound
-    }
-
-    fn key(&mut self) -> u8 {
-        self.below(u64::from(GREATEST) + 1) as u8
-    }
-
-    fn size(&mut self) -> usize {
-        match self.below(6) {
-            0 => 1,
-            1 => MIB,
-            2 => 2 * MIB,
-            3 => self.below(12 << 20) as usize,
-            4 => 10 * MIB,
-            _ => self.below(900 << 20) as usize,
-        }
+fn size_at_random(random: &mut Random) -> usize {
+    match random.below(6) {
+        0 => 1,
+        1 => MIB,
+        2 => 2 * MIB,
+        3 => random.below(12 << 20) as usize,
+        4 => 10 * MIB,
+        _ => random.below(900 << 20) as usize,
     }
 }
 
-/// A version at random: in level 0 any files, and in deeper levels files that are apart.
-fn random_rows(alloc: Global, random: &mut Random) -> Result<Vec<Row>> {
+/// The files of a version at random: in level 0 any, and in deeper levels files that are apart.
+pub fn random_rows(alloc: Global, random: &mut Random) -> Result<Vec<Row>> {
     let mut rows = Vec::new(alloc);
     let mut num = 1;
     for _ in 0..random.below(6) {
-        let (a, b) = (random.key(), random.key());
-        rows.push(row(0, num, random.size(), a.min(b), a.max(b)))?;
+        let (a, b) = (key_at_random(random), key_at_random(random));
+        rows.push(row(0, num, size_at_random(random), a.min(b), a.max(b)))?;
         num += 1;
     }
     for level in 1..7 {
         let mut first = random.below(5) as u8;
         while first <= GREATEST && random.below(4) != 0 {
             let last = first + random.below(4) as u8;
-            rows.push(row(level, num, random.size(), first, last))?;
+            rows.push(row(level, num, size_at_random(random), first, last))?;
             num += 1;
             first = last + 1 + random.below(4) as u8;
         }
@@ -70,7 +57,7 @@ fn random_rows(alloc: Global, random: &mut Random) -> Result<Vec<Row>> {
 
 /// A range of user keys: the first one, and the last one if there is an end.
 #[derive(Clone, Copy)]
-struct Span {
+pub struct Span {
     first: u8,
     last: Option<u8>,
 }
@@ -84,7 +71,7 @@ impl Span {
     }
 
     /// The range that two keys name, of which the empty one is open.
-    fn named(first: u8, last: u8) -> Span {
+    pub fn named(first: u8, last: u8) -> Span {
         Span {
             first,
             last: if last == 0 { None } else { Some(last) },
@@ -163,7 +150,7 @@ fn load_and_limit(rows: &[Row], level: usize) -> (u128, u128) {
 
 /// The level of which no other level's score is greater, nor that of one above it as great, if its
 /// score is 1 or more.
-fn asking_level(rows: &[Row]) -> Option<usize> {
+pub fn asking_level(rows: &[Row]) -> Option<usize> {
     for level in 0..6 {
         let (load, limit) = load_and_limit(rows, level);
         let mut is_first_greatest = load >= limit;
@@ -207,7 +194,7 @@ fn first_in_level<F: Fn(&Row) -> bool>(rows: &[Row], level: usize, holds: F) -> 
 
 /// The file that asks: of the level by its score the first after the pointer, or else the one that
 /// reads have chosen.
-fn asking_file(
+pub fn asking_file(
     rows: &[Row],
     pointer: Option<(usize, u8, u64)>,
     chosen: Option<(usize, FileNum)>,
@@ -232,7 +219,7 @@ fn asking_file(
 
 /// The files of a level and of the next that a compaction takes.
 #[derive(Drop)]
-struct Choice {
+pub struct Choice {
     level: usize,
     of_level: Vec<Row>,
     of_next: Vec<Row>,
@@ -276,7 +263,12 @@ fn grown(
     }))
 }
 
-fn choice_of_asking(alloc: Global, rows: &[Row], file: Row, max: usize) -> Result<Option<Choice>> {
+pub fn choice_of_asking(
+    alloc: Global,
+    rows: &[Row],
+    file: Row,
+    max: usize,
+) -> Result<Option<Choice>> {
     let mut begun = Vec::new(alloc);
     if file.level == 0 {
         begun = meeting(alloc, rows, 0, Span::named(file.first, file.last))?;
@@ -286,7 +278,7 @@ fn choice_of_asking(alloc: Global, rows: &[Row], file: Row, max: usize) -> Resul
     grown(alloc, rows, file.level, begun, max)
 }
 
-fn choice_of_range(
+pub fn choice_of_range(
     alloc: Global,
     rows: &[Row],
     level: usize,
@@ -335,7 +327,7 @@ fn is_choice(alloc: Global, made: &Compaction<DefaultCmp>, wanted: &Choice) -> R
 }
 
 /// Whether a compaction is this choice, or there is neither.
-fn are_same(
+pub fn are_same(
     alloc: Global,
     made: &Option<Compaction<DefaultCmp>>,
     wanted: &Option<Choice>,
@@ -441,13 +433,8 @@ fn read_at_random(
         return None;
     }
     let at = (file.level, file.num);
-    for _ in 0..200 {
-        if version.update_stats(GetStats { file: Some(at) }) {
-            return Some(at);
-        }
-    }
-    assert!(rt; false);
-    None
+    read_often(rt, at, |stats| version.update_stats(stats));
+    Some(at)
 }
 
 /// What the cases have seen.
@@ -474,7 +461,7 @@ fn check_asked(
     let mut at = None;
     if random.below(3) != 0 {
         let level = asking_level(rows).unwrap_or(3);
-        let (user, number) = (random.key(), NUMBER - 1 + random.below(3));
+        let (user, number) = (key_at_random(random), NUMBER - 1 + random.below(3));
         pointers.push(pointer(alloc, level, user, number)?)?;
         at = Some((level, user, number));
     }
@@ -512,7 +499,7 @@ fn check_range(
     let version = version_of(alloc, rows)?;
     let max = 1 + random.below(4 << 20) as usize;
     let level = random.below(6) as usize;
-    let (first, last) = (random.key(), random.key());
+    let (first, last) = (key_at_random(random), key_at_random(random));
     let wanted = choice_of_range(alloc, rows, level, Span::named(first, last), max)?;
     let (begin, end) = (key_at(alloc, first, 1000)?, key_at(alloc, last, 1000)?);
     let made = compact_range(alloc, &version, level, &begin, &end, max)?;
