@@ -18,10 +18,11 @@ use Rattle.leveldb_table.specs.Table.{Part}
 use Rattle.leveldb_table.specs.TableReader.{pairs_in}
 use Rattle.leveldb_version.proofs.NewestLemmas.{entries_are}
 use Rattle.leveldb_version.proofs.TablesInTurnLemmas.{IsRun, of_all}
+use Rattle.leveldb_version.specs.Batches.{Each}
 use Rattle.leveldb_version.specs.Format.{IsTableOf, Meaning}
 use Rattle.leveldb_version.specs.Levels.{LiveTable}
 use Rattle.leveldb_version.specs.Paths.{table_path}
-use Rattle.leveldb_version.specs.Store.{HasTable, any_user_key}
+use Rattle.leveldb_version.specs.Store.{HasTable, IsInternalPair, any_user_key}
 use Rattle.leveldb_version.specs.TableCache.{HasBytesAt}
 use Rattle.leveldb_version.specs.TableMoves.{FileTable, IsTableAt, table_pairs}
 
@@ -121,6 +122,9 @@ module _ {cmp : List ℕ → List ℕ → Ordering} (total : IsTotalOrder cmp) (
 
   pub same_entries : entries_of_pairs (table_pairs file_table) ≡ table.entries
   same_entries = ap entries_of_pairs (sym pairs_are) ∙ entries_are has.pairs table.entries has.each
+
+  pub same_internal : Each IsInternalPair (table_pairs file_table) table.entries
+  same_internal = subst (λ (ps : List Pair). Each IsInternalPair ps table.entries) pairs_are has.each
 
   pub is_table_at : table.file.size < 2 ^ 64 → IsTableAt cmp meaning files (table_path store table.file.number) file_table
   is_table_at small = record {

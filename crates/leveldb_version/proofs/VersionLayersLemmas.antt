@@ -20,7 +20,7 @@ use Rattle.leveldb_version.proofs.OneStoreLemmas.{flat_in, in_flat}
 use Rattle.leveldb_version.proofs.PairwiseLemmas.{all_pairs, as_long, choose, each_first, each_second, pairwise_each, pairwise_map}
 use Rattle.leveldb_version.proofs.WalkFilesLemmas.{AreWalkedBefore, IsWalkedBefore, walk_of, walks_layered}
 use Rattle.leveldb_version.proofs.WalkOrderLemmas.{numbers_rise}
-use Rattle.leveldb_version.proofs.WalkTablesLemmas.{HasPairs, entry_from, entry_to, in_order, walk_over, walk_pairs}
+use Rattle.leveldb_version.proofs.WalkTablesLemmas.{HasPairs, entry_from, entry_to, in_order, pairs_internal, walk_over, walk_pairs}
 use Rattle.leveldb_version.specs.Batches.{Each}
 use Rattle.leveldb_version.specs.Format.{Meaning}
 use Rattle.leveldb_version.specs.Levels.{LiveTable, table_entries}
@@ -118,6 +118,8 @@ module _ {E C FP K F : Type 0} {order : CmpGhosts (InternalKeyCmp C)} (env : Env
             (pairwise_each Has AreWalkedBefore (λ b y. IsOlder (entries_of_pairs y) (entries_of_pairs b)) parts lists each
             (walks_layered version.files (numbers_rise exact meaning (store_of world.1.cache.now) (files_at env world.0) tables are.each (new_files_of version) are.files_are are.once
             (in_order env cmp filters codings version world exact orders meaning tables are))) older));
+        internal = λ pairs c. let part = each_second Has parts lists pairs each c in
+            pairs_internal env cmp filters codings version world exact orders meaning tables are part.0 pairs part.2;
         exactly = λ entry. (entries_to entry, entries_back entry);
       }
 

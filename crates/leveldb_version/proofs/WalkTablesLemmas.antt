@@ -1,10 +1,11 @@
 -- The tables of a version's walks, in a world where its files are tables in levels.
 use Rattle.std.specs.Prelude.{All, Contains}
-use Rattle.std.proofs.Common.{◌≡◌, ℕ, ◌<◌, ◌^◌, true, List, [], ◌∷◌, None, map, refl, sym, ◌∙◌, ap, subst}
+use Rattle.std.proofs.Common.{◌≡◌, ⊎_elim, ℕ, ◌<◌, ◌^◌, true, List, [], ◌∷◌, None, map, refl, sym, ◌∙◌, ap, subst}
 use Rattle.std.proofs.lemmas.List.Elements.{All-contains}
 use Rattle.std.specs.Cmp.{IsTotalOrder}
 use Rattle.std.specs.declared.cmp.Ordering.{Ordering}
 use Rattle.leveldb_base.proofs.EntriesLemmas.{in_map, map_in}
+use Rattle.leveldb_base.proofs.HistoryLemmas.{in_cases, in_front, in_none, in_rest}
 use Rattle.leveldb_base.proofs.OrderLemmas.{exact_total}
 use Rattle.leveldb_base.specs.Cmp.{IsExactOrder}
 use Rattle.leveldb_base.specs.Entries.{entries_of_pairs, entry_of_pair}
@@ -25,7 +26,7 @@ use Rattle.leveldb_version.proofs.NewestTablesLemmas.{one_number, table_of, ther
 use Rattle.leveldb_version.proofs.OneStoreLemmas.{flat_in, in_flat}
 use Rattle.leveldb_version.proofs.PairwiseLemmas.{choose, each_first, each_more_of, each_of_map, each_second}
 use Rattle.leveldb_version.proofs.SearchLemmas.{all_from_contains}
-use Rattle.leveldb_version.proofs.TableRunLemmas.{file_table, is_run, is_table_at, same_entries}
+use Rattle.leveldb_version.proofs.TableRunLemmas.{file_table, is_run, is_table_at, same_entries, same_internal}
 use Rattle.leveldb_version.proofs.TablesInTurnLemmas.{AreInTurn, IsRun, of_all, turns_accepted, turns_parted, turns_rise}
 use Rattle.leveldb_version.proofs.VersionLemmas.{internal_total}
 use Rattle.leveldb_version.proofs.WalkFilesLemmas.{walk_turns, walk_within}
@@ -34,7 +35,7 @@ use Rattle.leveldb_version.specs.Batches.{Each}
 use Rattle.leveldb_version.specs.Format.{IsTableOf, Meaning}
 use Rattle.leveldb_version.specs.Levels.{LiveTable}
 use Rattle.leveldb_version.specs.Paths.{table_path}
-use Rattle.leveldb_version.specs.Store.{HasTable}
+use Rattle.leveldb_version.specs.Store.{HasTable, IsInternalPair}
 use Rattle.leveldb_version.specs.TableCache.{files_at, path_at, store_of}
 use Rattle.leveldb_version.specs.TableMoves.{FileTable, IsIndexedFor, IsTableAt, table_pairs}
 use Rattle.leveldb_version.specs.Version.{AreInVersionOrder, VersionValue, new_files_of}
@@ -43,6 +44,17 @@ use Rattle.leveldb_version.specs.VersionIter.{IsOverTables, reading, table_in, t
 use Rattle.leveldb_version.specs.VersionIters.{AreTablesToWalk, OrdersInternalKeys, files_of_walks}
 use Rattle.leveldb_version.specs.declared.table_cache.moves.ReadTables.{ReadTables}
 use Rattle.leveldb_version.specs.declared.version_iter.VersionIter.{VersionIter}
+
+-- what holds of elements and what a function makes of them
+from_each : {A B : Type 0} (R : A → B → Type 0) (f : A → B) (xs : List A) → Each R xs (map f xs) → (x : A) → Contains xs x → R x (f x)
+from_each R f [] e x c = absurd (in_none x c)
+from_each {A} R f (y ∷ xs) e x c = ⊎_elim
+    (λ (same : y ≡ x). subst (λ (z : A). R z (f z)) same e.0)
+    (λ (rest : Contains xs x). from_each R f xs e.1 x rest) (in_cases y x xs c)
+
+to_each : {A B : Type 0} (R : A → B → Type 0) (f : A → B) (xs : List A) → ((x : A) → Contains xs x → R x (f x)) → Each R xs (map f xs)
+to_each R f [] h = tt
+to_each R f (x ∷ xs) h = (h x (in_front x xs), to_each R f xs (λ y c. h y (in_rest x y xs c)))
 
 module _ {E C FP K F : Type 0} {order : CmpGhosts (InternalKeyCmp C)} (env : EnvGhosts E F) (cmp : CmpGhosts C) (filters : FilterGhosts FP) (codings : K → Codings)
     (version : VersionValue C) (world : E × ReadTables E C FP K F) (exact : IsExactOrder (cmp.cmp world.1.cmp)) (orders : OrdersInternalKeys order (cmp.cmp world.1.cmp) world.1.cmp)
@@ -67,6 +79,7 @@ module _ {E C FP K F : Type 0} {order : CmpGhosts (InternalKeyCmp C)} (env : Env
     pub run : IsRun ucmp (new_file_of file) table
     pub at : ((new_file_of file).number < 2 ^ 64) × ((new_file_of file).largest ≡ table.largest) × IsTableAt ucmp meaning disk (table_path store (new_file_of file).number) table × ((new_file_of file).number < world.1.below)
     pub entries : entries_of_pairs (table_pairs table) ≡ live.entries
+    pub internal : Each IsInternalPair (table_pairs table) live.entries
 
   table_for : (file : ℕ × FileMetaData) → Contains version.files file → (table : FileTable) × IsTableFor file table
   table_for file c =
@@ -88,6 +101,7 @@ module _ {E C FP K F : Type 0} {order : CmpGhosts (InternalKeyCmp C)} (env : Env
             subst (λ (f : NewFile). f.number < world.1.below) live.2 fits.3,
           );
           entries = same_entries total (internal_total total) meaning store disk live.0 has;
+          internal = same_internal total (internal_total total) meaning store disk live.0 has;
         },
       )
 
@@ -146,6 +160,15 @@ module _ {E C FP K F : Type 0} {order : CmpGhosts (InternalKeyCmp C)} (env : Env
               (turns_parted total (internal_total total) (map new_file_of part) has.tabled runs has.turns);
           accepted = accepted;
         }
+
+    -- each pair is that of its entry
+    pub pairs_internal : Each IsInternalPair pairs (entries_of_pairs pairs)
+    pairs_internal = to_each IsInternalPair entry_of_pair pairs (λ pair c.
+        let block = in_flat (λ (p : Part). p.pairs) (table_parts has.tabled) pair (subst (λ ps. Contains ps pair) has.is c) in
+        let table = in_map table_part has.tabled block.0 block.1 in
+        let file = each_second IsTableFor part has.tabled table.0 has.each table.1 in
+        from_each IsInternalPair entry_of_pair (table_pairs table.0) (subst (Each IsInternalPair (table_pairs table.0)) (sym file.2.entries) file.2.internal) pair
+        (subst (λ (p : Part). Contains p.pairs pair) (sym table.2) block.2))
 
     -- an entry of the pairs is one of a file's live table
     pub entry_from : (entry : Entry) → Contains (entries_of_pairs pairs) entry

@@ -17,9 +17,10 @@ use Rattle.leveldb_env.specs.Compressor.{Codings}
 use Rattle.leveldb_env.specs.declared.env.Env.{Ghosts as EnvGhosts}
 use Rattle.leveldb_env.specs.declared.filter.FilterPolicy.{Ghosts as FilterGhosts}
 use Rattle.leveldb_iter.specs.Walk.{KeyOrder, key_order}
+use Rattle.leveldb_version.specs.Batches.{Each}
 use Rattle.leveldb_version.specs.Format.{Agrees, IsTableOf, Meaning}
 use Rattle.leveldb_version.specs.Levels.{IsBounded, LevelOrder, LiveTable, table_entries}
-use Rattle.leveldb_version.specs.Store.{HasTable, any_user_key}
+use Rattle.leveldb_version.specs.Store.{HasTable, IsInternalPair, any_user_key}
 use Rattle.leveldb_version.specs.TableCache.{files_at, store_of}
 use Rattle.leveldb_version.specs.TableMoves.{AreTablesMatched}
 use Rattle.leveldb_version.specs.Version.{AreInVersionOrder, VersionValue, at_level, new_files_of}
@@ -133,6 +134,9 @@ module _ {E C FP K F : Type 0} (order : CmpGhosts (InternalKeyCmp C)) (env : Env
         (key_order order (record { 0 = world.1.cmp })) pairs
     -- the newer entries of a key first
     pub layered : AreLayered (map entries_of_pairs lists)
+    -- each pair is that of its entry
+    pub internal : (pairs : List Pair) → Contains lists pairs
+        → Each IsInternalPair pairs (entries_of_pairs pairs)
     -- all entries of the tables, and no others
     pub exactly : (entry : Entry) → Contains (entries_of (map entries_of_pairs lists)) entry
         ↔ Contains (table_entries tables) entry
