@@ -17,6 +17,8 @@ mod random_choices;
 #[cfg(test)]
 mod recovers;
 #[cfg(test)]
+mod samples;
+#[cfg(test)]
 mod store_files;
 #[cfg(test)]
 mod store_sweeps;

@@ -114,3 +114,4 @@ pub mod InputsLemmas
 pub mod PickingLemmas
 pub mod CompactionCallLemmas
 mod BaseLevelLemmas
+mod SamplingLemmas

@@ -52,3 +52,4 @@ pub mod WalksBeside
 pub mod Contradictions
 pub mod Inputs
 pub mod Picking
+pub mod Sampling

@@ -1,13 +1,46 @@
-//! The seeks that a version's files may take.
+//! The seeks that a version's files may take, and samples of reads that cost one.
 ghost use Rattle.std.specs.Prelude.{◌≡◌, ◌<◌, ◌^◌, IfErr, IfOk, OnOk, map};
 ghost use Rattle.std.specs.List.{list_any};
 ghost use Rattle.std.specs.List.Sorted.{IsNonDecreasingBy};
 ghost use Rattle.leveldb_base.specs.Error.{IsOutOfMemory};
-ghost use Rattle.leveldb_version.specs.Version.{after_seek, has_last_seek, is_named, with_first_seeks};
+ghost use Rattle.leveldb_base.specs.KeyTypes.{user_part};
+ghost use Rattle.leveldb_version.specs.Sampling.{ChargesForSample, SamplesRead};
+ghost use Rattle.leveldb_version.specs.Search.{AreDisjointLevels};
+ghost use Rattle.leveldb_version.specs.Version.{after_seek, has_last_seek, is_named, new_files_of, with_first_seeks};
 
 use super::order::{part_of_level, range_of_level};
+use super::search::FilesLeft;
+use super::{GetStats, Version};
+use leveldb_base::cmp::UserCmp;
 use leveldb_base::error::Result;
+use leveldb_base::key_types::{InternalKey, UserKey, split_sequence};
 use leveldb_base::types::{FileMetaData, FileNum};
+
+impl<C: UserCmp> Version<C> {
+    /// The file that is charged with a seek for a sample of the keys that are read, by its level and
+    /// number: the first one that a look-up of the user key tries, if there is a second.
+    pub fn sampled(&self, key: UserKey<'_>) -> Option<(usize, FileNum)>
+        ensures { let cmp = C.cmp self.now.cmp in
+            let files = new_files_of self.now in
+            AreDisjointLevels cmp files → ChargesForSample cmp key.now files result }
+    {
+        let mut files = FilesLeft::new(self.files.as_slice());
+        let first = files.next(&self.cmp, key)?;
+        files.next(&self.cmp, key)?;
+        Some((first.0, first.1.num))
+    }
+
+    /// Charges the file with a seek that is charged for a sample of this key. Returns whether that
+    /// chooses it for a compaction, as `update_stats` does.
+    // LevelDB: Version::RecordReadSample
+    pub fn record_read_sample(&mut self, key: InternalKey<'_>) -> bool
+        ensures { SamplesRead (C.cmp self.old.cmp) (user_part key.now) self.old self.new result }
+    {
+        let (user, _) = split_sequence(key);
+        let file = self.sampled(user);
+        self.update_stats(GetStats { file })
+    }
+}
 
 /// Whether there is a file of this level and number that may take one more seek at most, among
 /// files in the order of their levels.
