@@ -115,3 +115,4 @@ pub mod PickingLemmas
 pub mod CompactionCallLemmas
 mod BaseLevelLemmas
 mod SamplingLemmas
+pub mod AmongLemmas

@@ -1,7 +1,9 @@
 -- Inputs of a compaction that contradict the edits which added them: their tables, read pair by
 -- pair in one order, have a key that no such tables have. A compaction fails with `Corruption` then.
-use Rattle.std.specs.Prelude.{◌≡◌, ◌≢◌, ◌≤◌, ◌<◌, ◌⊎◌, ℕ, List, ◌∷◌, ◌++◌, length, Contains}
+use Rattle.std.specs.Prelude.{◌≡◌, ◌≢◌, ◌≤◌, ◌<◌, ◌⊎◌, ◌&&◌, Bool, not, ℕ, List, ◌∷◌, ◌++◌, length, Contains}
 use Rattle.std.specs.Cmp.{IsTotalOrder}
+use Rattle.std.specs.List.{list_any}
+use Rattle.std.specs.Ordering.{is_lt}
 use Rattle.std.specs.declared.cmp.Ordering.{Ordering}
 use Rattle.std.specs.declared.cmp.Ordering.TheVariants.{Less}
 use Rattle.leveldb_base.specs.declared.error.Status.{Status}
@@ -21,6 +23,19 @@ module _ (cmp : List ℕ → List ℕ → Ordering) where
     pub from : (input : NewFile) × Contains inputs input
         × (cmp key (user_part input.smallest) ≢ Less)
     pub to : (input : NewFile) × Contains inputs input × (cmp (user_part input.largest) key ≢ Less)
+
+  -- the file's first user key isn't after this one
+  abbrev pub begins_by : List ℕ → NewFile → Bool
+  begins_by key file = not (is_lt (cmp key (user_part file.smallest)))
+
+  -- the file's last user key isn't before this one
+  abbrev pub ends_from : List ℕ → NewFile → Bool
+  ends_from key file = not (is_lt (cmp (user_part file.largest) key))
+
+  -- the same as a test
+  abbrev pub is_among_inputs : List NewFile → List ℕ → Bool
+  is_among_inputs inputs key =
+      list_any (begins_by key) inputs && list_any (ends_from key) inputs
 
   -- Pairs that are read from the inputs' tables, in this order, agree with the inputs' edits:
   -- their keys have tags, rise, and lie within the inputs' hull.

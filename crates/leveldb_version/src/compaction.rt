@@ -5,6 +5,7 @@ ghost use Rattle.leveldb_base.specs.Error.{IsOutOfMemory};
 ghost use Rattle.leveldb_base.specs.KeyTypes.{user_part};
 ghost use Rattle.leveldb_version.specs.Compaction.{MayMove, closed_range, is_base_level_for};
 ghost use Rattle.leveldb_version.specs.CompactionEdit.{SetsPointer};
+ghost use Rattle.leveldb_version.specs.Contradictions.{IsAmongInputs, is_among_inputs};
 ghost use Rattle.leveldb_version.specs.Inputs.{MayTake, input_files};
 ghost use Rattle.leveldb_version.specs.Overlap.{overlapping};
 ghost use Rattle.leveldb_version.specs.Picking.{DeletesFiles, IsCompactionOf, OnlyPoints};
@@ -29,7 +30,7 @@ pub mod inputs;
 pub mod pick;
 
 use cut::OutputCut;
-use inputs::{Inputs, ends_of};
+use inputs::{Inputs, ends_of, is_among};
 
 /// A compaction of a level: the files that it takes of it and of the next one, and the edit that it
 /// makes. It has copies of the metadata of its version, so that the set may go on meanwhile.
@@ -182,6 +183,17 @@ impl<C: UserCmp + Copy + Drop> Compaction<C> {
     {
         self.version.is_base_level_for(self.level + 1, key)
     }
+
+    /// Whether a user key is within the range from the first key of one of the files that it takes to
+    /// the last key of one.
+    pub fn is_among_inputs(&self, key: UserKey<'_>) -> bool
+        ensures test { result ≡ is_among_inputs (C.cmp self.now.version.cmp)
+            (new_files_of self.now.inputs) key.now }
+        ensures exact { IsTrue result ↔ IsAmongInputs (C.cmp self.now.version.cmp)
+            (new_files_of self.now.inputs) key.now }
+    {
+        is_among(self.version.ucmp(), self.inputs.all_files(), key)
+    }
 }
 
 impl<C: UserCmp + Copy + Drop> Compaction<C> {
@@ -241,9 +253,10 @@ impl<C: UserCmp + Copy + Drop> Compaction<C> {
     pub fn should_stop_before(&mut self, key: InternalKey<'_>) -> bool
         ensures { self.new ≡ self.old }
     {
-        let limit = self.overlap_limit();
-        let files = self.version.part(self.level + 2);
-        self.cut.passes(self.version.ucmp(), files, limit, key)
+        let mut cut = self.cut;
+        let stops = cut.stops_before(self, key);
+        self.cut = cut;
+        stops
     }
 
     // How many bytes two levels down an output may overlap.

@@ -6,7 +6,7 @@ use leveldb_base::key_types::{InternalKey, cmp_internal_key};
 use leveldb_base::types::FileMetaData;
 
 /// How far the keys of an output have come over the files two levels below a compaction's.
-#[derive(Drop)]
+#[derive(Clone, Copy)]
 pub struct OutputCut {
     // How many of the files end before the last key.
     passed: usize,
@@ -44,7 +44,7 @@ impl OutputCut {
 
     // Passes the files that end before the key. Returns whether they have more bytes than this, and
     // begins anew if so.
-    pub(super) fn passes<C: UserCmp>(
+    fn passes<C: UserCmp>(
         &mut self,
         ucmp: &C,
         files: &[(usize, FileMetaData)],

@@ -1,16 +1,19 @@
 //! The files that a compaction takes of a level and of the next.
-ghost use Rattle.std.specs.Prelude.{◌≡◌, ◌↔◌, ◌<◌, [], None, IfErr, IfOk, IfSome, if◌then◌else◌};
+ghost use Rattle.std.specs.Prelude.{◌≡◌, ◌↔◌, ◌<◌, [], None, IfErr, IfOk, IfSome, if◌then◌else◌, map};
+ghost use Rattle.std.specs.List.{list_any};
 ghost use Rattle.std.specs.Ordering.{is_lt};
 ghost use Rattle.leveldb_base.specs.Error.{IsOutOfMemory};
 ghost use Rattle.leveldb_base.specs.KeyTypes.{internal_cmp, user_part};
+ghost use Rattle.leveldb_version.specs.Contradictions.{begins_by, ends_from, is_among_inputs};
 ghost use Rattle.leveldb_version.specs.Inputs.{AreChosen, AreKeyEnds, MayTake};
 ghost use Rattle.leveldb_version.specs.Overlap.{AreInputs, named_range};
 ghost use Rattle.leveldb_version.specs.Version.{borrowed_files, new_files_of};
+ghost use Rattle.leveldb_version.specs.VersionEdit.{new_file_of};
 
 use crate::version::Version;
-use leveldb_base::cmp::UserCmp;
+use leveldb_base::cmp::{Cmp, UserCmp};
 use leveldb_base::error::Result;
-use leveldb_base::key_types::{InternalKey, cmp_internal_key, split_sequence};
+use leveldb_base::key_types::{InternalKey, UserKey, cmp_internal_key, split_sequence};
 use leveldb_base::types::FileMetaData;
 use std::alloc::Global;
 
@@ -122,4 +125,58 @@ pub(crate) fn inputs_in<'v, C: UserCmp>(
     ensures memory { IfErr result IsOutOfMemory }
 {
     version.overlapping_inputs(alloc, level, begin, end)
+}
+
+/// Whether a user key is within the range from the first key of one of the files to the last key of
+/// one.
+pub(super) fn is_among<C: Cmp>(ucmp: &C, files: &[(usize, FileMetaData)], key: UserKey<'_>) -> bool
+    ensures { result
+        ≡ is_among_inputs (C.cmp ucmp.now) (map new_file_of files.now) key.now }
+{
+    one_begins_by(ucmp, files, key) && one_ends_from(ucmp, files, key)
+}
+
+// Whether one of the files doesn't begin after a user key.
+fn one_begins_by<C: Cmp>(ucmp: &C, files: &[(usize, FileMetaData)], key: UserKey<'_>) -> bool
+    ensures { result
+        ≡ list_any (begins_by (C.cmp ucmp.now) key.now) (map new_file_of files.now) }
+{
+    for file in files {
+        if begins_by(ucmp, file, key) {
+            return true;
+        }
+    }
+    false
+}
+
+// Whether the file doesn't begin after a user key.
+fn begins_by<C: Cmp>(ucmp: &C, file: &(usize, FileMetaData), key: UserKey<'_>) -> bool
+    ensures { result ≡ begins_by (C.cmp ucmp.now) key.now (new_file_of file.now) }
+{
+    let (first, _) = split_sequence(&file.1.smallest);
+    !ucmp.cmp(key, first).is_lt()
+}
+
+// Whether one of the files doesn't end before a user key, looked for from the last one on: in order
+// they end later and later, but for those of level 0.
+fn one_ends_from<C: Cmp>(ucmp: &C, files: &[(usize, FileMetaData)], key: UserKey<'_>) -> bool
+    ensures { result
+        ≡ list_any (ends_from (C.cmp ucmp.now) key.now) (map new_file_of files.now) }
+{
+    let mut left = files;
+    while let Some((file, rest)) = left.split_last() {
+        if ends_from(ucmp, file, key) {
+            return true;
+        }
+        left = rest;
+    }
+    false
+}
+
+// Whether the file doesn't end before a user key.
+fn ends_from<C: Cmp>(ucmp: &C, file: &(usize, FileMetaData), key: UserKey<'_>) -> bool
+    ensures { result ≡ ends_from (C.cmp ucmp.now) key.now (new_file_of file.now) }
+{
+    let (last, _) = split_sequence(&file.1.largest);
+    !ucmp.cmp(last, key).is_lt()
 }
