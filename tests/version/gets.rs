@@ -20,20 +20,20 @@ use std::alloc::Global;
 use std::process::Abort;
 use support::failed_with;
 
-type Choices = Options<DefaultCmp, BloomPolicy>;
+pub type Choices = Options<DefaultCmp, BloomPolicy>;
 
-type Tables = TableCache<MemEnv, DefaultCmp, BloomPolicy>;
+pub type Tables = TableCache<MemEnv, DefaultCmp, BloomPolicy>;
 
 type Builder = TableBuilder<Vec<u8>, InternalKeyCmp<DefaultCmp>, InternalFilterPolicy<BloomPolicy>>;
 
 /// An entry: its key, its number, and its value or a deletion.
-type Entry = (&'static str, SequenceNumber, Option<&'static str>);
+pub type Entry = (&'static str, SequenceNumber, Option<&'static str>);
 
 /// A table: its level, its number, and its entries by key, and of one key the newest first.
-type Rows = (usize, FileNum, &'static [Entry]);
+pub type Rows = (usize, FileNum, &'static [Entry]);
 
 /// Five tables in three levels.
-const TABLES: [Rows; 5] = [
+pub const TABLES: [Rows; 5] = [
     (
         0,
         8,
@@ -75,7 +75,7 @@ const LOOK_UPS: [(&str, SequenceNumber, Option<(usize, FileNum)>); 11] = [
 // ---- the store
 
 /// The internal key of an entry.
-fn key_of(rt: &(impl Abort + AllocGlobal), entry: &Entry) -> Result<Bytes> {
+pub fn key_of(rt: &(impl Abort + AllocGlobal), entry: &Entry) -> Result<Bytes> {
     assert!(rt; entry.1 <= MAX_SEQUENCE_NUMBER);
     let kind = match entry.2 {
         Some(_) => ValueType::TypeValue,
@@ -122,7 +122,7 @@ fn table_of(
 }
 
 /// Writes a table, and returns its file.
-fn put_table(
+pub fn put_table(
     rt: &(impl Abort + AllocGlobal),
     env: &mut MemEnv,
     options: &Choices,

@@ -19,6 +19,8 @@ mod recovers;
 #[cfg(test)]
 mod samples;
 #[cfg(test)]
+mod set_compactions;
+#[cfg(test)]
 mod store_files;
 #[cfg(test)]
 mod store_sweeps;

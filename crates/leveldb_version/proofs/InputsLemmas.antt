@@ -1,9 +1,10 @@
 -- Which files of a level are chosen for a compaction.
-use Rattle.std.specs.Prelude.{Contains, if◌then◌else◌, nat_lt}
-use Rattle.std.proofs.Common.{◌≡◌, ◌∙◌, ◌++◌, ◌∷◌, ◌==◌, ⊎_elim, ℕ, zero, suc, ◌+◌, ◌-◌, ◌<◌, ◌≤◌, Bool, true, false, cond, List, [], arith, ap, drop, get_or, length, map, refl, subst, sym, take}
-use Rattle.std.proofs.lemmas.Bool.{eqb-true}
+use Rattle.std.specs.Prelude.{Contains, if◌then◌else◌, sum_by}
+use Rattle.std.proofs.Common.{◌≡◌, ◌∙◌, ◌++◌, ◌∷◌, ◌==◌, inl, inr, ⊎_elim, ℕ, zero, suc, ◌+◌, ◌-◌, ◌<◌, ◌≤◌, Bool, true, false, cond, List, [], arith, ap, drop, get_or, length, map, refl, subst, sym, take}
+use Rattle.std.proofs.lemmas.Bool.{cases_lt, eqb-true}
 use Rattle.std.proofs.lemmas.List.{append-nil, drop_all, get_or-map, length-map, map_push, take_more}
 use Rattle.std.proofs.lemmas.List.Elements.{Contains-append_cases, Contains-get_or, Contains-push_cases}
+use Rattle.std.proofs.lemmas.List.Sums.{sum_by_more}
 use Rattle.std.specs.Borrow.{Bor}
 use Rattle.std.specs.Cmp.{IsTotalOrder}
 use Rattle.std.specs.List.{AllByRecursion, IsDistinct}
@@ -21,7 +22,7 @@ use Rattle.leveldb_version.proofs.SearchLemmas.{kept_passes}
 use Rattle.leveldb_version.proofs.VersionLemmas.{internal_total}
 use Rattle.leveldb_version.specs.Choosing.{AreEnds}
 use Rattle.leveldb_version.specs.Compaction.{AreOnce, MayCompact, closed_range}
-use Rattle.leveldb_version.specs.Inputs.{AreChosen, AreKeyEnds, AreWithin, MayTake, first_past, input_files}
+use Rattle.leveldb_version.specs.Inputs.{AreChosen, AreKeyEnds, AreWithin, IsCountPast, MayTake, input_files}
 use Rattle.leveldb_version.specs.Overlap.{AreInputs, UserRange, overlapping, overlaps}
 use Rattle.leveldb_version.specs.Summary.{files_of_level}
 use Rattle.leveldb_version.specs.Version.{at_level, borrowed_files}
@@ -256,48 +257,48 @@ taken_with_next cmp files level inputs low high shallow chosen key_ends next =
 
 -- ---- the first files past a limit
 
--- the first files past a limit are those before an index and the first past what is left of it
-abbrev pub IsCountedTo : ℕ → ℕ → ℕ → List NewFile → Type 0
-IsCountedTo limit left i files = first_past limit files ≡ take i files ++ first_past left (drop i files)
+-- how many bytes files have together
+abbrev pub bytes_of : List NewFile → ℕ
+bytes_of = sum_by (λ (file : NewFile). file.size)
 
-past_here : (file : NewFile) (files : List NewFile) (left : ℕ) (b : Bool) → nat_lt left file.size ≡ b
-    → first_past left (file ∷ files) ≡ file ∷ cond b [] (first_past (left - file.size) files)
-past_here file files left b e = ap (λ c. file ∷ cond c [] (first_past (left - file.size) files)) e
+-- the first files so far are within the limit, and so much of it is left
+pub record AreCountedTo (limit left i : ℕ) (files : List NewFile) : Type 0 where
+  pub fits : bytes_of (take i files) + left ≡ limit
+  pub most : (fewer : ℕ) → fewer < i → bytes_of (take fewer files) ≤ limit
 
--- one file is within the limit
-counted_in : (files : List NewFile) (i : ℕ) (file : NewFile) (left : ℕ) → i < length files → get_or files i file ≡ file → nat_lt left file.size ≡ false
-    → take i files ++ first_past left (drop i files) ≡ take (suc i) files ++ first_past (left - file.size) (drop (suc i) files)
-counted_in [] i file left inside is fits = absurd (omega (arith, inside))
-counted_in (x ∷ files) zero file left inside is fits =
-    past_here x files left false (ap (λ (f : NewFile). nat_lt left f.size) is ∙ fits)
-    ∙ ap (λ (f : NewFile). x ∷ first_past (left - f.size) files) is
-counted_in (x ∷ files) (suc i) file left inside is fits =
-    ap (λ (fs : List NewFile). x ∷ fs) (counted_in files i file left (omega (arith, inside)) is fits)
+most_more : {limit left i : ℕ} {files : List NewFile} → AreCountedTo limit left i files → (fewer : ℕ) → fewer < i + 1 → bytes_of (take fewer files) ≤ limit
+most_more {limit} {left} {i} {files} so_far fewer less = ⊎_elim (so_far.most fewer)
+    (λ (least : i ≤ fewer). let same : i ≡ fewer = omega (arith, less, least) in
+    subst (λ (n : ℕ). bytes_of (take n files) ≤ limit) same (let fits = so_far.fits in omega (arith, fits)))
+    (cases_lt fewer i)
 
-pub counted_on : (limit left i : ℕ) (files : List NewFile) (file : NewFile) → IsCountedTo limit left i files → i < length files → get_or files i file ≡ file
-    → nat_lt left file.size ≡ false → IsCountedTo limit (left - file.size) (i + 1) files
-counted_on limit left i files file counted inside is fits =
-    let next : suc i ≡ i + 1 = omega arith in
-    subst (λ (n : ℕ). IsCountedTo limit (left - file.size) n files) next (counted ∙ counted_in files i file left inside is fits)
+-- one file more is within it
+pub counted_on : {limit left i : ℕ} {files : List NewFile} (file : NewFile) → AreCountedTo limit left i files → i < length files → get_or files i file ≡ file
+    → file.size ≤ left → AreCountedTo limit (left - file.size) (i + 1) files
+counted_on {limit} {left} {i} {files} file so_far inside is small = record {
+  fits =
+      let fits = so_far.fits in
+      let more = sum_by_more (λ (f : NewFile). f.size) files i file inside in
+      let same = ap (λ (f : NewFile). f.size) is in
+      omega (arith, fits, more, same, small);
+  most = most_more so_far;
+}
 
--- one file is past it
-past_in : (files : List NewFile) (i : ℕ) (file : NewFile) (left : ℕ) → i < length files → get_or files i file ≡ file → nat_lt left file.size ≡ true
-    → take i files ++ first_past left (drop i files) ≡ take (suc i) files
-past_in [] i file left inside is past = absurd (omega (arith, inside))
-past_in (x ∷ files) zero file left inside is past = past_here x files left true (ap (λ (f : NewFile). nat_lt left f.size) is ∙ past)
-past_in (x ∷ files) (suc i) file left inside is past =
-    ap (λ (fs : List NewFile). x ∷ fs) (past_in files i file left (omega (arith, inside)) is past)
-
-pub counted_past : (limit left i : ℕ) (files : List NewFile) (file : NewFile) → IsCountedTo limit left i files → i < length files → get_or files i file ≡ file
-    → nat_lt left file.size ≡ true → take (i + 1) files ≡ first_past limit files
-counted_past limit left i files file counted inside is past =
-    let next : suc i ≡ i + 1 = omega arith in
-    sym (counted ∙ past_in files i file left inside is past ∙ ap (λ (n : ℕ). take n files) next)
+-- one file more is past it
+pub counted_past : {limit left i : ℕ} {files : List NewFile} (file : NewFile) → AreCountedTo limit left i files → i < length files → get_or files i file ≡ file
+    → left < file.size → IsCountPast limit files (i + 1)
+counted_past {limit} {left} {i} {files} file so_far inside is great = record {
+  most = most_more so_far;
+  past = inl (
+      let fits = so_far.fits in
+      let more = sum_by_more (λ (f : NewFile). f.size) files i file inside in
+      let same = ap (λ (f : NewFile). f.size) is in
+      omega (arith, fits, more, same, great));
+}
 
 -- all are within it
-pub counted_all : (limit left i : ℕ) (files : List NewFile) → IsCountedTo limit left i files → length files ≤ i → take i files ≡ first_past limit files
-counted_all limit left i files counted most =
-    sym (counted ∙ ap (λ (fs : List NewFile). take i files ++ first_past left fs) (drop_all i files most) ∙ append-nil (take i files))
+pub counted_all : {limit left i : ℕ} {files : List NewFile} → AreCountedTo limit left i files → length files ≤ i → IsCountPast limit files i
+counted_all so_far all = record { most = so_far.most; past = inr all }
 
 -- a file of borrowed ones
 pub borrowed_at : (files : List (Bor (ℕ × FileMetaData))) (i : ℕ) (file : Bor (ℕ × FileMetaData)) → i < length files → file ≡ get_or files i file

@@ -1,9 +1,10 @@
 -- Which compaction a version asks for: where a level or a range asks for one, there are files to take.
-use Rattle.std.specs.Prelude.{◌≢◌, Contains, IfSome, IsSomeAnd, IfOk, find, is_some, nat_lt, not, option_and_then, ◌||◌, if◌then◌else◌, slice_get}
+use Rattle.std.specs.Prelude.{◌≢◌, Contains, IfSome, IsSomeAnd, IfOk, find, is_some, nat_lt, not, option_and_then, ◌||◌, if◌then◌else◌, slice_get, sum_by}
 use Rattle.std.proofs.Common.{◌≡◌, ◌∙◌, ◌↔◌, ◌<◌, ◌≤◌, ◌*◌, ◌^◌, ◌⊎◌, ◌++◌, inl, inr, ⊎_elim, ap, ◌∷◌, ℕ, zero, suc, Bool, true, false, cond, List, [], Err, Ok, Option, Result, None, Some, arith, length, map, ◌==◌, refl, subst, sym, take}
 use Rattle.std.proofs.lemmas.Bool.{and_from, and_parts, eq-eqb, eqb-true, lt-ltb}
 use Rattle.std.specs.Borrow.{Bor}
 use Rattle.std.specs.Cmp.{IsTotalOrder}
+use Rattle.std.proofs.lemmas.List.{take_all}
 use Rattle.std.proofs.lemmas.List.Elements.{filter_map-append}
 use Rattle.std.proofs.lemmas.Option.{slice_get-map}
 use Rattle.std.specs.List.{cons_option, filter, filter_map, last_or, list_any}
@@ -22,11 +23,11 @@ use Rattle.leveldb_version.proofs.ScoresLemmas.{scores_tell_level}
 use Rattle.leveldb_version.proofs.SearchLemmas.{kept_passes, passes_kept}
 use Rattle.leveldb_version.proofs.VersionLemmas.{at_level_map}
 use Rattle.leveldb_version.proofs.VersionSetLemmas.{last_or-append, last_or-single}
-use Rattle.leveldb_version.specs.Inputs.{AreOrdered, AreWithin, first_past}
+use Rattle.leveldb_version.specs.Inputs.{AreOrdered, AreWithin, IsCountPast}
 use Rattle.leveldb_version.specs.Overlap.{AreInputs, Covers, UserRange, is_above, is_below, is_overlapped, named_end, named_range, overlapping, overlaps}
 use Rattle.leveldb_version.specs.Scores.{level_by_score, level_limit, level_load}
 use Rattle.leveldb_version.specs.Summary.{files_of_level, total_size}
-use Rattle.leveldb_version.specs.Picking.{CompactionValue, IsAskedFor, IsCompactionOf, asking_file, file_by_reads}
+use Rattle.leveldb_version.specs.Picking.{CompactionValue, IsAskedFor, IsCompactionOf, IsOfRange, asking_file, file_by_reads}
 use Rattle.leveldb_version.specs.Version.{VersionValue, at_level, borrowed_files, new_files_of}
 use Rattle.leveldb_version.specs.VersionEdit.{LevelFile, NewFile, Pointer, new_file_of}
 use Rattle.leveldb_version.specs.VersionSet.{key_for, pointer_at}
@@ -61,9 +62,12 @@ is_closed true e = cc
 is_closed false e = refl
 
 -- the first of files past a limit are none only where there are none
-pub none_past : (limit n : ℕ) (files : List NewFile) → take n files ≡ first_past limit files → take n files ≡ [] → files ≡ []
-none_past limit n [] same none = refl
-none_past limit n (file ∷ files) same none = absurd (let never = sym same ∙ none in cc)
+pub none_past : (limit n : ℕ) (files : List NewFile) → IsCountPast limit files n → take n files ≡ [] → files ≡ []
+none_past limit n files counted none = ⊎_elim
+    (λ (past : limit < sum_by (λ (file : NewFile). file.size) (take n files)).
+    let zero_is : sum_by (λ (file : NewFile). file.size) (take n files) ≡ 0 = ap (sum_by (λ (file : NewFile). file.size)) none in absurd (omega (arith, past, zero_is)))
+    (λ (all : length files ≤ n). sym (take_all n files all) ∙ none)
+    counted.past
 
 -- ---- ranges and what overlaps them
 
@@ -306,3 +310,36 @@ none_taken n (x ∷ files) e = absurd cc
 pub some_exactly : {A P : Type 0} (picked : Option A) (asks : Bool) → (picked ≡ None) ↔ P → (P → asks ≡ false) → (asks ≡ false → P) → is_some picked ≡ asks
 some_exactly None asks iff to back = sym (to (iff.0 refl))
 some_exactly (Some a) asks iff to back = sym (is_true asks (λ no. let never : Some a ≡ None = iff.1 (back no) in cc))
+
+-- the facts of a compaction of a range, together
+pub of_range : {C E : Type 0} (cmp : List ℕ → List ℕ → Ordering) (version : VersionValue C) (level : ℕ) (range : UserRange) (size : ℕ) (chosen : List NewFile) (result : Result (Option (CompactionValue C)) E)
+    → IfOk result (λ picked. IfSome picked (IsCompactionOf cmp version true size)) → IfOk result (λ picked. IfSome picked (λ it. it.level ≡ level))
+    → IfOk result (λ picked. is_some picked ≡ is_overlapped cmp level range (new_files_of version))
+    → (AreOrdered cmp (new_files_of version) → IfOk result (λ picked. IfSome picked (λ it. (file : NewFile) → Contains chosen file → Contains (new_files_of it.inputs) file)))
+    → ((file : NewFile) → slice_get (overlapping cmp level range (new_files_of version)) 0 ≡ Some file → Contains chosen file)
+    → IfOk result (IsOfRange cmp version level range size)
+of_range cmp version level range size chosen (Err e) each of_level some keeps has = tt
+of_range cmp version level range size chosen (Ok None) each of_level some keeps has = record { each = tt; of_level = tt; some = some; first = λ ordered file is. tt }
+of_range cmp version level range size chosen (Ok (Some it)) each of_level some keeps has = record {
+  each = each;
+  of_level = of_level;
+  some = some;
+  first = λ ordered file is. keeps ordered file (has file is);
+}
+
+-- the first of a list is one of it
+pub first_in : {A : Type 0} (xs : List A) (x : A) → slice_get xs 0 ≡ Some x → Contains xs x
+first_in [] x is = cc
+first_in {A} (y ∷ xs) x is = let same : y ≡ x = cc in subst (λ (z : A). Contains (y ∷ xs) z) same (in_front y xs)
+
+-- the first of files is among those that are counted to a limit
+pub first_taken : (limit n : ℕ) (files : List NewFile) (file : NewFile) → IsCountPast limit files n → slice_get files 0 ≡ Some file → Contains (take n files) file
+first_taken limit n [] file counted is = cc
+first_taken limit zero (x ∷ files) file counted is = absurd (let never : x ∷ files ≡ [] = none_past limit zero (x ∷ files) counted refl in cc)
+first_taken limit (suc n) (x ∷ files) file counted is = let same : x ≡ file = cc in subst (Contains (x ∷ take n files)) same (in_front x (take n files))
+
+-- the first files as borrowed ones
+pub borrowed_taken : (n : ℕ) (files : List (Bor (ℕ × FileMetaData))) → borrowed_files (take n files) ≡ take n (borrowed_files files)
+borrowed_taken zero files = refl
+borrowed_taken (suc n) [] = refl
+borrowed_taken (suc n) (x ∷ files) = ap (λ (fs : List NewFile). new_file_of x.now ∷ fs) (borrowed_taken n files)

@@ -1,5 +1,5 @@
 -- Which files of a level are chosen for a compaction, and the files that it takes.
-use Rattle.std.specs.Prelude.{◌≡◌, ◌≢◌, ◌++◌, ◌+◌, ◌-◌, if◌then◌else◌, nat_lt, ℕ, List, [], ◌∷◌, Contains}
+use Rattle.std.specs.Prelude.{◌≡◌, ◌≢◌, ◌++◌, ◌+◌, ◌<◌, ◌≤◌, ◌⊎◌, ℕ, List, Contains, length, sum_by, take}
 use Rattle.std.specs.declared.cmp.Ordering.{Ordering}
 use Rattle.std.specs.declared.cmp.Ordering.TheVariants.{Less}
 use Rattle.leveldb_base.specs.KeyTypes.{internal_cmp, user_part}
@@ -18,11 +18,11 @@ abbrev pub KeepsFiles : Inputs → Inputs → Type 0
 KeepsFiles narrow wide = (file : NewFile) → Contains (borrowed_files narrow.of_level.items) file
     → Contains (borrowed_files wide.of_level.items) file
 
--- the first files, up to the one with which they have more bytes than this
-abbrev pub first_past : ℕ → List NewFile → List NewFile
-first_past limit [] = []
-first_past limit (file ∷ files) =
-    file ∷ (if nat_lt limit file.size then [] else first_past (limit - file.size) files)
+-- So many of the files are those up to the one with which they have more bytes than this, or all.
+pub record IsCountPast (limit : ℕ) (files : List NewFile) (count : ℕ) : Type 0 where
+  pub most : (fewer : ℕ) → fewer < count
+      → sum_by (λ file. file.size) (take fewer files) ≤ limit
+  pub past : (limit < sum_by (λ file. file.size) (take count files)) ⊎ (length files ≤ count)
 
 module _ (cmp : List ℕ → List ℕ → Ordering) where
   -- the least first key of these files and the greatest last one, in the order of internal keys

@@ -52,4 +52,5 @@ pub mod WalksBeside
 pub mod Contradictions
 pub mod Inputs
 pub mod Picking
+pub mod InputMerge
 pub mod Sampling

@@ -1,5 +1,5 @@
 -- Compactions: what one is, and which one a version asks for.
-use Rattle.std.specs.Prelude.{◌≡◌, ◌<◌, ◌*◌, ◌+◌, ◌⊎◌, ◌↔◌, ◌||◌, ◌==◌, ◌∷◌, [], false, ℕ, Bool, if◌then◌else◌, nat_lt, List, Option, None, Some, is_some, Contains, IfSome, IsSomeAnd, find, length, option_and_then, slice_get}
+use Rattle.std.specs.Prelude.{◌≡◌, ◌<◌, ◌*◌, ◌+◌, ◌⊎◌, ◌↔◌, ◌||◌, ◌==◌, ◌∷◌, [], false, true, ℕ, Bool, if◌then◌else◌, nat_lt, List, Option, None, Some, is_some, Contains, IfSome, IsSomeAnd, find, length, option_and_then, slice_get}
 use Rattle.std.specs.List.Sorted.{IsStrictlySortedBy}
 use Rattle.std.specs.Option.{option_map_or, option_or}
 use Rattle.std.specs.Ordering.{is_gt}
@@ -8,6 +8,7 @@ use Rattle.leveldb_base.specs.KeyTypes.{internal_cmp, user_part}
 use Rattle.leveldb_version.specs.Compaction.{MayCompact}
 use Rattle.leveldb_version.specs.CompactionEdit.{SetsPointer}
 use Rattle.leveldb_version.specs.Inputs.{AreOrdered}
+use Rattle.leveldb_version.specs.Overlap.{UserRange, is_overlapped, overlapping}
 use Rattle.leveldb_version.specs.Scores.{level_by_score}
 use Rattle.leveldb_version.specs.Summary.{files_of_level}
 use Rattle.leveldb_version.specs.Version.{VersionValue, new_files_of}
@@ -92,3 +93,14 @@ module _ (cmp : List ℕ → List ℕ → Ordering) where
         → asking_file pointers version ≡ Some file
         → IsSomeAnd picked (λ it. (it.level ≡ file.level) × Contains (new_files_of it.inputs) file)
     pub none : asking_file pointers version ≡ None → picked ≡ None
+
+  -- the compaction of a range of a level: there is one where a file of the level overlaps the range
+  pub record IsOfRange {C : Type 0} (version : VersionValue C) (level : ℕ) (range : UserRange)
+      (max_file_size : ℕ) (picked : Option (CompactionValue C)) : Type 0 where
+    pub each : IfSome picked (IsCompactionOf version true max_file_size)
+    pub of_level : IfSome picked (λ it. it.level ≡ level)
+    pub some : is_some picked ≡ is_overlapped cmp level range (new_files_of version)
+    -- it takes the first file of the level that overlaps the range, if none is turned round
+    pub first : AreOrdered cmp (new_files_of version) → (file : NewFile)
+        → slice_get (overlapping cmp level range (new_files_of version)) 0 ≡ Some file
+        → IfSome picked (λ it. Contains (new_files_of it.inputs) file)

@@ -10,6 +10,7 @@ use leveldb_base::key_types::{TAG_LEN, cmp_internal_key};
 use leveldb_base::types::{FileMetaData, FileNum};
 use std::alloc::Global;
 
+mod compactions;
 mod current;
 mod current_file;
 mod full_edit;
@@ -23,6 +24,8 @@ mod set;
 mod summary;
 mod usable;
 
+pub use crate::compaction::Compaction;
+pub use compactions::InputIterator;
 pub use current::{current_text, parse_current_text};
 pub use current_file::{read_current_file, set_current_file};
 pub use leveldb_base::names::manifest_file_name;

@@ -1,12 +1,12 @@
 //! Which compaction is asked for: by a version's score, by reads, or by a range.
-ghost use Rattle.std.specs.Prelude.{◌≡◌, ◌<◌, ◌↔◌, ◌==◌, [], true, Contains, IfErr, IfOk, IfSome, None, find, is_some, map, take};
+ghost use Rattle.std.specs.Prelude.{◌≡◌, ◌<◌, ◌↔◌, ◌==◌, [], true, Contains, IfErr, IfOk, IfSome, None, find, map};
 ghost use Rattle.std.specs.Option.{option_copied, option_map};
 ghost use Rattle.std.specs.Ordering.{is_gt};
 ghost use Rattle.leveldb_base.specs.Error.{IsOutOfMemory};
 ghost use Rattle.leveldb_base.specs.KeyTypes.{internal_cmp, user_part};
-ghost use Rattle.leveldb_version.specs.Inputs.{AreChosen, AreOrdered, AreWithin, KeepsFiles, MayTake, first_past};
-ghost use Rattle.leveldb_version.specs.Overlap.{is_overlapped, named_range};
-ghost use Rattle.leveldb_version.specs.Picking.{IsAskedFor, IsCompactionOf, asking_file, file_after, file_by_reads, needs_compaction, used_pointer};
+ghost use Rattle.leveldb_version.specs.Inputs.{AreChosen, AreOrdered, AreWithin, IsCountPast, KeepsFiles, MayTake};
+ghost use Rattle.leveldb_version.specs.Overlap.{named_range};
+ghost use Rattle.leveldb_version.specs.Picking.{IsAskedFor, IsCompactionOf, IsOfRange, asking_file, file_after, file_by_reads, needs_compaction, used_pointer};
 ghost use Rattle.leveldb_version.specs.Version.{at_level, borrowed_files, new_files_of};
 ghost use Rattle.leveldb_version.specs.VersionEdit.{NewFile, new_file_of, pointer_of};
 ghost use Rattle.leveldb_version.specs.VersionSet.{pointer_at};
@@ -58,12 +58,8 @@ pub fn compact_range<C: UserCmp + Copy + Drop>(
     max_file_size: usize,
 ) -> Result<Option<Compaction<C>>>
     requires { level < 6 }
-    ensures each { IfOk result (λ picked. IfSome picked
-        (IsCompactionOf (C.cmp version.now.cmp) version.now true max_file_size)) }
-    ensures level { IfOk result (λ picked. IfSome picked (λ it. it.level ≡ level)) }
-    ensures some { IfOk result (λ picked. is_some picked
-        ≡ is_overlapped (C.cmp version.now.cmp) level
-        (named_range (user_part begin.now) (user_part end.now)) (new_files_of version.now)) }
+    ensures ok { IfOk result (IsOfRange (C.cmp version.now.cmp) version.now level
+        (named_range (user_part begin.now) (user_part end.now)) max_file_size) }
     ensures memory { IfErr result IsOutOfMemory }
 {
     let mut chosen = inputs_in(alloc, version, level, begin, end)?;
@@ -208,8 +204,7 @@ fn chosen_with<'v, C: UserCmp>(
 
 // How many files there are up to the one with which they have more bytes than this, or all of them.
 fn count_past(files: &[&(usize, FileMetaData)], limit: usize) -> usize
-    ensures { take result (borrowed_files files.now)
-        ≡ first_past limit (borrowed_files files.now) }
+    ensures { IsCountPast limit (borrowed_files files.now) result }
 {
     let mut left = limit;
     let mut count = 0;

@@ -29,8 +29,8 @@ use std::marker::Model;
 /// its current version. The calls that use the disk are given the environment.
 #[derive(Drop)]
 pub struct VersionSet<E: Env, C: Cmp> {
-    files: LiveFiles<E>,
-    current: Version<C>,
+    pub(super) files: LiveFiles<E>,
+    pub(super) current: Version<C>,
 }
 
 impl<E: Env, C: Cmp> Model for VersionSet<E, C> {

@@ -1,10 +1,10 @@
 use Rattle.std.proofs.Common.{◌≡◌}
 use Rattle.leveldb_version.specs.Version.{borrowed_files}
-use Rattle.leveldb_version.proofs.InputsLemmas.{IsCountedTo}
+use Rattle.leveldb_version.proofs.InputsLemmas.{AreCountedTo}
 use Rattle.leveldb_version.proofs.compaction.pick.count_past.Given as goal
 
 abbrev pub invariant-loop-file : goal.invariant-loop-file
 invariant-loop-file l = record {
   count_is : l.count ≡ l.file-index;
-  counted : IsCountedTo l.limit l.left l.file-index (borrowed_files l.files);
+  counted : AreCountedTo l.limit l.left l.file-index (borrowed_files l.files);
 }
