@@ -280,6 +280,32 @@ fn level_zero_is_widened(rt: HostRuntime) -> Result<()> {
     Ok(())
 }
 
+/// A file of level 0 whose only key is the empty one takes no other file with it: its own range isn't
+/// open.
+#[test]
+fn empty_key_alone(rt: HostRuntime) -> Result<()> {
+    let alloc = rt.alloc();
+    let rows = [
+        row(0, 1, 1, 0, 0),
+        row(0, 2, 1, 10, 20),
+        row(0, 3, 1, 15, 30),
+        row(0, 4, 1, 40, 50),
+        row(1, 5, 1, 0, 0),
+        row(1, 6, 1, 12, 13),
+    ];
+    assert!(rt; takes(alloc, &asked(alloc, &rows, MIB)?, 0, &[1], &[5])?);
+    assert!(rt;
+        takes(
+            alloc,
+            &ranged(alloc, &rows, 0, 0, 0, MIB)?,
+            0,
+            &[1, 2, 3, 4],
+            &[5, 6]
+        )?
+    );
+    Ok(())
+}
+
 /// The edit sets the level's pointer to the end of the files that are taken of it, and deletes all
 /// that are taken once that is asked for.
 #[test]

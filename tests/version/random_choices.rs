@@ -64,9 +64,14 @@ pub struct Span {
 
 impl Span {
     fn of(row: &Row) -> Span {
+        Span::between(row.first, row.last)
+    }
+
+    /// The range from one key to another, both in it.
+    fn between(first: u8, last: u8) -> Span {
         Span {
-            first: row.first,
-            last: Some(row.last),
+            first,
+            last: Some(last),
         }
     }
 
@@ -245,7 +250,7 @@ fn grown(
         return Ok(None);
     };
     if !of_next.is_empty() {
-        let wide = meeting(alloc, rows, level, Span::named(first, last))?;
+        let wide = meeting(alloc, rows, level, Span::between(first, last))?;
         let wide_next = next_of(alloc, rows, level, wide.as_slice())?;
         let size = size_of(wide.as_slice()) + size_of(wide_next.as_slice());
         if wide.len() > begun.len() && wide_next.len() == of_next.len() && size < 25 * max {
@@ -271,7 +276,7 @@ pub fn choice_of_asking(
 ) -> Result<Option<Choice>> {
     let mut begun = Vec::new(alloc);
     if file.level == 0 {
-        begun = meeting(alloc, rows, 0, Span::named(file.first, file.last))?;
+        begun = meeting(alloc, rows, 0, Span::of(&file))?;
     } else {
         begun.push(file)?;
     }

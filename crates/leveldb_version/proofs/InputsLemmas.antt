@@ -1,9 +1,9 @@
 -- Which files of a level are chosen for a compaction.
 use Rattle.std.specs.Prelude.{Contains, if◌then◌else◌, sum_by}
-use Rattle.std.proofs.Common.{◌≡◌, ◌∙◌, ◌++◌, ◌∷◌, ◌==◌, inl, inr, ⊎_elim, ℕ, zero, suc, ◌+◌, ◌-◌, ◌<◌, ◌≤◌, Bool, true, false, cond, List, [], arith, ap, drop, get_or, length, map, refl, subst, sym, take}
+use Rattle.std.proofs.Common.{◌≡◌, ◌∙◌, ◌++◌, ◌∷◌, ◌==◌, inl, inr, ⊎_elim, ℕ, zero, suc, ◌+◌, ◌-◌, ◌<◌, ◌≤◌, Bool, true, false, cond, List, [], arith, ap, get_or, length, map, refl, subst, sym, take}
 use Rattle.std.proofs.lemmas.Bool.{cases_lt, eqb-true}
-use Rattle.std.proofs.lemmas.List.{append-nil, drop_all, get_or-map, length-map, map_push, take_more}
-use Rattle.std.proofs.lemmas.List.Elements.{Contains-append_cases, Contains-get_or, Contains-push_cases}
+use Rattle.std.proofs.lemmas.List.{get_or-map, length-map, map_push, take_more}
+use Rattle.std.proofs.lemmas.List.Elements.{Contains-append_cases, Contains-append_left, Contains-get_or, Contains-push_cases}
 use Rattle.std.proofs.lemmas.List.Sums.{sum_by_more}
 use Rattle.std.specs.Borrow.{Bor}
 use Rattle.std.specs.Cmp.{IsTotalOrder}
@@ -152,20 +152,36 @@ mapped_more files i file inside is =
     ap (map new_file_of) (take_more files i file inside ∙ ap (λ f. take i files ++ f ∷ []) (sym is))
     ∙ map_push new_file_of (take i files) file
 
--- the ends of inputs of two levels reach as far as those of one
-pub within_both : (cmp : List ℕ → List ℕ → Ordering) → IsTotalOrder cmp → (files : List NewFile) (low high first last new_low new_high : List ℕ) → AreKeyEnds cmp files low high
+-- the ends of the files of two levels reach as far as those of each
+pub within_both : (cmp : List ℕ → List ℕ → Ordering) → IsTotalOrder cmp → (files others : List NewFile) (low high first last new_low new_high : List ℕ) → AreKeyEnds cmp files low high
+    → AreKeyEnds cmp others first last
     → new_low ≡ (if is_lt (internal_cmp cmp first low) then first else low) → new_high ≡ (if is_lt (internal_cmp cmp high last) then last else high)
-    → AreWithin cmp files new_low new_high
-within_both cmp total files low high first last new_low new_high ends low_is high_is file c =
-    let icmp = internal_cmp cmp in (
-      not_lt (icmp file.smallest new_low) (subst (λ k. is_lt (icmp file.smallest k) ≡ false) (sym low_is)
-          (still_from icmp (internal_total total) low first file.smallest (not_less (icmp file.smallest low) (ends.from file c)))),
-      not_lt (icmp new_high file.largest) (subst (λ k. is_lt (icmp k file.largest) ≡ false) (sym high_is)
-          (still_to icmp (internal_total total) high last file.largest (not_less (icmp high file.largest) (ends.to file c)))),
+    → AreWithin cmp (files ++ others) new_low new_high
+within_both cmp total files others low high first last new_low new_high ends its low_is high_is file c =
+    let icmp = internal_cmp cmp in
+    let keys = internal_total total in (
+      not_lt (icmp file.smallest new_low) (subst (λ k. is_lt (icmp file.smallest k) ≡ false) (sym low_is) (⊎_elim
+          (λ (here : Contains files file). still_from icmp keys low first file.smallest (not_less (icmp file.smallest low) (ends.from file here)))
+          (λ (there : Contains others file). le_le keys (if is_lt (icmp first low) then first else low) first file.smallest
+          (own_from icmp keys low first) (not_less (icmp file.smallest first) (its.from file there)))
+          (Contains-append_cases files others file c))),
+      not_lt (icmp new_high file.largest) (subst (λ k. is_lt (icmp k file.largest) ≡ false) (sym high_is) (⊎_elim
+          (λ (here : Contains files file). still_to icmp keys high last file.largest (not_less (icmp high file.largest) (ends.to file here)))
+          (λ (there : Contains others file). le_le keys file.largest last (if is_lt (icmp high last) then last else high)
+          (not_less (icmp last file.largest) (its.to file there)) (own_to icmp keys high last))
+          (Contains-append_cases files others file c))),
     )
 
-pub within_one : (cmp : List ℕ → List ℕ → Ordering) (files : List NewFile) (low high : List ℕ) → AreKeyEnds cmp files low high → AreWithin cmp files low high
-within_one cmp files low high ends file c = (ends.from file c, ends.to file c)
+-- and where there are none of the other
+pub within_one : (cmp : List ℕ → List ℕ → Ordering) (files others : List NewFile) (low high : List ℕ) → AreKeyEnds cmp files low high → others ≡ [] → AreWithin cmp (files ++ others) low high
+within_one cmp files others low high ends none file c = ⊎_elim
+    (λ (here : Contains files file). (ends.from file here, ends.to file here))
+    (λ (there : Contains others file). absurd (in_none file (subst (λ (fs : List NewFile). Contains fs file) none there)))
+    (Contains-append_cases files others file c)
+
+-- what holds of the files of both holds of those of one
+pub within_left : (cmp : List ℕ → List ℕ → Ordering) (files others : List NewFile) (low high : List ℕ) → AreWithin cmp (files ++ others) low high → AreWithin cmp files low high
+within_left cmp files others low high wide file c = wide file (Contains-append_left files others file c)
 
 -- ---- files that are there once
 

@@ -23,8 +23,9 @@ use Rattle.leveldb_version.proofs.ScoresLemmas.{scores_tell_level}
 use Rattle.leveldb_version.proofs.SearchLemmas.{kept_passes, passes_kept}
 use Rattle.leveldb_version.proofs.VersionLemmas.{at_level_map}
 use Rattle.leveldb_version.proofs.VersionSetLemmas.{last_or-append, last_or-single}
+use Rattle.leveldb_version.specs.Compaction.{closed_range}
 use Rattle.leveldb_version.specs.Inputs.{AreOrdered, AreWithin, IsCountPast}
-use Rattle.leveldb_version.specs.Overlap.{AreInputs, Covers, UserRange, is_above, is_below, is_overlapped, named_end, named_range, overlapping, overlaps}
+use Rattle.leveldb_version.specs.Overlap.{AreInputs, Covers, UserRange, is_above, is_below, is_overlapped, overlapping, overlaps}
 use Rattle.leveldb_version.specs.Scores.{level_by_score, level_limit, level_load}
 use Rattle.leveldb_version.specs.Summary.{files_of_level, total_size}
 use Rattle.leveldb_version.specs.Picking.{CompactionValue, IsAskedFor, IsCompactionOf, IsOfRange, asking_file, file_by_reads}
@@ -132,35 +133,27 @@ module _ (cmp : List ℕ → List ℕ → Ordering) (total : IsTotalOrder cmp) w
           covers_keep range it.range ((it.widened refl).least range (covers_itself total range) (λ one c over. absurd (out one c over))) file meets
       back (suc n) all those range it out file meets = subst (λ (r : UserRange). overlaps cmp r file ≡ true) (it.kept (omega arith)) meets
 
-  below_named : (low key : List ℕ) → is_lt (cmp key low) ≡ false → option_map_or (λ begin. is_lt (cmp key begin)) (named_end low) false ≡ false
-  below_named [] key e = refl
-  below_named (byte ∷ low) key e = e
-
-  above_named : (high key : List ℕ) → is_lt (cmp high key) ≡ false → option_map_or (λ end. is_lt (cmp end key)) (named_end high) false ≡ false
-  above_named [] key e = refl
-  above_named (byte ∷ high) key e = e
-
   -- a file that isn't turned round overlaps a range that begins no later and ends no earlier
   within_overlaps : (low high : List ℕ) (file : NewFile) → cmp (user_part file.largest) (user_part file.smallest) ≢ Less
-      → is_lt (cmp (user_part file.smallest) low) ≡ false → is_lt (cmp high (user_part file.largest)) ≡ false → overlaps cmp (named_range low high) file ≡ true
+      → is_lt (cmp (user_part file.smallest) low) ≡ false → is_lt (cmp high (user_part file.largest)) ≡ false → overlaps cmp (closed_range low high) file ≡ true
   within_overlaps low high file ordered from to =
       let up = not_less (cmp (user_part file.largest) (user_part file.smallest)) ordered in
-      and_from (not (is_below cmp (named_range low high) (user_part file.largest))) (not (is_above cmp (named_range low high) (user_part file.smallest)))
-      (is_closed (is_below cmp (named_range low high) (user_part file.largest)) (below_named low (user_part file.largest) (le_le total low (user_part file.smallest) (user_part file.largest) from up)))
-      (is_closed (is_above cmp (named_range low high) (user_part file.smallest)) (above_named high (user_part file.smallest) (le_le total (user_part file.smallest) (user_part file.largest) high up to)))
+      and_from (not (is_below cmp (closed_range low high) (user_part file.largest))) (not (is_above cmp (closed_range low high) (user_part file.smallest)))
+      (is_closed (is_below cmp (closed_range low high) (user_part file.largest)) (le_le total low (user_part file.smallest) (user_part file.largest) from up))
+      (is_closed (is_above cmp (closed_range low high) (user_part file.smallest)) (le_le total (user_part file.smallest) (user_part file.largest) high up to))
 
   -- so a file of a level is among the inputs of its own range
-  pub own_is_input : (level : ℕ) (files inputs : List NewFile) (file : NewFile) → AreInputs cmp level (named_range (user_part file.smallest) (user_part file.largest)) files inputs
+  pub own_is_input : (level : ℕ) (files inputs : List NewFile) (file : NewFile) → AreInputs cmp level (closed_range (user_part file.smallest) (user_part file.largest)) files inputs
       → AreOrdered cmp files → Contains files file → Contains (files_of_level level files) file → Contains inputs file
   own_is_input level files inputs file are ordered there at =
-      overlapping_is_input level (named_range (user_part file.smallest) (user_part file.largest)) files inputs are file at
+      overlapping_is_input level (closed_range (user_part file.smallest) (user_part file.largest)) files inputs are file at
       (within_overlaps (user_part file.smallest) (user_part file.largest) file (ordered file there) (lt_itself total (user_part file.smallest)) (lt_itself total (user_part file.largest)))
 
   -- and files of a level are among the inputs of a range that is no narrower than they are
-  pub seen_is_input : (level : ℕ) (files inputs seen : List NewFile) (low high : List ℕ) → AreInputs cmp level (named_range (user_part low) (user_part high)) files inputs
+  pub seen_is_input : (level : ℕ) (files inputs seen : List NewFile) (low high : List ℕ) → AreInputs cmp level (closed_range (user_part low) (user_part high)) files inputs
       → AreOrdered cmp files → AreWithin cmp seen low high → (file : NewFile) → Contains seen file → Contains files file → file.level ≡ level → Contains inputs file
   seen_is_input level files inputs seen low high are ordered wide file c there at =
-      overlapping_is_input level (named_range (user_part low) (user_part high)) files inputs are file (passes_kept (λ (f : NewFile). f.level == level) files file there (eq-eqb file.level level at))
+      overlapping_is_input level (closed_range (user_part low) (user_part high)) files inputs are file (passes_kept (λ (f : NewFile). f.level == level) files file there (eq-eqb file.level level at))
       (within_overlaps (user_part low) (user_part high) file (ordered file there)
       (user_up cmp file.smallest low (not_less (internal_cmp cmp file.smallest low) (wide file c).0)) (user_up cmp high file.largest (not_less (internal_cmp cmp high file.largest) (wide file c).1)))
 

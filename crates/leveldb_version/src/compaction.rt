@@ -249,7 +249,8 @@ impl<C: UserCmp + Copy + Drop> Compaction<C> {
     }
 
     /// Whether an output is to end before this key, as it overlaps more bytes two levels down than
-    /// ten files may have. The keys come in order, each once, those that are dropped, too.
+    /// ten files may have, which no clause says. The keys come in order, each once, those that are
+    /// dropped, too.
     pub fn should_stop_before(&mut self, key: InternalKey<'_>) -> bool
         ensures { self.new ≡ self.old }
     {

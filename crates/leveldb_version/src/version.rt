@@ -175,10 +175,25 @@ impl<C: UserCmp> Version<C> {
             (new_files_of self.now) (borrowed_files inputs.items)) }
         ensures memory { IfErr result IsOutOfMemory }
     {
-        let files = self.files(level);
         let (begin, _) = split_sequence(begin);
         let (end, _) = split_sequence(end);
-        let mut range = KeyRange::named(begin, end);
+        self.inputs_of(alloc, level, KeyRange::named(begin, end))
+    }
+
+    // The files of the level that overlap a range, which in level 0 is widened first.
+    fn inputs_of<'a>(
+        &'a self,
+        alloc: Global,
+        level: usize,
+        range: KeyRange<'a>,
+    ) -> Result<Vec<&'a (usize, FileMetaData)>>
+        requires { level < 7 }
+        ensures ok { IfOk result (λ inputs. AreInputs (C.cmp self.now.cmp) level range.entry
+            (new_files_of self.now) (borrowed_files inputs.items)) }
+        ensures memory { IfErr result IsOutOfMemory }
+    {
+        let files = self.files(level);
+        let mut range = range;
         if level == 0 {
             widen(&self.cmp, files, &mut range);
         }

@@ -4,6 +4,7 @@ ghost use Rattle.std.specs.List.{list_any};
 ghost use Rattle.std.specs.Ordering.{is_lt};
 ghost use Rattle.leveldb_base.specs.Error.{IsOutOfMemory};
 ghost use Rattle.leveldb_base.specs.KeyTypes.{internal_cmp, user_part};
+ghost use Rattle.leveldb_version.specs.Compaction.{closed_range};
 ghost use Rattle.leveldb_version.specs.Contradictions.{begins_by, ends_from, is_among_inputs};
 ghost use Rattle.leveldb_version.specs.Inputs.{AreChosen, AreKeyEnds, MayTake};
 ghost use Rattle.leveldb_version.specs.Overlap.{AreInputs, named_range};
@@ -125,6 +126,28 @@ pub(crate) fn inputs_in<'v, C: UserCmp>(
     ensures memory { IfErr result IsOutOfMemory }
 {
     version.overlapping_inputs(alloc, level, begin, end)
+}
+
+/// The files of a level that overlap the range between the user keys of two keys, both in it,
+/// whichever they are; in level 0 it is widened first. A compaction may begin with them.
+pub(crate) fn inputs_within<'v, C: UserCmp>(
+    alloc: Global,
+    version: &'v Version<C>,
+    level: usize,
+    low: InternalKey<'v>,
+    high: InternalKey<'v>,
+) -> Result<Vec<&'v (usize, FileMetaData)>>
+    requires { level < 7 }
+    ensures chosen { IfOk result (λ chosen. AreChosen (C.cmp version.now.cmp)
+        (new_files_of version.now) level (borrowed_files chosen.items)) }
+    ensures inputs { IfOk result (λ chosen. AreInputs (C.cmp version.now.cmp) level
+        (closed_range (user_part low.now) (user_part high.now)) (new_files_of version.now)
+        (borrowed_files chosen.items)) }
+    ensures memory { IfErr result IsOutOfMemory }
+{
+    let (low, _) = split_sequence(low);
+    let (high, _) = split_sequence(high);
+    version.inputs_between(alloc, level, low, high)
 }
 
 /// Whether a user key is within the range from the first key of one of the files to the last key of

@@ -4,7 +4,7 @@ ghost use Rattle.std.specs.Option.{option_copied, option_map};
 ghost use Rattle.std.specs.Ordering.{is_gt};
 ghost use Rattle.leveldb_base.specs.Error.{IsOutOfMemory};
 ghost use Rattle.leveldb_base.specs.KeyTypes.{internal_cmp, user_part};
-ghost use Rattle.leveldb_version.specs.Inputs.{AreChosen, AreOrdered, AreWithin, IsCountPast, KeepsFiles, MayTake};
+ghost use Rattle.leveldb_version.specs.Inputs.{AreChosen, AreOrdered, AreWithin, IsCountPast, KeepsFiles, MayTake, input_files};
 ghost use Rattle.leveldb_version.specs.Overlap.{named_range};
 ghost use Rattle.leveldb_version.specs.Picking.{IsAskedFor, IsCompactionOf, IsOfRange, asking_file, file_after, file_by_reads, needs_compaction, used_pointer};
 ghost use Rattle.leveldb_version.specs.Version.{at_level, borrowed_files, new_files_of};
@@ -12,7 +12,7 @@ ghost use Rattle.leveldb_version.specs.VersionEdit.{NewFile, new_file_of, pointe
 ghost use Rattle.leveldb_version.specs.VersionSet.{pointer_at};
 
 use super::Compaction;
-use super::inputs::{Inputs, ends_of, greater, inputs_in, lesser, with_next};
+use super::inputs::{Inputs, ends_of, greater, inputs_in, inputs_within, lesser, with_next};
 use crate::version::{Version, product};
 use crate::version_edit::CompactionPointer;
 use leveldb_base::cmp::UserCmp;
@@ -46,9 +46,9 @@ pub fn pick_compaction<C: UserCmp + Copy + Drop>(
     compaction_of(alloc, version, file.0, false, max_file_size, chosen)
 }
 
-/// The compaction of the files of a level that overlap the range between two keys, if there are some.
-/// From level 1 on it takes no more of them than have more bytes than `max_file_size` with the last
-/// one.
+/// The compaction of the files of a level that overlap the range between two keys, if there are some:
+/// an empty user key is an open end. From level 1 on it begins with no more of them than have more
+/// bytes than `max_file_size` with the last one, which no clause says.
 pub fn compact_range<C: UserCmp + Copy + Drop>(
     alloc: Global,
     version: &Version<C>,
@@ -195,7 +195,7 @@ fn chosen_with<'v, C: UserCmp>(
     ensures memory { IfErr result IsOutOfMemory }
 {
     if file.0 == 0 {
-        return inputs_in(alloc, version, 0, &file.1.smallest, &file.1.largest);
+        return inputs_within(alloc, version, 0, &file.1.smallest, &file.1.largest);
     }
     let mut chosen = Vec::new(alloc);
     chosen.push(file)?;
@@ -295,18 +295,19 @@ fn wider<'v, C: UserCmp>(
     let Some((low, high)) = ends_of_both(version.ucmp(), narrow) else {
         return Ok(None);
     };
-    let chosen = inputs_in(alloc, version, level, low, high)?;
+    let chosen = inputs_within(alloc, version, level, low, high)?;
     with_next(alloc, version, level, chosen)
 }
 
-// A key that is no later than any of the inputs' first ones, and one that is no earlier than any of
-// their last ones.
+// A key that is no later than any first key of the inputs, and one that is no earlier than any of
+// their last ones; none where none is of the level.
 fn ends_of_both<'v, C: UserCmp>(
     ucmp: &C,
     inputs: &Inputs<'v>,
 ) -> Option<(InternalKey<'v>, InternalKey<'v>)>
-    ensures { IfSome result (λ ends. AreWithin (C.cmp ucmp.now)
-        (borrowed_files inputs.now.of_level.items) ends.0.now ends.1.now) }
+    ensures ends { IfSome result (λ ends.
+        AreWithin (C.cmp ucmp.now) (input_files inputs.now) ends.0.now ends.1.now) }
+    ensures none { (result ≡ None) ↔ (inputs.now.of_level.items ≡ []) }
 {
     let Some((low, high)) = ends_of(ucmp, inputs.of_level.as_slice()) else {
         return None;

@@ -1,8 +1,8 @@
 //! What a choice of files for a compaction asks of a version.
-ghost use Rattle.std.specs.Prelude.{◌≡◌, IfErr, IfOk};
+ghost use Rattle.std.specs.Prelude.{◌≡◌, ◌<◌, IfErr, IfOk};
 ghost use Rattle.leveldb_base.specs.Error.{IsOutOfMemory};
 ghost use Rattle.leveldb_version.specs.Compaction.{closed_range, is_base_level_for};
-ghost use Rattle.leveldb_version.specs.Overlap.{overlapping};
+ghost use Rattle.leveldb_version.specs.Overlap.{AreInputs, overlapping};
 ghost use Rattle.leveldb_version.specs.Search.{AreDisjointLevels};
 ghost use Rattle.leveldb_version.specs.Summary.{total_size};
 ghost use Rattle.leveldb_version.specs.Version.{at_level, borrowed_files, new_files_of};
@@ -70,7 +70,24 @@ impl<C: UserCmp> Version<C> {
         files_in(alloc, &self.cmp, self.part(level), &range)
     }
 
-    /// How many bytes they have together, up to 2^64 - 1.
+    /// The files of a level that overlap the range from one user key to another, both in it. In
+    /// level 0 it is widened first, as `overlapping_inputs` does.
+    pub(crate) fn inputs_between<'a>(
+        &'a self,
+        alloc: Global,
+        level: usize,
+        low: UserKey<'a>,
+        high: UserKey<'a>,
+    ) -> Result<Vec<&'a (usize, FileMetaData)>>
+        requires { level < 7 }
+        ensures ok { IfOk result (λ inputs. AreInputs (C.cmp self.now.cmp) level
+            (closed_range low.now high.now) (new_files_of self.now) (borrowed_files inputs.items)) }
+        ensures memory { IfErr result IsOutOfMemory }
+    {
+        self.inputs_of(alloc, level, KeyRange::closed(low, high))
+    }
+
+    /// How many bytes the files have together that `files_between` gives, up to 2^64 - 1.
     pub(crate) fn size_between(&self, level: usize, low: UserKey<'_>, high: UserKey<'_>) -> usize
         ensures { result ≡ total_size (overlapping
             (C.cmp self.now.cmp) level (closed_range low.now high.now) (new_files_of self.now)) }

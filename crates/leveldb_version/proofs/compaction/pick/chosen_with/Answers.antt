@@ -8,7 +8,8 @@ use Rattle.leveldb_version.proofs.InputsLemmas.{one_is_chosen}
 use Rattle.leveldb_version.proofs.OverlapLemmas.{if_ok_more}
 use Rattle.leveldb_version.proofs.PickingLemmas.{file_in_level, own_is_input}
 use Rattle.leveldb_version.specs.Inputs.{AreChosen}
-use Rattle.leveldb_version.specs.Overlap.{AreInputs, named_range}
+use Rattle.leveldb_version.specs.Overlap.{AreInputs}
+use Rattle.leveldb_version.specs.Compaction.{closed_range}
 use Rattle.leveldb_version.specs.Summary.{files_of_level}
 use Rattle.leveldb_version.specs.Version.{borrowed_files, new_files_of}
 use Rattle.leveldb_version.specs.VersionEdit.{new_file_of}
@@ -21,10 +22,10 @@ returns-then-file-eq0-clause-file g c =
     let files = new_files_of version in
     let file = new_file_of c.args.file.now in
     let in_level = file_in_level c.args.file.now.0 version.files c.args.file.now c.requires.there in
-    if_ok_more c.inputs_in.result c.inputs_in.ensures.inputs (λ chosen are ordered.
+    if_ok_more c.inputs_within.result c.inputs_within.ensures.inputs (λ chosen are ordered.
     own_is_input cmp (total_order (g.met.C.Cmp.preorder version.cmp) (g.met.C.UserCmp.accepts_all version.cmp)) 0 files (borrowed_files chosen.items) file
-    (subst (λ (last : List ℕ). AreInputs cmp 0 (named_range (user_part file.smallest) (user_part last)) files (borrowed_files chosen.items)) c.deref-then-file-eq0.ensures
-    (subst (λ (first : List ℕ). AreInputs cmp 0 (named_range (user_part first) (user_part c.deref-then-file-eq0.result.now)) files (borrowed_files chosen.items)) c.deref.ensures are))
+    (subst (λ (last : List ℕ). AreInputs cmp 0 (closed_range (user_part file.smallest) (user_part last)) files (borrowed_files chosen.items)) c.deref-then-file-eq0.ensures
+    (subst (λ (first : List ℕ). AreInputs cmp 0 (closed_range (user_part first) (user_part c.deref-then-file-eq0.result.now)) files (borrowed_files chosen.items)) c.deref.ensures are))
     ordered in_level.0 (subst (λ (n : ℕ). Contains (files_of_level n files) file) c.if-file-eq0.true in_level.1))
 
 pub returns-clause-chosen : goal.returns-clause-chosen

@@ -1,36 +1,16 @@
-use Rattle.std.proofs.Common.{◌≡◌, ◌∙◌, List, ap, map, subst, sym}
-use Rattle.std.specs.List.{filter}
+use Rattle.std.proofs.Common.{◌≡◌, ◌∙◌, ap, subst}
 use Rattle.leveldb_base.specs.KeyTypes.{user_part}
-use Rattle.leveldb_version.specs.Overlap.{AreInputs, IsWidened, UserRange, named_range, overlaps}
-use Rattle.leveldb_version.specs.Summary.{files_of_level}
-use Rattle.leveldb_version.specs.Version.{VersionValue, borrowed_files, new_files_of}
-use Rattle.leveldb_version.specs.VersionEdit.{NewFile, new_file_of}
-use Rattle.leveldb_version.proofs.OverlapLemmas.{if_ok_more, inputs_of_deeper, inputs_of_zero}
-use Rattle.leveldb_version.proofs.VersionLemmas.{at_level_map}
+use Rattle.leveldb_version.specs.Overlap.{AreInputs, UserRange, named_range}
+use Rattle.leveldb_version.specs.Version.{borrowed_files, new_files_of}
+use Rattle.leveldb_version.proofs.OverlapLemmas.{if_ok_more}
 use Rattle.leveldb_version.proofs.version.Version.overlapping_inputs.Goals as goal
-use Rattle.leveldb_version.proofs.version.Version.overlapping_inputs.Goals.{then-level-eq0, else-level-eq0}
 
 pub returns-clause-ok : goal.returns-clause-ok
 returns-clause-ok g c =
-    let cmp = g.C.Cmp.cmp c.self.inside.cmp in
-    let all = new_files_of c.args.self.now in
-    let range = c.if-level-eq0.range in
-    let narrow = named_range (user_part c.args.begin.now) (user_part c.args.end.now) in
-    let same : map new_file_of c.files-files.result.now ≡ files_of_level c.args.level all =
-    ap (map new_file_of) c.files-files.ensures.files ∙ at_level_map c.args.level c.args.self.now.files in
-    let narrow_is : c.named-range.result ≡ narrow =
-    c.named-range.ensures
+    let version = c.args.self.now in
+    let narrow_is : c.named.result ≡ named_range (user_part c.args.begin.now) (user_part c.args.end.now) =
+    c.named.ensures
     ∙ ap (λ begin. named_range begin c.split_sequence-2.result.0.now) c.split_sequence.ensures.user
     ∙ ap (named_range (user_part c.args.begin.now)) c.split_sequence-2.ensures.user in
-    if_ok_more c.files_in.result c.files_in.ensures.ok (λ inputs is.
-    let are = is ∙ ap (filter (overlaps cmp range)) same in
-    subst (λ (v : VersionValue g.row.C.Denot). AreInputs (g.C.Cmp.cmp v.cmp) c.args.level narrow all (borrowed_files inputs.items)) c.self.view_is
-    (elim c.if-level-eq0.branch [
-      | then-level-eq0 w ↦
-          inputs_of_zero cmp c.args.level narrow range all (borrowed_files inputs.items) are w.if-level-eq0.true
-          (subst (λ (files : List NewFile). IsWidened cmp files narrow range) same
-          (subst (λ (from : UserRange). IsWidened cmp (map new_file_of c.files-files.result.now) from range) narrow_is
-          (subst (IsWidened cmp (map new_file_of c.files-files.result.now) c.named-range.result) (sym w.range-is) w.widen.ensures)))
-      | else-level-eq0 w ↦
-          inputs_of_deeper cmp c.args.level narrow range all (borrowed_files inputs.items) are w.if-level-eq0.false (w.range-is ∙ narrow_is)
-    ]))
+    if_ok_more c.inputs_of.result c.inputs_of.ensures.ok (λ inputs are.
+    subst (λ (range : UserRange). AreInputs (g.C.Cmp.cmp version.cmp) c.args.level range (new_files_of version) (borrowed_files inputs.items)) narrow_is are)
