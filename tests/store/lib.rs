@@ -27,6 +27,8 @@ mod refusals;
 #[cfg(test)]
 mod rooms;
 #[cfg(test)]
+mod samples;
+#[cfg(test)]
 mod sinks;
 #[cfg(test)]
 mod snapshot_calls;

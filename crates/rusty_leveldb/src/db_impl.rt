@@ -11,6 +11,7 @@ mod store;
 mod walk;
 mod write;
 
+pub use crate::db_iter::sample_period;
 pub use engine::{Engine, Mode};
 pub use leveldb_store::build::{build_memtable, build_table};
 pub use store::{DB, Store};

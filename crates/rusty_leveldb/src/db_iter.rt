@@ -1,9 +1,10 @@
 //! Iterators over a store's view.
-ghost use Rattle.std.specs.Prelude.{◌≡◌, None, IfErr, IfOk, IsErrAnd, is_some};
+ghost use Rattle.std.specs.Prelude.{◌≡◌, ◌%◌, None, IfErr, IfOk, IsErrAnd, is_some};
 ghost use Rattle.leveldb_base.specs.Error.{IsOutOfMemory};
 ghost use Rattle.leveldb_base.specs.Types.{copied_pair, last_position, next_position, pair_of, position_within, previous_position, seek_position};
 ghost use Rattle.leveldb_base.specs.declared.error.StatusCode.TheVariants.{InvalidArgument};
 ghost use Rattle.leveldb_base.specs.KeyTypes.{IsLongKey};
+ghost use Rattle.rand_core.specs.Stream.{next_u64};
 
 use leveldb_base::cmp::{Cmp, InternalKeyCmp, UserCmp};
 use leveldb_base::error::Result;
@@ -14,6 +15,7 @@ use leveldb_env::filter::FilterPolicy;
 use leveldb_iter::walk::Walk;
 use leveldb_store::open_store::StoreView;
 use leveldb_version::table_cache::{ReadTables, ReadsTables};
+use rand_core::Rng;
 use std::alloc::Global;
 
 /// An iterator over the pairs of a store, in the order of their keys, as the store was when the
@@ -146,6 +148,18 @@ impl<
     {
         self.view.valid()
     }
+}
+
+// How many bytes are read between two samples, in the mean.
+const READ_BYTES_PERIOD: u64 = 1 << 20;
+
+/// Draws how many bytes are read until the next sample, fewer than 2 MiB: one number of the
+/// generator, modulo 2097152.
+pub fn sample_period<G: Rng>(rng: &mut G) -> u64
+    ensures period { result ≡ (next_u64 (G.stream rng.old)).0 % 2097152 }
+    ensures rest { G.stream rng.new ≡ (next_u64 (G.stream rng.old)).1 }
+{
+    rng.next_u64() % (2 * READ_BYTES_PERIOD)
 }
 
 // A copy of a pair.
