@@ -3,6 +3,10 @@ mod StopsLemmas
 mod TableFileLemmas
 mod WriteTableLemmas
 mod OutputsLemmas
+mod MergingLemmas
+mod MergeLoopLemmas
+mod BearingLemmas
+mod MergeInputsLemmas
 pub mod WriteLemmas
 mod OpeningNamesLemmas
 mod ListingLemmas

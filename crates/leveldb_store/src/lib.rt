@@ -4,6 +4,8 @@
 
 pub mod build;
 pub mod damage;
+pub mod merge_inputs;
+pub mod merge_tables;
 pub mod open_store;
 mod opening;
 pub mod outputs;
