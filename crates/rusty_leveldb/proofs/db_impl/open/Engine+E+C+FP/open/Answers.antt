@@ -1,11 +1,12 @@
 -- An opening that ends before its lock is taken, and one that ends under it.
 use Rattle.std.specs.Prelude.{IsTrue, is_some}
-use Rattle.std.proofs.Common.{◌≡◌, ◌∙◌, ⊎_elim, inl, inr, false, true, refl, ap, subst, arith, Option, None, Some}
+use Rattle.std.proofs.Common.{◌≡◌, ◌∙◌, ⊎_elim, inl, inr, false, true, refl, ap, subst, sym, arith, Option, None, Some}
 use Rattle.std.proofs.lemmas.Result.{err_from_is_err_and}
 use Rattle.leveldb_env.proofs.EnvLemmas.{Run-call}
 use Rattle.leveldb_env.specs.contracts.compressor.CompressorListCompressors.TheImpl.{ghosts as compressors}
 use Rattle.leveldb_version.specs.Format.{format_of}
-use Rattle.leveldb_store.proofs.KeptFilesLemmas.{keeping, opens_keeping}
+use Rattle.leveldb_store.proofs.KeptFilesLemmas.{keeping, opens_keeping, unbroken_keeping}
+use Rattle.leveldb_store.specs.OpenStore.{IsUnbroken}
 use Rattle.leveldb_store.specs.Room.{TidiesUp}
 use Rattle.rusty_leveldb.specs.Engine.{opening_of}
 use Rattle.rusty_leveldb.proofs.AskedLemmas.{within_if, within_is}
@@ -122,6 +123,10 @@ returns-in_err-lock-2 g c =
       within_is c.args.options c.in_ok-check.ensures.limits,
       c.in_ok-check.ensures.compressor,
     ))))
+
+pub invariant_of-result : goal.invariant_of-result
+invariant_of-result g c = λ is_open. subst IsUnbroken (sym c.tidy_opened.ensures.opened.same)
+    (unbroken_keeping c.in-Ok.store c.tidy_opened.new.self.keeps_files c.in-Ok.ensures.opens.unbroken)
 
 pub returns-in-Ok : goal.returns-in-Ok
 returns-in-Ok g c =
