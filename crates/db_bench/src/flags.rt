@@ -58,7 +58,10 @@ impl fmt::Display for Fault {
             Fault::Usage => f.write_str(
                 "usage: db_bench [--benchmarks=ROW,..] [--num=N] [--value_size=N] [--cache_size=N] [--db=DIR]",
             ),
-            Fault::Failed(status) => write!(f, "db_bench: {status}"),
+            Fault::Failed(status) => match &status.err {
+                None => write!(f, "db_bench: {}", status.code),
+                Some(text) => write!(f, "db_bench: {text}"),
+            },
         }
     }
 }
