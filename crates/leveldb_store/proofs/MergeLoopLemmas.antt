@@ -1,6 +1,5 @@
 -- The loop of a merge: where its walk is, which pairs are merged, and what moves and new tables leave.
-use Rattle.std.specs.Prelude.{IsTrue}
-use Rattle.std.proofs.Common.{◌≡◌, ◌∙◌, ◌⊎◌, inl, inr, ⊎_elim, ℕ, ◌≤◌, List, [], ◌∷◌, ◌++◌, drop, take, Option, None, Some, Result, Ok, Err, refl, sym, ap, subst, arith}
+use Rattle.std.proofs.Common.{◌≡◌, ◌≤◌, ◌∙◌, ◌⊎◌, inl, inr, ⊎_elim, ℕ, List, [], ◌∷◌, ◌++◌, drop, take, Option, None, Some, Result, Ok, Err, refl, sym, ap, subst, arith}
 use Rattle.std.proofs.lemmas.List.{take-append-drop}
 use Rattle.leveldb_base.specs.Cmp.{IsExactOrder}
 use Rattle.leveldb_base.specs.Error.{IsOutOfMemory}
@@ -25,7 +24,7 @@ use Rattle.leveldb_store.specs.Outputs.{AreFinished, ChangesNewTables, FinishesO
 use Rattle.leveldb_store.specs.Switch.{MayGiveNumber}
 use Rattle.leveldb_store.specs.declared.passing.Passing.{Passing}
 use Rattle.leveldb_store.specs.declared.table_file.TableFile.{TableFile}
-use Rattle.leveldb_store.proofs.BuildTableLemmas.{pair_passed, passed_all, passed_first, passed_next, taken_all, taken_next}
+use Rattle.leveldb_store.proofs.BuildTableLemmas.{pair_passed, passed_first, passed_next, taken_all, taken_next}
 use Rattle.leveldb_store.proofs.MergingLemmas.{in_place_front, merged_all}
 use Rattle.leveldb_store.proofs.OutputsLemmas.{new-trans, rise_range}
 use Rattle.leveldb_store.proofs.ReplayFilesLemmas.{GivesNumbers-trans}
@@ -148,6 +147,10 @@ gives_may {old} {mid} {new} gives may = GivesNumbers-trans gives (by may)
       rises = omega (arith, ap (λ (set : VersionSetValue). set.next_file) given);
     }
 
+pub may_rise : {old new : VersionSetValue} → MayGiveNumber old new → old.next_file ≤ new.next_file
+may_rise (inl same) = omega (arith, ap (λ (set : VersionSetValue). set.next_file) same)
+may_rise (inr given) = omega (arith, ap (λ (set : VersionSetValue). set.next_file) given)
+
 -- ---- the loop
 
 module _ {C FP : Type 0} {order : CmpGhosts C} {filters : FilterGhosts FP}
@@ -260,24 +263,26 @@ module _ {C FP : Type 0} {order : CmpGhosts C} {filters : FilterGhosts FP}
             ok = tt;
             changes = new-trans env merge.store (new-trans env merge.store so_far.changes takes.changes)
                 (still_new env merge.store first still);
+            comes = by_move (to, tables) end come kept;
             cause = inl (so_far.excuses end status
                 (bears.excuses at to tables so_far.come takes.changes it end status failed));
           }
 
       -- it isn't taken
       pub merge_untaken : {X : Type 0} {items : X → List FileMetaData} {status : Status}
-          → IsAtPair (at, tables) it pair
+          → next ≤ later → IsAtPair (at, tables) it pair
           → TakesPair merge env first so_far.read pair next at (Err status) later to left new
           → MergesTables merge env first {X = X} walk items start from (Err status) later
           (to, tables)
-      merge_untaken {status = status} here takes = record {
+      merge_untaken {status = status} up here takes = record {
         ok = tt;
         changes = new-trans env merge.store so_far.changes takes.changes;
+        comes = by_writing at to tables so_far.come takes.changes;
         cause = inr (
           env.failures at,
           so_far.changes.later,
           fails_later refl (⊎_elim
-              (λ fault. inl (next, rise_range first next _ so_far.merged.have.numbers, fault))
+              (λ fault. inl (next, rise_range first next _ so_far.merged.have.numbers, up, fault))
               (λ misplaced. inr (misplaced.0, λ over. misplaced.1 (in_place over.0 over.1 over.2))))
               takes.cause,
         );
@@ -301,6 +306,7 @@ module _ {C FP : Type 0} {order : CmpGhosts C} {filters : FilterGhosts FP}
     merge_unbegun {end = end} kept failed = record {
       ok = tt;
       changes = still_new env merge.store first (bears.still start end itself kept);
+      comes = by_move start end itself kept;
       cause = inl failed;
     }
 
@@ -314,6 +320,7 @@ module _ {C FP : Type 0} {order : CmpGhosts C} {filters : FilterGhosts FP}
       merge_endless memory = record {
         ok = tt;
         changes = so_far.changes;
+        comes = so_far.come;
         cause = inr (env.failures at, so_far.changes.later, own_fails refl (inl memory));
       }
 
@@ -324,7 +331,7 @@ module _ {C FP : Type 0} {order : CmpGhosts C} {filters : FilterGhosts FP}
           → FinishesOpen merge.choices env merge.store first so_far.merged.tables
           so_far.merged.pairs next at result items to
           → MergesTables merge env first walk items start from result next (to, tables)
-      merge_finished exact cmp_is none (Ok files) finishes = record {
+      merge_finished exact cmp_is {to = to} none (Ok files) finishes = record {
         ok = (
           so_far.read,
           merged_all merge env exact cmp_is so_far.merged finishes.ok,
@@ -334,16 +341,18 @@ module _ {C FP : Type 0} {order : CmpGhosts C} {filters : FilterGhosts FP}
               sym (taken_all pairs past.position end.0 end.1) ∙ past.before,
         );
         changes = new-trans env merge.store so_far.changes finishes.changes;
+        comes = by_writing at to tables so_far.come finishes.changes;
         cause = tt;
       }
-      merge_finished exact cmp_is none (Err status) finishes = record {
+      merge_finished exact cmp_is {to = to} none (Err status) finishes = record {
         ok = tt;
         changes = new-trans env merge.store so_far.changes finishes.changes;
+        comes = by_writing at to tables so_far.come finishes.changes;
         cause = inr (
           env.failures at,
           so_far.changes.later,
           fails_later refl (λ fault.
-              inl (next, rise_range first next _ so_far.merged.have.numbers, inl fault))
+              inl (next, rise_range first next _ so_far.merged.have.numbers, omega arith, inl fault))
               finishes.cause,
         );
       }

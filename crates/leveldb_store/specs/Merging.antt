@@ -149,11 +149,11 @@ module _ {C FP : Type 0} {order : CmpGhosts C} {filters : FilterGhosts FP}
       pub entries : entries_of_pairs (all_pairs tables)
           ≡ thinned merge.smallest merge.is_base (entries_of_pairs read)
 
-    -- why a merge fails that writes: a builder fails, the numbers of files are used up, or it reads
-    -- what isn't in place
-    abbrev pub IsMergeFault : (InPlace : Type 0) → Status → Type 0
-    IsMergeFault InPlace status =
-        ((next : ℕ) × (first ≤ next)
+    -- Why a merge fails that writes, and comes to this number of files: a builder fails, the numbers
+    -- are used up, or it reads what isn't in place.
+    abbrev pub IsMergeFault : (later : ℕ) → (InPlace : Type 0) → Status → Type 0
+    IsMergeFault later InPlace status =
+        ((next : ℕ) × (first ≤ next) × (next ≤ later)
         × IsBeginFault merge.choices.format.codings next status)
         ⊎ ((status.code ≡ Corruption) × (InPlace → ⊥))
 
@@ -168,10 +168,12 @@ module _ {C FP : Type 0} {order : CmpGhosts C} {filters : FilterGhosts FP}
           → walk.over start it (key_order order merge.choices.cmp) pairs → pairs ≡ read))
       -- now and at each moment on the way no file changes but tables of numbers that were given
       pub changes : ChangesNewTables env merge.store first start.0 end.0
+      -- moves of the walk and new tables lead to where it ends, so that what both keep is kept
+      pub comes : ComesOf env walk merge.store first start end
       -- A move failed; or at last a call that writes, and for pairs of a list that are in place it
       -- is never for what is read.
       pub cause : IfErr result (λ status. walk.fails start it end status
           ⊎ ((mid : ℕ) × (env.failures start.0 ≤ mid)
-          × FailsToWrite (IsMergeFault ((pairs : List Pair)
+          × FailsToWrite (IsMergeFault later ((pairs : List Pair)
           × walk.over start it (key_order order merge.choices.cmp) pairs × AreRead pairs)) mid
           (env.failures end.0) (failed status)))

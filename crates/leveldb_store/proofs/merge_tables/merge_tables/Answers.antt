@@ -1,8 +1,7 @@
-use Rattle.std.proofs.Common.{◌≡◌, ◌∙◌, None, Some, refl, subst, sym}
+use Rattle.std.proofs.Common.{◌∙◌, None, refl}
 use Rattle.std.proofs.lemmas.Result.{err_from_is_err_and}
 use Rattle.leveldb_base.proofs.HistoryLemmas.{exact_order}
-use Rattle.leveldb_store.specs.Merging.{HasMerged}
-use Rattle.leveldb_store.proofs.MergeLoopLemmas.{gives_may, merge_endless, merge_finished, merge_unbegun, merge_unmoved, merge_untaken, so_far_begun, so_far_next}
+use Rattle.leveldb_store.proofs.MergeLoopLemmas.{gives_may, may_rise, merge_endless, merge_finished, merge_unbegun, merge_unmoved, merge_untaken, so_far_begun, so_far_next}
 use Rattle.leveldb_store.proofs.MergingLemmas.{merged_none}
 use Rattle.leveldb_store.proofs.ReplayFilesLemmas.{GivesNumbers-refl}
 use Rattle.leveldb_store.proofs.merge_tables.merge_tables.Goals as goal
@@ -46,7 +45,7 @@ returns-in_err-take-clause-merges g c = λ bears.
     let so_far = c.loop.invariant.so_far bears in
     let laws = g.met.W.Walk.laws in
     let failed = err_from_is_err_and c.from_residual-in_err-take.result c.from_residual-in_err-take.ensures.1 in
-    rw failed.1 (rw failed.2 (merge_untaken _ g.E.Env g.W.Walk _ _ _ bears so_far
+    rw failed.1 (rw failed.2 (merge_untaken _ g.E.Env g.W.Walk _ _ _ bears so_far (may_rise c.take.ensures.numbers)
     (λ pairs position here. c.in-Some.ensures ∙ laws.at_position (c.loop.env, c.loop.tables) c.loop.walk _ pairs position here)
     (c.in_err-take.ensures.takes c.args.versions.now.next_file so_far.read so_far.merged)))
 

@@ -1,4 +1,4 @@
-use Rattle.std.proofs.Common.{◌≡◌, ◌≤◌, ◌∙◌, ◌∷◌, ◌++◌, [], None, Some, ap, refl, sym, subst, length}
+use Rattle.std.proofs.Common.{None, ap, refl, sym}
 use Rattle.std.proofs.lemmas.Result.{err_from_is_err_and}
 use Rattle.leveldb_base.proofs.HistoryLemmas.{exact_order}
 use Rattle.leveldb_base.specs.Entries.{entry_of_pair}
