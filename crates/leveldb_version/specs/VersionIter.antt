@@ -22,7 +22,7 @@ use Rattle.leveldb_table.specs.declared.table_reader.walk.TableStep.{TableStep}
 use Rattle.leveldb_version.specs.Batches.{Each}
 use Rattle.leveldb_version.specs.Format.{Agrees, IsTableFault, LacksCompressor, Meaning}
 use Rattle.leveldb_version.specs.TableCache.{TableOptions, files_at, options_by, path_at, table_at}
-use Rattle.leveldb_version.specs.TableMoves.{AreTablesMatched, FileTable, IsAtInTable, IsIndexedFor, IsLedTo, IsTableAt, KeepsTables, LeavesPairs, core_here, core_position, table_pairs}
+use Rattle.leveldb_version.specs.TableMoves.{AreTablesMatched, FileTable, IsAtInTable, IsIndexedFor, IsLedTo, IsTableAt, KeepsTables, core_here, core_position, table_pairs}
 use Rattle.leveldb_version.specs.VersionEdit.{new_file_of}
 use Rattle.leveldb_version.specs.declared.table_cache.moves.ReadTables.{ReadTables}
 use Rattle.leveldb_version.specs.declared.version_iter.VersionIter.{VersionIter}
@@ -184,12 +184,6 @@ ends_before_key cmp key file = is_lt (internal_cmp cmp (new_file_of file).larges
 abbrev pub TurnsTo : {C : Type 0} → ℕ → Option (TablePlace C) → ℕ
     → Option (TablePlace C) → Type 0
 TurnsTo old_at old at new = (new ≡ None) ⊎ ((old_at ≡ at) × (new ≡ old))
-
--- a walk has left its pair: it is at none, in the table where it was, and over the same files
-pub record IsLeft {C : Type 0} (old new : VersionIter C) : Type 0 where
-  pub core : LeavesPairs old.core new.core
-  pub at : new.at ≡ old.at
-  pub files : new.files ≡ old.files
 
 -- the pair that it is at
 abbrev pub version_here : {C : Type 0} → VersionIter C → Option Pair

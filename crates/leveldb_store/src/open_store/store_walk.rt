@@ -102,21 +102,27 @@ impl<
     fn reset(&mut self) {
         match self {
             StoreWalk::Memory(walk) => walk.0.reset(),
-            StoreWalk::Tables(walk) => walk.leave(),
+            StoreWalk::Tables(walk) => {
+                <VersionIter<'a, C> as Walk<E, ReadTables<'b, E, C, FP, K>>>::reset(walk);
+            }
         }
     }
 
     fn current(&self) -> Option<(&[u8], &[u8])> {
         match self {
             StoreWalk::Memory(walk) => walk.0.current(),
-            StoreWalk::Tables(walk) => walk.pair(),
+            StoreWalk::Tables(walk) => {
+                <VersionIter<'a, C> as Walk<E, ReadTables<'b, E, C, FP, K>>>::current(walk)
+            }
         }
     }
 
     fn valid(&self) -> bool {
         match self {
             StoreWalk::Memory(walk) => walk.0.valid(),
-            StoreWalk::Tables(walk) => walk.is_at_pair(),
+            StoreWalk::Tables(walk) => {
+                <VersionIter<'a, C> as Walk<E, ReadTables<'b, E, C, FP, K>>>::valid(walk)
+            }
         }
     }
 
