@@ -72,4 +72,3 @@ mod ViewListsLemmas
 mod ViewTablesLemmas
 mod ViewChildrenLemmas
 mod ViewStoreLemmas
-mod StoreWalkLemmas

@@ -30,11 +30,11 @@ use Rattle.leveldb_version.proofs.PairwiseLemmas.{Pairwise, all_pairs, as_long, 
 use Rattle.leveldb_version.proofs.SearchLemmas.{all_from_contains}
 use Rattle.leveldb_version.specs.Batches.{Each}
 use Rattle.leveldb_version.specs.Levels.{LiveTable, table_entries}
-use Rattle.leveldb_store.specs.StoreWalk.{IsStoreOver}
+use Rattle.leveldb_version.specs.StoreWalk.{IsStoreOver}
 use Rattle.leveldb_version.specs.VersionIter.{IsOverTables}
 use Rattle.leveldb_version.specs.VersionIters.{AreOverLayers}
-use Rattle.leveldb_store.specs.declared.open_store.store_walk.StoreWalk.{StoreWalk}
-use Rattle.leveldb_store.specs.declared.open_store.store_walk.StoreWalk.TheVariants.{Memory, Tables}
+use Rattle.leveldb_version.specs.declared.store_walk.StoreWalk.{StoreWalk}
+use Rattle.leveldb_version.specs.declared.store_walk.StoreWalk.TheVariants.{Memory, Tables}
 use Rattle.leveldb_version.specs.declared.table_cache.moves.ReadTables.{ReadTables}
 use Rattle.leveldb_version.specs.declared.version_iter.VersionIter.{VersionIter}
 use Rattle.leveldb_mem.specs.MemTable.{Kept}
@@ -43,7 +43,6 @@ use Rattle.leveldb_store.specs.Read.{in_memory}
 use Rattle.leveldb_store.specs.View.{AreChildrenOf, IsMergeToView, IsOverMemory, any_in_order, waiting_layers}
 use Rattle.leveldb_store.specs.Written.{waiting_entries}
 use Rattle.leveldb_store.proofs.ViewListsLemmas.{each_append, each_at, each_by_index, pairwise_of}
-use Rattle.leveldb_mem.specs.declared.memtable.iterator.MemtableIterator.{MemtableIterator}
 
 -- ---- memtables
 
@@ -109,11 +108,11 @@ module _ {C : Type 0} (value : OpenStoreValue C) (older : IsOlder (waiting_entri
 
 -- ---- the children
 
-module _ {E F C FP K : Type 0} {g : CmpGhosts C} {keys : CmpGhosts (InternalKeyCmp C)} (env : EnvGhosts E F) (cmp : CmpGhosts C) (filters : FilterGhosts FP) (codings : K → Codings)
-    (iterator : IteratorGhosts (MemtableIterator C g)) (keys_are : (c : C) → key_order keys (record { 0 = c }) ≡ internal_order (any_in_order (cmp.cmp c)))
-    (child : WalkGhosts (StoreWalk C g) E (ReadTables E C FP K F))
-    (child_over : (world : E × ReadTables E C FP K F) (it : StoreWalk C g) (order : KeyOrder) (pairs : List Pair) → IsStoreOver keys env cmp filters codings iterator world it order pairs → child.over world it order pairs)
-    (value : OpenStoreValue C) (exact : IsExactOrder (cmp.cmp value.cmp)) (children : List (StoreWalk C g)) (are : AreChildrenOf iterator (cmp.cmp value.cmp) value children)
+module _ {E F C FP K M : Type 0} {keys : CmpGhosts (InternalKeyCmp C)} (env : EnvGhosts E F) (cmp : CmpGhosts C) (filters : FilterGhosts FP) (codings : K → Codings)
+    (iterator : IteratorGhosts M) (keys_are : (c : C) → key_order keys (record { 0 = c }) ≡ internal_order (any_in_order (cmp.cmp c)))
+    (child : WalkGhosts (StoreWalk C M) E (ReadTables E C FP K F))
+    (child_over : (world : E × ReadTables E C FP K F) (it : StoreWalk C M) (order : KeyOrder) (pairs : List Pair) → IsStoreOver keys env cmp filters codings iterator world it order pairs → child.over world it order pairs)
+    (value : OpenStoreValue C) (exact : IsExactOrder (cmp.cmp value.cmp)) (children : List (StoreWalk C M)) (are : AreChildrenOf iterator (cmp.cmp value.cmp) value children)
     (world : E × ReadTables E C FP K F) (order_is : cmp.cmp world.1.cmp ≡ cmp.cmp value.cmp)
     (tables : List LiveTable) (over : AreOverLayers keys env cmp filters codings world are.tables tables)
     (waiting_older : IsOlder (waiting_entries value.waiting) value.recent.entries) (tables_older : IsOlder (table_entries tables) (in_memory value)) where
@@ -123,14 +122,14 @@ module _ {E F C FP K : Type 0} {g : CmpGhosts C} {keys : CmpGhosts (InternalKeyC
   abbrev order : KeyOrder
   order = internal_order (any_in_order ucmp)
 
-  abbrev Over : StoreWalk C g → List Pair → Type 0
+  abbrev Over : StoreWalk C M → List Pair → Type 0
   Over it pairs = IsStoreOver keys env cmp filters codings iterator world it order pairs
 
   -- the list of each
   abbrev lists : List (List Pair)
   lists = map layer_pairs (memory_layers value) ++ over.lists
 
-  over_memory : (memory : List (Unlent (MemtableIterator C g))) (layers : List (List Entry)) → Each (IsOverMemory iterator ucmp) memory layers → Each Over (map Memory memory) (map layer_pairs layers)
+  over_memory : (memory : List (Unlent M)) (layers : List (List Entry)) → Each (IsOverMemory iterator ucmp) memory layers → Each Over (map Memory memory) (map layer_pairs layers)
   over_memory [] [] each = tt
   over_memory [] (layer ∷ layers) each = absurd each
   over_memory (it ∷ memory) [] each = absurd each
@@ -166,7 +165,7 @@ module _ {E F C FP K : Type 0} {g : CmpGhosts C} {keys : CmpGhosts (InternalKeyC
   are_over : AreOver child world children order lists
   are_over k it at = child_over world it order (slice_index_or lists k []) (each_at Over children lists k it [] each_over at)
 
-  sorted_one : (it : StoreWalk C g) (pairs : List Pair) → Over it pairs → IsSortedIn order pairs
+  sorted_one : (it : StoreWalk C M) (pairs : List Pair) → Over it pairs → IsSortedIn order pairs
   sorted_one (Memory it) pairs is = is.sorted
   sorted_one (Tables it) pairs is = is.sorted
 
@@ -175,7 +174,7 @@ module _ {E F C FP K : Type 0} {g : CmpGhosts C} {keys : CmpGhosts (InternalKeyC
 
   -- ---- as layers
 
-  numbered : (memory : List (Unlent (MemtableIterator C g))) (layers : List (List Entry)) → Each (IsOverMemory iterator ucmp) memory layers → map entries_of_pairs (map layer_pairs layers) ≡ layers
+  numbered : (memory : List (Unlent M)) (layers : List (List Entry)) → Each (IsOverMemory iterator ucmp) memory layers → map entries_of_pairs (map layer_pairs layers) ≡ layers
   numbered [] [] each = refl
   numbered [] (layer ∷ layers) each = absurd each
   numbered (it ∷ memory) [] each = absurd each

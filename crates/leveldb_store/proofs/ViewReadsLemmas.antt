@@ -12,19 +12,18 @@ use Rattle.leveldb_env.specs.declared.env.Env.{Ghosts as EnvGhosts}
 use Rattle.leveldb_env.specs.declared.filter.FilterPolicy.{Ghosts as FilterGhosts}
 use Rattle.leveldb_iter.specs.declared.walk.Walk.{Ghosts as WalkGhosts}
 use Rattle.leveldb_version.specs.Format.{IsTableFault, LacksCompressor, Meaning}
-use Rattle.leveldb_store.specs.StoreWalk.{FailsInStore}
+use Rattle.leveldb_version.specs.StoreWalk.{FailsInStore}
 use Rattle.leveldb_version.specs.TableCache.{MatchesFiles, TableOptions, files_at}
 use Rattle.leveldb_version.specs.TableMoves.{FileTable}
 use Rattle.leveldb_version.specs.VersionIter.{AreOpenGiven, AreTablesThere, FailsInTables, FailsOr, KeepsReading, reading}
 use Rattle.leveldb_version.specs.VersionIterLaws.{reading_stays}
-use Rattle.leveldb_store.specs.declared.open_store.store_walk.StoreWalk.{StoreWalk}
-use Rattle.leveldb_store.specs.declared.open_store.store_walk.StoreWalk.TheVariants.{Memory, Tables}
+use Rattle.leveldb_version.specs.declared.store_walk.StoreWalk.{StoreWalk}
+use Rattle.leveldb_version.specs.declared.store_walk.StoreWalk.TheVariants.{Memory, Tables}
 use Rattle.leveldb_version.specs.declared.table_cache.moves.ReadTables.{ReadTables}
 use Rattle.leveldb_version.specs.declared.version_iter.VersionIter.{VersionIter}
 use Rattle.leveldb_store.specs.OpenStore.{OpenStoreValue}
 use Rattle.leveldb_store.specs.Room.{HasFailed}
 use Rattle.leveldb_store.specs.View.{CountsErrors, FailsBetween, IsWorldOf, ReadsAlone}
-use Rattle.leveldb_mem.specs.declared.memtable.iterator.MemtableIterator.{MemtableIterator}
 
 -- a count that isn't at its greatest rose, or a failure was counted
 pub counted_or_not : (from to : ℕ) → from < 2 ^ 64 → HasFailed from to ⊎ ((to ≡ 2 ^ 64 - 1 → ⊥) × (from < to → ⊥))
@@ -36,8 +35,8 @@ counted_or_not from to fits = ⊎_elim
     (cases_lt to (2 ^ 64 - 1)))
     (cases_lt from to)
 
-module _ {E C FP K F : Type 0} {g : CmpGhosts C} (order : CmpGhosts (InternalKeyCmp C)) (env : EnvGhosts E F) (counts : (e : E) → env.failures e < 2 ^ 64)
-    (cmp : CmpGhosts C) (filters : FilterGhosts FP) (codings : K → Codings) (iterator : IteratorGhosts (MemtableIterator C g)) where
+module _ {E C FP K F M : Type 0} (order : CmpGhosts (InternalKeyCmp C)) (env : EnvGhosts E F) (counts : (e : E) → env.failures e < 2 ^ 64)
+    (cmp : CmpGhosts C) (filters : FilterGhosts FP) (codings : K → Codings) (iterator : IteratorGhosts M) where
   -- where no failure was counted, the cause may be there at any time
   at_any : {Why : Type 0} (from to other : E × ReadTables E C FP K F) (status : Status)
       → (env.failures to.0 ≡ 2 ^ 64 - 1 → ⊥) × (env.failures from.0 < env.failures to.0 → ⊥)

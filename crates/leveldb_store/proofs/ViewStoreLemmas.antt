@@ -26,11 +26,11 @@ use Rattle.leveldb_iter.specs.declared.walk.Walk.{Ghosts as WalkGhosts}
 use Rattle.leveldb_version.proofs.VersionLayersLemmas.{version_iters_are_layers}
 use Rattle.leveldb_version.specs.Format.{IsTableFault, Meaning}
 use Rattle.leveldb_version.specs.Levels.{table_entries}
-use Rattle.leveldb_store.specs.StoreWalk.{FailsInStore, IsStoreOver}
+use Rattle.leveldb_version.specs.StoreWalk.{FailsInStore, IsStoreOver}
 use Rattle.leveldb_version.specs.VersionIter.{FailsOr}
 use Rattle.leveldb_version.specs.VersionIters.{OrdersInternalKeys}
-use Rattle.leveldb_store.specs.declared.open_store.store_walk.StoreWalk.{StoreWalk}
-use Rattle.leveldb_store.specs.declared.open_store.store_walk.StoreWalk.TheVariants.{Memory, Tables}
+use Rattle.leveldb_version.specs.declared.store_walk.StoreWalk.{StoreWalk}
+use Rattle.leveldb_version.specs.declared.store_walk.StoreWalk.TheVariants.{Memory, Tables}
 use Rattle.leveldb_version.specs.declared.table_cache.moves.ReadTables.{ReadTables}
 use Rattle.leveldb_version.specs.CurrentVersion.{IsCurrent}
 use Rattle.leveldb_store.specs.OpenStore.{AreInLevels, AreNumbersGiven, OpenStoreValue}
@@ -42,7 +42,6 @@ use Rattle.leveldb_store.proofs.ViewChildrenLemmas.{IsMergedView, merged_view}
 use Rattle.leveldb_store.proofs.ViewHistoryLemmas.{view_of_history}
 use Rattle.leveldb_store.proofs.ViewReadsLemmas.{counted_or_not}
 use Rattle.leveldb_store.proofs.ViewTablesLemmas.{tables_to_walk, there_for}
-use Rattle.leveldb_mem.specs.declared.memtable.iterator.MemtableIterator.{MemtableIterator}
 
 -- where no order of keys refuses one
 pub orders_keys : {C : Type 0} {keys : CmpGhosts (InternalKeyCmp C)} (cmp : CmpGhosts C) (c : C)
@@ -52,19 +51,19 @@ orders_keys cmp c are = record {
   accepts = λ key takes. subst (λ (order : KeyOrder). order.accepts key ≡ true) (sym are) takes;
 }
 
-module _ {E F C FP K : Type 0} {g : CmpGhosts C} {keys : CmpGhosts (InternalKeyCmp C)} (env : EnvGhosts E F) (counts : (e : E) → env.failures e < 2 ^ 64)
+module _ {E F C FP K M : Type 0} {keys : CmpGhosts (InternalKeyCmp C)} (env : EnvGhosts E F) (counts : (e : E) → env.failures e < 2 ^ 64)
     (cmp : CmpGhosts C) (filters : FilterGhosts FP) (codings : K → Codings)
-    (iterator : IteratorGhosts (MemtableIterator C g)) (never : (it after : (MemtableIterator C g)) (status : Status) → iterator.fails it after status → ⊥)
+    (iterator : IteratorGhosts M) (never : (it after : M) (status : Status) → iterator.fails it after status → ⊥)
     (keys_are : (c : C) → key_order keys (record { 0 = c }) ≡ internal_order (any_in_order (cmp.cmp c))) (exact : (c : C) → IsExactOrder (cmp.cmp c))
-    (child : WalkGhosts (StoreWalk C g) E (ReadTables E C FP K F))
-    (child_over : (world : E × ReadTables E C FP K F) (it : StoreWalk C g) (order : KeyOrder) (pairs : List Pair) → IsStoreOver keys env cmp filters codings iterator world it order pairs → child.over world it order pairs)
-    (child_fails : (world : E × ReadTables E C FP K F) (it : StoreWalk C g) (later : E × ReadTables E C FP K F) (status : Status) → child.fails world it later status
+    (child : WalkGhosts (StoreWalk C M) E (ReadTables E C FP K F))
+    (child_over : (world : E × ReadTables E C FP K F) (it : StoreWalk C M) (order : KeyOrder) (pairs : List Pair) → IsStoreOver keys env cmp filters codings iterator world it order pairs → child.over world it order pairs)
+    (child_fails : (world : E × ReadTables E C FP K F) (it : StoreWalk C M) (later : E × ReadTables E C FP K F) (status : Status) → child.fails world it later status
     → FailsInStore keys env cmp filters codings iterator world it later status)
-    (walk : WalkGhosts (DbIterCore (MergeCore (InternalKeyCmp C) (StoreWalk C g))) E (ReadTables E C FP K F))
+    (walk : WalkGhosts (DbIterCore (MergeCore (InternalKeyCmp C) (StoreWalk C M))) E (ReadTables E C FP K F))
     (value : OpenStoreValue C) (current : IsCurrent (cmp.cmp value.cmp) value.cmp value.set value.current) (given : AreNumbersGiven value.set value.set.full.added)
     (levels : AreInLevels env.models_disk (cmp.cmp value.cmp) value.set.full.added)
-    (children : List (StoreWalk C g)) (are : AreChildrenOf iterator (cmp.cmp value.cmp) value children)
-    (sequence : ℕ) (it : DbIterCore (MergeCore (InternalKeyCmp C) (StoreWalk C g)))
+    (children : List (StoreWalk C M)) (are : AreChildrenOf iterator (cmp.cmp value.cmp) value children)
+    (sequence : ℕ) (it : DbIterCore (MergeCore (InternalKeyCmp C) (StoreWalk C M)))
     (compares : C) (compares_is : compares ≡ value.cmp) (last : ℕ) (last_is : last ≡ min sequence greatest_sequence) (made : ViewsMerge child keys walk (record { 0 = compares }) children last it) where
   merge : ViewsMerge child keys walk (record { 0 = value.cmp }) children (min sequence greatest_sequence) it
   merge = subst (λ c. ViewsMerge child keys walk (record { 0 = c }) children (min sequence greatest_sequence) it) compares_is
@@ -85,7 +84,7 @@ module _ {E F C FP K : Type 0} {g : CmpGhosts C} {keys : CmpGhosts (InternalKeyC
       (λ why. inr (inr why))))
       fails
 
-  fault_one : (from to : E × ReadTables E C FP K F) (status : Status) (one : StoreWalk C g) → FailsInStore keys env cmp filters codings iterator from one to status
+  fault_one : (from to : E × ReadTables E C FP K F) (status : Status) (one : StoreWalk C M) → FailsInStore keys env cmp filters codings iterator from one to status
       → FailsBetween env from to (λ e. IsTableFault (options_in env cmp filters codings from).format e.code) status
   fault_one from to status (Memory walk) fails = absurd (never walk.0 fails.0 status fails.1)
   fault_one from to status (Tables walk) fails = between from to status fails.fault
@@ -113,7 +112,7 @@ module _ {E F C FP K : Type 0} {g : CmpGhosts C} {keys : CmpGhosts (InternalKeyC
         shows.shows.shows.waiting_older shows.shows.shows.tables_older
 
     -- an error of a walk over tables
-    in_tables : (one : StoreWalk C g) → Contains (map Tables are.tables) one → (to : E × ReadTables E C FP K F) (status : Status) → FailsInStore keys env cmp filters codings iterator world one to status
+    in_tables : (one : StoreWalk C M) → Contains (map Tables are.tables) one → (to : E × ReadTables E C FP K F) (status : Status) → FailsInStore keys env cmp filters codings iterator world one to status
         → FailsBetween env world to (IsOfNoCompressor (options_in env cmp filters codings world).format meaning) status
     in_tables (Memory walk) c to status fails = absurd (never walk.0 fails.0 status fails.1)
     in_tables (Tables walk) c to status fails =
@@ -123,14 +122,14 @@ module _ {E F C FP K : Type 0} {g : CmpGhosts C} {keys : CmpGhosts (InternalKeyC
         (exact world.1.cmp) here are.tables are.over_tables walk (subst (Contains are.tables) same from.1) in
         between world to status (fails.lacks meaning there.0 there.1)
 
-    lacks_one : (one : StoreWalk C g) → Contains children one → (to : E × ReadTables E C FP K F) (status : Status) → FailsInStore keys env cmp filters codings iterator world one to status
+    lacks_one : (one : StoreWalk C M) → Contains children one → (to : E × ReadTables E C FP K F) (status : Status) → FailsInStore keys env cmp filters codings iterator world one to status
         → FailsBetween env world to (IsOfNoCompressor (options_in env cmp filters codings world).format meaning) status
     lacks_one one c to status fails = ⊎_elim
         (λ (in_mem : Contains (map Memory are.memory) one). of_memory one in_mem fails)
         (λ (in_tab : Contains (map Tables are.tables) one). in_tables one in_tab to status fails)
         (Contains-append_cases (map Memory are.memory) (map Tables are.tables) one (subst (λ cs. Contains cs one) are.are c))
       where
-        of_memory : (one : StoreWalk C g) → Contains (map Memory are.memory) one → FailsInStore keys env cmp filters codings iterator world one to status
+        of_memory : (one : StoreWalk C M) → Contains (map Memory are.memory) one → FailsInStore keys env cmp filters codings iterator world one to status
             → FailsBetween env world to (IsOfNoCompressor (options_in env cmp filters codings world).format meaning) status
         of_memory (Memory walk) c fails = absurd (never walk.0 fails.0 status fails.1)
         of_memory (Tables walk) c fails = let from = in_map Memory are.memory (Tables walk) c in let e : Memory from.0 ≡ Tables walk = from.2 in absurd cc

@@ -24,5 +24,3 @@ pub mod Listing
 pub mod OpeningSteps
 pub mod SoundCall
 pub mod RoomSteps
-pub mod StoreWalk
-pub mod StoreWalkLaws

@@ -35,8 +35,8 @@ use Rattle.leveldb_version.specs.Format.{Agrees, Format, IsTableFault, LacksComp
 use Rattle.leveldb_version.specs.TableCache.{TableOptions, files_at}
 use Rattle.leveldb_version.specs.VersionIter.{KeepsReading, reading}
 use Rattle.leveldb_version.specs.VersionIters.{AreVersionIters}
-use Rattle.leveldb_store.specs.declared.open_store.store_walk.StoreWalk.{StoreWalk}
-use Rattle.leveldb_store.specs.declared.open_store.store_walk.StoreWalk.TheVariants.{Memory, Tables}
+use Rattle.leveldb_version.specs.declared.store_walk.StoreWalk.{StoreWalk}
+use Rattle.leveldb_version.specs.declared.store_walk.StoreWalk.TheVariants.{Memory, Tables}
 use Rattle.leveldb_version.specs.declared.table_cache.TableCache.{TableCache}
 use Rattle.leveldb_version.specs.declared.table_cache.moves.ReadTables.{ReadTables}
 use Rattle.leveldb_version.specs.declared.version_iter.VersionIter.{VersionIter}
@@ -45,7 +45,6 @@ use Rattle.leveldb_store.specs.OpenTables.{AreOpenTablesOf}
 use Rattle.leveldb_store.specs.Read.{HasOpenTables}
 use Rattle.leveldb_store.specs.Room.{HasFailed}
 use Rattle.leveldb_store.specs.Written.{Shows}
-use Rattle.leveldb_mem.specs.declared.memtable.iterator.MemtableIterator.{MemtableIterator}
 
 module _ {E F T : Type 0} (env : Ghosts E F) where
   -- why a move fails between two worlds: out of memory, at a failure of the device that was counted,
@@ -226,9 +225,8 @@ pub record ViewsMerge {E T I C : Type 0} (child : WalkGhosts I E T) (cmp : CmpGh
 -- ---- its children
 
 -- a walk over the entries of a memtable, in the order of internal keys
-pub record IsOverMemory {C : Type 0} {g : CmpGhosts C}
-    (iterator : IteratorGhosts (MemtableIterator C g)) (cmp : List ℕ → List ℕ → Ordering)
-    (it : Unlent (MemtableIterator C g)) (entries : List Entry) : Type 0 where
+pub record IsOverMemory {M : Type 0} (iterator : IteratorGhosts M)
+    (cmp : List ℕ → List ℕ → Ordering) (it : Unlent M) (entries : List Entry) : Type 0 where
   pub pairs_are : iterator.pairs it.0 ≡ map internal_pair entries
   pub order_is : iterator.order it.0 ≡ internal_cmp cmp
   pub sorted : AreRising (internal_cmp cmp) (map internal_pair entries)
@@ -240,11 +238,11 @@ waiting_layers None = []
 waiting_layers (Some waiting) = waiting.entries ∷ []
 
 -- walks over what is in memory of a store, and then over the tables of its version
-pub record AreChildrenOf {C : Type 0} {g : CmpGhosts C}
-    (iterator : IteratorGhosts (MemtableIterator C g)) (cmp : List ℕ → List ℕ → Ordering)
-    (value : OpenStoreValue C) (children : List (StoreWalk C g)) : Type 0 where
+pub record AreChildrenOf {C M : Type 0} (iterator : IteratorGhosts M)
+    (cmp : List ℕ → List ℕ → Ordering) (value : OpenStoreValue C) (children : List (StoreWalk C M))
+    : Type 0 where
   -- over the log's memtable, and over the one that waits
-  pub memory : List (Unlent (MemtableIterator C g))
+  pub memory : List (Unlent M)
   pub over_memory : Each (IsOverMemory iterator cmp) memory
       (value.recent.entries ∷ waiting_layers value.waiting)
   -- over the tables

@@ -6,7 +6,6 @@ mod damage;
 mod obsolete;
 mod read;
 mod room;
-mod store_walk;
 mod switch;
 mod table;
 mod view;
@@ -21,7 +20,6 @@ use leveldb_mem::memtable::MemTable;
 use leveldb_version::version_set::VersionSet;
 use std::alloc::Global;
 use std::marker::Model;
-pub use store_walk::StoreWalk;
 pub use view::StoreView;
 
 /// A log that batches are appended to: its number, and its file with the writer of its records.

@@ -73,6 +73,7 @@ pub mod ShownLemmas
 pub mod RecoveringLemmas
 pub mod OpeningEndLemmas
 pub mod StoreTablesLemmas
+pub mod StoreWalkLemmas
 pub mod TableCacheLemmas
 pub mod TableCacheCallLemmas
 pub mod SearchLemmas

@@ -1,7 +1,7 @@
 //! Walks over the tables of files, one after the other.
 ghost use Rattle.std.specs.Prelude.{◌≡◌, ◌≤◌, false, is_some, length, true};
 ghost use Rattle.std.specs.List.Sorted.{IsPartitionPoint, IsPartitionedBy};
-ghost use Rattle.leveldb_base.specs.Types.{next_position, previous_position};
+ghost use Rattle.leveldb_base.specs.Types.{next_position, pair_of, previous_position};
 ghost use Rattle.leveldb_version.specs.TableMoves.{IsToEnd, LeavesPairs, StepsInBlock, core_position};
 ghost use Rattle.leveldb_version.specs.VersionIter.{ends_before_key};
 ghost use Rattle.leveldb_version.specs.VersionIters.{IsNewVersionIter};
@@ -53,15 +53,29 @@ pub fn new_version_iter<'a, C: UserCmp + Copy + Drop>(
 }
 
 impl<'a, C: UserCmp + Copy + Drop> VersionIter<'a, C> {
-    ghost use Rattle.leveldb_version.specs.VersionIter.{MovesToFile, StepsInFile, TurnsTo};
+    ghost use Rattle.leveldb_version.specs.VersionIter.{MovesToFile, StepsInFile, TurnsTo, version_here};
 
-    // Moves to no position.
-    fn leave(&mut self)
+    /// Moves to no position.
+    pub(crate) fn leave(&mut self)
         ensures core { LeavesPairs self.old.core self.new.core }
         ensures at { self.new.at ≡ self.old.at }
         ensures files { self.new.files ≡ self.old.files }
     {
         reset(&mut self.core);
+    }
+
+    /// The key and the value of the pair that it is at.
+    pub(crate) fn pair(&self) -> Option<(&[u8], &[u8])>
+        ensures { pair_of result ≡ version_here self.now }
+    {
+        self.core.as_ref()?.current()
+    }
+
+    /// Whether it is at a pair.
+    pub(crate) fn is_at_pair(&self) -> bool
+        ensures { result ≡ is_some (core_position self.now.core) }
+    {
+        is_at_pair(&self.core)
     }
 
     // Turns to the file of this index, where the walk begins anew if it was at another.
@@ -288,7 +302,7 @@ impl<
     }
 
     fn current(&self) -> Option<(&[u8], &[u8])> {
-        self.core.as_ref()?.current()
+        self.pair()
     }
 
     fn valid(&self) -> bool {

@@ -34,5 +34,6 @@ pub use leveldb_table::{
     table_reader,
 };
 pub use leveldb_version::{
-    compaction, laws as version_laws, table_cache, version, version_edit, version_iter, version_set,
+    compaction, laws as version_laws, store_walk, table_cache, version, version_edit, version_iter,
+    version_set,
 };

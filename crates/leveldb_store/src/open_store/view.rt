@@ -4,14 +4,13 @@ ghost use Rattle.leveldb_iter.specs.Moves.{MovesAll};
 ghost use Rattle.leveldb_version.specs.Format.{format_of};
 ghost use Rattle.leveldb_version.specs.TableCache.{options_by, table_options};
 ghost use Rattle.leveldb_version.specs.VersionIter.{reading as reading_by};
-ghost use Rattle.leveldb_store.specs.declared.open_store.store_walk.StoreWalk.TheVariants.{Tables};
+ghost use Rattle.leveldb_version.specs.declared.store_walk.StoreWalk.TheVariants.{Tables};
 ghost use Rattle.leveldb_base.specs.Error.{IsOutOfMemory};
 ghost use Rattle.leveldb_store.specs.OpenStore.{AreInLevels, AreNumbersGiven};
 ghost use Rattle.leveldb_version.specs.CurrentVersion.{IsCurrent};
 ghost use Rattle.leveldb_store.specs.View.{AreChildrenOf, IsReadingOf, ReadsAlone, ViewsMerge, ViewsStore, WalksStore};
 
 use super::OpenStore;
-use super::store_walk::StoreWalk;
 use leveldb_base::cmp::{Cmp, InternalKeyCmp, UserCmp};
 use leveldb_base::error::Result;
 use leveldb_base::types::{LdbIterator, MAX_SEQUENCE_NUMBER, SequenceNumber};
@@ -25,13 +24,19 @@ use leveldb_iter::moves::{Move, Step, make_moves};
 use leveldb_iter::unlent::Unlent;
 use leveldb_iter::walk::Walk;
 use leveldb_mem::memtable::MemtableIterator;
+use leveldb_version::store_walk::StoreWalk;
 use leveldb_version::table_cache::{ReadTables, ReadsTables, TableCache};
 use leveldb_version::version_iter::VersionIter;
 use std::alloc::Global;
 
 /// A walk over the view of a store at a sequence number. It borrows the store's memtables and its
 /// version for `'s`; each move borrows the environment and the store's tables.
-pub type StoreView<'s, C> = DbIterCore<MergeCore<InternalKeyCmp<C>, StoreWalk<'s, C>>>;
+pub type StoreView<'s, C> = DbIterCore<
+    MergeCore<InternalKeyCmp<C>, StoreWalk<'s, C, MemtableIterator<'s, C>>>,
+>;
+
+// A walk over a memtable or over tables.
+type Child<'s, C> = StoreWalk<'s, C, MemtableIterator<'s, C>>;
 
 impl<E: Env, C: UserCmp + Copy + Drop> OpenStore<E, C> {
     /// The walk over the view at a sequence number, at no position. Its moves read from the
@@ -163,7 +168,7 @@ impl<E: Env, C: UserCmp + Copy + Drop> OpenStore<E, C> {
 
     // Walks over what is in memory, and then over the tables of the version, the newer first. The
     // version has the live files, whose numbers were given, and they are in levels.
-    fn children<'s>(&'s self) -> Result<Vec<StoreWalk<'s, C>>>
+    fn children<'s>(&'s self) -> Result<Vec<Child<'s, C>>>
         ensures ok { IfOk result (λ children. AreChildrenOf
             ⟦<MemtableIterator<'s, C> as LdbIterator>⟧ (C.cmp self.now.cmp) self.now
             children.items) }
@@ -187,7 +192,7 @@ impl<E: Env, C: UserCmp + Copy + Drop> OpenStore<E, C> {
 // Appends walks over tables.
 fn push_tables<'a, C: UserCmp + Copy + Drop>(
     walks: Vec<VersionIter<'a, C>>,
-    children: &mut Vec<StoreWalk<'a, C>>,
+    children: &mut Vec<Child<'a, C>>,
 ) -> Result<()>
     ensures ok { OnOk result (children.new.items ≡ children.old.items ++ map Tables walks.entry.items) }
     ensures memory { IfErr result IsOutOfMemory }

@@ -10,18 +10,17 @@ use Rattle.leveldb_iter.specs.declared.unlent.Unlent.{Unlent}
 use Rattle.leveldb_mem.specs.MemTable.{Kept, MemTableState}
 use Rattle.leveldb_version.specs.Batches.{Each}
 use Rattle.leveldb_version.specs.VersionIters.{AreVersionIters}
-use Rattle.leveldb_store.specs.declared.open_store.store_walk.StoreWalk.{StoreWalk}
-use Rattle.leveldb_store.specs.declared.open_store.store_walk.StoreWalk.TheVariants.{Memory, Tables}
+use Rattle.leveldb_version.specs.declared.store_walk.StoreWalk.{StoreWalk}
+use Rattle.leveldb_version.specs.declared.store_walk.StoreWalk.TheVariants.{Memory, Tables}
 use Rattle.leveldb_version.specs.declared.version_iter.VersionIter.{VersionIter}
 use Rattle.leveldb_store.specs.OpenStore.{OpenStoreValue}
 use Rattle.leveldb_store.specs.View.{AreChildrenOf, IsOverMemory, waiting_layers}
 use Rattle.leveldb_store.proofs.CurrentVersionLemmas.{current_by}
 use Rattle.leveldb_store.proofs.open_store.OpenStore.children.Goals.{in-Some+in_ok-push-2, in_default}
 use Rattle.leveldb_store.proofs.open_store.OpenStore.children.Goals as goal
-use Rattle.leveldb_mem.specs.declared.memtable.iterator.MemtableIterator.{MemtableIterator}
 
 -- a walk over a memtable of the store's order
-over_memtable : {C : Type 0} {g : CmpGhosts C} (iterator : IteratorGhosts (MemtableIterator C g)) (cmp : CmpGhosts C) (it : Unlent (MemtableIterator C g)) (own order : C) (entries : List Entry) → own ≡ order
+over_memtable : {C M : Type 0} (iterator : IteratorGhosts M) (cmp : CmpGhosts C) (it : Unlent M) (own order : C) (entries : List Entry) → own ≡ order
     → iterator.pairs it.0 ≡ map internal_pair entries → iterator.order it.0 ≡ internal_cmp (cmp.cmp own) → AreRising (internal_cmp (cmp.cmp own)) (map internal_pair entries)
     → AreUpTo greatest_sequence entries → IsOverMemory iterator (cmp.cmp order) it entries
 over_memtable iterator cmp it own order entries same pairs order_is sorted numbered = subst (λ c. IsOverMemory iterator (cmp.cmp c) it entries) same (record {
@@ -32,8 +31,8 @@ over_memtable iterator cmp it own order entries same pairs order_is sorted numbe
 })
 
 -- the walks over what is in memory and those over tables
-children_are : {C : Type 0} {g : CmpGhosts C} (iterator : IteratorGhosts (MemtableIterator C g)) (cmp : List ℕ → List ℕ → Ordering) (value : OpenStoreValue C)
-    (recent : Unlent (MemtableIterator C g)) (waits : List (Unlent (MemtableIterator C g))) (iters : List (VersionIter C)) (before children : List (StoreWalk C g))
+children_are : {C M : Type 0} (iterator : IteratorGhosts M) (cmp : List ℕ → List ℕ → Ordering) (value : OpenStoreValue C)
+    (recent : Unlent M) (waits : List (Unlent M)) (iters : List (VersionIter C)) (before children : List (StoreWalk C M))
     → IsOverMemory iterator cmp recent value.recent.entries → Each (IsOverMemory iterator cmp) waits (waiting_layers value.waiting) → AreVersionIters value.current iters
     → before ≡ Memory recent ∷ map Memory waits → children ≡ before ++ map Tables iters → AreChildrenOf iterator cmp value children
 children_are iterator cmp value recent waits iters before children over_recent over_waits over_tables begin is = record {
@@ -44,18 +43,18 @@ children_are iterator cmp value recent waits iters before children over_recent o
   are = is ∙ ap (λ walks. walks ++ map Tables iters) begin;
 }
 
-waits_none : {C : Type 0} {g : CmpGhosts C} (iterator : IteratorGhosts (MemtableIterator C g)) (cmp : List ℕ → List ℕ → Ordering) (waiting : Option Kept) → waiting ≡ None → Each (IsOverMemory iterator cmp) [] (waiting_layers waiting)
+waits_none : {M : Type 0} (iterator : IteratorGhosts M) (cmp : List ℕ → List ℕ → Ordering) (waiting : Option Kept) → waiting ≡ None → Each (IsOverMemory iterator cmp) [] (waiting_layers waiting)
 waits_none iterator cmp None is = tt
 waits_none iterator cmp (Some kept) is = absurd cc
 
-children_alone : {C : Type 0} {g : CmpGhosts C} (iterator : IteratorGhosts (MemtableIterator C g)) (cmp : List ℕ → List ℕ → Ordering) (value : OpenStoreValue C)
-    (recent : Unlent (MemtableIterator C g)) (iters : List (VersionIter C)) (before children : List (StoreWalk C g))
+children_alone : {C M : Type 0} (iterator : IteratorGhosts M) (cmp : List ℕ → List ℕ → Ordering) (value : OpenStoreValue C)
+    (recent : Unlent M) (iters : List (VersionIter C)) (before children : List (StoreWalk C M))
     → IsOverMemory iterator cmp recent value.recent.entries → value.waiting ≡ None → AreVersionIters value.current iters
     → before ≡ Memory recent ∷ [] → children ≡ before ++ map Tables iters → AreChildrenOf iterator cmp value children
 children_alone iterator cmp value recent iters before children over_recent none =
     children_are iterator cmp value recent [] iters before children over_recent (waits_none iterator cmp value.waiting none)
 
-waits_one : {C : Type 0} {g : CmpGhosts C} (iterator : IteratorGhosts (MemtableIterator C g)) (cmp : CmpGhosts C) (order : C) (it : Unlent (MemtableIterator C g)) (waiting : Option (MemTableState C)) (memtable : MemTableState C)
+waits_one : {C M : Type 0} (iterator : IteratorGhosts M) (cmp : CmpGhosts C) (order : C) (it : Unlent M) (waiting : Option (MemTableState C)) (memtable : MemTableState C)
     → waiting ≡ Some memtable → IfSome waiting (λ one. one.cmp ≡ order)
     → iterator.pairs it.0 ≡ map internal_pair memtable.kept.entries → iterator.order it.0 ≡ internal_cmp (cmp.cmp memtable.cmp)
     → AreRising (internal_cmp (cmp.cmp memtable.cmp)) (map internal_pair memtable.kept.entries) → AreUpTo greatest_sequence memtable.kept.entries

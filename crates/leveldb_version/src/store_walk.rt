@@ -1,6 +1,8 @@
 //! The children of a store's merge: walks over memory, and walks over tables.
 ghost use Rattle.std.specs.Prelude.{◌≡◌};
 
+use crate::table_cache::{ReadTables, ReadsTables};
+use crate::version_iter::VersionIter;
 use leveldb_base::cmp::{Cmp, InternalKeyCmp, UserCmp};
 use leveldb_base::error::Result;
 use leveldb_base::types::LdbIterator;
@@ -8,18 +10,15 @@ use leveldb_env::env::Env;
 use leveldb_env::filter::FilterPolicy;
 use leveldb_iter::unlent::Unlent;
 use leveldb_iter::walk::Walk;
-use leveldb_mem::memtable::MemtableIterator;
-use leveldb_version::table_cache::{ReadTables, ReadsTables};
-use leveldb_version::version_iter::VersionIter;
 
 /// A child of a store's merge. All children of a merge are of one type.
 #[derive(Drop)]
-pub enum StoreWalk<'a, C: UserCmp + Copy + Drop>
+pub enum StoreWalk<'a, C: UserCmp + Copy + Drop, M>
 where
     InternalKeyCmp<C>: Cmp,
 {
     /// Over a memtable.
-    Memory(Unlent<MemtableIterator<'a, C>>),
+    Memory(Unlent<M>),
     /// Over tables.
     Tables(VersionIter<'a, C>),
 }
@@ -31,22 +30,22 @@ impl<
     C: UserCmp + Copy + Drop,
     FP: FilterPolicy + Copy + Drop,
     K: ReadsTables<E, C, FP>,
-> Walk<E, ReadTables<'b, E, C, FP, K>> for StoreWalk<'a, C> {
-    ghost use Rattle.leveldb_store.specs.StoreWalk.{IsStoreOver, IsStoreAt, FailsInStore, store_here};
-    ghost use Rattle.leveldb_store.specs.StoreWalkLaws.{store_laws};
+    M: LdbIterator,
+> Walk<E, ReadTables<'b, E, C, FP, K>> for StoreWalk<'a, C, M> {
+    ghost use Rattle.leveldb_version.specs.StoreWalk.{IsStoreOver, IsStoreAt, FailsInStore, store_here};
+    ghost use Rattle.leveldb_version.specs.StoreWalkLaws.{store_laws};
     ghost use Rattle.leveldb_version.specs.VersionIter.{KeepsReading};
-    ghost use Rattle.std.proofs.Common.{rules};
 
     ghost over = { IsStoreOver ⟦<InternalKeyCmp<C> as Cmp>⟧ E.Env C.Cmp FP.FilterPolicy K.codings
-        ⟦<MemtableIterator<'a, C> as LdbIterator>⟧ };
+        M.LdbIterator };
 
     ghost is_at = { IsStoreAt ⟦<InternalKeyCmp<C> as Cmp>⟧ E.Env C.Cmp FP.FilterPolicy K.codings
-        ⟦<MemtableIterator<'a, C> as LdbIterator>⟧ };
+        M.LdbIterator };
 
-    ghost here = { store_here ⟦<MemtableIterator<'a, C> as LdbIterator>⟧ };
+    ghost here = { store_here M.LdbIterator };
 
     ghost fails = { FailsInStore ⟦<InternalKeyCmp<C> as Cmp>⟧ E.Env C.Cmp FP.FilterPolicy K.codings
-        ⟦<MemtableIterator<'a, C> as LdbIterator>⟧ };
+        M.LdbIterator };
 
     ghost keeps = { KeepsReading ⟦<InternalKeyCmp<C> as Cmp>⟧ E.Env C.Cmp FP.FilterPolicy
         K.codings };
@@ -102,29 +101,23 @@ impl<
     fn reset(&mut self) {
         match self {
             StoreWalk::Memory(walk) => walk.0.reset(),
-            StoreWalk::Tables(walk) => {
-                <VersionIter<'a, C> as Walk<E, ReadTables<'b, E, C, FP, K>>>::reset(walk);
-            }
+            StoreWalk::Tables(walk) => walk.leave(),
         }
     }
 
     fn current(&self) -> Option<(&[u8], &[u8])> {
         match self {
             StoreWalk::Memory(walk) => walk.0.current(),
-            StoreWalk::Tables(walk) => {
-                <VersionIter<'a, C> as Walk<E, ReadTables<'b, E, C, FP, K>>>::current(walk)
-            }
+            StoreWalk::Tables(walk) => walk.pair(),
         }
     }
 
     fn valid(&self) -> bool {
         match self {
             StoreWalk::Memory(walk) => walk.0.valid(),
-            StoreWalk::Tables(walk) => {
-                <VersionIter<'a, C> as Walk<E, ReadTables<'b, E, C, FP, K>>>::valid(walk)
-            }
+            StoreWalk::Tables(walk) => walk.is_at_pair(),
         }
     }
 
-    ghost laws = { store_laws (λ it. Prim.search rules) };
+    ghost laws = { store_laws M.in_range };
 }

@@ -12,27 +12,26 @@ use Rattle.leveldb_env.specs.declared.filter.FilterPolicy.{Ghosts as FilterGhost
 use Rattle.leveldb_iter.specs.Unlent.{IsAloneOver, IsAloneAt, FailsAlone, alone_here}
 use Rattle.leveldb_iter.specs.Walk.{KeyOrder, MovesWalk, Resets, Way}
 use Rattle.leveldb_iter.specs.declared.unlent.Unlent.{Unlent}
-use Rattle.leveldb_store.specs.StoreWalk.{FailsInStore, IsStoreAt, IsStoreOver, store_here}
+use Rattle.leveldb_version.specs.StoreWalk.{FailsInStore, IsStoreAt, IsStoreOver, store_here}
 use Rattle.leveldb_version.specs.VersionIter.{FailsInTables, IsAtInTables, IsOverTables, KeepsReading, version_here}
 use Rattle.leveldb_version.specs.VersionIterLaws.{reading_kept}
-use Rattle.leveldb_store.specs.declared.open_store.store_walk.StoreWalk.{StoreWalk}
-use Rattle.leveldb_store.specs.declared.open_store.store_walk.StoreWalk.TheVariants.{Memory, Tables}
+use Rattle.leveldb_version.specs.declared.store_walk.StoreWalk.{StoreWalk}
+use Rattle.leveldb_version.specs.declared.store_walk.StoreWalk.TheVariants.{Memory, Tables}
 use Rattle.leveldb_version.specs.declared.table_cache.moves.ReadTables.{ReadTables}
 use Rattle.leveldb_version.specs.declared.version_iter.VersionIter.{VersionIter}
-use Rattle.leveldb_mem.specs.declared.memtable.iterator.MemtableIterator.{MemtableIterator}
 
-module _ {E C FP K F : Type 0} {g : CmpGhosts C} (order : CmpGhosts (InternalKeyCmp C)) (env : EnvGhosts E F) (cmp : CmpGhosts C) (filters : FilterGhosts FP) (codings : K → Codings) (iterator : IteratorGhosts (MemtableIterator C g)) where
+module _ {E C FP K F M : Type 0} (order : CmpGhosts (InternalKeyCmp C)) (env : EnvGhosts E F) (cmp : CmpGhosts C) (filters : FilterGhosts FP) (codings : K → Codings) (iterator : IteratorGhosts M) where
   -- a move of a store's child
-  abbrev Moves : {R : Type 0} → (E × ReadTables E C FP K F → StoreWalk C g → KeyOrder → List Pair → Option ℕ → Type 0) → Way → E × ReadTables E C FP K F → StoreWalk C g → Result R Status → E × ReadTables E C FP K F → StoreWalk C g → Type 0
+  abbrev Moves : {R : Type 0} → (E × ReadTables E C FP K F → StoreWalk C M → KeyOrder → List Pair → Option ℕ → Type 0) → Way → E × ReadTables E C FP K F → StoreWalk C M → Result R Status → E × ReadTables E C FP K F → StoreWalk C M → Type 0
   Moves From to old_world old result new_world new =
       MovesWalk (IsStoreOver order env cmp filters codings iterator) (IsStoreAt order env cmp filters codings iterator) (store_here iterator) (FailsInStore order env cmp filters codings iterator) (KeepsReading order env cmp filters codings) From to old_world old result new_world new
 
   -- of a walk over memory
-  pub memory_moves : {R : Type 0} (From : E × ReadTables E C FP K F → StoreWalk C g → KeyOrder → List Pair → Option ℕ → Type 0) (AloneFrom : E × ReadTables E C FP K F → Unlent (MemtableIterator C g) → KeyOrder → List Pair → Option ℕ → Type 0) (to : Way) (world : E × ReadTables E C FP K F) (old : Unlent (MemtableIterator C g)) (result : Result R Status) (later : E × ReadTables E C FP K F) (new : Unlent (MemtableIterator C g))
+  pub memory_moves : {R : Type 0} (From : E × ReadTables E C FP K F → StoreWalk C M → KeyOrder → List Pair → Option ℕ → Type 0) (AloneFrom : E × ReadTables E C FP K F → Unlent M → KeyOrder → List Pair → Option ℕ → Type 0) (to : Way) (world : E × ReadTables E C FP K F) (old : Unlent M) (result : Result R Status) (later : E × ReadTables E C FP K F) (new : Unlent M)
       → ((keys : KeyOrder) (pairs : List Pair) (position : Option ℕ) → From world (Memory old) keys pairs position → AloneFrom world old keys pairs position)
       → MovesWalk (IsAloneOver iterator) (IsAloneAt iterator) (alone_here iterator) (FailsAlone iterator) (λ first second. second ≡ first) AloneFrom to world old result later new
-      → (it : StoreWalk C g) → it ≡ Memory old → Moves From to world it result later (Memory new)
-  memory_moves From AloneFrom to world old result later new from moves it is = subst (λ (walk : StoreWalk C g). Moves From to world walk result later (Memory new)) (sym is) (record {
+      → (it : StoreWalk C M) → it ≡ Memory old → Moves From to world it result later (Memory new)
+  memory_moves From AloneFrom to world old result later new from moves it is = subst (λ (walk : StoreWalk C M). Moves From to world walk result later (Memory new)) (sym is) (record {
     ok = λ keys pairs position at. moves.ok keys pairs position (from keys pairs position at);
     same = moves.same;
     err = moves.err;
@@ -43,11 +42,11 @@ module _ {E C FP K F : Type 0} {g : CmpGhosts C} (order : CmpGhosts (InternalKey
   })
 
   -- of a walk over tables
-  pub tables_moves : {R : Type 0} (From : E × ReadTables E C FP K F → StoreWalk C g → KeyOrder → List Pair → Option ℕ → Type 0) (InFrom : E × ReadTables E C FP K F → VersionIter C → KeyOrder → List Pair → Option ℕ → Type 0) (to : Way) (world : E × ReadTables E C FP K F) (old : VersionIter C) (result : Result R Status) (later : E × ReadTables E C FP K F) (new : VersionIter C)
+  pub tables_moves : {R : Type 0} (From : E × ReadTables E C FP K F → StoreWalk C M → KeyOrder → List Pair → Option ℕ → Type 0) (InFrom : E × ReadTables E C FP K F → VersionIter C → KeyOrder → List Pair → Option ℕ → Type 0) (to : Way) (world : E × ReadTables E C FP K F) (old : VersionIter C) (result : Result R Status) (later : E × ReadTables E C FP K F) (new : VersionIter C)
       → ((keys : KeyOrder) (pairs : List Pair) (position : Option ℕ) → From world (Tables old) keys pairs position → InFrom world old keys pairs position)
       → MovesWalk (IsOverTables order env cmp filters codings) (IsAtInTables order env cmp filters codings) version_here (FailsInTables order env cmp filters codings) (KeepsReading order env cmp filters codings) InFrom to world old result later new
-      → (it : StoreWalk C g) → it ≡ Tables old → Moves From to world it result later (Tables new)
-  tables_moves From InFrom to world old result later new from moves it is = subst (λ (walk : StoreWalk C g). Moves From to world walk result later (Tables new)) (sym is) (record {
+      → (it : StoreWalk C M) → it ≡ Tables old → Moves From to world it result later (Tables new)
+  tables_moves From InFrom to world old result later new from moves it is = subst (λ (walk : StoreWalk C M). Moves From to world walk result later (Tables new)) (sym is) (record {
     ok = λ keys pairs position at. moves.ok keys pairs position (from keys pairs position at);
     same = moves.same;
     err = moves.err;
@@ -60,8 +59,8 @@ module _ {E C FP K F : Type 0} {g : CmpGhosts C} (order : CmpGhosts (InternalKey
   -- a walk over tables that is moved to no position
   pub tables_resets : (old new : VersionIter C)
       → Resets {W = E × ReadTables E C FP K F} (IsOverTables order env cmp filters codings) (IsAtInTables order env cmp filters codings) version_here (FailsInTables order env cmp filters codings) (KeepsReading order env cmp filters codings) old new
-      → (it : StoreWalk C g) → it ≡ Tables old
+      → (it : StoreWalk C M) → it ≡ Tables old
       → Resets {W = E × ReadTables E C FP K F} (IsStoreOver order env cmp filters codings iterator) (IsStoreAt order env cmp filters codings iterator) (store_here iterator) (FailsInStore order env cmp filters codings iterator) (KeepsReading order env cmp filters codings) it (Tables new)
   tables_resets old new resets it is =
-      subst (λ (walk : StoreWalk C g). Resets {W = E × ReadTables E C FP K F} (IsStoreOver order env cmp filters codings iterator) (IsStoreAt order env cmp filters codings iterator) (store_here iterator) (FailsInStore order env cmp filters codings iterator) (KeepsReading order env cmp filters codings) walk (Tables new)) (sym is)
+      subst (λ (walk : StoreWalk C M). Resets {W = E × ReadTables E C FP K F} (IsStoreOver order env cmp filters codings iterator) (IsStoreAt order env cmp filters codings iterator) (store_here iterator) (FailsInStore order env cmp filters codings iterator) (KeepsReading order env cmp filters codings) walk (Tables new)) (sym is)
       (record { at_none = resets.at_none; none = resets.none; excuses = resets.excuses })

@@ -1,0 +1,12 @@
+use Rattle.leveldb_version.proofs.StoreWalkLemmas.{memory_moves, tables_moves}
+use Rattle.leveldb_version.proofs.store_walk.StoreWalkWalkReadTables.seek_to_first.Goals as goal
+
+pub returns-in-Memory : goal.returns-in-Memory
+returns-in-Memory g c = record {
+  moves = memory_moves _ g.E.Env g.C.Cmp g.FP.FilterPolicy g.K.Compressors.codings g.M.LdbIterator _ _ _ (c.args.env.now, c.args.tables.now) c.in-Memory.walk c.seek_to_first.result (c.seek_to_first.new._env, c.seek_to_first.new._tables) c.seek_to_first.new.self (λ keys pairs position from. from) c.seek_to_first.ensures.moves c.args.self.now c.in-Memory.is;
+}
+
+pub returns-in-Tables : goal.returns-in-Tables
+returns-in-Tables g c = record {
+  moves = tables_moves _ g.E.Env g.C.Cmp g.FP.FilterPolicy g.K.Compressors.codings g.M.LdbIterator _ _ _ (c.args.env.now, c.args.tables.now) c.in-Tables.walk c.seek_to_first-in-Tables.result (c.seek_to_first-in-Tables.new.env, c.seek_to_first-in-Tables.new.tables) c.seek_to_first-in-Tables.new.self (λ keys pairs position from. from) c.seek_to_first-in-Tables.ensures.moves c.args.self.now c.in-Tables.is;
+}
