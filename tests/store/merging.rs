@@ -14,7 +14,7 @@ use leveldb_env::mem_env::RecordEnv;
 use leveldb_iter::unlent::Unlent;
 use leveldb_store::merge_tables::{Cuts, MergePlan, merge_tables};
 use leveldb_store::passing::MergeLevels;
-use leveldb_version::version_set::VersionSet;
+use leveldb_version::version_set::LiveFiles;
 use std::alloc::Global;
 use std::process::Abort;
 use support::{Listed, failed_with};
@@ -133,7 +133,7 @@ fn walk_over(
 fn merge(
     alloc: Global,
     env: &mut RecordEnv,
-    versions: &mut VersionSet<RecordEnv>,
+    versions: &mut LiveFiles<RecordEnv>,
     options: &SmallOptions,
     smallest: u64,
     entries: &[Put],

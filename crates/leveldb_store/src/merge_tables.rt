@@ -18,7 +18,7 @@ use leveldb_env::env::Env;
 use leveldb_env::filter::{FilterPolicy, InternalFilterPolicy};
 use leveldb_env::options::Options;
 use leveldb_iter::walk::Walk;
-use leveldb_version::version_set::VersionSet;
+use leveldb_version::version_set::LiveFiles;
 use std::alloc::{AllocError, Global};
 
 /// Where tables end, besides past their size.
@@ -51,7 +51,7 @@ impl<E: Env, C: UserCmp + Copy + Drop, FP: FilterPolicy + Copy + Drop> Merging<E
     fn take<L: MergeLevels, X: Cuts>(
         &mut self,
         env: &mut E,
-        versions: &mut VersionSet<E>,
+        versions: &mut LiveFiles<E>,
         plan: &MergePlan<'_, C, FP, L>,
         cut: &mut X,
         key: &[u8],
@@ -105,7 +105,7 @@ pub fn merge_tables<
     env: &mut E,
     tables: &mut T,
     walk: &mut W,
-    versions: &mut VersionSet<E>,
+    versions: &mut LiveFiles<E>,
     plan: &MergePlan<'_, C, FP, L>,
     cut: &mut X,
 ) -> Result<Vec<FileMetaData>>
