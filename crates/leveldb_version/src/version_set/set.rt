@@ -14,10 +14,12 @@ ghost use Rattle.leveldb_version.specs.VersionSetValue.{with_number_given, with_
 
 use super::live_files::LiveFiles;
 use super::log_edit::levels_fit;
+use crate::compaction::{Compaction, pick};
 use crate::version::{GetStats, Version};
 use crate::version_edit::VersionEdit;
 use leveldb_base::cmp::{Cmp, UserCmp};
 use leveldb_base::error::{Result, StatusCode, err};
+use leveldb_base::key_types::InternalKey;
 use leveldb_base::types::{FileMetaData, FileNum, SequenceNumber};
 use leveldb_env::env::Env;
 use leveldb_env::options::Options;
@@ -127,6 +129,46 @@ impl<E: Env, C: UserCmp + Copy + Drop> VersionSet<E, C> {
         self.files.log(env, edit)?;
         self.current = next;
         Ok(())
+    }
+}
+
+impl<E: Env, C: UserCmp + Copy + Drop> VersionSet<E, C> {
+    /// The compaction for which the current version asks: by its score or else by reads.
+    pub fn pick_compaction<FP>(&self, options: &Options<C, FP>) -> Result<Option<Compaction<C>>> {
+        let pointers = self.files.full.compaction_ptrs.as_slice();
+        pick::pick_compaction(
+            self.files.alloc,
+            &self.current,
+            pointers,
+            options.max_file_size,
+        )
+    }
+
+    /// The compaction of the current version's files of a level that overlap the range between two
+    /// keys, if there are some.
+    pub fn compact_range<FP>(
+        &self,
+        options: &Options<C, FP>,
+        level: usize,
+        begin: InternalKey<'_>,
+        end: InternalKey<'_>,
+    ) -> Result<Option<Compaction<C>>>
+        requires { level < 6 }
+    {
+        let alloc = self.files.alloc;
+        pick::compact_range(
+            alloc,
+            &self.current,
+            level,
+            begin,
+            end,
+            options.max_file_size,
+        )
+    }
+
+    /// Its files, which give the numbers of new ones.
+    pub fn files_mut(&mut self) -> &mut LiveFiles<E> {
+        &mut self.files
     }
 }
 
