@@ -2,6 +2,9 @@
 ghost use Rattle.std.specs.Prelude.{◌≡◌, ◌↔◌, IsTrue, false};
 ghost use Rattle.leveldb_store.specs.OpenStore.{IsUnbroken};
 
+mod compact;
+mod compact_range;
+mod inputs;
 mod obsolete;
 mod read;
 mod room;

@@ -88,7 +88,7 @@ impl<E: Env, C: UserCmp + Copy + Drop> OpenStore<E, C> {
 
     // Makes a table of the entries that wait, if some do, and deletes the files that are obsolete
     // then.
-    fn table_if_waiting<FP: FilterPolicy + Copy + Drop>(
+    pub(super) fn table_if_waiting<FP: FilterPolicy + Copy + Drop>(
         &mut self,
         env: &mut E,
         options: &Options<C, FP>,

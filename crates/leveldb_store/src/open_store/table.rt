@@ -134,7 +134,7 @@ impl<E: Env, C: UserCmp + Copy + Drop> OpenStore<E, C> {
 
     // Logs an edit, and has the version that it leaves from then on. The numbers of the files that
     // it adds were given, and the levels are apart after it. After an Err the version is as it was.
-    fn log_tables(&mut self, env: &mut E, edit: VersionEdit) -> Result<()>
+    pub(super) fn log_tables(&mut self, env: &mut E, edit: VersionEdit) -> Result<()>
         requires usable { self.old.set.manifest ≢ broken }
         requires fits { LevelsFit (edit_of edit) }
         requires given { AreNumbersGiven self.old.set (edit_of edit).added }

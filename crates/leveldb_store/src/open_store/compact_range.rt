@@ -1,0 +1,97 @@
+//! Compactions of a range of keys.
+
+use super::OpenStore;
+use leveldb_base::cmp::UserCmp;
+use leveldb_base::error::Result;
+use leveldb_base::key_types::{InternalKey, LookupKey};
+use leveldb_base::types::SequenceNumber;
+use leveldb_env::env::Env;
+use leveldb_env::filter::FilterPolicy;
+use leveldb_env::infolog::Logger;
+use leveldb_env::options::Options;
+use leveldb_version::table_cache::TableCache;
+
+impl<E: Env, C: UserCmp + Copy + Drop> OpenStore<E, C> {
+    /// Makes tables of all that is in memory, and compacts those from level 0 down to the deepest
+    /// one that overlaps the range between two user keys, ends included: then no file of these
+    /// levels overlaps it. An empty key is an open end. Entries that are shadowed at and after
+    /// `smallest`, the smallest number at which the store is read, may go.
+    /// Obsolete files are deleted after each edit, and their tables closed; what fails of that is a
+    /// line for `log`.
+    ///
+    /// After an Err some of this may be done; no entry that is read is lost. The next call goes on
+    /// from there, unless the store broke.
+    pub fn compact_range<FP: FilterPolicy + Copy + Drop>(
+        &mut self,
+        env: &mut E,
+        options: &Options<C, FP>,
+        tables: &mut TableCache<E, C, FP>,
+        smallest: SequenceNumber,
+        log: &mut Option<Logger>,
+        from: &[u8],
+        to: &[u8],
+    ) -> Result<()> {
+        let begin = LookupKey::new(self.alloc, from, 0)?;
+        let end = LookupKey::new(self.alloc, to, 0)?;
+        let deepest = self.deepest_overlapped(from, to);
+        self.table_memory(env, options, tables, log)?;
+        let range = (begin.internal_key(), end.internal_key());
+        for level in 0..deepest + 1 {
+            self.compact_level(env, options, tables, smallest, log, level, range)?;
+        }
+        Ok(())
+    }
+
+    // The deepest of the levels 1 to 5 of which a file overlaps the range, or 1.
+    fn deepest_overlapped(&self, from: &[u8], to: &[u8]) -> usize {
+        let version = self.versions.current();
+        let mut deepest = 1;
+        for level in 2..6 {
+            if version.overlap_in_level(level, from, to) {
+                deepest = level;
+            }
+        }
+        deepest
+    }
+
+    // Makes tables of the entries that wait, and of those of the memtable.
+    fn table_memory<FP: FilterPolicy + Copy + Drop>(
+        &mut self,
+        env: &mut E,
+        options: &Options<C, FP>,
+        tables: &mut TableCache<E, C, FP>,
+        log: &mut Option<Logger>,
+    ) -> Result<()> {
+        self.table_if_waiting(env, options, tables, log)?;
+        if self.recent.len() == 0 {
+            return Ok(());
+        }
+        self.switch_log(env)?;
+        self.table_if_waiting(env, options, tables, log)
+    }
+
+    // Compacts the files of a level that overlap the range between the user keys of two internal
+    // keys. Each compaction takes one of them at least, and puts none into the level.
+    fn compact_level<FP: FilterPolicy + Copy + Drop>(
+        &mut self,
+        env: &mut E,
+        options: &Options<C, FP>,
+        tables: &mut TableCache<E, C, FP>,
+        smallest: SequenceNumber,
+        log: &mut Option<Logger>,
+        level: usize,
+        range: (InternalKey<'_>, InternalKey<'_>),
+    ) -> Result<()> {
+        for _ in 0..self.versions.current().num_level_files(level) {
+            let picked = self
+                .versions
+                .compact_range(options, level, range.0, range.1)?;
+            let Some(compaction) = picked else {
+                return Ok(());
+            };
+            self.compact(env, options, tables, smallest, compaction)?;
+            self.tidy_up(env, tables, log);
+        }
+        Ok(())
+    }
+}
