@@ -7,7 +7,7 @@ use std::io::{self, Read, Write};
 use std::process::Abort;
 
 /// Lines that are no command.
-const BAD_LINES: [&[u8]; 58] = [
+const BAD_LINES: [&[u8]; 64] = [
     b"\n",
     b" ",
     b"get",
@@ -30,6 +30,12 @@ const BAD_LINES: [&[u8]; 58] = [
     b"put 61 31 32",
     b"del",
     b"del 61 62",
+    b"compact",
+    b"compact ",
+    b"compact 61",
+    b"compact 61 6",
+    b"compact . .  ",
+    b"compact 61 62 63",
     b"flush ",
     b"close 1",
     b"write",
@@ -183,7 +189,7 @@ pub fn assert_run<E: Env>(
 }
 
 /// Inputs one after another over one disk, each with its output.
-const ROWS: [(&[u8], &[u8]); 9] = [
+const ROWS: [(&[u8], &[u8]); 11] = [
     (b"", b""),
     (
         b"put 61 31\nget 61\nget 62\nflush\nclose\nget 61\n",
@@ -199,6 +205,14 @@ const ROWS: [(&[u8], &[u8]); 9] = [
     ),
     (b"write 0\ndel 61\nget 61\n", b"ok\nok\nnone\n"),
     (b"write 0 -. +0b=0c -0b\nget 0b\n", b"ok\nnone\n"),
+    (
+        b"put 61 31\nsnap\ndel 61\ncompact . .\ncompact 61 7a\ngetat 0 61\nget 61\nrelease 0\ncompact . 61\nget 61",
+        b"ok\nsnapshot 0\nok\nok\nok\nvalue 31\nnone\nok\nok\nnone\n",
+    ),
+    (
+        b"put 62 32\ncompact 7a 61\nget 62\nclose\ncompact . .",
+        b"ok\nok\nvalue 32\nok\nrefused InvalidArgument\n",
+    ),
 ];
 
 #[test]

@@ -7,6 +7,12 @@ mod batches;
 #[cfg(test)]
 mod build_table;
 #[cfg(test)]
+mod compactions;
+#[cfg(test)]
+mod compactions_asked;
+#[cfg(test)]
+mod compactions_of_many;
+#[cfg(test)]
 mod engines;
 #[cfg(test)]
 mod iterators;

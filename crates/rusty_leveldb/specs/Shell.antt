@@ -44,6 +44,7 @@ request_of taken (command.GetAt number key) = get (Some (snapshot_named taken nu
 request_of taken (command.Release number) = release_snapshot (snapshot_named taken number)
 request_of taken (command.Walk at moves) =
     walk_of (option_map (snapshot_named taken) at) moves.items
+request_of taken (command.Compact from to) = compact_range from.items to.items
 request_of taken command.Flush = flush
 request_of taken command.Close = close
 

@@ -182,6 +182,21 @@ impl<'e, E: Env, C: UserCmp + Copy, FP: FilterPolicy + Copy> Store<'e, E, Engine
         self.state.flush(&mut *self.env)
     }
 
+    /// Makes tables of all that is in memory, and compacts those from the newest level down to the
+    /// deepest that overlaps the range between two keys, ends included: then no file of these levels
+    /// overlaps it. An empty key is an open end. Of each key what no look-up finds any more goes.
+    /// With both ends open, tables alone have all that is found then, now and at each snapshot.
+    ///
+    /// Ok: no answer changes (`Keeps`).
+    /// Err: no answer changes; out of memory or by the device the store may be broken
+    /// (`NotCompacted`). If not, the next call goes on from where this one failed.
+    /// Crash: the latest batches may be lost, up to those that are durable.
+    pub fn compact_range(&mut self, from: &[u8], to: &[u8]) -> Result<()>
+        ensures same_reference { self.new.env.ghost_name ≡ self.old.env.ghost_name }
+    {
+        self.state.compact_range(&mut *self.env, from, to)
+    }
+
     /// Returns the key's value, or none if it has none. A broken store is read, too.
     ///
     /// Ok: the value that the history's map has (`FindsValue`).

@@ -1,0 +1,338 @@
+//! Compactions of a store with small tables on a recording device: crashes and failures come at each moment and call of scripts, some of which
+//! look random. Each disk that a crash leaves is a whole store by the definition, and each view that is held stays.
+use crate::crash_disks::{
+    Recorded, Script, Setting, Side, Tails, assert_tally, crash, record, sides_of,
+};
+use crate::replies::KEYS;
+use crate::steps::Step;
+use crate::sweep::{crash_everywhere, crash_twice_everywhere, fail_everywhere, is_possible};
+use leveldb_base::cmp::DefaultCmp;
+use leveldb_base::error::Result;
+use slow_history::Move;
+use slow_store::read_store;
+use std::alloc::Global;
+use std::process::Abort;
+
+/// Over all pairs, past both ends.
+const ALL: &[Move<'static>] = &[
+    Move::First,
+    Move::Next,
+    Move::Next,
+    Move::Next,
+    Move::Next,
+    Move::Next,
+    Move::Next,
+    Move::Seek(b"c"),
+    Move::Prev,
+    Move::Prev,
+    Move::Prev,
+];
+
+/// Two lives of one store, the first closed, the second abandoned. Each begins with a look-up, whose reply shows when its opening returned.
+/// Tables go down to level 3; deletions and older values go, but for those that snapshots need.
+const FIRST: &[Step] = &[
+    Step::Get("a"),
+    Step::Put("a", "1"),
+    Step::Put("b", "2"),
+    Step::Snap,
+    Step::Write(true, &[("a", None), ("c", Some("3"))]),
+    Step::Compact("", ""),
+    Step::GetAt(0, "a"),
+    Step::Get("a"),
+    Step::Put("b", "4"),
+    Step::Delete("c"),
+    Step::Compact("b", "c"),
+    Step::Walk(Some(0), ALL),
+    Step::Walk(None, ALL),
+    Step::Release(0),
+    Step::Compact("", ""),
+    Step::Walk(None, ALL),
+    Step::Close,
+    Step::Compact("", ""),
+];
+
+const SECOND: &[Step] = &[
+    Step::Get("e"),
+    Step::Put("d", "5"),
+    Step::Put("e", "6"),
+    Step::Snap,
+    Step::Write(false, &[("d", None), ("", Some("7"))]),
+    Step::Compact("a", "d"),
+    Step::GetAt(0, "d"),
+    Step::Compact("", "a"),
+    Step::Walk(Some(0), ALL),
+    Step::Delete("b"),
+    Step::Put("a", "8"),
+    Step::Compact("", ""),
+    Step::Walk(Some(0), ALL),
+    Step::Walk(None, ALL),
+];
+
+/// Each key has a table of its own.
+const SMALL: Setting = Setting {
+    write_buffer_size: 300,
+    max_file_size: 1,
+    reuses: true,
+};
+
+const LARGE: Setting = Setting {
+    write_buffer_size: 300,
+    max_file_size: 2 << 20,
+    reuses: true,
+};
+
+const IN_SMALL: Script<'static> = Script {
+    setting: SMALL,
+    lives: &[FIRST, SECOND],
+};
+
+const IN_LARGE: Script<'static> = Script {
+    setting: LARGE,
+    lives: &[FIRST, SECOND],
+};
+
+/// A compaction that takes two tables, and one that leaves none.
+const SHORT: Script<'static> = Script {
+    setting: LARGE,
+    lives: &[&[
+        Step::Put("a", "1"),
+        Step::Compact("", ""),
+        Step::Write(true, &[("a", None)]),
+        Step::Put("b", "2"),
+        Step::Compact("", ""),
+        Step::Delete("b"),
+        Step::Compact("", ""),
+    ]],
+};
+
+/// Whether the disk that a crash leaves on this side is a store by its definition, or none.
+fn is_whole(alloc: Global, recorded: &Recorded, side: Side, kind: Tails) -> Result<bool> {
+    let mut left = crash(alloc, &recorded.env, side, kind)?;
+    Ok(read_store(alloc, &mut left, &DefaultCmp, "db").is_ok())
+}
+
+/// Each disk that a crash leaves is a whole store.
+fn leave_whole_stores(
+    rt: &impl Abort,
+    alloc: Global,
+    script: Script<'_>,
+    kind: Tails,
+) -> Result<()> {
+    let recorded = record(alloc, script)?;
+    for moment in 0..=recorded.env.moment() {
+        for side in &sides_of(alloc, moment)? {
+            assert!(rt; is_whole(alloc, &recorded, *side, kind)?, "{side:?}");
+        }
+    }
+    Ok(())
+}
+
+#[test]
+fn whole_stores_with_small_tables(rt: HostRuntime) -> Result<()> {
+    leave_whole_stores(&rt, rt.alloc(), IN_SMALL, Tails::Nothing)?;
+    leave_whole_stores(&rt, rt.alloc(), IN_SMALL, Tails::Whole)
+}
+
+#[test]
+fn whole_stores_with_large_tables(rt: HostRuntime) -> Result<()> {
+    leave_whole_stores(&rt, rt.alloc(), IN_LARGE, Tails::WithoutLast)?;
+    leave_whole_stores(&rt, rt.alloc(), IN_LARGE, Tails::Whole)
+}
+
+#[test]
+fn crashes_without_tails(rt: HostRuntime) -> Result<()> {
+    let tally = crash_everywhere(&rt, rt.alloc(), IN_SMALL, Tails::Nothing)?;
+    assert_tally(&rt, tally, tally.shortest > 0);
+    let tally = crash_everywhere(&rt, rt.alloc(), IN_LARGE, Tails::Nothing)?;
+    assert_tally(&rt, tally, tally.shortest > 0);
+    Ok(())
+}
+
+#[test]
+fn crashes_with_whole_tails(rt: HostRuntime) -> Result<()> {
+    let tally = crash_everywhere(&rt, rt.alloc(), IN_SMALL, Tails::Whole)?;
+    assert_tally(&rt, tally, tally.longest > 0);
+    let tally = crash_everywhere(&rt, rt.alloc(), IN_LARGE, Tails::Whole)?;
+    assert_tally(&rt, tally, tally.longest > 0);
+    Ok(())
+}
+
+#[test]
+fn crashes_with_wrong_bytes(rt: HostRuntime) -> Result<()> {
+    let tally = crash_everywhere(&rt, rt.alloc(), IN_SMALL, Tails::WrongBytes)?;
+    assert_tally(&rt, tally, tally.open > 0);
+    let tally = crash_everywhere(&rt, rt.alloc(), IN_LARGE, Tails::WrongBytes)?;
+    assert_tally(&rt, tally, tally.open > 0);
+    Ok(())
+}
+
+#[test]
+fn second_crashes(rt: HostRuntime) -> Result<()> {
+    crash_twice_everywhere(
+        &rt,
+        rt.alloc(),
+        SHORT,
+        (Tails::WithoutLast, Tails::Nothing),
+    )?;
+    crash_twice_everywhere(&rt, rt.alloc(), SHORT, (Tails::Whole, Tails::WrongBytes))
+}
+
+#[test]
+fn failures_without_their_change(rt: HostRuntime) -> Result<()> {
+    let tally = fail_everywhere(&rt, rt.alloc(), IN_SMALL, false)?;
+    assert_tally(&rt, tally, tally.open > 0);
+    let tally = fail_everywhere(&rt, rt.alloc(), IN_LARGE, false)?;
+    assert_tally(&rt, tally, tally.open > 0);
+    Ok(())
+}
+
+#[test]
+fn failures_with_their_change(rt: HostRuntime) -> Result<()> {
+    let tally = fail_everywhere(&rt, rt.alloc(), IN_SMALL, true)?;
+    assert_tally(&rt, tally, tally.open > 0);
+    let tally = fail_everywhere(&rt, rt.alloc(), IN_LARGE, true)?;
+    assert_tally(&rt, tally, tally.open > 0);
+    Ok(())
+}
+
+/// Numbers that look random, the same in each run.
+#[derive(Drop)]
+struct Random(u64);
+
+impl Random {
+    fn below(&mut self, bound: usize) -> usize {
+        self.0 = self
+            .0
+            .wrapping_mul(6_364_136_223_846_793_005)
+            .wrapping_add(1_442_695_040_888_963_407);
+        (self.0 >> 33) as usize % bound
+    }
+}
+
+const VALUES: [&str; 10] = ["0", "1", "2", "3", "4", "5", "6", "7", "8", ""];
+
+const BATCHES: [&[(&str, Option<&str>)]; 5] = [
+    &[("a", None), ("b", Some("x"))],
+    &[("", Some("y")), ("e", None), ("c", Some("z"))],
+    &[("d", Some("1")), ("d", None)],
+    &[("d", None), ("d", Some("2"))],
+    &[],
+];
+
+/// A step that looks random, after this many snapshots.
+fn any_step(random: &mut Random, taken: usize) -> Step {
+    let key = KEYS[random.below(6)];
+    let at = match random.below(2) {
+        0 if taken > 0 => Some(random.below(taken)),
+        _ => None,
+    };
+    match random.below(16) {
+        0..=3 => Step::Put(key, VALUES[random.below(10)]),
+        4..=5 => Step::Delete(key),
+        6 => Step::Write(random.below(2) == 0, BATCHES[random.below(5)]),
+        7 => Step::Snap,
+        8 if taken > 0 => Step::Release(random.below(taken)),
+        9..=10 => Step::Walk(at, ALL),
+        11 => Step::Flush,
+        12..=13 => Step::Compact("", ""),
+        14 => Step::Compact(key, KEYS[random.below(6)]),
+        _ => Step::Get(key),
+    }
+}
+
+/// A life of steps that look random. It begins with a look-up, whose reply shows when its opening returned.
+fn any_life(alloc: Global, random: &mut Random, count: usize) -> Result<Vec<Step>> {
+    let mut steps = Vec::new(alloc);
+    steps.push(Step::Get("a"))?;
+    let mut taken = 0;
+    for _ in 0..count {
+        let step = any_step(random, taken);
+        if matches!(step, Step::Snap) {
+            taken += 1;
+        }
+        steps.push(step)?;
+    }
+    steps.push(Step::Walk(None, ALL))?;
+    Ok(steps)
+}
+
+/// How a script that looks random is tried.
+#[derive(Clone, Copy)]
+enum Trial {
+    Run,
+    Crashes(Tails),
+    Failures(bool),
+}
+
+fn try_script(rt: &impl Abort, alloc: Global, script: Script<'_>, trial: Trial) -> Result<()> {
+    match trial {
+        Trial::Run => {
+            let recorded = record(alloc, script)?;
+            assert!(rt; is_possible(alloc, &recorded)?);
+        }
+        Trial::Crashes(kind) => {
+            crash_everywhere(rt, alloc, script, kind)?;
+            leave_whole_stores(rt, alloc, script, kind)?;
+        }
+        Trial::Failures(done) => {
+            fail_everywhere(rt, alloc, script, done)?;
+        }
+    }
+    Ok(())
+}
+
+/// Tries a script of two lives that looks random.
+fn try_any(
+    rt: &impl Abort,
+    alloc: Global,
+    seed: u64,
+    setting: Setting,
+    count: usize,
+    trial: Trial,
+) -> Result<()> {
+    let mut random = Random(seed);
+    let first = any_life(alloc, &mut random, count)?;
+    let second = any_life(alloc, &mut random, count / 2)?;
+    let lives = [first.as_slice(), second.as_slice()];
+    let script = Script {
+        setting,
+        lives: &lives,
+    };
+    try_script(rt, alloc, script, trial)
+}
+
+/// Tries a script of each of these seeds, with small tables and with large ones, with and without logs that are used on.
+fn try_each(
+    rt: &impl Abort,
+    alloc: Global,
+    seeds: u64,
+    count: usize,
+    trial: Trial,
+) -> Result<()> {
+    for seed in 0..seeds {
+        let setting = Setting {
+            write_buffer_size: if seed % 3 == 0 { 1 } else { 300 },
+            max_file_size: if seed % 2 == 0 { 1 } else { 2 << 20 },
+            reuses: seed % 4 < 2,
+        };
+        try_any(rt, alloc, seed, setting, count, trial)?;
+    }
+    Ok(())
+}
+
+#[test]
+fn random_runs(rt: HostRuntime) -> Result<()> {
+    try_each(&rt, rt.alloc(), 200, 60, Trial::Run)
+}
+
+#[test]
+fn random_crashes(rt: HostRuntime) -> Result<()> {
+    try_each(&rt, rt.alloc(), 4, 20, Trial::Crashes(Tails::Nothing))?;
+    try_each(&rt, rt.alloc(), 4, 20, Trial::Crashes(Tails::Whole))
+}
+
+#[test]
+fn random_failures(rt: HostRuntime) -> Result<()> {
+    try_each(&rt, rt.alloc(), 4, 20, Trial::Failures(false))?;
+    try_each(&rt, rt.alloc(), 4, 20, Trial::Failures(true))
+}
