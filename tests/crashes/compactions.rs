@@ -29,21 +29,17 @@ const ALL: &[Move<'static>] = &[
 ];
 
 /// Two lives of one store, the first closed, the second abandoned. Each begins with a look-up, whose reply shows when its opening returned.
-/// Tables go down to level 3; deletions and older values go, but for those that snapshots need.
+/// Tables go down to level 3; deletions and older values go, but for those that a snapshot needs.
 const FIRST: &[Step] = &[
     Step::Get("a"),
     Step::Put("a", "1"),
-    Step::Put("b", "2"),
     Step::Snap,
     Step::Write(true, &[("a", None), ("c", Some("3"))]),
     Step::Compact("", ""),
     Step::GetAt(0, "a"),
-    Step::Get("a"),
     Step::Put("b", "4"),
-    Step::Delete("c"),
     Step::Compact("b", "c"),
     Step::Walk(Some(0), ALL),
-    Step::Walk(None, ALL),
     Step::Release(0),
     Step::Compact("", ""),
     Step::Walk(None, ALL),
@@ -54,15 +50,11 @@ const FIRST: &[Step] = &[
 const SECOND: &[Step] = &[
     Step::Get("e"),
     Step::Put("d", "5"),
-    Step::Put("e", "6"),
     Step::Snap,
     Step::Write(false, &[("d", None), ("", Some("7"))]),
     Step::Compact("a", "d"),
-    Step::GetAt(0, "d"),
-    Step::Compact("", "a"),
     Step::Walk(Some(0), ALL),
     Step::Delete("b"),
-    Step::Put("a", "8"),
     Step::Compact("", ""),
     Step::Walk(Some(0), ALL),
     Step::Walk(None, ALL),
@@ -128,14 +120,8 @@ fn leave_whole_stores(
 }
 
 #[test]
-fn whole_stores_with_small_tables(rt: HostRuntime) -> Result<()> {
-    leave_whole_stores(&rt, rt.alloc(), IN_SMALL, Tails::Nothing)?;
-    leave_whole_stores(&rt, rt.alloc(), IN_SMALL, Tails::Whole)
-}
-
-#[test]
-fn whole_stores_with_large_tables(rt: HostRuntime) -> Result<()> {
-    leave_whole_stores(&rt, rt.alloc(), IN_LARGE, Tails::WithoutLast)?;
+fn whole_stores(rt: HostRuntime) -> Result<()> {
+    leave_whole_stores(&rt, rt.alloc(), IN_SMALL, Tails::WithoutLast)?;
     leave_whole_stores(&rt, rt.alloc(), IN_LARGE, Tails::Whole)
 }
 
@@ -149,18 +135,9 @@ fn crashes_without_tails(rt: HostRuntime) -> Result<()> {
 }
 
 #[test]
-fn crashes_with_whole_tails(rt: HostRuntime) -> Result<()> {
+fn crashes_with_tails(rt: HostRuntime) -> Result<()> {
     let tally = crash_everywhere(&rt, rt.alloc(), IN_SMALL, Tails::Whole)?;
     assert_tally(&rt, tally, tally.longest > 0);
-    let tally = crash_everywhere(&rt, rt.alloc(), IN_LARGE, Tails::Whole)?;
-    assert_tally(&rt, tally, tally.longest > 0);
-    Ok(())
-}
-
-#[test]
-fn crashes_with_wrong_bytes(rt: HostRuntime) -> Result<()> {
-    let tally = crash_everywhere(&rt, rt.alloc(), IN_SMALL, Tails::WrongBytes)?;
-    assert_tally(&rt, tally, tally.open > 0);
     let tally = crash_everywhere(&rt, rt.alloc(), IN_LARGE, Tails::WrongBytes)?;
     assert_tally(&rt, tally, tally.open > 0);
     Ok(())
@@ -168,13 +145,14 @@ fn crashes_with_wrong_bytes(rt: HostRuntime) -> Result<()> {
 
 #[test]
 fn second_crashes(rt: HostRuntime) -> Result<()> {
-    crash_twice_everywhere(
-        &rt,
-        rt.alloc(),
-        SHORT,
-        (Tails::WithoutLast, Tails::Nothing),
-    )?;
-    crash_twice_everywhere(&rt, rt.alloc(), SHORT, (Tails::Whole, Tails::WrongBytes))
+    let kinds = (Tails::WithoutLast, Tails::Nothing);
+    crash_twice_everywhere(&rt, rt.alloc(), SHORT, kinds)
+}
+
+#[test]
+fn second_crashes_with_wrong_bytes(rt: HostRuntime) -> Result<()> {
+    let kinds = (Tails::Whole, Tails::WrongBytes);
+    crash_twice_everywhere(&rt, rt.alloc(), SHORT, kinds)
 }
 
 #[test]
@@ -301,38 +279,48 @@ fn try_any(
     try_script(rt, alloc, script, trial)
 }
 
-/// Tries a script of each of these seeds, with small tables and with large ones, with and without logs that are used on.
-fn try_each(
-    rt: &impl Abort,
-    alloc: Global,
-    seeds: u64,
-    count: usize,
-    trial: Trial,
-) -> Result<()> {
-    for seed in 0..seeds {
-        let setting = Setting {
-            write_buffer_size: if seed % 3 == 0 { 1 } else { 300 },
-            max_file_size: if seed % 2 == 0 { 1 } else { 2 << 20 },
-            reuses: seed % 4 < 2,
-        };
-        try_any(rt, alloc, seed, setting, count, trial)?;
+/// What a script of this seed is run with: small tables or large ones, logs that are used on or not.
+fn setting_of(seed: u64) -> Setting {
+    Setting {
+        write_buffer_size: if seed % 3 == 0 { 1 } else { 300 },
+        max_file_size: if seed % 2 == 0 { 1 } else { 2 << 20 },
+        reuses: seed % 4 < 2,
+    }
+}
+
+#[test]
+fn random_runs(rt: HostRuntime) -> Result<()> {
+    for seed in 0..60 {
+        try_any(&rt, rt.alloc(), seed, setting_of(seed), 60, Trial::Run)?;
     }
     Ok(())
 }
 
 #[test]
-fn random_runs(rt: HostRuntime) -> Result<()> {
-    try_each(&rt, rt.alloc(), 200, 60, Trial::Run)
-}
-
-#[test]
 fn random_crashes(rt: HostRuntime) -> Result<()> {
-    try_each(&rt, rt.alloc(), 4, 20, Trial::Crashes(Tails::Nothing))?;
-    try_each(&rt, rt.alloc(), 4, 20, Trial::Crashes(Tails::Whole))
+    for seed in 0..6 {
+        let kind = if seed % 4 < 2 {
+            Tails::Nothing
+        } else {
+            Tails::Whole
+        };
+        try_any(
+            &rt,
+            rt.alloc(),
+            seed,
+            setting_of(seed),
+            10,
+            Trial::Crashes(kind),
+        )?;
+    }
+    Ok(())
 }
 
 #[test]
 fn random_failures(rt: HostRuntime) -> Result<()> {
-    try_each(&rt, rt.alloc(), 4, 20, Trial::Failures(false))?;
-    try_each(&rt, rt.alloc(), 4, 20, Trial::Failures(true))
+    for seed in 6..12 {
+        let trial = Trial::Failures(seed % 4 < 2);
+        try_any(&rt, rt.alloc(), seed, setting_of(seed), 10, trial)?;
+    }
+    Ok(())
 }

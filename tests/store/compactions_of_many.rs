@@ -1,6 +1,6 @@
 //! Many keys in small tables: puts, deletions, snapshots and compactions that look random, each view compared with that of the history.
 use crate::outputs::Random;
-use crate::stores::{DefaultEngine, STORE, opened, DefaultOptions};
+use crate::stores::{DefaultEngine, DefaultOptions, STORE, opened};
 use leveldb_base::cmp::DefaultCmp;
 use leveldb_base::error::Result;
 use leveldb_env::mem_env::MemEnv;
@@ -189,7 +189,10 @@ fn settle(rt: &impl Abort, trial: Trial, seed: u64) -> Result<()> {
         live += usize::from(trial.engine.get(&mut trial.env, &key)?.is_some());
     }
     let entries = trial.count_entries()?;
-    assert!(rt; entries == live, "seed {seed}: {entries} entries of {live} keys");
+    assert!(rt;
+        entries == live,
+        "seed {seed}: {entries} entries of {live} keys"
+    );
     trial.engine.abandon(&mut trial.env)
 }
 

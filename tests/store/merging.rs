@@ -116,10 +116,7 @@ fn slow_merge(alloc: Global, smallest: u64, entries: &[Put]) -> Result<Vec<Put>>
     Ok(left)
 }
 
-fn walk_over(
-    alloc: Global,
-    entries: &[Put],
-) -> Result<Unlent<Listed<InternalKeyCmp<DefaultCmp>>>> {
+fn walk_over(alloc: Global, entries: &[Put]) -> Result<Unlent<Listed<InternalKeyCmp<DefaultCmp>>>> {
     let mut pairs = Vec::new(alloc);
     for entry in entries {
         pairs.push((
@@ -211,7 +208,14 @@ fn nothing_left_is_no_table(rt: HostRuntime) -> Result<()> {
     }
     let mut env = RecordEnv::new(alloc);
     let mut versions = new_set(alloc)?;
-    let files = merge(alloc, &mut env, &mut versions, &small(1), 3, entries.as_slice())?;
+    let files = merge(
+        alloc,
+        &mut env,
+        &mut versions,
+        &small(1),
+        3,
+        entries.as_slice(),
+    )?;
     assert!(rt; files.is_empty() && env.moment() == 0);
     assert!(rt; versions.new_file_number()? == FIRST);
     Ok(())
@@ -237,12 +241,22 @@ fn each_failure_leaves_tables_without_a_name(rt: HostRuntime) -> Result<()> {
     let mut env = with_log(alloc)?;
     let before = env.moment();
     let mut versions = new_set(alloc)?;
-    merge(alloc, &mut env, &mut versions, &small(150), 30, entries.as_slice())?;
+    merge(
+        alloc,
+        &mut env,
+        &mut versions,
+        &small(150),
+        30,
+        entries.as_slice(),
+    )?;
     let calls = (env.moment() - before) / 2;
     assert!(rt; calls > 30);
     for nth in 1..=calls {
         for done in [false, true] {
-            assert!(rt; fails_at(alloc, entries.as_slice(), nth, done)?, "call {nth} {done}");
+            assert!(rt;
+                fails_at(alloc, entries.as_slice(), nth, done)?,
+                "call {nth} {done}"
+            );
         }
     }
     Ok(())
@@ -262,7 +276,14 @@ fn refuses(alloc: Global, keys: &[&[u8]]) -> Result<bool> {
     }
     let mut env = RecordEnv::new(alloc);
     let mut versions = new_set(alloc)?;
-    let merged = merge(alloc, &mut env, &mut versions, &small(1), 9, entries.as_slice());
+    let merged = merge(
+        alloc,
+        &mut env,
+        &mut versions,
+        &small(1),
+        9,
+        entries.as_slice(),
+    );
     failed_with(merged, StatusCode::Corruption)
 }
 
@@ -292,7 +313,14 @@ fn a_merge_of_values_keeps_all(rt: HostRuntime) -> Result<()> {
     let entries = entries(alloc, &mut Random(9), 40)?;
     let mut env = RecordEnv::new(alloc);
     let mut versions = new_set(alloc)?;
-    let files = merge(alloc, &mut env, &mut versions, &small(1 << 20), 0, entries.as_slice())?;
+    let files = merge(
+        alloc,
+        &mut env,
+        &mut versions,
+        &small(1 << 20),
+        0,
+        entries.as_slice(),
+    )?;
     assert!(rt; files.len() == 1 || files.len() > 1 && entries.iter().any(|it| it.told));
     assert!(rt; leveldb_env::env::Env::exists(&mut env, &path_of(alloc, FIRST)?)?);
     let mut count = 0;

@@ -107,7 +107,12 @@ module _ {C FP : Type 0} {order : CmpGhosts C} {filters : FilterGhosts FP}
       smallest = were.0.smallest;
       largest = were.0.largest;
     },
-    were.1, were.2, were.3, were.4, were.5, finished_still files tables were.6,
+    were.1,
+    were.2,
+    were.3,
+    were.4,
+    were.5,
+    finished_still files tables were.6,
   )
   finished_still [] (pairs ∷ tables) were = absurd were
   finished_still (file ∷ files) [] were = absurd were
@@ -139,7 +144,6 @@ module _ {C FP : Type 0} {order : CmpGhosts C} {filters : FilterGhosts FP}
     numbers = have.numbers;
     cut = have.cut;
   }
-
 
 pub merged_still : {C FP : Type 0} {order : CmpGhosts C} {filters : FilterGhosts FP}
     (merge : Merge order filters) {E F : Type 0} (env : EnvGhosts E F) {from to : E}

@@ -21,3 +21,4 @@ pub mod OpeningState
 pub mod OpeningSteps
 pub mod SoundCall
 pub mod RoomSteps
+pub mod Compact

@@ -76,11 +76,18 @@ impl<E: Env, C: UserCmp + Copy + Drop, FP: FilterPolicy + Copy + Drop> Merging<E
             return err(plan.alloc, StatusCode::Corruption, "keys are out of order");
         }
         if !plan.levels.is_among_inputs(user) {
-            return err(plan.alloc, StatusCode::Corruption, "a key is in no input's range");
+            return err(
+                plan.alloc,
+                StatusCode::Corruption,
+                "a key is in no input's range",
+            );
         }
         self.outputs.end_table(cut.should_stop_before(key));
         let levels = plan.levels;
-        if self.passing.goes(levels, plan.smallest, kind, sequence, user) {
+        if self
+            .passing
+            .goes(levels, plan.smallest, kind, sequence, user)
+        {
             return self.passing.keep(sequence, user);
         }
         self.outputs

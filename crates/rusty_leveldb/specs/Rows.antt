@@ -86,6 +86,11 @@ abbrev pub NotFlushed : Status → Row
 NotFlushed e setting old new =
     Keeps old new ⊎ (IsMemoryOrDevice setting e × Breaks old None new)
 
+-- A compaction that fails changes no answer. Out of memory or by the device it may break the store.
+abbrev pub NotCompacted : Status → Row
+NotCompacted e setting old new =
+    Keeps old new ⊎ (IsMemoryOrDevice setting e × Breaks old None new)
+
 -- the store is broken, or all is as it was (an open store is broken: `EngineCloses.failed`)
 abbrev pub NotClosed : Row
 NotClosed setting old new = (new ≡ old) ⊎ Breaks old None new

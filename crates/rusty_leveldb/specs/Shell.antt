@@ -14,7 +14,7 @@ use Rattle.rusty_leveldb.specs.declared.shell.commands.Item.TheVariants as item
 use Rattle.rusty_leveldb.specs.declared.shell.commands.Reply.{Reply}
 use Rattle.rusty_leveldb.specs.declared.shell.commands.Reply.TheVariants as reply
 use Rattle.leveldb_version.specs.Format.{Format, Meaning, Agrees}
-use Rattle.rusty_leveldb.specs.State.{State, Opening, Snapshot, Request, open_store, write, get, get_snapshot, release_snapshot, flush, close, abandon, Answer, done, found, walked, snapshot, refused}
+use Rattle.rusty_leveldb.specs.State.{State, Opening, Snapshot, Request, open_store, write, get, get_snapshot, release_snapshot, flush, compact_range, close, abandon, Answer, done, found, walked, snapshot, refused}
 use Rattle.rusty_leveldb.specs.Serves.{Represents, Runs, recalls_nothing, refusal_of, done_or}
 use Rattle.rusty_leveldb.specs.Boxes.{EngineOf, InternalOrder}
 use Rattle.rusty_leveldb.specs.Engine.{scene, Answers, IsOpening, IsStoreName}

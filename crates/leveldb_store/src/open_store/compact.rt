@@ -1,14 +1,25 @@
 //! One compaction of an open store: tables take the place of those that it takes, and its edit is
 //! logged.
+ghost use Rattle.std.specs.Prelude.{◌≡◌, ◌×◌, ◌++◌, Bool, IfErr, IfOk, None, OnErr, OnOk, is_some, map};
+ghost use Rattle.leveldb_base.specs.Error.{IsOutOfMemory};
+ghost use Rattle.leveldb_version.specs.Format.{Agrees, format_of};
+ghost use Rattle.leveldb_version.specs.Picking.{IsCompactionOf};
+ghost use Rattle.leveldb_version.specs.TableCache.{table_options};
+ghost use Rattle.leveldb_store.specs.BuildTable.{choices_of};
+ghost use Rattle.leveldb_store.specs.Compact.{CompactsStore, CompactsTables, KeepsOpenTables};
+ghost use Rattle.leveldb_store.specs.OpenStore.{IsUnbroken};
+ghost use Rattle.leveldb_store.specs.Read.{with_charge};
+ghost use Rattle.leveldb_store.specs.SoundCall.{IsSoundCall};
 
 use super::OpenStore;
 use crate::merge_tables::{MergePlan, merge_tables};
 use crate::open_store::inputs::{InputCuts, InputLevels};
-use leveldb_base::cmp::{InternalKeyCmp, UserCmp};
+use leveldb_base::cmp::{Cmp, InternalKeyCmp, UserCmp};
 use leveldb_base::error::Result;
 use leveldb_base::types::{FileMetaData, SequenceNumber};
+use leveldb_env::compressor::{CompressorList, Compressors};
 use leveldb_env::env::Env;
-use leveldb_env::filter::FilterPolicy;
+use leveldb_env::filter::{FilterPolicy, InternalFilterPolicy};
 use leveldb_env::infolog::Logger;
 use leveldb_env::options::Options;
 use leveldb_iter::merging_iter::MergeCore;
@@ -19,7 +30,9 @@ use leveldb_version::version_edit::VersionEdit;
 
 impl<E: Env, C: UserCmp + Copy + Drop> OpenStore<E, C> {
     /// Charges a file of the current version with a seek.
-    pub fn charge(&mut self, stats: GetStats) {
+    pub fn charge(&mut self, stats: GetStats)
+        ensures { self.new ≡ with_charge self.old stats.file }
+    {
         self.versions.update_stats(stats);
     }
 
@@ -36,7 +49,24 @@ impl<E: Env, C: UserCmp + Copy + Drop> OpenStore<E, C> {
         tables: &mut TableCache<E, C, FP>,
         smallest: SequenceNumber,
         log: &mut Option<Logger>,
-    ) -> Result<()> {
+    ) -> Result<()>
+        requires usable { IsUnbroken self.old }
+        requires order { C.cmp options.now.cmp ≡ C.cmp self.old.cmp }
+        requires none_waits { self.old.waiting ≡ None }
+        ensures compacts { let choices = choices_of C.Cmp FP.FilterPolicy
+            ⟦<InternalKeyCmp<C> as Cmp>⟧ ⟦<InternalFilterPolicy<FP> as FilterPolicy>⟧
+            ⟦<CompressorList as Compressors>⟧.codings options.now in
+            CompactsTables E.Env (C.cmp self.old.cmp) smallest self.old env.old choices result
+            self.new env.new }
+        ensures sound { IsSoundCall E.Env (C.cmp self.old.cmp) (Agrees (format_of C.Cmp
+            FP.FilterPolicy ⟦<CompressorList as Compressors>⟧.codings options.now)) self.old
+            env.old result self.new env.new }
+        ensures still_open { let by = table_options (format_of C.Cmp FP.FilterPolicy
+            ⟦<CompressorList as Compressors>⟧.codings options.now) options.now in
+            KeepsOpenTables ⟦<InternalKeyCmp<C> as Cmp>⟧ E.Env by self.old env.old tables.old
+            self.new env.new tables.new }
+        ensures log { is_some log.new ≡ is_some log.old }
+    {
         let Some(compaction) = self.versions.pick_compaction(options)? else {
             return Ok(());
         };
@@ -54,7 +84,25 @@ impl<E: Env, C: UserCmp + Copy + Drop> OpenStore<E, C> {
         tables: &mut TableCache<E, C, FP>,
         smallest: SequenceNumber,
         compaction: Compaction<C>,
-    ) -> Result<()> {
+    ) -> Result<()>
+        requires usable { IsUnbroken self.old }
+        requires order { C.cmp options.now.cmp ≡ C.cmp self.old.cmp }
+        requires none_waits { self.old.waiting ≡ None }
+        requires chosen { (manual : Bool) × IsCompactionOf (C.cmp self.old.cmp) self.old.current
+            manual options.now.max_file_size compaction }
+        ensures compacts { let choices = choices_of C.Cmp FP.FilterPolicy
+            ⟦<InternalKeyCmp<C> as Cmp>⟧ ⟦<InternalFilterPolicy<FP> as FilterPolicy>⟧
+            ⟦<CompressorList as Compressors>⟧.codings options.now in
+            CompactsStore E.Env (C.cmp self.old.cmp) smallest self.old env.old choices compaction
+            result self.new env.new }
+        ensures sound { IsSoundCall E.Env (C.cmp self.old.cmp) (Agrees (format_of C.Cmp
+            FP.FilterPolicy ⟦<CompressorList as Compressors>⟧.codings options.now)) self.old
+            env.old result self.new env.new }
+        ensures still_open { let by = table_options (format_of C.Cmp FP.FilterPolicy
+            ⟦<CompressorList as Compressors>⟧.codings options.now) options.now in
+            KeepsOpenTables ⟦<InternalKeyCmp<C> as Cmp>⟧ E.Env by self.old env.old tables.old
+            self.new env.new tables.new }
+    {
         let mut compaction = compaction;
         compaction.add_input_deletions()?;
         let level = compaction.level() + 1;
@@ -79,14 +127,7 @@ impl<E: Env, C: UserCmp + Copy + Drop> OpenStore<E, C> {
             return self.inputs_of(compaction);
         }
         let compressors = &options.compressor_list;
-        self.merge_by(
-            env,
-            options,
-            compressors,
-            tables,
-            smallest,
-            compaction,
-        )
+        self.merge_by(env, options, compressors, tables, smallest, compaction)
     }
 
     // Copies of the metadata of the files that a compaction takes of its level.
@@ -144,7 +185,12 @@ impl<E: Env, C: UserCmp + Copy + Drop> OpenStore<E, C> {
 }
 
 // Adds files of a level to an edit.
-fn add_files(edit: &mut VersionEdit, level: usize, files: Vec<FileMetaData>) -> Result<()> {
+fn add_files(edit: &mut VersionEdit, level: usize, files: Vec<FileMetaData>) -> Result<()>
+    ensures ok { OnOk result (edit.new.new_files.items
+        ≡ edit.old.new_files.items ++ map (λ file. (level, file)) files.entry.items) }
+    ensures others { edit.new ≡ record edit.old { new_files = edit.new.new_files } }
+    ensures memory { IfErr result IsOutOfMemory }
+{
     for file in files {
         edit.add_file(level, file)?;
     }

@@ -1,12 +1,25 @@
 //! Compactions of a range of keys.
+ghost use Rattle.std.specs.Prelude.{◌≡◌, ◌≤◌, ◌<◌, [], None, OnOk, false, is_some};
+ghost use Rattle.leveldb_base.specs.KeyTypes.{user_part};
+ghost use Rattle.leveldb_version.specs.Format.{Agrees, format_of};
+ghost use Rattle.leveldb_version.specs.Overlap.{is_overlapped, named_range};
+ghost use Rattle.leveldb_version.specs.TableCache.{table_options};
+ghost use Rattle.leveldb_store.specs.BuildTable.{choices_of};
+ghost use Rattle.leveldb_store.specs.Compact.{CompactsRange, CompactsTables, KeepsLevelsAbove, KeepsOpenTables, deepest_overlapped};
+ghost use Rattle.leveldb_store.specs.OpenStore.{IsUnbroken};
+ghost use Rattle.leveldb_store.specs.OpenTables.{ClosesObsolete};
+ghost use Rattle.leveldb_store.specs.Room.{FailsToMakeRoom};
+ghost use Rattle.leveldb_store.specs.RoomSteps.{IsStepToRoom};
+ghost use Rattle.leveldb_store.specs.SoundCall.{IsSoundCall};
 
 use super::OpenStore;
-use leveldb_base::cmp::UserCmp;
+use leveldb_base::cmp::{Cmp, InternalKeyCmp, UserCmp};
 use leveldb_base::error::Result;
 use leveldb_base::key_types::{InternalKey, LookupKey};
 use leveldb_base::types::SequenceNumber;
+use leveldb_env::compressor::{CompressorList, Compressors};
 use leveldb_env::env::Env;
-use leveldb_env::filter::FilterPolicy;
+use leveldb_env::filter::{FilterPolicy, InternalFilterPolicy};
 use leveldb_env::infolog::Logger;
 use leveldb_env::options::Options;
 use leveldb_version::table_cache::TableCache;
@@ -30,7 +43,23 @@ impl<E: Env, C: UserCmp + Copy + Drop> OpenStore<E, C> {
         log: &mut Option<Logger>,
         from: &[u8],
         to: &[u8],
-    ) -> Result<()> {
+    ) -> Result<()>
+        requires usable { IsUnbroken self.old }
+        requires order { C.cmp options.now.cmp ≡ C.cmp self.old.cmp }
+        ensures compacts { let choices = choices_of C.Cmp FP.FilterPolicy
+            ⟦<InternalKeyCmp<C> as Cmp>⟧ ⟦<InternalFilterPolicy<FP> as FilterPolicy>⟧
+            ⟦<CompressorList as Compressors>⟧.codings options.now in
+            CompactsRange E.Env (C.cmp self.old.cmp) smallest self.old env.old choices
+            (named_range from.now to.now) result self.new env.new }
+        ensures sound { IsSoundCall E.Env (C.cmp self.old.cmp) (Agrees (format_of C.Cmp
+            FP.FilterPolicy ⟦<CompressorList as Compressors>⟧.codings options.now)) self.old
+            env.old result self.new env.new }
+        ensures still_open { let by = table_options (format_of C.Cmp FP.FilterPolicy
+            ⟦<CompressorList as Compressors>⟧.codings options.now) options.now in
+            KeepsOpenTables ⟦<InternalKeyCmp<C> as Cmp>⟧ E.Env by self.old env.old tables.old
+            self.new env.new tables.new }
+        ensures log { is_some log.new ≡ is_some log.old }
+    {
         let begin = LookupKey::new(self.alloc, from, 0)?;
         let end = LookupKey::new(self.alloc, to, 0)?;
         let deepest = self.deepest_overlapped(from, to);
@@ -43,7 +72,11 @@ impl<E: Env, C: UserCmp + Copy + Drop> OpenStore<E, C> {
     }
 
     // The deepest of the levels 1 to 5 of which a file overlaps the range, or 1.
-    fn deepest_overlapped(&self, from: &[u8], to: &[u8]) -> usize {
+    fn deepest_overlapped(&self, from: &[u8], to: &[u8]) -> usize
+        ensures deepest { result ≡ deepest_overlapped (C.cmp self.now.cmp)
+            (named_range from.now to.now) self.now.set.full.added }
+        ensures known { result < 6 }
+    {
         let version = self.versions.current();
         let mut deepest = 1;
         for level in 2..6 {
@@ -61,7 +94,20 @@ impl<E: Env, C: UserCmp + Copy + Drop> OpenStore<E, C> {
         options: &Options<C, FP>,
         tables: &mut TableCache<E, C, FP>,
         log: &mut Option<Logger>,
-    ) -> Result<()> {
+    ) -> Result<()>
+        requires usable { IsUnbroken self.old }
+        requires order { C.cmp options.now.cmp ≡ C.cmp self.old.cmp }
+        ensures step { let choices = choices_of C.Cmp FP.FilterPolicy
+            ⟦<InternalKeyCmp<C> as Cmp>⟧ ⟦<InternalFilterPolicy<FP> as FilterPolicy>⟧
+            ⟦<CompressorList as Compressors>⟧.codings options.now in
+            IsStepToRoom E.Env (C.cmp self.old.cmp) choices.format
+            (FailsToMakeRoom E.Env (C.cmp self.old.cmp) self.old env.old choices)
+            self.old env.old result self.new env.new }
+        ensures tabled { OnOk result
+            ((self.new.recent.entries ≡ []) × (self.new.waiting ≡ None)) }
+        ensures closes { ClosesObsolete E.Env self.old.set env.old tables.old env.new tables.new }
+        ensures log { is_some log.new ≡ is_some log.old }
+    {
         self.table_if_waiting(env, options, tables, log)?;
         if self.recent.len() == 0 {
             return Ok(());
@@ -81,7 +127,29 @@ impl<E: Env, C: UserCmp + Copy + Drop> OpenStore<E, C> {
         log: &mut Option<Logger>,
         level: usize,
         range: (InternalKey<'_>, InternalKey<'_>),
-    ) -> Result<()> {
+    ) -> Result<()>
+        requires level { level < 6 }
+        requires usable { IsUnbroken self.old }
+        requires order { C.cmp options.now.cmp ≡ C.cmp self.old.cmp }
+        requires none_waits { self.old.waiting ≡ None }
+        ensures compacts { let choices = choices_of C.Cmp FP.FilterPolicy
+            ⟦<InternalKeyCmp<C> as Cmp>⟧ ⟦<InternalFilterPolicy<FP> as FilterPolicy>⟧
+            ⟦<CompressorList as Compressors>⟧.codings options.now in
+            CompactsTables E.Env (C.cmp self.old.cmp) smallest self.old env.old choices result
+            self.new env.new }
+        ensures clear { OnOk result (is_overlapped (C.cmp self.old.cmp) level
+            (named_range (user_part range.0.now) (user_part range.1.now)) self.new.set.full.added
+            ≡ false) }
+        ensures above { KeepsLevelsAbove level self.old.set.full.added self.new.set.full.added }
+        ensures sound { IsSoundCall E.Env (C.cmp self.old.cmp) (Agrees (format_of C.Cmp
+            FP.FilterPolicy ⟦<CompressorList as Compressors>⟧.codings options.now)) self.old
+            env.old result self.new env.new }
+        ensures still_open { let by = table_options (format_of C.Cmp FP.FilterPolicy
+            ⟦<CompressorList as Compressors>⟧.codings options.now) options.now in
+            KeepsOpenTables ⟦<InternalKeyCmp<C> as Cmp>⟧ E.Env by self.old env.old tables.old
+            self.new env.new tables.new }
+        ensures log { is_some log.new ≡ is_some log.old }
+    {
         for _ in 0..self.versions.current().num_level_files(level) {
             let picked = self
                 .versions

@@ -1,4 +1,9 @@
 //! A compaction as the merge of its inputs asks it.
+ghost use Rattle.std.specs.Prelude.{◌+◌};
+ghost use Rattle.leveldb_version.specs.Compaction.{is_base_level_for};
+ghost use Rattle.leveldb_version.specs.Search.{AreDisjointLevels};
+ghost use Rattle.leveldb_version.specs.Version.{new_files_of};
+ghost use Rattle.leveldb_store.specs.Compact.{is_among};
 
 use crate::merge_tables::Cuts;
 use crate::passing::MergeLevels;
@@ -17,7 +22,10 @@ pub(super) struct InputLevels<'c, C: UserCmp + Copy + Drop> {
 }
 
 impl<'c, C: UserCmp + Copy + Drop> InputLevels<'c, C> {
-    pub(super) fn of(compaction: &'c Compaction<C>) -> InputLevels<'c, C> {
+    pub(super) fn of(compaction: &'c Compaction<C>) -> InputLevels<'c, C>
+        requires { AreDisjointLevels (C.cmp compaction.now.version.cmp)
+            (new_files_of compaction.now.version) }
+    {
         let inputs = compaction.inputs();
         let level = compaction.level();
         let ends = widest(inputs.ucmp(), None, inputs.files(level));
@@ -29,9 +37,11 @@ impl<'c, C: UserCmp + Copy + Drop> InputLevels<'c, C> {
 }
 
 impl<'c, C: UserCmp + Copy + Drop> MergeLevels for InputLevels<'c, C> {
-    ghost is_base = { ? };
+    ghost is_base = { λ it. is_base_level_for (C.cmp it.compaction.now.version.cmp)
+        (it.compaction.now.level + 1) (new_files_of it.compaction.now.version) };
 
-    ghost is_among = { ? };
+    ghost is_among = { λ it. is_among (C.cmp it.compaction.now.version.cmp)
+        (new_files_of it.compaction.now.inputs) };
 
     fn is_base_level_for(&self, user: &[u8]) -> bool {
         self.compaction.is_base_level_for(user)
@@ -71,7 +81,11 @@ fn earlier<'a, C: UserCmp>(ucmp: &C, low: UserKey<'a>, key: UserKey<'a>) -> User
 
 // The later of two user keys.
 fn later<'a, C: UserCmp>(ucmp: &C, high: UserKey<'a>, key: UserKey<'a>) -> UserKey<'a> {
-    if ucmp.cmp(high, key).is_lt() { key } else { high }
+    if ucmp.cmp(high, key).is_lt() {
+        key
+    } else {
+        high
+    }
 }
 
 // Where a compaction's outputs are cut.

@@ -6,7 +6,7 @@ ghost use Rattle.rusty_leveldb.specs.Serves.{snapshot_of};
 ghost use Rattle.rusty_leveldb.specs.Engine.{opening_of};
 ghost use Rattle.leveldb_store.specs.BuildTable.{choices_of};
 ghost use Rattle.leveldb_version.specs.Format.{format_of};
-ghost use Rattle.rusty_leveldb.specs.Calls.{EngineAbandons, EngineCloses, EngineFlushes, EngineGets};
+ghost use Rattle.rusty_leveldb.specs.Calls.{EngineAbandons, EngineCloses, EngineCompacts, EngineFlushes, EngineGets};
 ghost use Rattle.rusty_leveldb.specs.Calls.{EngineHolds, EngineOpens, EngineReleases, EngineWalks};
 ghost use Rattle.rusty_leveldb.specs.Calls.{EngineWrites, result_map};
 ghost use Rattle.rusty_leveldb.specs.Iterator.{EngineIterates};
@@ -193,6 +193,11 @@ impl<'e, E: Env, C: UserCmp + Copy, FP: FilterPolicy + Copy> Store<'e, E, Engine
     /// Crash: the latest batches may be lost, up to those that are durable.
     pub fn compact_range(&mut self, from: &[u8], to: &[u8]) -> Result<()>
         ensures same_reference { self.new.env.ghost_name ≡ self.old.env.ghost_name }
+        ensures serves { let choices = choices_of C.Cmp FP.FilterPolicy
+            ⟦<InternalKeyCmp<C> as Cmp>⟧ ⟦<InternalFilterPolicy<FP> as FilterPolicy>⟧
+            ⟦<CompressorList as Compressors>⟧.codings in
+            EngineCompacts E.Env choices self.old.state self.old.env.now from.now to.now result
+            self.new.state self.new.env.now }
     {
         self.state.compact_range(&mut *self.env, from, to)
     }
