@@ -514,3 +514,41 @@ fn what_is_in_tables_is_durable(rt: HostRuntime) -> Result<()> {
     trial.play(&rt, &[Act::Reopen, Act::Finds("a", "1")])?;
     trial.engine.abandon(&mut trial.env)
 }
+
+/// How many tables are left where a key is looked up so often at a snapshot, in four tables, and then a range without a key is compacted.
+fn tables_after_reads(rt: &impl Abort, alloc: Global, count: usize) -> Result<usize> {
+    let mut trial = Trial::new(
+        alloc,
+        Settings {
+            buffer: 1,
+            ..DEFAULTS
+        },
+    )?;
+    trial.play(rt, &[Act::Put("a", "1"), Act::Snap])?;
+    for value in &["2", "3", "4", "5"] {
+        trial.play(rt, &[Act::Put("a", value)])?;
+    }
+    for _ in 0..count {
+        trial.play(rt, &[Act::FindsAt(0, "a", "1")])?;
+    }
+    trial.play(
+        rt,
+        &[
+            Act::Compact("x", "y"),
+            Act::FindsAt(0, "a", "1"),
+            Act::Finds("a", "5"),
+        ],
+    )?;
+    assert!(rt; trial.is_whole());
+    let found = tables_and_entries(&mut trial)?;
+    trial.engine.abandon(&mut trial.env)?;
+    Ok(found.0)
+}
+
+/// What reads ask for is done first, whichever range is compacted.
+#[test]
+fn a_compaction_that_reads_ask_for(rt: HostRuntime) -> Result<()> {
+    assert!(rt; tables_after_reads(&rt, rt.alloc(), 99)? == 5);
+    assert!(rt; tables_after_reads(&rt, rt.alloc(), 100)? == 2);
+    Ok(())
+}

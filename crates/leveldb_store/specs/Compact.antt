@@ -179,6 +179,14 @@ abbrev pub KeepsLevelsAbove : ℕ → List NewFile → List NewFile → Type 0
 KeepsLevelsAbove level before after = (other : ℕ) → other < level
     → files_of_level other after ≡ files_of_level other before
 
+-- A compaction's files are replaced: the levels above its own have the files that they had, and its
+-- own has those that it didn't take.
+pub record ReplacesInLevel {C : Type 0} (it : CompactionValue C) (before after : List NewFile)
+    : Type 0 where
+  pub above : KeepsLevelsAbove it.level before after
+  pub of_level : (file : NewFile) → Contains after file → file.level ≡ it.level
+      → Contains before file × (Contains (new_files_of it.inputs) file → ⊥)
+
 module _ {E F C : Type 0} (env : Ghosts E F) (cmp : List ℕ → List ℕ → Ordering) (smallest : ℕ)
     (old : OpenStoreValue C) (from : E) where
   module _ {D FP : Type 0} {order : CmpGhosts D} {filters : FilterGhosts FP}

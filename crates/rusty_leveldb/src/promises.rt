@@ -1,5 +1,6 @@
 //! The laws of the store's machine, as contracts of functions that do nothing.
 
+ghost use Rattle.rusty_leveldb.specs.CompactionLaws.{CompactedStoresShow};
 ghost use Rattle.rusty_leveldb.specs.Iterator.{ScanGivesPairs};
 ghost use Rattle.rusty_leveldb.specs.IteratorLaws.{PrevUndoesNext};
 ghost use Rattle.rusty_leveldb.specs.Laws.{OneReading, NothingStands, CrashBetween, CrashInside, CrashSince, RefusalHasCause, StepFits, CrashFits, CrashInsideFits, LivesFit, DurableStays, SyncedStays, EachAnswerParts, HistoryIsAsked, MoreIsAsked, SyncedIsRead, ViewsStay, HeldStays, SnapshotIsRead, ForwardWalkGivesView, PrevUndoesAdvance, SyncedCanBeFound};
@@ -78,6 +79,12 @@ pub fn snapshots_keep_their_view()
     ensures views { ViewsStay }
     ensures held { HeldStays }
     ensures reads { SnapshotIsRead }
+{}
+
+/// Where nothing is in memory but in tables, as after each `compact_range` that returned Ok, the live
+/// tables alone show the history: as it is now, and as it was at each snapshot that is held.
+pub fn compacted_stores_show_by_tables_alone<C: UserCmp>()
+    ensures { CompactedStoresShow C }
 {}
 
 /// A walk that goes forward from no position on, until it is at none again, gives the view: each key

@@ -1,12 +1,12 @@
 //! One compaction of an open store: tables take the place of those that it takes, and its edit is
 //! logged.
-ghost use Rattle.std.specs.Prelude.{◌≡◌, ◌×◌, ◌++◌, Bool, IfErr, IfOk, None, OnErr, OnOk, is_some, map};
+ghost use Rattle.std.specs.Prelude.{◌≡◌, ◌×◌, ◌++◌, Bool, IfErr, IfSome, None, OnOk, is_some, map};
 ghost use Rattle.leveldb_base.specs.Error.{IsOutOfMemory};
 ghost use Rattle.leveldb_version.specs.Format.{Agrees, format_of};
 ghost use Rattle.leveldb_version.specs.Picking.{IsCompactionOf};
 ghost use Rattle.leveldb_version.specs.TableCache.{table_options};
 ghost use Rattle.leveldb_store.specs.BuildTable.{choices_of};
-ghost use Rattle.leveldb_store.specs.Compact.{CompactsStore, CompactsTables, KeepsOpenTables};
+ghost use Rattle.leveldb_store.specs.Compact.{CompactsStore, CompactsTables, KeepsOpenTables, ReplacesInLevel};
 ghost use Rattle.leveldb_store.specs.OpenStore.{IsUnbroken};
 ghost use Rattle.leveldb_store.specs.Read.{with_charge};
 ghost use Rattle.leveldb_store.specs.SoundCall.{IsSoundCall};
@@ -67,7 +67,43 @@ impl<E: Env, C: UserCmp + Copy + Drop> OpenStore<E, C> {
             self.new env.new tables.new }
         ensures log { is_some log.new ≡ is_some log.old }
     {
-        let Some(compaction) = self.versions.pick_compaction(options)? else {
+        let picked = self.versions.pick_compaction(options)?;
+        self.compact_picked(env, options, tables, smallest, log, picked)
+    }
+
+    // Does a compaction of the current version, if there is one, and deletes the files that are
+    // obsolete then.
+    pub(super) fn compact_picked<FP: FilterPolicy + Copy + Drop>(
+        &mut self,
+        env: &mut E,
+        options: &Options<C, FP>,
+        tables: &mut TableCache<E, C, FP>,
+        smallest: SequenceNumber,
+        log: &mut Option<Logger>,
+        picked: Option<Compaction<C>>,
+    ) -> Result<()>
+        requires usable { IsUnbroken self.old }
+        requires order { C.cmp options.now.cmp ≡ C.cmp self.old.cmp }
+        requires none_waits { self.old.waiting ≡ None }
+        requires chosen { IfSome picked (λ it. (manual : Bool) × IsCompactionOf
+            (C.cmp self.old.cmp) self.old.current manual options.now.max_file_size it) }
+        ensures compacts { let choices = choices_of C.Cmp FP.FilterPolicy
+            ⟦<InternalKeyCmp<C> as Cmp>⟧ ⟦<InternalFilterPolicy<FP> as FilterPolicy>⟧
+            ⟦<CompressorList as Compressors>⟧.codings options.now in
+            CompactsTables E.Env (C.cmp self.old.cmp) smallest self.old env.old choices result
+            self.new env.new }
+        ensures replaces { OnOk result (IfSome picked (λ it.
+            ReplacesInLevel it self.old.set.full.added self.new.set.full.added)) }
+        ensures sound { IsSoundCall E.Env (C.cmp self.old.cmp) (Agrees (format_of C.Cmp
+            FP.FilterPolicy ⟦<CompressorList as Compressors>⟧.codings options.now)) self.old
+            env.old result self.new env.new }
+        ensures still_open { let by = table_options (format_of C.Cmp FP.FilterPolicy
+            ⟦<CompressorList as Compressors>⟧.codings options.now) options.now in
+            KeepsOpenTables ⟦<InternalKeyCmp<C> as Cmp>⟧ E.Env by self.old env.old tables.old
+            self.new env.new tables.new }
+        ensures log { is_some log.new ≡ is_some log.old }
+    {
+        let Some(compaction) = picked else {
             return Ok(());
         };
         self.compact(env, options, tables, smallest, compaction)?;

@@ -25,10 +25,11 @@ use leveldb_env::options::Options;
 use leveldb_version::table_cache::TableCache;
 
 impl<E: Env, C: UserCmp + Copy + Drop> OpenStore<E, C> {
-    /// Makes tables of all that is in memory, and compacts those from level 0 down to the deepest
-    /// one that overlaps the range between two user keys, ends included: then no file of these
-    /// levels overlaps it. An empty key is an open end. Entries that are shadowed at and after
-    /// `smallest`, the smallest number at which the store is read, may go.
+    /// Makes tables of all that is in memory, does the compaction for which reads ask, and compacts
+    /// the tables from level 0 down to the deepest one that overlaps the range between two user keys,
+    /// ends included: then no file of these levels overlaps it. An empty key is an open end. Entries
+    /// that are shadowed at and after `smallest`, the smallest number at which the store is read, may
+    /// go.
     /// Obsolete files are deleted after each edit, and their tables closed; what fails of that is a
     /// line for `log`.
     ///
@@ -64,6 +65,8 @@ impl<E: Env, C: UserCmp + Copy + Drop> OpenStore<E, C> {
         let end = LookupKey::new(self.alloc, to, 0)?;
         let deepest = self.deepest_overlapped(from, to);
         self.table_memory(env, options, tables, log)?;
+        let by_reads = self.versions.compaction_by_reads(options)?;
+        self.compact_picked(env, options, tables, smallest, log, by_reads)?;
         let range = (begin.internal_key(), end.internal_key());
         for level in 0..deepest + 1 {
             self.compact_level(env, options, tables, smallest, log, level, range)?;
@@ -154,11 +157,10 @@ impl<E: Env, C: UserCmp + Copy + Drop> OpenStore<E, C> {
             let picked = self
                 .versions
                 .compact_range(options, level, range.0, range.1)?;
-            let Some(compaction) = picked else {
+            if picked.is_none() {
                 return Ok(());
-            };
-            self.compact(env, options, tables, smallest, compaction)?;
-            self.tidy_up(env, tables, log);
+            }
+            self.compact_picked(env, options, tables, smallest, log, picked)?;
         }
         Ok(())
     }

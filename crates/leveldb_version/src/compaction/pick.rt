@@ -1,5 +1,5 @@
 //! Which compaction is asked for: by a version's score, by reads, or by a range.
-ghost use Rattle.std.specs.Prelude.{◌≡◌, ◌<◌, ◌↔◌, ◌==◌, [], true, Contains, IfErr, IfOk, IfSome, None, find, is_some, map, take};
+ghost use Rattle.std.specs.Prelude.{◌≡◌, ◌<◌, ◌↔◌, ◌==◌, [], true, Contains, IfErr, IfOk, IfSome, IsSomeAnd, None, Some, find, is_some, map, take};
 ghost use Rattle.std.specs.Option.{option_copied, option_map};
 ghost use Rattle.std.specs.Ordering.{is_gt};
 ghost use Rattle.leveldb_base.specs.Error.{IsOutOfMemory};
@@ -40,6 +40,28 @@ pub fn pick_compaction<C: UserCmp + Copy + Drop>(
     ensures memory { IfErr result IsOutOfMemory }
 {
     let Some(file) = asking_file(version, pointers) else {
+        return Ok(None);
+    };
+    let chosen = chosen_with(alloc, version, file)?;
+    compaction_of(alloc, version, file.0, false, max_file_size, chosen)
+}
+
+/// The compaction for which reads ask, whatever the version's score.
+pub fn compaction_by_reads<C: UserCmp + Copy + Drop>(
+    alloc: Global,
+    version: &Version<C>,
+    max_file_size: usize,
+) -> Result<Option<Compaction<C>>>
+    ensures each { IfOk result (λ picked. IfSome picked
+        (IsCompactionOf (C.cmp version.now.cmp) version.now false max_file_size)) }
+    ensures some { AreOrdered (C.cmp version.now.cmp) (new_files_of version.now)
+        → (file : NewFile) → file_by_reads version.now ≡ Some file
+        → IfOk result (λ picked. IsSomeAnd picked (λ it. (it.level ≡ file.level)
+        × Contains (new_files_of it.inputs) file)) }
+    ensures none { file_by_reads version.now ≡ None → IfOk result (λ picked. picked ≡ None) }
+    ensures memory { IfErr result IsOutOfMemory }
+{
+    let Some(file) = file_by_reads(version) else {
         return Ok(None);
     };
     let chosen = chosen_with(alloc, version, file)?;

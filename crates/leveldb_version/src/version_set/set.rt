@@ -144,6 +144,14 @@ impl<E: Env, C: UserCmp + Copy + Drop> VersionSet<E, C> {
         )
     }
 
+    /// The compaction for which reads of the current version ask, whatever its score.
+    pub fn compaction_by_reads<FP>(
+        &self,
+        options: &Options<C, FP>,
+    ) -> Result<Option<Compaction<C>>> {
+        pick::compaction_by_reads(self.files.alloc, &self.current, options.max_file_size)
+    }
+
     /// The compaction of the current version's files of a level that overlap the range between two
     /// keys, if there are some.
     pub fn compact_range<FP>(
