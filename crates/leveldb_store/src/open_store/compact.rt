@@ -1,6 +1,6 @@
 //! One compaction of an open store: tables take the place of those that it takes, and its edit is
 //! logged.
-ghost use Rattle.std.specs.Prelude.{◌≡◌, ◌×◌, ◌++◌, Bool, IfErr, IfSome, None, OnOk, is_some, map};
+ghost use Rattle.std.specs.Prelude.{◌≡◌, ◌++◌, Bool, IfErr, IfSome, None, OnOk, is_some, map};
 ghost use Rattle.leveldb_base.specs.Error.{IsOutOfMemory};
 ghost use Rattle.leveldb_version.specs.Format.{Agrees, format_of};
 ghost use Rattle.leveldb_version.specs.Picking.{IsCompactionOf};
