@@ -181,7 +181,7 @@ fn a_table_that_moves(rt: HostRuntime) -> Result<()> {
     options.reuse_logs = false;
     let mut trial = Trial::open(alloc, env, options)?;
     let levels = levels_of(alloc, &mut trial.env, STORE)?;
-    let wanted = "level 0: 4 files, 708 bytes ([(4, 177), (6, 177), (8, 177), (10, 177)]); ";
+    let wanted = "level 0: 4 files, 708 bytes ([(4, 177), (7, 177), (10, 177), (13, 177)]); ";
     assert!(rt; levels.as_str() == wanted, "{levels}");
     let before = trial.env.moment();
     trial.compact()?;
@@ -190,7 +190,7 @@ fn a_table_that_moves(rt: HostRuntime) -> Result<()> {
     assert!(rt; calls == 3, "{calls}");
     assert!(rt;
         trial.has_levels(
-            "level 0: 3 files, 531 bytes ([(6, 177), (8, 177), (10, 177)]); level 1: 1 files, 177 bytes ([(4, 177)]); "
+            "level 0: 3 files, 531 bytes ([(7, 177), (10, 177), (13, 177)]); level 1: 1 files, 177 bytes ([(4, 177)]); "
         )?
     );
     trial.compact()?;

@@ -61,7 +61,7 @@ impl Trial {
             None
         } else {
             let size = self.random.below(60) as usize;
-            let value = vec![in self.alloc; sequence as u8; size]?;
+            let value = vec![in self.alloc; (sequence % 251) as u8; size]?;
             self.engine.put(&mut self.env, &key, &value)?;
             Some(value)
         };
