@@ -14,7 +14,7 @@ use leveldb_env::mem_env::RecordEnv;
 use leveldb_iter::unlent::Unlent;
 use leveldb_store::merge_tables::{Cuts, MergePlan, merge_tables};
 use leveldb_store::passing::MergeLevels;
-use leveldb_version::version_set::LiveFiles;
+use leveldb_version::version_set::VersionSet;
 use std::alloc::Global;
 use std::process::Abort;
 use support::{Listed, failed_with};
@@ -130,7 +130,7 @@ fn walk_over(alloc: Global, entries: &[Put]) -> Result<Unlent<Listed<InternalKey
 fn merge(
     alloc: Global,
     env: &mut RecordEnv,
-    versions: &mut LiveFiles<RecordEnv>,
+    versions: &mut VersionSet<RecordEnv, DefaultCmp>,
     options: &SmallOptions,
     smallest: u64,
     entries: &[Put],

@@ -215,8 +215,14 @@ impl<E: Env, C: UserCmp + Copy + Drop> OpenStore<E, C> {
             levels: &levels,
             smallest,
         };
-        let files = self.versions.files_mut();
-        merge_tables(env, reading, &mut walk, files, &plan, &mut cuts)
+        merge_tables(
+            env,
+            reading,
+            &mut walk,
+            &mut self.versions,
+            &plan,
+            &mut cuts,
+        )
     }
 }
 

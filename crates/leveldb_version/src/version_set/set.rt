@@ -1,15 +1,19 @@
 //! A version set: the live files of a store as its manifest has them, and its current version.
 // LevelDB: VersionSet
-ghost use Rattle.std.specs.Prelude.{◌≡◌, ◌≢◌, ◌↔◌, ◌+◌, ◌<◌, ◌^◌, Some, map, OnOk, OnErr, IfOk, IfErr, IsTrue, string_bytes};
+ghost use Rattle.std.specs.Prelude.{◌≡◌, ◌≢◌, ◌↔◌, ◌+◌, ◌<◌, ◌^◌, false, true, Contains, None, Some, is_some, map, OnOk, OnErr, IfOk, IfErr, IfSome, IsSomeAnd, IsTrue, string_bytes};
 ghost use Rattle.leveldb_base.specs.Error.{IsOutOfMemory};
+ghost use Rattle.leveldb_base.specs.KeyTypes.{user_part};
 ghost use Rattle.leveldb_env.specs.Env.{SameLocks};
 ghost use Rattle.leveldb_version.specs.Change.{IsVersionAfter};
 ghost use Rattle.leveldb_version.specs.CurrentVersion.{IsCurrent, new_versions};
+ghost use Rattle.leveldb_version.specs.Inputs.{AreOrdered};
 ghost use Rattle.leveldb_version.specs.LogEdit.{LogEditResult};
+ghost use Rattle.leveldb_version.specs.Overlap.{is_overlapped, named_range};
+ghost use Rattle.leveldb_version.specs.Picking.{IsAskedFor, IsCompactionOf, file_by_reads};
 ghost use Rattle.leveldb_version.specs.Recover.{RecoverResult};
 ghost use Rattle.leveldb_version.specs.Summary.{summary_text};
-ghost use Rattle.leveldb_version.specs.Version.{charged};
-ghost use Rattle.leveldb_version.specs.VersionEdit.{edit_of, new_file_of};
+ghost use Rattle.leveldb_version.specs.Version.{charged, new_files_of};
+ghost use Rattle.leveldb_version.specs.VersionEdit.{NewFile, edit_of, new_file_of};
 ghost use Rattle.leveldb_version.specs.VersionSetValue.{with_number_given, with_number_free, with_numbers_used, AreFileNumbersUsedUp, broken, numbers_in_order};
 
 use super::live_files::LiveFiles;
@@ -134,7 +138,11 @@ impl<E: Env, C: UserCmp + Copy + Drop> VersionSet<E, C> {
 
 impl<E: Env, C: UserCmp + Copy + Drop> VersionSet<E, C> {
     /// The compaction for which the current version asks: by its score or else by reads.
-    pub fn pick_compaction<FP>(&self, options: &Options<C, FP>) -> Result<Option<Compaction<C>>> {
+    pub fn pick_compaction<FP>(&self, options: &Options<C, FP>) -> Result<Option<Compaction<C>>>
+        ensures ok { IfOk result (IsAskedFor (C.cmp self.now.current.cmp)
+            self.now.set.full.pointers self.now.current options.now.max_file_size) }
+        ensures memory { IfErr result IsOutOfMemory }
+    {
         let pointers = self.files.full.compaction_ptrs.as_slice();
         pick::pick_compaction(
             self.files.alloc,
@@ -145,10 +153,17 @@ impl<E: Env, C: UserCmp + Copy + Drop> VersionSet<E, C> {
     }
 
     /// The compaction for which reads of the current version ask, whatever its score.
-    pub fn compaction_by_reads<FP>(
-        &self,
-        options: &Options<C, FP>,
-    ) -> Result<Option<Compaction<C>>> {
+    pub fn compaction_by_reads<FP>(&self, options: &Options<C, FP>) -> Result<Option<Compaction<C>>>
+        ensures each { IfOk result (λ picked. IfSome picked (IsCompactionOf
+            (C.cmp self.now.current.cmp) self.now.current false options.now.max_file_size)) }
+        ensures some { AreOrdered (C.cmp self.now.current.cmp) (new_files_of self.now.current)
+            → (file : NewFile) → file_by_reads self.now.current ≡ Some file
+            → IfOk result (λ picked. IsSomeAnd picked (λ it. (it.level ≡ file.level)
+            × Contains (new_files_of it.inputs) file)) }
+        ensures none { file_by_reads self.now.current ≡ None
+            → IfOk result (λ picked. picked ≡ None) }
+        ensures memory { IfErr result IsOutOfMemory }
+    {
         pick::compaction_by_reads(self.files.alloc, &self.current, options.max_file_size)
     }
 
@@ -162,6 +177,14 @@ impl<E: Env, C: UserCmp + Copy + Drop> VersionSet<E, C> {
         end: InternalKey<'_>,
     ) -> Result<Option<Compaction<C>>>
         requires { level < 6 }
+        ensures each { IfOk result (λ picked. IfSome picked (IsCompactionOf
+            (C.cmp self.now.current.cmp) self.now.current true options.now.max_file_size)) }
+        ensures level { IfOk result (λ picked. IfSome picked (λ it. it.level ≡ level)) }
+        ensures some { IfOk result (λ picked. is_some picked
+            ≡ is_overlapped (C.cmp self.now.current.cmp) level
+            (named_range (user_part begin.now) (user_part end.now))
+            (new_files_of self.now.current)) }
+        ensures memory { IfErr result IsOutOfMemory }
     {
         let alloc = self.files.alloc;
         pick::compact_range(
@@ -172,11 +195,6 @@ impl<E: Env, C: UserCmp + Copy + Drop> VersionSet<E, C> {
             end,
             options.max_file_size,
         )
-    }
-
-    /// Its files, which give the numbers of new ones.
-    pub fn files_mut(&mut self) -> &mut LiveFiles<E> {
-        &mut self.files
     }
 }
 
