@@ -1,6 +1,6 @@
 -- Compactions of an open store: what one of them leaves, what those of a range leave, and why they
 -- fail.
-use Rattle.std.specs.Prelude.{◌≡◌, ◌≤◌, ◌<◌, ◌⊎◌, ◌↔◌, ◌+◌, ◌&&◌, ◌∷◌, [], false, not, if◌then◌else◌, Bool, ℕ, List, All, Contains, None, Some, Result, OnErr, OnOk, IsTrue, fold, length}
+use Rattle.std.specs.Prelude.{◌≡◌, ◌≤◌, ◌<◌, ◌⊎◌, ◌↔◌, ◌+◌, ◌^◌, ◌&&◌, ◌∷◌, [], false, not, if◌then◌else◌, Bool, ℕ, List, All, Contains, None, Some, Result, OnErr, OnOk, IsTrue, fold, length}
 use Rattle.std.specs.List.{list_any}
 use Rattle.std.specs.Ordering.{is_lt}
 use Rattle.std.specs.declared.cmp.Ordering.{Ordering}
@@ -20,6 +20,7 @@ use Rattle.leveldb_version.specs.Format.{Agrees, Format, IsTableFault, LacksComp
 use Rattle.leveldb_version.specs.Levels.{LiveTable, table_entries}
 use Rattle.leveldb_version.specs.LogEdit.{set_appended}
 use Rattle.leveldb_version.specs.Overlap.{UserRange, is_overlapped}
+use Rattle.leveldb_version.specs.Paths.{table_path}
 use Rattle.leveldb_version.specs.Picking.{CompactionValue}
 use Rattle.leveldb_version.specs.Summary.{files_of_level}
 use Rattle.leveldb_version.specs.TableCache.{TableOptions, files_at}
@@ -150,7 +151,11 @@ module _ {E F C : Type 0} (env : Ghosts E F) (cmp : List ℕ → List ℕ → Or
       pub err : OnErr result (GivesNumbersOrBreaks old.set new.set × (new.current ≡ old.current))
       -- what is in memory stays
       pub memory : new ≡ record old { set = new.set; current = new.current }
-      -- no file is deleted, and no table changes whose number was given before
+      -- no table is deleted or changes whose number was given before: those that it takes are there
+      pub tables : IsTrue env.models_disk → (number : ℕ) → number < 2 ^ 64
+          → number < old.set.next_file
+          → (env.observed to).disk.files (table_path old.set.store number)
+          ≡ (env.observed from).disk.files (table_path old.set.store number)
       pub rest : SparesRest env.models_disk old (env.observed from) new (env.observed to)
       pub cause : FailsFor (FailsToCompact new to) (env.failures from) (env.failures to) result
 
