@@ -4,6 +4,7 @@ pub mod RunsLemmas
 pub mod LawsLemmas
 mod ViewsLemmas
 mod WalkLawsLemmas
+pub mod CompactionLawsLemmas
 pub mod ReadsLemmas
 pub mod UnopenedLemmas
 pub mod Bounds
