@@ -49,9 +49,9 @@ pub struct Store<'e, E: Env, S: Drop> {
 /// | `OutOfMemory` | any call but `release_snapshot` and `abandon`: memory ran out |
 /// | that of the environment | any call but those for snapshots and iterators: a call of the device failed; of `walk` and iterators, moves |
 /// | `InvalidArgument` | any call but `abandon`, of a closed store; a key or a batch of more than 2^30 bytes; a snapshot that isn't held; in `open` a name, an option, a missing store or a comparator that doesn't fit |
-/// | `IOError`, "reopen the store" | `put`, `delete`, `write`, `flush`, `close`: the store broke earlier |
-/// | `NotSupported` | `put`, `delete`, `write`, `open`: entries count for 2 GiB or more, no table is made of them, or numbers of entries or files are used up; `open`, and reads of tables: a compressor isn't set; `get_snapshot`: numbers are used up; `open`: files of more than it reads |
-/// | that of a compressor | `put`, `delete`, `write`, `open`: it failed to encode a block |
+/// | `IOError`, "reopen the store" | `put`, `delete`, `write`, `flush`, `compact_range`, `close`: the store broke earlier |
+/// | `NotSupported` | `put`, `delete`, `write`, `compact_range`, `open`: entries count for 2 GiB or more, no table is made of them, or numbers of entries or files are used up; `open`, and reads of tables: a compressor isn't set; `get_snapshot`: numbers are used up; `open`: files of more than it reads |
+/// | that of a compressor | `put`, `delete`, `write`, `compact_range`, `open`: it failed to encode a block |
 /// | `LockError`, `AlreadyExists` | `open`: the lock is held; a store is there that must not be |
 /// | `Corruption` | a file of the store is damaged or missing |
 ///
