@@ -1,6 +1,6 @@
 -- Compactions of an open store: what one of them leaves, what those of a range leave, and why they
 -- fail.
-use Rattle.std.specs.Prelude.{◌≡◌, ◌≤◌, ◌<◌, ◌⊎◌, ◌↔◌, ◌+◌, ◌^◌, ◌&&◌, ◌∷◌, [], false, not, if◌then◌else◌, Bool, ℕ, List, All, Contains, None, Some, Result, OnErr, OnOk, IsTrue, fold, length}
+use Rattle.std.specs.Prelude.{◌≡◌, ◌≤◌, ◌<◌, ◌⊎◌, ◌↔◌, ◌+◌, ◌++◌, ◌^◌, ◌&&◌, ◌∷◌, [], false, not, if◌then◌else◌, Bool, ℕ, List, All, Contains, None, Some, Result, OnErr, OnOk, IsTrue, fold, length}
 use Rattle.std.specs.List.{list_any}
 use Rattle.std.specs.Ordering.{is_lt}
 use Rattle.std.specs.declared.cmp.Ordering.{Ordering}
@@ -33,7 +33,7 @@ use Rattle.leveldb_store.specs.BuildTable.{IsNotTabled, TableChoices}
 use Rattle.leveldb_store.specs.OpenStore.{IsUnbroken, OpenStoreValue}
 use Rattle.leveldb_store.specs.OpenTables.{AreOpenTablesOf}
 use Rattle.leveldb_store.specs.Opening.{GivesNumbers}
-use Rattle.leveldb_store.specs.Read.{HasOpenTables}
+use Rattle.leveldb_store.specs.Read.{HasOpenTables, in_memory}
 use Rattle.leveldb_store.specs.Room.{AreEntriesNotTabled, FailsFor, IsFileLost}
 use Rattle.leveldb_store.specs.Switch.{AreFileNumbersTooFew, IsManifestLost}
 use Rattle.leveldb_store.specs.Written.{HasLiveTables, IsWritten, SparesRest}
@@ -79,8 +79,7 @@ is_among cmp files key = list_any (λ file. not (is_lt (cmp key (user_part file.
 
 -- ---- one compaction
 
--- `smallest` is the smallest number at which the store is read.
-module _ {E F C : Type 0} (env : Ghosts E F) (cmp : List ℕ → List ℕ → Ordering) (smallest : ℕ)
+module _ {E F C : Type 0} (env : Ghosts E F) (cmp : List ℕ → List ℕ → Ordering)
     (old : OpenStoreValue C) (from : E) where
   -- a store that is written, whose live tables are these
   pub record HasTablesWritten (format : Format) (meaning : Meaning) (tables : List LiveTable)
@@ -100,13 +99,14 @@ module _ {E F C : Type 0} (env : Ghosts E F) (cmp : List ℕ → List ℕ → Or
 
   module _ {D FP : Type 0} {order : CmpGhosts D} {filters : FilterGhosts FP}
       (choices : TableChoices order filters) where
-    -- No table is built of some pairs. Of a store that is written they are entries of its tables.
+    -- No table is built of some pairs. Of a store that is written they are entries of its tables, or
+    -- in memory.
     pub record AreInputsNotTabled (status : Status) : Type 0 where
       pub pairs : List Pair
       pub not_tabled : IsNotTabled choices pairs status
       pub theirs : (meaning : Meaning) (tables : List LiveTable)
           → HasTablesWritten choices.format meaning tables
-          → All (λ pair. Contains (table_entries tables) (entry_of_pair pair)) pairs
+          → All (λ pair. Contains (in_memory old ++ table_entries tables) (entry_of_pair pair)) pairs
 
     -- The numbers of files are used up. Of a store that is written they were too few for a table of
     -- each entry of its tables.
@@ -126,9 +126,9 @@ module _ {E F C : Type 0} (env : Ghosts E F) (cmp : List ℕ → List ℕ → Or
 
     -- Of a store that is written, a compaction in full: of its live tables it takes those of these
     -- files, and makes others of all their entries but those that may go, or moves the one.
-    abbrev pub CompactsInFull : (it : CompactionValue C) (new : OpenStoreValue C)
+    abbrev pub CompactsInFull : ℕ → (it : CompactionValue C) (new : OpenStoreValue C)
         → LogsCompaction cmp it old new → E → Type 0
-    CompactsInFull it new logged to = (meaning : Meaning) (before : List LiveTable)
+    CompactsInFull smallest it new logged to = (meaning : Meaning) (before : List LiveTable)
         → HasTablesWritten choices.format meaning before
         → (inputs outputs after : List LiveTable)
         × HasLiveTables cmp meaning new (env.observed to).disk.files after
@@ -136,7 +136,8 @@ module _ {E F C : Type 0} (env : Ghosts E F) (cmp : List ℕ → List ℕ → Or
         inputs outputs after logged.edit
 
     -- What a compaction of an open store's current version leaves, in which no memtable waits.
-    pub record CompactsStore (it : CompactionValue C) (result : Result (Unit {0}) Status)
+    -- `smallest` is the smallest number at which the store is read.
+    pub record CompactsStore (smallest : ℕ) (it : CompactionValue C) (result : Result (Unit {0}) Status)
         (new : OpenStoreValue C) (to : E) : Type 0 where
       -- whatever it returns, each history stays at each moment on the way, and is shown from the
       -- smallest held number on
@@ -144,7 +145,7 @@ module _ {E F C : Type 0} (env : Ghosts E F) (cmp : List ℕ → List ℕ → Or
           → KeepsWrittenFrom cmp meaning smallest old (env.observed from) new (env.observed to)
       -- Ok: its edit was logged, and of a written store it is a compaction in full
       pub logged : OnOk result
-          ((edit : LogsCompaction cmp it old new) × CompactsInFull it new edit to)
+          ((edit : LogsCompaction cmp it old new) × CompactsInFull smallest it new edit to)
       pub usable : OnOk result (IsUnbroken new)
       -- Err: files and version are as they were, but numbers may have been given, and the set may be
       -- broken
@@ -192,7 +193,7 @@ pub record ReplacesInLevel {C : Type 0} (it : CompactionValue C) (before after :
   pub of_level : (file : NewFile) → Contains after file → file.level ≡ it.level
       → Contains before file × (Contains (new_files_of it.inputs) file → ⊥)
 
-module _ {E F C : Type 0} (env : Ghosts E F) (cmp : List ℕ → List ℕ → Ordering) (smallest : ℕ)
+module _ {E F C : Type 0} (env : Ghosts E F) (cmp : List ℕ → List ℕ → Ordering)
     (old : OpenStoreValue C) (from : E) where
   module _ {D FP : Type 0} {order : CmpGhosts D} {filters : FilterGhosts FP}
       (choices : TableChoices order filters) where
@@ -202,13 +203,13 @@ module _ {E F C : Type 0} (env : Ghosts E F) (cmp : List ℕ → List ℕ → Or
     abbrev pub FailsToCompactTables : OpenStoreValue C → Status → Type 0
     FailsToCompactTables new status = IsOutOfMemory status
         ⊎ AreFileNumbersUsedUp new.set.next_file status
-        ⊎ AreInputsNotTabled env cmp smallest old from choices status
-        ⊎ AreInputsLost env cmp smallest old from choices.format status
+        ⊎ AreInputsNotTabled env cmp old from choices status
+        ⊎ AreInputsLost env cmp old from choices.format status
         ⊎ IsFileLost env cmp old from choices.format status
 
     -- What several compactions in a row, or none, keep of an open store that isn't broken, with the
     -- deletions after each. `Excused` says why one fails, by the store that is left.
-    pub record KeepsCompacted (Excused : OpenStoreValue C → Status → Type 0)
+    pub record KeepsCompacted (smallest : ℕ) (Excused : OpenStoreValue C → Status → Type 0)
         (result : Result (Unit {0}) Status) (new : OpenStoreValue C) (to : E) : Type 0 where
       -- whatever it returns, each history stays at each moment on the way, and is shown from the
       -- smallest held number on
@@ -219,9 +220,9 @@ module _ {E F C : Type 0} (env : Ghosts E F) (cmp : List ℕ → List ℕ → Or
       pub cause : FailsFor (Excused new) (env.failures from) (env.failures to) result
 
     -- the same where what is in memory stays
-    pub record CompactsTables (result : Result (Unit {0}) Status) (new : OpenStoreValue C) (to : E)
-        : Type 0 where
-      pub keeps : KeepsCompacted FailsToCompactTables result new to
+    pub record CompactsTables (smallest : ℕ) (result : Result (Unit {0}) Status)
+        (new : OpenStoreValue C) (to : E) : Type 0 where
+      pub keeps : KeepsCompacted smallest FailsToCompactTables result new to
       pub memory : new ≡ record old { set = new.set; current = new.current }
 
     -- Why a range isn't compacted, where the device didn't fail: as tables aren't, or no table is
@@ -232,9 +233,9 @@ module _ {E F C : Type 0} (env : Ghosts E F) (cmp : List ℕ → List ℕ → Or
         ⊎ AreEntriesNotTabled choices old.waiting status
 
     -- What compactions of a range leave of an open store that isn't broken.
-    pub record CompactsRange (range : UserRange) (result : Result (Unit {0}) Status)
+    pub record CompactsRange (smallest : ℕ) (range : UserRange) (result : Result (Unit {0}) Status)
         (new : OpenStoreValue C) (to : E) : Type 0 where
-      pub keeps : KeepsCompacted FailsToCompactRange result new to
+      pub keeps : KeepsCompacted smallest FailsToCompactRange result new to
       -- Ok: nothing is in memory but in tables
       pub tabled : OnOk result ((new.recent.entries ≡ []) × (new.waiting ≡ None))
       -- and no file overlaps the range, from level 0 to the deepest that did

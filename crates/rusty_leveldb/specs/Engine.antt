@@ -11,7 +11,7 @@ use Rattle.leveldb_env.specs.declared.compressor.CompressorList.{CompressorList}
 use Rattle.leveldb_env.specs.Compressor.{Codings}
 use Rattle.leveldb_env.specs.Env.{Disk, Files}
 use Rattle.leveldb_env.specs.Options.{Boxed, OptionsOf}
-use Rattle.leveldb_iter.specs.Snapshot.{HeldSnapshots, IsSmallestHeld}
+use Rattle.leveldb_iter.specs.Snapshot.{HeldSnapshots}
 use Rattle.leveldb_mem.specs.Log.Writer.{IsWriterBroken}
 use Rattle.leveldb_mem.specs.MemTable.{FailsToPrepare, IsUnion, Kept, bytes_in}
 use Rattle.leveldb_version.specs.Paths.{lock_path}
@@ -247,19 +247,13 @@ module _ {E C FP F P : Type 0} {B : Boxed} {keys : InternalOrder C} {key_filters
       ⊎ FailsToPrepare empty_memtable (length items) (bytes_in items) e))
       ⊎ IsFileLost env choices_in.format.order engine.store at choices_in.format e
 
-  -- the smallest number at which it is read: that of a snapshot that it holds, or its last one
-  abbrev pub ReadsFrom : ℕ → Type 0
-  ReadsFrom smallest =
-      IsSmallestHeld engine.snapshots.held engine.store.set.last_sequence smallest
-
   -- Why a compaction of a range may fail where the device didn't: the store is closed or broken, a
   -- key is too long, or the store isn't compacted, for a cause of `FailsToCompactRange`; by the store
   -- that is left.
   abbrev pub CompactExcused : List ℕ → List ℕ → OpenStoreValue C → Status → Type 0
   CompactExcused from to left e = RefusedByMode engine.mode e
       ⊎ ((e.code ≡ InvalidArgument) × (IsLongKey from ⊎ IsLongKey to))
-      ⊎ ((smallest : ℕ) × ReadsFrom smallest
-      × FailsToCompactRange env choices_in.format.order smallest engine.store at choices_in left e)
+      ⊎ FailsToCompactRange env choices_in.format.order engine.store at choices_in left e
 
 module _ {E C FP F : Type 0} {B : Boxed} (env : Ghosts E F) (formats : OptionsOf C FP B → Format)
     (engine : EngineOf E C FP F B) (at : E) where

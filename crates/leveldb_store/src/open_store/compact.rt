@@ -56,7 +56,7 @@ impl<E: Env, C: UserCmp + Copy + Drop> OpenStore<E, C> {
         ensures compacts { let choices = choices_of C.Cmp FP.FilterPolicy
             ⟦<InternalKeyCmp<C> as Cmp>⟧ ⟦<InternalFilterPolicy<FP> as FilterPolicy>⟧
             ⟦<CompressorList as Compressors>⟧.codings options.now in
-            CompactsTables E.Env (C.cmp self.old.cmp) smallest self.old env.old choices result
+            CompactsTables E.Env (C.cmp self.old.cmp) self.old env.old choices smallest result
             self.new env.new }
         ensures sound { IsSoundCall E.Env (C.cmp self.old.cmp) (Agrees (format_of C.Cmp
             FP.FilterPolicy ⟦<CompressorList as Compressors>⟧.codings options.now)) self.old
@@ -90,7 +90,7 @@ impl<E: Env, C: UserCmp + Copy + Drop> OpenStore<E, C> {
         ensures compacts { let choices = choices_of C.Cmp FP.FilterPolicy
             ⟦<InternalKeyCmp<C> as Cmp>⟧ ⟦<InternalFilterPolicy<FP> as FilterPolicy>⟧
             ⟦<CompressorList as Compressors>⟧.codings options.now in
-            CompactsTables E.Env (C.cmp self.old.cmp) smallest self.old env.old choices result
+            CompactsTables E.Env (C.cmp self.old.cmp) self.old env.old choices smallest result
             self.new env.new }
         ensures replaces { OnOk result (IfSome picked (λ it.
             ReplacesInLevel it self.old.set.full.added self.new.set.full.added)) }
@@ -129,7 +129,7 @@ impl<E: Env, C: UserCmp + Copy + Drop> OpenStore<E, C> {
         ensures compacts { let choices = choices_of C.Cmp FP.FilterPolicy
             ⟦<InternalKeyCmp<C> as Cmp>⟧ ⟦<InternalFilterPolicy<FP> as FilterPolicy>⟧
             ⟦<CompressorList as Compressors>⟧.codings options.now in
-            CompactsStore E.Env (C.cmp self.old.cmp) smallest self.old env.old choices compaction
+            CompactsStore E.Env (C.cmp self.old.cmp) self.old env.old choices smallest compaction
             result self.new env.new }
         ensures sound { IsSoundCall E.Env (C.cmp self.old.cmp) (Agrees (format_of C.Cmp
             FP.FilterPolicy ⟦<CompressorList as Compressors>⟧.codings options.now)) self.old

@@ -50,7 +50,7 @@ impl<E: Env, C: UserCmp + Copy + Drop> OpenStore<E, C> {
         ensures compacts { let choices = choices_of C.Cmp FP.FilterPolicy
             ⟦<InternalKeyCmp<C> as Cmp>⟧ ⟦<InternalFilterPolicy<FP> as FilterPolicy>⟧
             ⟦<CompressorList as Compressors>⟧.codings options.now in
-            CompactsRange E.Env (C.cmp self.old.cmp) smallest self.old env.old choices
+            CompactsRange E.Env (C.cmp self.old.cmp) self.old env.old choices smallest
             (named_range from.now to.now) result self.new env.new }
         ensures sound { IsSoundCall E.Env (C.cmp self.old.cmp) (Agrees (format_of C.Cmp
             FP.FilterPolicy ⟦<CompressorList as Compressors>⟧.codings options.now)) self.old
@@ -138,7 +138,7 @@ impl<E: Env, C: UserCmp + Copy + Drop> OpenStore<E, C> {
         ensures compacts { let choices = choices_of C.Cmp FP.FilterPolicy
             ⟦<InternalKeyCmp<C> as Cmp>⟧ ⟦<InternalFilterPolicy<FP> as FilterPolicy>⟧
             ⟦<CompressorList as Compressors>⟧.codings options.now in
-            CompactsTables E.Env (C.cmp self.old.cmp) smallest self.old env.old choices result
+            CompactsTables E.Env (C.cmp self.old.cmp) self.old env.old choices smallest result
             self.new env.new }
         ensures clear { OnOk result (is_overlapped (C.cmp self.old.cmp) level
             (named_range (user_part range.0.now) (user_part range.1.now)) self.new.set.full.added
