@@ -106,7 +106,8 @@ module _ {E F C : Type 0} (env : Ghosts E F) (cmp : List ℕ → List ℕ → Or
       pub not_tabled : IsNotTabled choices pairs status
       pub theirs : (meaning : Meaning) (tables : List LiveTable)
           → HasTablesWritten choices.format meaning tables
-          → All (λ pair. Contains (in_memory old ++ table_entries tables) (entry_of_pair pair)) pairs
+          → All (λ pair. Contains (in_memory old ++ table_entries tables) (entry_of_pair pair))
+          pairs
 
     -- The numbers of files are used up. Of a store that is written they were too few for a table of
     -- each entry of its tables.
@@ -137,8 +138,8 @@ module _ {E F C : Type 0} (env : Ghosts E F) (cmp : List ℕ → List ℕ → Or
 
     -- What a compaction of an open store's current version leaves, in which no memtable waits.
     -- `smallest` is the smallest number at which the store is read.
-    pub record CompactsStore (smallest : ℕ) (it : CompactionValue C) (result : Result (Unit {0}) Status)
-        (new : OpenStoreValue C) (to : E) : Type 0 where
+    pub record CompactsStore (smallest : ℕ) (it : CompactionValue C)
+        (result : Result (Unit {0}) Status) (new : OpenStoreValue C) (to : E) : Type 0 where
       -- whatever it returns, each history stays at each moment on the way, and is shown from the
       -- smallest held number on
       pub keeps : IsTrue env.models_disk → (meaning : Meaning) → Agrees choices.format meaning
@@ -164,8 +165,8 @@ module _ {E F C : Type 0} (env : Ghosts E F) (cmp : List ℕ → List ℕ → Or
 abbrev pub KeepsOpenTables : {E C FP F : Type 0} → CmpGhosts (InternalKeyCmp C) → Ghosts E F
     → TableOptions C FP → OpenStoreValue C → E → TableCache E C FP F → OpenStoreValue C → E
     → TableCache E C FP F → Type 0
-KeepsOpenTables order env by old from before new to after = HasOpenTables order env by old from before
-    → AreOpenTablesOf order env by new.set (files_at env to) after
+KeepsOpenTables order env by old from before new to after =
+    HasOpenTables order env by old from before → AreOpenTablesOf order env by new.set (files_at env to) after
 
 -- ---- a range
 

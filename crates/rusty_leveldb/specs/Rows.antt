@@ -86,7 +86,8 @@ abbrev pub NotFlushed : Status → Row
 NotFlushed e setting old new =
     Keeps old new ⊎ (IsMemoryOrDevice setting e × Breaks old None new)
 
--- A compaction that fails changes no answer. Out of memory or by the device it may break the store.
+-- A compaction that fails changes no answer. Out of memory or by the device it may break the
+-- store.
 abbrev pub NotCompacted : Status → Row
 NotCompacted e setting old new =
     Keeps old new ⊎ (IsMemoryOrDevice setting e × Breaks old None new)
