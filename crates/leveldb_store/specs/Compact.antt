@@ -47,8 +47,8 @@ GivesNumbersOrBreaks old new = GivesNumbers old new
     ⊎ ((given : VersionSetValue) × GivesNumbers old given
     × (new ≡ record given { manifest = broken }))
 
--- An edit deletes the files that a compaction takes, and adds others to the next level. It names the
--- log that is written, and sets the pointer of the compaction's level.
+-- An edit deletes the files that a compaction takes, and adds others to the next level. It names
+-- the log that is written, and sets the pointer of the compaction's level.
 pub record ReplacesFiles {C : Type 0} (cmp : List ℕ → List ℕ → Ordering) (log : ℕ)
     (it : CompactionValue C) (edit : Edit) : Type 0 where
   pub comparator : edit.comparator ≡ None
@@ -89,8 +89,8 @@ module _ {E F C : Type 0} (env : Ghosts E F) (cmp : List ℕ → List ℕ → Or
     pub written : IsWritten cmp meaning old (env.observed from).disk.files
     pub live : HasLiveTables cmp meaning old (env.observed from).disk.files tables
 
-  -- A table can't be read that is taken, or has no entries in order. Of a store that is written that
-  -- is since the format lacks a compressor.
+  -- A table can't be read that is taken, or has no entries in order. Of a store that is written
+  -- that is since the format lacks a compressor.
   pub record AreInputsLost (format : Format) (status : Status) : Type 0 where
     pub fault : IsTableFault format status.code
     pub lacks : (meaning : Meaning) (tables : List LiveTable)
@@ -99,8 +99,8 @@ module _ {E F C : Type 0} (env : Ghosts E F) (cmp : List ℕ → List ℕ → Or
 
   module _ {D FP : Type 0} {order : CmpGhosts D} {filters : FilterGhosts FP}
       (choices : TableChoices order filters) where
-    -- No table is built of some pairs. Of a store that is written they are entries of its tables, or
-    -- in memory.
+    -- No table is built of some pairs. Of a store that is written they are entries of its tables,
+    -- or in memory.
     pub record AreInputsNotTabled (status : Status) : Type 0 where
       pub pairs : List Pair
       pub not_tabled : IsNotTabled choices pairs status
@@ -148,8 +148,8 @@ module _ {E F C : Type 0} (env : Ghosts E F) (cmp : List ℕ → List ℕ → Or
       pub logged : OnOk result
           ((edit : LogsCompaction cmp it old new) × CompactsInFull smallest it new edit to)
       pub usable : OnOk result (IsUnbroken new)
-      -- Err: files and version are as they were, but numbers may have been given, and the set may be
-      -- broken
+      -- Err: files and version are as they were, but numbers may have been given, and the set may
+      -- be broken
       pub err : OnErr result (GivesNumbersOrBreaks old.set new.set × (new.current ≡ old.current))
       -- what is in memory stays
       pub memory : new ≡ record old { set = new.set; current = new.current }
@@ -199,8 +199,8 @@ module _ {E F C : Type 0} (env : Ghosts E F) (cmp : List ℕ → List ℕ → Or
   module _ {D FP : Type 0} {order : CmpGhosts D} {filters : FilterGhosts FP}
       (choices : TableChoices order filters) where
     -- Why one of several compactions in a row fails, where the device didn't: out of memory; the
-    -- numbers of files are used up; no table is built of entries of tables; a table can't be read; or
-    -- a file of the store is lost.
+    -- numbers of files are used up; no table is built of entries of tables; a table can't be read;
+    -- or a file of the store is lost.
     abbrev pub FailsToCompactTables : OpenStoreValue C → Status → Type 0
     FailsToCompactTables new status = IsOutOfMemory status
         ⊎ AreFileNumbersUsedUp new.set.next_file status

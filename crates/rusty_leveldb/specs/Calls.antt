@@ -173,7 +173,8 @@ module _ {E C FP F P : Type 0} {B : Boxed} {keys : InternalOrder C} {key_filters
     pub cause : HasCause (SyncExcused env (formats_of choices) before from to) (env.failures from)
         (env.failures to) result
 
-  -- A call that compacts the range between two user keys, ends included; an empty key is an open end.
+  -- A call that compacts the range between two user keys, ends included; an empty key is an open
+  -- end.
   pub record EngineCompacts (low high : List ℕ) (result : Result (Unit {0}) Status)
       (after : EngineOf E C FP F B) (to : E) : Type 0 where
     -- Ok: no answer changes

@@ -1,4 +1,5 @@
--- What a store shows that has nothing in memory but in tables, as a compaction of any range leaves it.
+-- What a store shows that has nothing in memory but in tables, as a compaction of any range leaves
+-- it.
 use Rattle.std.specs.Prelude.{◌≡◌, ℕ, List, [], Option, None}
 use Rattle.leveldb_base.specs.History.{SameView, entries_of}
 use Rattle.leveldb_env.specs.Env.{Files}
@@ -20,8 +21,8 @@ pub record TablesShow {C : Type 0} (meaning : Meaning) (value : OpenStoreValue C
   pub same : (at : Option Snapshot) (sequence : ℕ) → IsSequenceOf state at sequence
       → SameView (table_entries tables) (entries_of state.history) sequence
 
--- where memory and live tables show a state's views (`Recalls.shows`), and nothing is in memory, live
--- tables alone do
+-- where memory and live tables show a state's views (`Recalls.shows`), and nothing is in memory,
+-- live tables alone do
 abbrev pub CompactedStoresShow : Type 0 → Type 0
 CompactedStoresShow C = (meaning : Meaning) (value : OpenStoreValue C) (files : Files)
     (state : State) → IsState state → ShowsViews meaning value files state

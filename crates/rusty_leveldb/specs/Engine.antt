@@ -248,8 +248,8 @@ module _ {E C FP F P : Type 0} {B : Boxed} {keys : InternalOrder C} {key_filters
       ⊎ IsFileLost env choices_in.format.order engine.store at choices_in.format e
 
   -- Why a compaction of a range may fail where the device didn't: the store is closed or broken, a
-  -- key is too long, or the store isn't compacted, for a cause of `FailsToCompactRange`; by the store
-  -- that is left.
+  -- key is too long, or the store isn't compacted (`FailsToCompactRange`); by the store that is
+  -- left.
   abbrev pub CompactExcused : List ℕ → List ℕ → OpenStoreValue C → Status → Type 0
   CompactExcused from to left e = RefusedByMode engine.mode e
       ⊎ ((e.code ≡ InvalidArgument) × (IsLongKey from ⊎ IsLongKey to))

@@ -37,8 +37,9 @@ impl<E: Env, C: UserCmp + Copy + Drop> OpenStore<E, C> {
     }
 
     /// Does the compaction for which the current version asks, by its score or by reads, if it asks
-    /// for one, and deletes the files that are obsolete then. Entries that are shadowed at and after
-    /// `smallest`, the smallest number at which the store is read, may go. No memtable waits.
+    /// for one, and deletes the files that are obsolete then. Entries that are shadowed at
+    /// `smallest`, the smallest number at which the store is read, may go, and deletions up to it
+    /// that no deeper level needs. No memtable waits.
     ///
     /// After an Err the tables are those that they were, and the next call tries again, unless the
     /// store broke.

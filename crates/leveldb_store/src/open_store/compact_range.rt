@@ -26,10 +26,10 @@ use leveldb_version::table_cache::TableCache;
 
 impl<E: Env, C: UserCmp + Copy + Drop> OpenStore<E, C> {
     /// Makes tables of all that is in memory, does the compaction for which reads ask, and compacts
-    /// the tables from level 0 down to the deepest one that overlaps the range between two user keys,
-    /// ends included: then no file of these levels overlaps it. An empty key is an open end. Entries
-    /// that are shadowed at and after `smallest`, the smallest number at which the store is read, may
-    /// go.
+    /// the tables from level 0 down to the deepest one that overlaps the range between two user
+    /// keys, ends included: then no file of these levels overlaps it. An empty key is an open end.
+    /// Entries that are shadowed at `smallest`, the smallest number at which the store is read, may
+    /// go, and deletions up to it that no deeper level needs.
     /// Obsolete files are deleted after each edit, and their tables closed; what fails of that is a
     /// line for `log`.
     ///

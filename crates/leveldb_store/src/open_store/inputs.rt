@@ -13,8 +13,8 @@ use leveldb_base::types::FileMetaData;
 use leveldb_version::compaction::Compaction;
 use leveldb_version::compaction::cut::OutputCut;
 
-// What is known of user keys in a compaction: its version's deeper levels, and the ends of the range
-// from the first key of one of its files to the last key of one.
+// What is known of user keys in a compaction: its version's deeper levels, and the ends of the
+// range from the first key of one of its files to the last key of one.
 #[derive(Drop)]
 pub(super) struct InputLevels<'c, C: UserCmp + Copy + Drop> {
     compaction: &'c Compaction<C>,
