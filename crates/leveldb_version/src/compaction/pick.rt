@@ -1,5 +1,5 @@
 //! Which compaction is asked for: by a version's score, by reads, or by a range.
-ghost use Rattle.std.specs.Prelude.{◌≡◌, ◌<◌, ◌↔◌, ◌==◌, [], true, Contains, IfErr, IfOk, IfSome, IsSomeAnd, None, Some, find, is_some, map, take};
+ghost use Rattle.std.specs.Prelude.{◌≡◌, ◌<◌, ◌↔◌, ◌==◌, [], false, true, Contains, IfErr, IfOk, IfSome, IsSomeAnd, None, Some, find, is_some, map, take};
 ghost use Rattle.std.specs.Option.{option_copied, option_map};
 ghost use Rattle.std.specs.Ordering.{is_gt};
 ghost use Rattle.leveldb_base.specs.Error.{IsOutOfMemory};
