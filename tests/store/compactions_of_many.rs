@@ -53,24 +53,33 @@ impl Trial {
         self.any_key()
     }
 
-    fn write(&mut self) -> Result<()> {
-        let key = self.any_key()?;
+    /// Appends an entry to the history.
+    fn record(&mut self, key: Vec<u8>, value: Option<Vec<u8>>) -> Result<()> {
         let sequence = self.history.len() as u64 + 1;
-        let value = if self.random.below(3) == 0 {
-            self.engine.delete(&mut self.env, &key)?;
-            None
-        } else {
-            let size = self.random.below(60) as usize;
-            let value = vec![in self.alloc; (sequence % 251) as u8; size]?;
-            self.engine.put(&mut self.env, &key, &value)?;
-            Some(value)
-        };
         self.history.push(Entry {
             sequence,
             key,
             value,
         })?;
         Ok(())
+    }
+
+    /// Puts a value of this many bytes.
+    fn put(&mut self, key: Vec<u8>, size: usize) -> Result<()> {
+        let byte = (self.history.len() % 251) as u8;
+        let value = vec![in self.alloc; byte; size]?;
+        self.engine.put(&mut self.env, &key, &value)?;
+        self.record(key, Some(value))
+    }
+
+    fn write(&mut self) -> Result<()> {
+        let key = self.any_key()?;
+        if self.random.below(3) == 0 {
+            self.engine.delete(&mut self.env, &key)?;
+            return self.record(key, None);
+        }
+        let size = self.random.below(60) as usize;
+        self.put(key, size)
     }
 
     fn snap(&mut self) -> Result<()> {
@@ -149,8 +158,7 @@ impl Trial {
     }
 }
 
-/// Steps that look random, and each view after each twenty of them. At last nothing is held and all is compacted: each key that has a value has
-/// one entry.
+/// Steps that look random, and each view after each twenty of them.
 fn try_steps(rt: &impl Abort, alloc: Global, seed: u64) -> Result<()> {
     let mut env = MemEnv::new(alloc);
     let engine = opened(alloc, &mut env, options_of(seed))?;
@@ -173,26 +181,22 @@ fn try_steps(rt: &impl Abort, alloc: Global, seed: u64) -> Result<()> {
     settle(rt, trial, seed)
 }
 
-/// Releases all snapshots and compacts all until tables stay where they are.
+/// Releases all snapshots, puts each key, and compacts all until tables stay where they are: each key has one entry.
 fn settle(rt: &impl Abort, trial: Trial, seed: u64) -> Result<()> {
     let mut trial = trial;
     while let Some((snapshot, _)) = trial.held.pop() {
         trial.engine.release_snapshot(snapshot)?;
     }
+    for number in 0..KEYS {
+        let key = key_of(trial.alloc, number)?;
+        trial.put(key, 7)?;
+    }
     for _ in 0..8 {
         trial.engine.compact_range(&mut trial.env, b"", b"")?;
     }
     assert!(rt; trial.has_views()?, "seed {seed}");
-    let mut live = 0;
-    for number in 0..KEYS {
-        let key = key_of(trial.alloc, number)?;
-        live += usize::from(trial.engine.get(&mut trial.env, &key)?.is_some());
-    }
     let entries = trial.count_entries()?;
-    assert!(rt;
-        entries == live,
-        "seed {seed}: {entries} entries of {live} keys"
-    );
+    assert!(rt; entries as u64 == KEYS, "seed {seed}: {entries} entries");
     trial.engine.abandon(&mut trial.env)
 }
 
