@@ -17,7 +17,7 @@ use Rattle.leveldb_version.specs.Format.{Format, IsTableFault, LacksCompressor}
 use Rattle.leveldb_version.specs.TableCache.{table_options}
 use Rattle.leveldb_version.specs.declared.table_cache.TableCache.{TableCache}
 use Rattle.leveldb_store.specs.OpenStore.{IsUnbroken, OpenStoreValue}
-use Rattle.leveldb_store.specs.Read.{GetsFromMemory, GetsFromTables, LooksUpKey}
+use Rattle.leveldb_store.specs.Read.{LooksUpKey}
 use Rattle.leveldb_store.specs.Room.{FailsFor, HasFailed, TellsOnly}
 use Rattle.leveldb_store.specs.SoundCall.{IsSoundCall, any_meaning}
 use Rattle.leveldb_store.specs.Write.{IsLogLost, SyncsLog, with_writer}
@@ -442,7 +442,7 @@ module _ {E C FP F P : Type 0} {B : Boxed} {keys : InternalOrder C} {key_filters
           err = row.1;
           step = step;
           halted = λ halted. (refl, refl, inl why);
-          way = tt;
+          way = inl (refl, refl, inl why);
           reads = (refl, refl);
           snapshots = refl;
           options = record { rest = refl; sink = refl };
@@ -463,7 +463,7 @@ module _ {E C FP F P : Type 0} {B : Boxed} {keys : InternalOrder C} {key_filters
             err = row.1;
             step = step;
             halted = λ halted. absurd (usable halted);
-            way = tt;
+            way = inl (refl, refl, inr (inl (code, misfits)));
             reads = (refl, refl);
             snapshots = refl;
             options = record { rest = refl; sink = refl };
@@ -471,20 +471,6 @@ module _ {E C FP F P : Type 0} {B : Boxed} {keys : InternalOrder C} {key_filters
             time = λ modelled. omega arith;
             cause = unread_fails (Err status) (λ Why. inr (inl (code, misfits)));
           }
-
-      -- a value that was found is that of the way on which it was looked for
-      on_way : (sequence : ℕ) → ReadsAt before snapshot sequence → (to : E)
-          (result : Result (Option (List ℕ)) Status) (value : OpenStoreValue C)
-          (cache : TableCache E C FP F)
-          → LooksUpKey keys env (tables_by formats before) before.store from before.tables sequence key
-          result value to cache
-          → OnOk result ((n : ℕ) × ReadsAt before snapshot n
-          × (GetsFromMemory keys env (tables_by formats before) before.store from before.tables n key
-          result value to cache
-          ⊎ GetsFromTables keys env (tables_by formats before) before.store from before.tables n key
-          result value to cache))
-      on_way sequence reads to (Ok found) value cache looks = (sequence, reads, looks.way)
-      on_way sequence reads to (Err status) value cache looks = tt
 
       pub get_serves : (sequence : ℕ) → ReadsAt before snapshot sequence → (IsLongKey key → ⊥)
           → (to : E) (result : Result (Option (List ℕ)) Status)
@@ -506,7 +492,7 @@ module _ {E C FP F P : Type 0} {B : Boxed} {keys : InternalOrder C} {key_filters
             err = row.1;
             step = step;
             halted = λ halted. absurd (usable halted);
-            way = on_way sequence reads to result value cache looks;
+            way = inr (sequence, reads, looks.way);
             reads = (refl, same);
             snapshots = refl;
             options = record {

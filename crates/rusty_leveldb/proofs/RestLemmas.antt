@@ -1,7 +1,8 @@
 -- What a call leaves alone, whatever the files are.
 use Rattle.std.specs.Prelude.{Result, codes, if◌then◌else◌, is_ok, replicate}
 use Rattle.std.specs.Fmt.{decimal}
-use Rattle.std.proofs.Common.{◌≡◌, ◌≢◌, ◌-◌, ◌++◌, ◌⊎◌, ◌∙◌, ⊎_elim, inl, inr, ℕ, Bool, false, List, length, length-append, refl, sym, ap, subst, arith, Option, Ok, Err, IsTrue}
+use Rattle.std.specs.Option.{option_map}
+use Rattle.std.proofs.Common.{◌≡◌, ◌≢◌, ◌-◌, ◌++◌, ◌⊎◌, ◌∙◌, ⊎_elim, inl, inr, ℕ, zero, Bool, false, List, length, length-append, refl, sym, ap, subst, arith, Option, Ok, Err, IsTrue}
 use Rattle.std.proofs.lemmas.List.{length-replicate}
 use Rattle.leveldb_base.specs.Error.{IsOutOfMemory}
 use Rattle.leveldb_base.specs.History.{Item}
@@ -9,7 +10,7 @@ use Rattle.leveldb_base.specs.Names.{six_digits}
 use Rattle.leveldb_base.specs.declared.error.Status.{Status}
 use Rattle.leveldb_base.specs.declared.types.FileType.{FileType}
 use Rattle.leveldb_base.specs.declared.types.FileType.TheVariants.{Log}
-use Rattle.leveldb_env.specs.Env.{ChangesFiles, ChangesLocks, Files, FilesUnchanged, SameBut, lock_set, same}
+use Rattle.leveldb_env.specs.Env.{ChangesFiles, ChangesLocks, Files, FilesUnchanged, SameBut, bytes_of, lock_set, same}
 use Rattle.leveldb_env.specs.Options.{Boxed, OptionsOf}
 use Rattle.leveldb_env.specs.declared.env.Env.{Ghosts}
 use Rattle.leveldb_env.specs.declared.filter.FilterPolicy.{Ghosts as FilterGhosts}
@@ -19,18 +20,20 @@ use Rattle.leveldb_table.specs.TableBlock.{KeepsDisk}
 use Rattle.leveldb_version.specs.Paths.{lock_path, log_path}
 use Rattle.leveldb_store.specs.BuildTable.{TableChoices}
 use Rattle.leveldb_version.specs.declared.table_cache.TableCache.{TableCache}
+use Rattle.leveldb_store.proofs.GivenTablesLemmas.{given_same, given_then}
+use Rattle.leveldb_store.proofs.SwitchLemmas.{tables_same}
 use Rattle.leveldb_store.specs.OpenStore.{OpenStoreValue}
 use Rattle.leveldb_store.specs.Write.{SyncsLog, open_log_path, with_writer}
 use Rattle.leveldb_store.specs.WriteBatch.{WritesBatch}
-use Rattle.leveldb_store.specs.Written.{IsData}
+use Rattle.leveldb_store.specs.Written.{IsData, KeepsGivenTables}
 use Rattle.rusty_leveldb.specs.Boxes.{EngineOf, InternalOrder}
 use Rattle.rusty_leveldb.specs.Calls.{IsLockLeft, LeavesRest, SparesBut, held_after}
 use Rattle.rusty_leveldb.specs.Engine.{holds_lock, options_in}
-use Rattle.rusty_leveldb.specs.Frame.{MayTouchOrLog, Spares, Touches}
+use Rattle.rusty_leveldb.specs.Frame.{MayTouchOrLog, SameBytes, Spares, Touches}
 use Rattle.rusty_leveldb.specs.State as machine
 use Rattle.rusty_leveldb.specs.State.{Request, Snapshot, abandon, close, flush, get, open_mode, write}
 use Rattle.rusty_leveldb.proofs.ClosingLemmas.{freed, freed_other}
-use Rattle.rusty_leveldb.proofs.Others.{spares_same, spares_still}
+use Rattle.rusty_leveldb.proofs.Others.{bytes_same, bytes_synced, spares_same, spares_still}
 use Rattle.rusty_leveldb.proofs.SyncLemmas.{lock_is_no_data, log_is_data}
 use Rattle.rusty_leveldb.proofs.WritingLemmas.{EngineMakesRoom}
 
@@ -79,6 +82,31 @@ module _ {E C FP F : Type 0} {B : Boxed} (env : Ghosts E F)
   abbrev store : List ℕ
   store = before.store.set.store
 
+  -- ---- tables
+
+  -- no table changes where the log alone does
+  tables_beside : (n : ℕ) (to : E)
+      → SameBut (log_path store n) (env.observed from).disk.files (env.observed to).disk.files
+      → KeepsGivenTables before.store.set (env.observed from).disk.files
+      (env.observed to).disk.files
+  tables_beside n to but = given_same before.store.set (env.observed from).disk.files
+      (env.observed to).disk.files (λ number fits given. tables_same store n
+      (env.observed from).disk.files (env.observed to).disk.files but number)
+
+  -- no file changes
+  module _ (to : E) (still : IsTrue env.models_disk
+      → (env.observed to).disk.files ≡ (env.observed from).disk.files) where
+    pub tables_where_still : IsTrue env.models_disk
+        → KeepsGivenTables before.store.set (env.observed from).disk.files
+        (env.observed to).disk.files
+    tables_where_still modelled = tables_beside zero to
+        (λ path differs. ap (λ (f : Files). f path) (still modelled))
+
+    pub bytes_where_still : IsTrue env.models_disk
+        → SameBytes (env.observed from).disk.files (env.observed to).disk.files
+    bytes_where_still modelled = bytes_same (env.observed from).disk.files
+        (env.observed to).disk.files (still modelled)
+
   -- ---- calls that leave all files
 
   -- nothing has changed
@@ -95,6 +123,8 @@ module _ {E C FP F : Type 0} {B : Boxed} (env : Ghosts E F)
         (λ (fails : (e : Status) × (result ≡ Err e)).
         subst (λ r. IsLockLeft request r (holds_lock env before from) (holds_lock env before from))
         (sym fails.1) (tt, refl)) why;
+    tables = tables_where_still from (λ modelled. refl);
+    bytes = λ modelled syncs. bytes_where_still from (λ modelled. refl) modelled;
   }
 
   -- the disk has stayed, and the engine's options may have changed
@@ -112,6 +142,8 @@ module _ {E C FP F : Type 0} {B : Boxed} (env : Ghosts E F)
     lock = λ modelled. lock_stays (get snapshot key) result (holds_lock env before from)
         (holds_lock env before to)
         (ap (λ (l : List ℕ → Bool). l before.lock) (keeps.locks modelled)) refl;
+    tables = tables_where_still to (λ modelled. (keeps.disk modelled).has);
+    bytes = λ modelled syncs. absurd syncs;
   }
 
   -- the lock is given back, and no more
@@ -192,6 +224,14 @@ module _ {E C FP F : Type 0} {B : Boxed} (env : Ghosts E F)
             (env.observed from).disk.files (env.observed mid).disk.files
             ((syncs.does modelled).now modelled)
 
+        sync_bytes : IsTrue env.models_disk
+            → SameBytes (env.observed from).disk.files (env.observed mid).disk.files
+        sync_bytes modelled = ⊎_elim
+            (λ same. bytes_same (env.observed from).disk.files (env.observed mid).disk.files same)
+            (λ done. bytes_synced (open_log_path before.store) (env.observed from).disk.files
+            (env.observed mid).disk.files done)
+            ((syncs.does modelled).now modelled)
+
         -- after the sync no file changes
         sync_spares : (request : Request)
             → ((kind : FileType) → Touches open_mode request kind → IsData kind)
@@ -228,6 +268,8 @@ module _ {E C FP F : Type 0} {B : Boxed} (env : Ghosts E F)
               (λ (fails : (e : Status) × (synced ≡ Err e)).
               subst (λ r. IsLockLeft request r (holds_lock env before from)
               (holds_lock env before mid)) (sym fails.1) (tt, stays)) why;
+          tables = λ modelled. tables_beside before.store.log.number mid (sync_but modelled);
+          bytes = λ modelled syncing. sync_bytes modelled;
         }
 
         -- a close that was synced
@@ -252,7 +294,15 @@ module _ {E C FP F : Type 0} {B : Boxed} (env : Ghosts E F)
               (env.observed mid).disk.locked (env.observed to).disk.locked (λ held. refl)
               (λ path. ap (λ (l : List ℕ → Bool). l path) (syncs.locks modelled))
               (relocks modelled));
+          tables = λ modelled. tables_beside before.store.log.number to (given_but modelled);
+          bytes = λ modelled syncing path. ap (λ (f : Files). option_map bytes_of (f path))
+              (does.now modelled) ∙ sync_bytes modelled path;
         }
+          where
+            given_but : IsTrue env.models_disk → SameBut (open_log_path before.store)
+                (env.observed from).disk.files (env.observed to).disk.files
+            given_but modelled path differs = ap (λ (f : Files). f path) (does.now modelled)
+                ∙ sync_but modelled path differs
 
     -- ---- writes
 
@@ -277,6 +327,8 @@ module _ {E C FP F : Type 0} {B : Boxed} (env : Ghosts E F)
           tt,
           ap (λ (l : List ℕ → Bool). l before.lock) (made.makes.rest.locks modelled),
         );
+        tables = made.makes.rest.tables;
+        bytes = λ modelled syncs. absurd syncs;
       }
 
       -- it was, and then the batch was written or not
@@ -311,4 +363,12 @@ module _ {E C FP F : Type 0} {B : Boxed} (env : Ghosts E F)
               (λ path differs. batch_locks modelled path);
           lock = λ modelled. lock_stays (write items sync) result (holds_lock env before from)
               (holds_lock env before to) (batch_locks modelled before.lock) refl;
+          tables = λ modelled. given_then before.store.set roomy.store.set made.makes.rest.store
+              made.makes.rest.numbers (env.observed from).disk.files (env.observed mid).disk.files
+              (env.observed to).disk.files (made.makes.rest.tables modelled)
+              (given_same roomy.store.set (env.observed mid).disk.files
+              (env.observed to).disk.files (λ number fits given. tables_same roomy.store.set.store
+              roomy.store.log.number (env.observed mid).disk.files (env.observed to).disk.files
+              (writes.others modelled) number));
+          bytes = λ modelled syncs. absurd syncs;
         }

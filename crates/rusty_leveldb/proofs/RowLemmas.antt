@@ -11,10 +11,10 @@ use Rattle.leveldb_iter.specs.declared.moves.Step.{Step as WalkStep}
 use Rattle.leveldb_iter.specs.declared.snapshot.Snapshot.{Snapshot as HeldSnapshot}
 use Rattle.leveldb_version.specs.Format.{Format, Meaning}
 use Rattle.rusty_leveldb.specs.Boxes.{EngineOf, InternalOrder}
-use Rattle.rusty_leveldb.specs.Causes.{Cause, out_of_memory, device_failed, Comes, Setting}
+use Rattle.rusty_leveldb.specs.Causes.{Cause, out_of_memory, device_failed, lock_is_held, bad_operand, store_exists, used_up, too_large, compressor_failed, lacks_compressor, Comes, IsBrokenRefusal, IsClosedRefusal, Setting}
 use Rattle.rusty_leveldb.specs.Engine.{Answers, AnswersAs}
-use Rattle.rusty_leveldb.specs.Machine.{Abandons, AllDurable, Breaks, Closes, Gives, Keeps, KeepsOrBreaks, LeavesRefused, MayBreak, Opens, Releases, Risk, Step, Writes, added_batch, risk_between, risk_of}
-use Rattle.rusty_leveldb.specs.Rows.{FindsValue, FromEachState, FromStatesOf, IsAbandoned, NotClosed, NotFlushed, NotOpened, NotUnlocked, NotWritten, Row, StaysAsItWas, WalksView}
+use Rattle.rusty_leveldb.specs.Machine.{Abandons, AllDurable, Breaks, Closes, Gives, Keeps, KeepsOrBreaks, LeavesRefused, MayBreak, Opens, Rejects, Releases, Risk, Step, Writes, added_batch, risk_between, risk_of}
+use Rattle.rusty_leveldb.specs.Rows.{FindsValue, FromEachState, FromStatesOf, IsAbandoned, NotClosed, NotFlushed, NotOpened, NotUnlocked, NotWritten, RejectsByMode, Row, StaysAsItWas, WalksView}
 use Rattle.rusty_leveldb.specs.Serves.{IsSpared, done_or, found_or, given_engine, refusal_of, setting_between, snapshot_of, snapshot_or}
 use Rattle.rusty_leveldb.specs.State.{Answer, Mode, Opening, open_mode, open_store, broken, closed, Refusal, Request, Snapshot, State, abandon, close, done, flush, found, get, get_snapshot, refused, release_snapshot, snapshot, walk, walked, write}
 use Rattle.rusty_leveldb.specs.Walks.{landing_of, walk_of, walked_or}
@@ -58,20 +58,52 @@ flushes setting old new closed step = absurd step
 flushes setting old new broken step = absurd step
 flushes setting old new open_mode step = step.1
 
+-- a request that its mode refuses
+rejects_closed : (e : Status) (old new : State) → old.mode ≡ closed
+    → Rejects IsClosedRefusal old (refused (refusal_of e)) new → RejectsByMode e old new
+rejects_closed e old new is rejects = inl (is, rejects)
+
+rejects_broken : (e : Status) (old new : State) → old.mode ≡ broken
+    → Rejects IsBrokenRefusal old (refused (refusal_of e)) new → RejectsByMode e old new
+rejects_broken e old new is rejects = inr (is, rejects)
+
 module _ (e : Status) (setting : Setting) (old new : State) where
   left_unsynced : (cause : Cause) → Comes setting old flush (refusal_of e) cause
       → LeavesRefused setting old flush (refusal_of e) cause new → NotFlushed e setting old new
-  left_unsynced device_failed comes breaks = inr (inr comes.1, breaks)
-  left_unsynced out_of_memory comes (inl keeps) = inl keeps
-  left_unsynced out_of_memory comes (inr breaks) = inr (inl comes.1, breaks.1)
-  left_unsynced cause comes (inl keeps) = inl keeps
-  left_unsynced cause comes (inr breaks) = absurd breaks.0
+  left_unsynced out_of_memory comes (inl keeps) = inr (inl (comes.1, inl keeps))
+  left_unsynced out_of_memory comes (inr breaks) = inr (inl (comes.1, inr breaks.1))
+  left_unsynced device_failed comes breaks = inr (inr (comes.1, breaks))
+  left_unsynced lock_is_held comes leaves = absurd comes.0
+  left_unsynced bad_operand comes leaves = absurd comes.1
+  left_unsynced store_exists comes leaves = absurd comes.1
+  left_unsynced used_up comes leaves = absurd comes.1
+  left_unsynced too_large comes leaves = absurd comes.0
+  left_unsynced compressor_failed comes leaves = absurd comes
+  left_unsynced lacks_compressor comes leaves = absurd comes.0
 
-not_flushed : (e : Status) → IsRowOf flush (refused (refusal_of e)) (NotFlushed e)
-not_flushed e setting old new closed step = inl (kept old new step.1)
-not_flushed e setting old new broken step = inl (kept old new step.1)
-not_flushed e setting old new open_mode step =
-    left_unsynced e setting old new step.cause step.comes step.leaves
+  left_unclosed : (cause : Cause) → Comes setting old close (refusal_of e) cause
+      → LeavesRefused setting old close (refusal_of e) cause new → NotClosed e setting old new
+  left_unclosed out_of_memory comes breaks = inr (inl comes.1, breaks)
+  left_unclosed device_failed comes breaks = inr (inr comes.1, breaks)
+  left_unclosed lock_is_held comes breaks = absurd comes.0
+  left_unclosed bad_operand comes breaks = absurd comes.1
+  left_unclosed store_exists comes breaks = absurd comes.1
+  left_unclosed used_up comes breaks = absurd comes.1
+  left_unclosed too_large comes breaks = absurd comes.0
+  left_unclosed compressor_failed comes breaks = absurd comes
+  left_unclosed lacks_compressor comes breaks = absurd comes.0
+
+  not_flushed : (mode : Mode) → old.mode ≡ mode
+      → Step mode setting old flush (refused (refusal_of e)) new → NotFlushed e setting old new
+  not_flushed closed is step = inl (rejects_closed e old new is step)
+  not_flushed broken is step = inl (rejects_broken e old new is step)
+  not_flushed open_mode is step = left_unsynced step.cause step.comes step.leaves
+
+  not_closed : (mode : Mode) → old.mode ≡ mode
+      → Step mode setting old close (refused (refusal_of e)) new → NotClosed e setting old new
+  not_closed closed is step = inl (rejects_closed e old new is step)
+  not_closed broken is step = inl (rejects_broken e old new is step)
+  not_closed open_mode is step = left_unclosed step.cause step.comes step.leaves
 
 finds : (at : Option Snapshot) (key : List ℕ) (value : Option (List ℕ))
     → IsRowOf (get at key) (found value) (FindsValue at key value)
@@ -123,11 +155,6 @@ closes : IsRowOf close done (λ _ old new. Closes old new)
 closes setting old new closed step = absurd step
 closes setting old new broken step = absurd step
 closes setting old new open_mode step = step.1
-
-not_closed : (e : Status) → IsRowOf close (refused (refusal_of e)) NotClosed
-not_closed e setting old new closed step = inl step.1
-not_closed e setting old new broken step = inl step.1
-not_closed e setting old new open_mode step = inr step.leaves
 
 opens : (opening : Opening)
     → IsRowOf (open_store opening) done (λ _ old new. Opens old opening new)
@@ -220,13 +247,20 @@ module _ {E C FP F : Type 0} {B : Boxed} (keys : InternalOrder C) (env : Ghosts 
     abbrev Steps : Request → Answer → Type 0
     Steps request answer = Answers keys env formats (Some before) from request answer (Some after) to
 
+    in_mode : (request : Request) (answer : Answer) (row : Row)
+        → ((setting : Setting) (old new : State) → Step old.mode setting old request answer new
+        → row setting old new)
+        → ((old new : State) → risk_of request old new ≡ risk_between new)
+        → Steps request answer → Takes row
+    in_mode request answer row leads same step store meaning =
+        takes (λ old new. risk_between new) store meaning (Some before) from request answer
+        (Some after) to row leads same (step store meaning)
+
     is_row : (request : Request) (answer : Answer) (row : Row) → IsRowOf request answer row
         → ((old new : State) → risk_of request old new ≡ risk_between new)
         → Steps request answer → Takes row
-    is_row request answer row is same step store meaning =
-        takes (λ old new. risk_between new) store meaning (Some before) from request answer
-        (Some after) to row (λ setting old new. is setting old new old.mode) same
-        (step store meaning)
+    is_row request answer row is =
+        in_mode request answer row (λ setting old new. is setting old new old.mode)
 
     -- a write
     pub write_row : (items : List Item) (sync : Bool) (result : Result (Unit {0}) Status)
@@ -246,8 +280,11 @@ module _ {E C FP F : Type 0} {B : Boxed} (keys : InternalOrder C) (env : Ghosts 
         → OnOk result (Takes (λ _ old new. AllDurable old new))
         × IfErr result (λ e. Takes (NotFlushed e))
     flush_row (Ok nothing) step = (is_row flush done _ flushes (λ old new. refl) step, tt)
-    flush_row (Err e) step =
-        (tt, is_row flush (refused (refusal_of e)) _ (not_flushed e) (λ old new. refl) step)
+    flush_row (Err e) step = (
+      tt,
+      in_mode flush (refused (refusal_of e)) _
+          (λ setting old new. not_flushed e setting old new old.mode refl) (λ old new. refl) step,
+    )
 
     -- a look-up
     pub get_row : (at : Option Snapshot) (key : List ℕ) (result : Result (Option (List ℕ)) Status)
@@ -303,7 +340,11 @@ module _ {E C FP F : Type 0} {B : Boxed} (keys : InternalOrder C) (env : Ghosts 
 
     -- a close
     pub close_row : (result : Result (Unit {0}) Status) → Steps close (done_or result)
-        → OnOk result (Takes (λ _ old new. Closes old new)) × OnErr result (Takes NotClosed)
+        → OnOk result (Takes (λ _ old new. Closes old new))
+        × IfErr result (λ e. Takes (NotClosed e))
     close_row (Ok nothing) step = (is_row close done _ closes (λ old new. refl) step, tt)
-    close_row (Err e) step =
-        (tt, is_row close (refused (refusal_of e)) _ (not_closed e) (λ old new. refl) step)
+    close_row (Err e) step = (
+      tt,
+      in_mode close (refused (refusal_of e)) _
+          (λ setting old new. not_closed e setting old new old.mode refl) (λ old new. refl) step,
+    )

@@ -210,10 +210,22 @@ module _ {E C FP F P : Type 0} {B : Boxed} {keys : InternalOrder C} {key_filters
       → LeavesRest env before at request result (record before { snapshots = snapshots }) at
   rest_held get_snapshot is result snapshots at =
       let rest = rest_still env before at get_snapshot result (inl (λ held. refl)) in
-      record { place = (refl, refl); others = rest.others; lock = rest.lock }
+      record {
+        place = (refl, refl);
+        others = rest.others;
+        lock = rest.lock;
+        tables = rest.tables;
+        bytes = rest.bytes;
+      }
   rest_held (release_snapshot one) is result snapshots at =
       let rest = rest_still env before at (release_snapshot one) result (inl (λ held. refl)) in
-      record { place = (refl, refl); others = rest.others; lock = rest.lock }
+      record {
+        place = (refl, refl);
+        others = rest.others;
+        lock = rest.lock;
+        tables = rest.tables;
+        bytes = rest.bytes;
+      }
   rest_held request is result snapshots at = absurd is
 
   -- ---- giving out

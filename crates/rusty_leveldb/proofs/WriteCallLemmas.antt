@@ -19,9 +19,9 @@ use Rattle.leveldb_store.specs.SoundCall.{IsSoundCall, any_meaning}
 use Rattle.leveldb_store.specs.WriteBatch.{FailsToWrite, WritesBatch}
 use Rattle.rusty_leveldb.specs.Boxes.{EngineOf, InternalOrder}
 use Rattle.rusty_leveldb.specs.EngineValue.{FollowsStore}
-use Rattle.rusty_leveldb.specs.Calls.{EngineWrites, IsMemtableFull, KeepsMemory, KeepsModeOrBreaks, OneWaitsAtMost}
+use Rattle.rusty_leveldb.specs.Calls.{EngineWrites, IsMemtableFull, KeepsMemory, KeepsModeOrBreaks, OneWaitsAtMost, WritesIntoRoom}
 use Rattle.rusty_leveldb.specs.Causes.{AreUsedUp}
-use Rattle.rusty_leveldb.specs.Engine.{empty_memtable, Answers, IsBroken, WriteExcused, WritesIntoRoom, options_in, formats_of}
+use Rattle.rusty_leveldb.specs.Engine.{empty_memtable, Answers, IsBroken, WriteExcused, options_in, formats_of}
 use Rattle.rusty_leveldb.specs.Serves.{done_or}
 use Rattle.rusty_leveldb.specs.State as machine
 use Rattle.rusty_leveldb.specs.State.{write}
@@ -192,13 +192,27 @@ module _ {E C FP F P : Type 0} {B : Boxed} {keys : InternalOrder C} {key_filters
           to → OnOk result ((mode ≡ before.mode) × WritesIntoRoom before items ended)
       batch_written (Ok nothing) writes = (
         follows_open mode value follows writes.usable ∙ sym opened,
-        (
-          roomy.store.recent,
-          made.makes.room,
-          subst (λ n. IsUnion roomy.store.recent.entries (placed (n + 1) items)
-              value.recent.entries) made.makes.rest.last writes.gains,
-        ),
+        ⊎_elim
+            (λ (full : IsMemtableFull before). inr (
+              full,
+              subst (λ entries. IsUnion entries batch value.recent.entries)
+                  (made.makes.none_waits full).0 gains,
+            ))
+            (λ (room : IsMemtableFull before → ⊥). inl (
+              room,
+              subst (λ (v : OpenStoreValue C).
+                  IsUnion v.recent.entries batch value.recent.entries)
+                  (made.makes.not_full room).0 gains,
+            ))
+            (full_or_not before.options.write_buffer_size before.store.recent),
       )
+        where
+          batch : List Entry
+          batch = placed (before.store.set.last_sequence + 1) items
+
+          gains : IsUnion roomy.store.recent.entries batch value.recent.entries
+          gains = subst (λ n. IsUnion roomy.store.recent.entries (placed (n + 1) items)
+              value.recent.entries) made.makes.rest.last writes.gains
       batch_written (Err status) writes = tt
 
       -- and none waits, but for one that waited before

@@ -1,7 +1,7 @@
 -- What each call on an engine does: one record a call, the same of an engine and of a store that
 -- holds its environment. Each names the row of the machine that the call takes, Ok and Err.
 use Rattle.std.specs.Prelude.{◌≡◌, ◌≤◌, ◌⊎◌, ℕ, Bool, false, List, [], Option, Some, None, Result, Ok, Err, OnOk, OnErr, IfOk, IfErr, IsErrAnd, IsTrue, MatchResult}
-use Rattle.leveldb_base.specs.History.{Item}
+use Rattle.leveldb_base.specs.History.{Entry, Item}
 use Rattle.leveldb_base.specs.declared.error.Status.{Status}
 use Rattle.leveldb_base.specs.Error.{IsOutOfMemory}
 use Rattle.leveldb_env.specs.declared.env.Env.{Ghosts}
@@ -13,19 +13,22 @@ use Rattle.leveldb_iter.specs.Snapshot.{Gives as AddsHeld, Releases as DropsHeld
 use Rattle.leveldb_iter.specs.declared.moves.Move.{Move}
 use Rattle.leveldb_iter.specs.declared.moves.Step.{Step}
 use Rattle.leveldb_iter.specs.declared.snapshot.Snapshot.{Snapshot as HeldSnapshot}
+use Rattle.leveldb_mem.specs.MemTable.{IsUnion}
 use Rattle.leveldb_store.specs.BuildTable.{TableChoices}
 use Rattle.leveldb_store.specs.FoundLogs.{HasLogNotKept}
 use Rattle.leveldb_store.specs.Read.{GetsFromMemory, GetsFromTables}
 use Rattle.leveldb_store.specs.Room.{FailsFor, IsFull, TellsOnly}
 use Rattle.leveldb_store.specs.SoundCall.{TimeGoesOn}
-use Rattle.leveldb_store.specs.View.{MoveFails}
+use Rattle.leveldb_store.specs.View.{MoveFails, WalksStore}
 use Rattle.leveldb_store.specs.Write.{open_log_path, with_writer}
+use Rattle.leveldb_store.specs.WriteBatch.{next_batch}
+use Rattle.leveldb_store.specs.Written.{KeepsGivenTables}
 use Rattle.leveldb_version.specs.Batches.{Each}
 use Rattle.leveldb_version.specs.Format.{Format, IsTableFault, Meaning, Agrees}
 use Rattle.rusty_leveldb.specs.State.{Opening, Request, Snapshot, open_mode, open_store, write, get, get_snapshot, release_snapshot, flush, close, abandon}
 use Rattle.rusty_leveldb.specs.Serves.{done_or, found_or, given_engine, snapshot_of, snapshot_or}
-use Rattle.rusty_leveldb.specs.Engine.{IsClosed, IsBroken, IsClosedOrBroken, ReadsAt, RefusedByMode, AnswersAs, Answers, WriteExcused, SyncExcused, CloseExcused, GetFails, SnapshotExcused, ReleaseExcused, WalkExcused, IsStoreName, IsOpening, HasOwnLock, WritesIntoRoom, formats_of, holds_lock, options_in, tables_by}
-use Rattle.rusty_leveldb.specs.Frame.{IsOwn, MayTouchOrLog, Spares}
+use Rattle.rusty_leveldb.specs.Engine.{IsClosed, IsBroken, IsClosedOrBroken, ReadsAt, RefusedByMode, AnswersAs, Answers, WriteExcused, SyncExcused, CloseExcused, GetExcused, GetFails, SnapshotExcused, ReleaseExcused, WalkExcused, IsStoreName, IsOpening, HasOwnLock, formats_of, holds_lock, options_in, tables_by}
+use Rattle.rusty_leveldb.specs.Frame.{IsOwn, IsSyncing, MayTouchOrLog, SameBytes, Spares}
 use Rattle.rusty_leveldb.specs.Machine.{AllDurable, Closes, Gives, Opens, Releases, Writes, risk_of}
 use Rattle.rusty_leveldb.specs.Rows.{FindsValue, FromEachState, FromStatesOf, IsAbandoned, NotClosed, NotFlushed, NotOpened, NotUnlocked, NotWritten, Row, StaysAsItWas, WalksView}
 use Rattle.rusty_leveldb.specs.Unopened.{IsLockGivenBack, IsLockHeld, MakesLockAlone, NeverOpens, OpenExcused}
@@ -64,6 +67,12 @@ module _ {E C FP F : Type 0} {B : Boxed} (env : Ghosts E F) where
     -- and the lock, but that closing frees it
     pub lock : IsTrue env.models_disk
         → IsLockLeft request result (holds_lock env before from) (holds_lock env before to)
+    -- no table changes whose number was given, though it may be deleted
+    pub tables : IsTrue env.models_disk → KeepsGivenTables before.store.set
+        (env.observed from).disk.files (env.observed to).disk.files
+    -- a sync adds no byte
+    pub bytes : IsTrue env.models_disk → IsSyncing request
+        → SameBytes (env.observed from).disk.files (env.observed to).disk.files
 
 -- ---- what becomes of an engine
 
@@ -91,6 +100,15 @@ module _ {E C FP F : Type 0} {B : Boxed} where
       → (after.store.recent.entries ≡ before.store.recent.entries)
       × (after.store.waiting ≡ before.store.waiting))
 
+  -- The batch of these items was written into the memtable that was there, or, where that was full,
+  -- into an empty one.
+  abbrev pub WritesIntoRoom : EngineOf E C FP F B → List Item → EngineOf E C FP F B → Type 0
+  WritesIntoRoom before items after =
+      let Gains : List Entry → Type 0 = λ entries.
+      IsUnion entries (next_batch before.store items) after.store.recent.entries in
+      ((IsMemtableFull before → ⊥) × Gains before.store.recent.entries)
+      ⊎ (IsMemtableFull before × Gains [])
+
   -- no memtable waits to become a table, or the one that waited does, where the one that is written
   -- to wasn't full
   abbrev pub OneWaitsAtMost : EngineOf E C FP F B → EngineOf E C FP F B → Type 0
@@ -107,6 +125,19 @@ module _ {E C FP F : Type 0} {B : Boxed} where
       → EngineOf E C FP F B → E → Type 0
   IsRefusedByMode before from result after to =
       (to ≡ from) × (after ≡ before) × IsErrAnd result (RefusedByMode before.mode)
+
+  -- a look-up fails before it begins: the store is closed, its operands don't fit, or memory ran
+  -- out; and nothing changes
+  abbrev pub IsNotLookedUp : {T : Type 0} → EngineOf E C FP F B → E → Option Snapshot → List ℕ
+      → Result T Status → EngineOf E C FP F B → E → Type 0
+  IsNotLookedUp before from at key result after to =
+      (to ≡ from) × (after ≡ before) × IsErrAnd result (GetExcused before at key (λ e. ⊥))
+
+  -- so does a walk, of which there are no steps then
+  abbrev pub IsNotWalked : {T : Type 0} → EngineOf E C FP F B → E → Option Snapshot → List Step
+      → Result T Status → EngineOf E C FP F B → E → Type 0
+  IsNotWalked before from at given result after to =
+      (to ≡ from) × (after ≡ before) × (given ≡ []) × IsErrAnd result (WalkExcused before at)
 
 -- ---- calls on an engine
 
@@ -130,7 +161,7 @@ module _ {E C FP F P : Type 0} {B : Boxed} {keys : InternalOrder C} {key_filters
         (done_or result) (Some after) to
     -- over any environment: a closed or broken store refuses it, and nothing changes
     pub halted : IsClosedOrBroken before.mode → IsRefusedByMode before from result after to
-    -- Ok leaves the mode, and the batch is in a memtable that had room
+    -- Ok leaves the mode, and the batch is in the memtable, which had room
     pub written : OnOk result ((after.mode ≡ before.mode) × WritesIntoRoom before items after)
     pub waits : OnOk result (OneWaitsAtMost before after)
     -- Err leaves what memory shows, and the mode, or a broken store
@@ -183,9 +214,10 @@ module _ {E C FP F P : Type 0} {B : Boxed} {keys : InternalOrder C} {key_filters
         (found_or result) (Some after) to
     -- over any environment: a closed store refuses it, and nothing changes
     pub halted : IsClosed before.mode → IsRefusedByMode before from result after to
-    -- over any files: the value is that of memory, or else of the first table on the way that has
-    -- the key; none on this way is passed over that can't be read
-    pub way : OnOk result ((sequence : ℕ) × ReadsAt before at sequence
+    -- over any files, Ok or Err: the value is that of memory, or else of the first table on the way
+    -- that has the key; none on this way is passed over, and the first that can't be read is an Err
+    pub way : IsNotLookedUp before from at key result after to
+        ⊎ ((sequence : ℕ) × ReadsAt before at sequence
         × (GetsFromMemory keys env (tables_by (formats_of choices) before) before.store from
         before.tables sequence key result after.store to after.tables
         ⊎ GetsFromTables keys env (tables_by (formats_of choices) before) before.store from
@@ -217,6 +249,12 @@ module _ {E C FP F P : Type 0} {B : Boxed} {keys : InternalOrder C} {key_filters
     -- no failure is forgotten; it fails as a whole for none of the device, but its moves may
     pub later : env.failures from ≤ env.failures to
     pub cause : IfErr result (WalkExcused before at)
+    -- over any files: where memory and the live tables show a history, the moves are made in its
+    -- view, whatever the other files are
+    pub way : IsNotWalked before from at given result after to
+        ⊎ ((sequence : ℕ) × ReadsAt before at sequence
+        × WalksStore keys env (tables_by (formats_of choices) before) before.store from
+        before.tables sequence moves given result to after.tables)
     -- over whatever files, each move has a step, and one that failed a cause
     pub refused : OnOk result (Each (λ one step. IsRefusedFor step one
         (MoveFails (λ e. IsTableFault (formats_of choices (options_in before)) e.code)
@@ -272,7 +310,7 @@ module _ {E C FP F P : Type 0} {B : Boxed} {keys : InternalOrder C} {key_filters
     -- Ok: all is durable, nothing is held, the lock is free, and the store is closed
     pub ok : OnOk result (Takes (λ _ old new. Closes old new) after to)
     -- Err: no answer changes, and a store that was open is broken
-    pub err : OnErr result (Takes NotClosed after to)
+    pub err : IfErr result (λ e. Takes (NotClosed e) after to)
     pub step : Answers keys env (formats_of choices) (Some before) from close (done_or result)
         (Some after) to
     -- over any environment: a closed or broken store refuses it, and nothing changes

@@ -13,7 +13,7 @@ use Rattle.leveldb_env.specs.Env.{Disk, Files}
 use Rattle.leveldb_env.specs.Options.{Boxed, OptionsOf}
 use Rattle.leveldb_iter.specs.Snapshot.{HeldSnapshots}
 use Rattle.leveldb_mem.specs.Log.Writer.{IsWriterBroken}
-use Rattle.leveldb_mem.specs.MemTable.{FailsToPrepare, IsUnion, Kept, bytes_in}
+use Rattle.leveldb_mem.specs.MemTable.{FailsToPrepare, Kept, bytes_in}
 use Rattle.leveldb_version.specs.Paths.{lock_path}
 use Rattle.leveldb_version.specs.Contents.{made}
 use Rattle.leveldb_store.specs.BuildTable.{TableChoices}
@@ -26,7 +26,6 @@ use Rattle.leveldb_store.specs.Read.{HasTablesToRead}
 use Rattle.leveldb_store.specs.Room.{AreEntriesNotTabled, FailsFor, IsFileLost, IsFull}
 use Rattle.leveldb_store.specs.Switch.{AreFileNumbersTooFew}
 use Rattle.leveldb_store.specs.Write.{IsLogLost}
-use Rattle.leveldb_store.specs.WriteBatch.{next_batch}
 use Rattle.leveldb_store.specs.Written.{IsWritten, Shows}
 use Rattle.rusty_leveldb.specs.State as machine
 use Rattle.rusty_leveldb.specs.State.{State, Opening, Request, Answer, Snapshot}
@@ -277,16 +276,6 @@ module _ {E C FP F : Type 0} {B : Boxed} (keys : InternalOrder C) (env : Ghosts 
         live → FailsFor (GetExcused engine snapshot key (λ e. (e.code ≡ NotSupported)
         × LacksCompressor (format_in env formats engine at) meaning)) (env.failures at)
         (env.failures to) result
-
--- ---- room in memory
-
--- The batch of these items was written into a memtable that had room: before it the memtable was
--- empty, or took less memory than the options say.
-abbrev pub WritesIntoRoom : {E C FP F : Type 0} {B : Boxed}
-    → EngineOf E C FP F B → List Item → EngineOf E C FP F B → Type 0
-WritesIntoRoom before items after =
-    (kept : Kept) × (IsFull before.options.write_buffer_size kept → ⊥)
-    × IsUnion kept.entries (next_batch before.store items) after.store.recent.entries
 
 -- ---- opening
 

@@ -13,11 +13,11 @@ use Rattle.leveldb_iter.specs.declared.moves.Step.{Step}
 use Rattle.leveldb_store.specs.Room.{HasFailed}
 use Rattle.leveldb_version.specs.Format.{Format, Meaning}
 use Rattle.rusty_leveldb.specs.Boxes.{EngineOf, InternalOrder}
-use Rattle.rusty_leveldb.specs.Causes.{Cause, Comes, Setting}
+use Rattle.rusty_leveldb.specs.Causes.{Cause, Comes, IsBrokenRefusal, IsClosedRefusal, Setting}
 use Rattle.rusty_leveldb.specs.Engine.{Recalls}
-use Rattle.rusty_leveldb.specs.Machine.{Abandons, Breaks, Gets, Keeps, Risk, StaysClosed, Walks, added_batch, risk_between, risk_of}
+use Rattle.rusty_leveldb.specs.Machine.{Abandons, Breaks, Gets, Keeps, Rejects, Risk, StaysClosed, Walks, added_batch, risk_between, risk_of}
 use Rattle.rusty_leveldb.specs.Serves.{IsSpared, Represents, refusal_of, setting_between}
-use Rattle.rusty_leveldb.specs.State.{Opening, Snapshot, State, closed, open_store}
+use Rattle.rusty_leveldb.specs.State.{Opening, Snapshot, State, broken, closed, open_store, refused}
 use Rattle.rusty_leveldb.specs.Walks.{landing_of, move_of}
 
 -- a state before a call and one after it, in the call's setting
@@ -81,14 +81,23 @@ abbrev pub NotWritten : List Item → Status → Row
 NotWritten items e setting old new = Keeps old new ⊎ (IsMemoryOrDevice setting e
     × (Breaks old None new ⊎ Breaks old (Some (added_batch old items)) new))
 
--- A flush that fails changes no answer. Out of memory or by the device it may break the store.
-abbrev pub NotFlushed : Status → Row
-NotFlushed e setting old new =
-    Keeps old new ⊎ (IsMemoryOrDevice setting e × Breaks old None new)
+-- the store is closed or broken, which refuses the call, and nothing changes
+abbrev pub RejectsByMode : Status → State → State → Type 0
+RejectsByMode e old new =
+    ((old.mode ≡ closed) × Rejects IsClosedRefusal old (refused (refusal_of e)) new)
+    ⊎ ((old.mode ≡ broken) × Rejects IsBrokenRefusal old (refused (refusal_of e)) new)
 
--- the store is broken, or all is as it was (an open store is broken: `EngineCloses.failed`)
-abbrev pub NotClosed : Row
-NotClosed setting old new = (new ≡ old) ⊎ Breaks old None new
+-- A flush that fails changes no answer. Out of memory it may break the store, and by the device it
+-- does.
+abbrev pub NotFlushed : Status → Row
+NotFlushed e setting old new = RejectsByMode e old new
+    ⊎ ((e.code ≡ OutOfMemory) × (Keeps old new ⊎ Breaks old None new))
+    ⊎ (HasFailed setting.before setting.after × Breaks old None new)
+
+-- A close that fails breaks a store that was open, out of memory or by the device.
+abbrev pub NotClosed : Status → Row
+NotClosed e setting old new = RejectsByMode e old new
+    ⊎ (IsMemoryOrDevice setting e × Breaks old None new)
 
 -- nothing is held, and the lock is as it was
 abbrev pub NotUnlocked : Row
