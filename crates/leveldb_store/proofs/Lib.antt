@@ -17,6 +17,7 @@ mod CurrentVersionLemmas
 mod LevelsApartLemmas
 mod LevelsReadLemmas
 pub mod TableKeepsLemmas
+pub mod KeptEntriesLemmas
 pub mod TableWaitingLemmas
 pub mod NotTabledLemmas
 pub mod SoundLemmas

@@ -18,11 +18,13 @@ use Rattle.leveldb_version.specs.StoreSteps.{KeepsHistory}
 use Rattle.leveldb_version.specs.VersionSetValue.{AreFileNumbersUsedUp, OpenManifest, VersionSetValue, in_use}
 use Rattle.leveldb_version.specs.Writing.{IsObsolete}
 use Rattle.leveldb_store.proofs.GivenTablesLemmas.{given_removed, given_same, given_then}
+use Rattle.leveldb_store.proofs.KeptEntriesLemmas.{entries_stay, entries_switched, entries_tabled, entries_then, live_kept, live_removed, live_still, live_then, memory_stays}
 use Rattle.leveldb_store.proofs.SoundLemmas.{failed_later, failed_once, goes_on_then, never_broken, nothing_goes_on, sound_ok, written_log, written_manifest}
 use Rattle.leveldb_store.proofs.TableKeepsLemmas.{KeepsHistory-trans}
 use Rattle.leveldb_store.proofs.TableWaitingLemmas.{keeps_nothing}
 use Rattle.leveldb_store.specs.BuildTable.{IsNotTabled, TableChoices}
 use Rattle.leveldb_version.specs.Format.{Agrees, Format, IsTableOf, Meaning}
+use Rattle.leveldb_store.specs.KeptEntries.{KeepsEntries, TablesEntries}
 use Rattle.leveldb_store.specs.OpenStore.{IsUnbroken, OpenLogValue, OpenStoreValue}
 use Rattle.leveldb_store.specs.Room.{AreEntriesNotTabled, FailsFor, FailsToMakeRoom, IsFileLost, IsFull, MakesRoom, TidiesUp}
 use Rattle.leveldb_store.specs.RoomSteps.{FailsToTableIfWaiting, IsStepToRoom}
@@ -128,6 +130,9 @@ module _ {E F C : Type 0} (env : Ghosts E F) (cmp : List ℕ → List ℕ → Or
   pub step_of_none : {P : Status → Type 0} (old : OpenStoreValue C) (from : E) → IsUnbroken old
       → Step P old from (Ok tt) old from
   step_of_none old from unbroken = record {
+    entries = entries_stay env format old old from refl;
+    live = live_still env.models_disk old.set (env.observed from) (env.observed from)
+        (λ modelled. refl);
     keeps = λ modelled meaning agrees. keeps_nothing cmp meaning old (env.observed from);
     usable = unbroken;
     rest = record {
@@ -149,6 +154,9 @@ module _ {E F C : Type 0} (env : Ghosts E F) (cmp : List ℕ → List ℕ → Or
       → IsUnbroken old → TidiesUp env cmp old from to → TimeGoesOn env from to
       → BytesAreAppended env from to → Step P old from (Ok tt) old to
   step_of_tidying old from to unbroken tidied time bytes = record {
+    entries = entries_stay env format old old to refl;
+    live = live_removed env.models_disk old.set (env.observed from) (env.observed to)
+        tidied.others;
     keeps = λ modelled meaning agrees. tidied.keeps modelled meaning;
     usable = unbroken;
     rest = record {
@@ -172,6 +180,8 @@ module _ {E F C : Type 0} (env : Ghosts E F) (cmp : List ℕ → List ℕ → Or
       (new : OpenStoreValue C) (to : E) → Step P old from result new to
       → Step Q old from result new to
   step_for so old from (Ok unit) new to step = record {
+    entries = step.entries;
+    live = step.live;
     keeps = step.keeps;
     usable = step.usable;
     rest = step.rest;
@@ -179,6 +189,8 @@ module _ {E F C : Type 0} (env : Ghosts E F) (cmp : List ℕ → List ℕ → Or
     sound = step.sound;
   }
   step_for so old from (Err status) new to step = record {
+    entries = step.entries;
+    live = step.live;
     keeps = step.keeps;
     usable = step.usable;
     rest = step.rest;
@@ -248,6 +260,9 @@ module _ {E F C : Type 0} (env : Ghosts E F) (cmp : List ℕ → List ℕ → Or
         → (result : Result (Unit {0}) Status) (new : OpenStoreValue C) (to : E)
         → Step P mid at result new to → Step Q old from result new to
     step_then so result new to second = record {
+      entries = entries_then env format [] old mid new at to first.rest.numbers
+          second.rest.numbers second.rest.store second.live first.entries second.entries;
+      live = live_then env.models_disk first.rest.store first.rest.numbers first.live second.live;
       keeps = λ modelled meaning agrees. keeps_then cmp meaning old mid new (env.observed from)
           (env.observed at) (env.observed to) (first.keeps modelled meaning agrees) first.usable
           first.rest.store first.rest.last (second.keeps modelled meaning agrees);
@@ -264,7 +279,8 @@ module _ {E F C : Type 0} (env : Ghosts E F) (cmp : List ℕ → List ℕ → Or
   FailsAtSwitch old from status = IsOutOfMemory status
       ⊎ AreFileNumbersUsedUp old.set.next_file status ⊎ IsFileLost env cmp old from format status
 
-  module _ (old : OpenStoreValue C) (from : E) (unbroken : IsUnbroken old) where
+  module _ (old : OpenStoreValue C) (from : E) (unbroken : IsUnbroken old)
+      (none_waits : old.waiting ≡ None) where
     fails_to_switch : (to : E) (status : Status) → FailsToSwitch env old from to status
         → FailsAtSwitch old from status
     fails_to_switch to status (inl used) = inr (inl used)
@@ -284,6 +300,9 @@ module _ {E F C : Type 0} (env : Ghosts E F) (cmp : List ℕ → List ℕ → Or
         → IsSoundCall env cmp any_meaning old from result new to
         → Step (FailsAtSwitch old from) old from result new to
     step_of_switch result new to s keeps sound = record {
+      entries = entries_switched env format old from none_waits result new to s;
+      live = live_kept env.models_disk old.set (env.observed from) new.set (env.observed to)
+          s.tables;
       keeps = λ modelled meaning agrees. keeps modelled meaning;
       usable = usable_switched env old from unbroken result new to s;
       rest = s.rest;
@@ -366,13 +385,25 @@ module _ {E F C D FP : Type 0} {order : CmpGhosts D} {filters : FilterGhosts FP}
       = ap (λ (set : VersionSetValue). set.next_file) t.logged.set in
       omega (arith, given)
 
+  entries_of_table : (result : Result (Unit {0}) Status) (new : OpenStoreValue C) (to : E)
+      → Tables result new to → OnOk result (TablesEntries env choices.format old new to)
+      → KeepsEntries env choices.format [] old new to
+  entries_of_table (Ok unit) new to t entries =
+      entries_tabled env choices.format old new to t.recent t.none_waits entries
+  entries_of_table (Err status) new to t entries =
+      memory_stays env choices.format old new to t.recent t.waits
+
   pub step_of_table : old.waiting ≢ None → (result : Result (Unit {0}) Status)
       (new : OpenStoreValue C) (to : E) → Tables result new to
+      → OnOk result (TablesEntries env choices.format old new to)
       → (IsTrue env.models_disk → (meaning : Meaning) → Agrees choices.format meaning
       → KeepsWritten cmp meaning old (env.observed from) new (env.observed to))
       → IsSoundCall env cmp (Agrees choices.format) old from result new to
       → IsStepToRoom env cmp choices.format Fails old from result new to
-  step_of_table waits result new to t keeps sound = record {
+  step_of_table waits result new to t entries keeps sound = record {
+    entries = entries_of_table result new to t entries;
+    live = live_kept env.models_disk old.set (env.observed from) new.set (env.observed to)
+        t.tables;
     keeps = keeps;
     usable = usable_tabled result new to t;
     rest = t.rest;
@@ -438,7 +469,7 @@ module _ {E F C D FP : Type 0} {keys : CmpGhosts D} {filters : FilterGhosts FP} 
     (old mid : OpenStoreValue C) (from at : E)
     (first : IsStepToRoom env (order old.cmp) choices.format
     (FailsToTableIfWaiting env (order old.cmp) choices old from) old from (Ok tt) mid at)
-    (given : mid.set.next_file ≤ old.set.next_file + 1) where
+    (given : mid.set.next_file ≤ old.set.next_file + 1) (none_waits : mid.waiting ≡ None) where
   abbrev StepToRoom : Result (Unit {0}) Status → OpenStoreValue C → E → Type 0
   StepToRoom = IsStepToRoom env (order old.cmp) choices.format
       (FailsToMakeRoom env (order old.cmp) old from choices) old from
@@ -456,8 +487,8 @@ module _ {E F C D FP : Type 0} {keys : CmpGhosts D} {filters : FilterGhosts FP} 
       (lost_before env (order old.cmp) choices.format old mid from at first)) result new to
       (step_in_order env order choices.format
       (λ cmp. FailsAtSwitch env cmp choices.format mid at) mid at result new to first.rest.cmp
-      (step_of_switch env (order mid.cmp) choices.format mid at first.usable result new to s keeps
-      sound))
+      (step_of_switch env (order mid.cmp) choices.format mid at first.usable none_waits result new
+      to s keeps sound))
 
   -- and the second table is made after that
   pub step_tabled : mid.recent ≡ old.recent → (switched : OpenStoreValue C) (begun : E)
@@ -496,6 +527,8 @@ module _ {E F C D FP : Type 0} {order : CmpGhosts D} {filters : FilterGhosts FP}
         none_waits = λ full. absurd (not_full full);
         places = λ full. absurd (not_full full);
         err = tt;
+        entries = none.entries;
+        live = none.live;
         keeps = none.keeps;
         usable = none.usable;
         rest = none.rest;
@@ -514,6 +547,8 @@ module _ {E F C D FP : Type 0} {order : CmpGhosts D} {filters : FilterGhosts FP}
     none_waits = λ full. (empty, none_waits);
     places = λ full. places;
     err = tt;
+    entries = step.entries;
+    live = step.live;
     keeps = step.keeps;
     usable = step.usable;
     rest = step.rest;
@@ -532,6 +567,8 @@ module _ {E F C D FP : Type 0} {order : CmpGhosts D} {filters : FilterGhosts FP}
     none_waits = tt;
     places = tt;
     err = ⊎_elim (λ same. inl (subst (IsFull limit) (sym same) full)) (λ waits. inr waits) left;
+    entries = step.entries;
+    live = step.live;
     keeps = step.keeps;
     usable = step.usable;
     rest = step.rest;

@@ -2,12 +2,13 @@
 use Rattle.std.specs.Prelude.{◌≢◌, All, Contains, IsTrue, IfSome}
 use Rattle.std.proofs.Common.{◌≡◌, ◌⊎◌, ◌∙◌, ◌∷◌, ◌++◌, ◌+◌, ◌-◌, ◌≤◌, ◌<◌, ◌^◌, inl, inr, ⊎_elim, ℕ, Bool, true, false, List, [], map, Option, None, Some, Ok, Err, Result, ap, arith, refl, subst, sym}
 use Rattle.std.proofs.lemmas.List.{map-append}
-use Rattle.std.proofs.lemmas.List.Elements.{All-cons, All-nil, Contains-append_left}
+use Rattle.std.proofs.lemmas.List.Elements.{All-cons, All-nil, Contains-append_left, Contains-append_right}
 use Rattle.std.specs.Cmp.{IsTotalOrder}
 use Rattle.std.specs.Option.{option_map}
 use Rattle.std.specs.Cmp.Lexicographic.{bytes_decides}
 use Rattle.std.specs.Str.{bytes_eq}
 use Rattle.std.specs.declared.cmp.Ordering.{Ordering}
+use Rattle.leveldb_base.proofs.HistoryLemmas.{in_front}
 use Rattle.leveldb_base.specs.Entries.{internal_pair}
 use Rattle.leveldb_base.specs.History.{Entry}
 use Rattle.leveldb_base.specs.KeyTypes.{user_part}
@@ -27,6 +28,7 @@ use Rattle.leveldb_mem.specs.Log.Writer.{frame}
 use Rattle.leveldb_mem.specs.MemTable.{MemTableState}
 use Rattle.leveldb_table.specs.TableBuilder.{IsMeaningOf}
 use Rattle.leveldb_table.specs.TableLaws.{DecodesMore}
+use Rattle.leveldb_version.proofs.ManagedLemmas.{same_bytes, table_on}
 use Rattle.leveldb_version.proofs.StoreTablesLemmas.{held_tables_by_more}
 use Rattle.leveldb_version.specs.Batches.{Each}
 use Rattle.leveldb_version.specs.Contents.{Store}
@@ -51,6 +53,7 @@ use Rattle.leveldb_store.proofs.TableKeepsLemmas.{KeepsHistory-refl, KeepsHistor
 use Rattle.leveldb_store.proofs.SoundLemmas.{edit_goes_on, goes_on_then, sound_unlogged, table_goes_on}
 use Rattle.leveldb_store.specs.BuildTable.{MakesTable, TableChoices}
 use Rattle.leveldb_version.specs.Format.{Agrees, Format, IsTableOf, Meaning}
+use Rattle.leveldb_store.specs.KeptEntries.{TablesEntries}
 use Rattle.leveldb_store.specs.OpenStore.{AreInLevels, AreNumbersGiven, HasOwnManifest, OpenStoreValue}
 use Rattle.leveldb_store.specs.SoundCall.{IsSoundCall}
 use Rattle.leveldb_store.specs.Switch.{FailsToTableWaiting, TablesWaiting}
@@ -737,6 +740,69 @@ module _ {E F C D FP : Type 0} {order : CmpGhosts D} {filters : FilterGhosts FP}
         (m.run modelled) (m.bytes modelled) total (new_file_of (level, file)) picked m.number_is.0
         (m.fits level) has_made kept_made env.models_disk modelled (env.observed to)
         (env.failures mid) (env.failures to) set logs
+
+-- ---- the table that was added
+
+module _ {E F C D FP : Type 0} {order : CmpGhosts D} {filters : FilterGhosts FP} (env : Ghosts E F)
+    (choices : TableChoices order filters) (old : OpenStoreValue C) (from mid : E)
+    (level : ℕ) (file : FileMetaData) (some : waiting_entries old.waiting ≢ [])
+    (each : Each IsInternalPair (map internal_pair (waiting_entries old.waiting))
+    (waiting_entries old.waiting))
+    (m : MakesTable choices (map internal_pair (waiting_entries old.waiting)) env (λ status. ⊥)
+    old.set.store old.set.next_file from (Ok file) mid) where
+  -- once its edit is logged it has the entries that waited, whatever the other files are
+  pub waiting_added : old.set.next_file + 1 < 2 ^ 64 → AreNumbersGiven old.set old.set.full.added
+      → (manifest : OpenManifest) → old.set.manifest ≡ in_use manifest
+      → (IsTrue env.models_disk → HasOwnManifest old.set)
+      → (set : VersionSetValue) (to : E)
+      → AppendsEdit env.models_disk manifest (with_number_given old.set)
+      (table_edit old.log.number (new_file_of (level, file))) (env.observed mid) (env.failures mid)
+      (Ok tt) set (env.observed to) (env.failures to)
+      → (next : VersionValue C) → TablesEntries env choices.format old
+      (record old { set = set; current = next; waiting = None }) to
+  waiting_added next_fits given manifest used own set to l next = (
+    it,
+    record {
+      live =
+          let lower = lower_stay it old.set.full.added
+          (subst (λ n. All (λ (one : NewFile). one.number < n) old.set.full.added) (sym number)
+          given) in
+          subst (λ files. Contains files it)
+          (sym (ap (λ (s : VersionSetValue). s.full.added) l.ok
+          ∙ ap (λ files. files ++ it ∷ []) lower))
+          (Contains-append_right old.set.full.added (it ∷ []) it (in_front it []));
+      fresh = omega (arith, number);
+      given = let more = ap (λ (s : VersionSetValue). s.next_file) l.ok in
+          omega (arith, number, more);
+      fits = fits;
+      there = λ modelled meaning agrees.
+          let path = table_path old.set.store file.num in
+          let same = appending_and_syncing manifest.path _ (env.observed mid).disk.files
+          (env.observed to).disk.files ((l.does modelled).now modelled) path
+          (types_apart old.set.store manifest.path path Descriptor Table
+          (own modelled manifest used) (is_table_path old.set.store file.num fits)
+          (λ e. cc)) in
+          let f = choices.format in
+          let table = made_table env choices old from mid level file some each m modelled f.order
+          refl meaning agrees in
+          subst (λ s. HasTable s f.order (IsTableOf f.order meaning) (env.observed to).disk.files
+          table) (sym (ap (λ (s : VersionSetValue). s.store) l.ok))
+          (table_on old.set.store f.order (IsTableOf f.order meaning) (env.observed mid).disk.files
+          (env.observed to).disk.files table
+          (same_bytes ((env.observed mid).disk.files path) ((env.observed to).disk.files path) same)
+          (has_made env choices old from mid level file some each m modelled f.order refl meaning
+          agrees));
+    },
+  )
+    where
+      it : NewFile
+      it = new_file_of (level, file)
+
+      number : file.num ≡ old.set.next_file
+      number = m.number_is.0
+
+      fits : file.num < 2 ^ 64
+      fits = omega (arith, number, next_fits)
 
 -- ---- the files by levels
 

@@ -10,6 +10,7 @@ pub mod Written
 pub mod WrittenFrom
 pub mod Switch
 pub mod Read
+pub mod KeptEntries
 pub mod View
 pub mod Opening
 pub mod OpensStore

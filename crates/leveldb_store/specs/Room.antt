@@ -15,6 +15,7 @@ use Rattle.leveldb_env.specs.declared.filter.FilterPolicy.{Ghosts as FilterGhost
 use Rattle.leveldb_mem.specs.MemTable.{Kept, memory_of_entries}
 use Rattle.leveldb_store.specs.BuildTable.{IsNotTabled, TableChoices}
 use Rattle.leveldb_version.specs.Format.{Agrees, Format, Meaning}
+use Rattle.leveldb_store.specs.KeptEntries.{KeepsEntries, KeepsLiveTables}
 use Rattle.leveldb_store.specs.OpenStore.{IsUnbroken, OpenStoreValue}
 use Rattle.leveldb_store.specs.Switch.{AreFileNumbersTooFew, RemovesNoOther, RemovesObsolete}
 use Rattle.leveldb_store.specs.Written.{IsWritten, KeepsWritten, SparesRest}
@@ -89,6 +90,10 @@ module _ {E F C : Type 0} (env : Ghosts E F) (cmp : List ℕ → List ℕ → Or
     pub places : OnOk result (IsFull limit old.recent → new.recent.places ≡ 0)
     -- after an Err it is full still, or one waits: that a file wasn't deleted is no Err
     pub err : OnErr result (IsFull limit new.recent ⊎ (new.waiting ≢ None))
+    -- whatever the files are, no entry is lost, nor is a live table
+    pub entries : KeepsEntries env choices.format [] old new to
+    pub live : KeepsLiveTables env.models_disk old.set (env.observed from) new.set
+        (env.observed to)
     pub keeps : IsTrue env.models_disk → (meaning : Meaning) → Agrees choices.format meaning
         → KeepsWritten cmp meaning old (env.observed from) new (env.observed to)
     pub usable : OnOk result (IsUnbroken new)

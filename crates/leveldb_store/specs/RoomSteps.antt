@@ -1,5 +1,5 @@
 -- The steps on the way to room in the memtable.
-use Rattle.std.specs.Prelude.{◌⊎◌, ℕ, List, Result, OnOk, IsTrue}
+use Rattle.std.specs.Prelude.{◌⊎◌, ℕ, List, [], Result, OnOk, IsTrue}
 use Rattle.std.specs.declared.cmp.Ordering.{Ordering}
 use Rattle.leveldb_base.specs.Error.{IsOutOfMemory}
 use Rattle.leveldb_base.specs.declared.cmp.Cmp.{Ghosts as CmpGhosts}
@@ -9,6 +9,7 @@ use Rattle.leveldb_env.specs.declared.filter.FilterPolicy.{Ghosts as FilterGhost
 use Rattle.leveldb_version.specs.VersionSetValue.{AreFileNumbersUsedUp}
 use Rattle.leveldb_store.specs.BuildTable.{TableChoices}
 use Rattle.leveldb_version.specs.Format.{Agrees, Format, Meaning}
+use Rattle.leveldb_store.specs.KeptEntries.{KeepsEntries, KeepsLiveTables}
 use Rattle.leveldb_store.specs.OpenStore.{IsUnbroken, OpenStoreValue}
 use Rattle.leveldb_store.specs.Room.{AreEntriesNotTabled, FailsFor, IsFileLost}
 use Rattle.leveldb_store.specs.SoundCall.{IsSoundCall}
@@ -32,6 +33,9 @@ module _ {E F C : Type 0} (env : Ghosts E F) (cmp : List ℕ → List ℕ → Or
       : Type 0 where
     pub keeps : IsTrue env.models_disk → (meaning : Meaning) → Agrees format meaning
         → KeepsWritten cmp meaning old (env.observed from) new (env.observed to)
+    pub entries : KeepsEntries env format [] old new to
+    pub live : KeepsLiveTables env.models_disk old.set (env.observed from) new.set
+        (env.observed to)
     pub usable : OnOk result (IsUnbroken new)
     pub rest : SparesRest env.models_disk old (env.observed from) new (env.observed to)
     pub cause : FailsFor Excused (env.failures from) (env.failures to) result

@@ -1,5 +1,5 @@
 -- What writing a batch to an open store returns and leaves of memory and files, and why it fails.
-use Rattle.std.specs.Prelude.{true, ◌≡◌, ◌+◌, ◌⊎◌, ℕ, Bool, List, [], ◌∷◌, ◌++◌, length, Option, None, Some, Result, OnErr, OnOk, IsTrue}
+use Rattle.std.specs.Prelude.{true, ◌≡◌, ◌+◌, ◌⊎◌, ℕ, Bool, List, [], ◌∷◌, ◌++◌, length, Option, None, Some, Result, Ok, Err, OnErr, OnOk, IsTrue}
 use Rattle.std.specs.declared.cmp.Ordering.{Ordering}
 use Rattle.leveldb_base.specs.History.{Entry, History, Item, count_of, placed, with_batch}
 use Rattle.leveldb_base.specs.declared.error.Status.{Status}
@@ -17,6 +17,11 @@ use Rattle.leveldb_store.specs.Written.{IsWritten, KeepsShown}
 -- the batch that these items make after a store's last entry
 abbrev pub next_batch : {C : Type 0} → OpenStoreValue C → List Item → List Entry
 next_batch value items = placed (value.set.last_sequence + 1) items
+
+-- the entries that a write of this batch adds, by what it returns
+abbrev pub written_batch : {T : Type 0} → Result T Status → List Entry → List Entry
+written_batch (Ok value) batch = batch
+written_batch (Err status) batch = []
 
 -- ---- histories
 

@@ -17,6 +17,7 @@ use Rattle.leveldb_version.specs.Format.{Format, IsTableFault, LacksCompressor}
 use Rattle.leveldb_version.specs.TableCache.{table_options}
 use Rattle.leveldb_version.specs.declared.table_cache.TableCache.{TableCache}
 use Rattle.leveldb_store.specs.OpenStore.{IsUnbroken, OpenStoreValue}
+use Rattle.leveldb_store.proofs.KeptEntriesLemmas.{entries_stay}
 use Rattle.leveldb_store.specs.Read.{LooksUpKey}
 use Rattle.leveldb_store.specs.Room.{FailsFor, HasFailed, TellsOnly}
 use Rattle.leveldb_store.specs.SoundCall.{IsSoundCall, any_meaning}
@@ -144,6 +145,8 @@ module _ {E C FP F P : Type 0} {B : Boxed} {keys : InternalOrder C} {key_filters
           written = tt;
           waits = tt;
           failed = (inr refl, (refl, λ room. (refl, refl)));
+          entries = entries_stay env (formats (options_in before)) before.store before.store at
+              refl;
           breaks = λ room. inr refl;
           snapshots = refl;
           options = record { rest = refl; sink = refl };

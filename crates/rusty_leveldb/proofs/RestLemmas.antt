@@ -1,5 +1,5 @@
 -- What a call leaves alone, whatever the files are.
-use Rattle.std.specs.Prelude.{Result, codes, if◌then◌else◌, is_ok, replicate}
+use Rattle.std.specs.Prelude.{Contains, Result, codes, if◌then◌else◌, is_ok, replicate}
 use Rattle.std.specs.Fmt.{decimal}
 use Rattle.std.specs.Option.{option_map}
 use Rattle.std.proofs.Common.{◌≡◌, ◌≢◌, ◌-◌, ◌++◌, ◌⊎◌, ◌∙◌, ⊎_elim, inl, inr, ℕ, zero, Bool, false, List, length, length-append, refl, sym, ap, subst, arith, Option, Ok, Err, IsTrue}
@@ -19,9 +19,13 @@ use Rattle.leveldb_mem.specs.Log.Writer.{broken_writer}
 use Rattle.leveldb_table.specs.TableBlock.{KeepsDisk}
 use Rattle.leveldb_version.specs.Paths.{lock_path, log_path}
 use Rattle.leveldb_store.specs.BuildTable.{TableChoices}
+use Rattle.leveldb_version.specs.VersionEdit.{Edit}
+use Rattle.leveldb_version.specs.VersionSetValue.{VersionSetValue}
 use Rattle.leveldb_version.specs.declared.table_cache.TableCache.{TableCache}
 use Rattle.leveldb_store.proofs.GivenTablesLemmas.{given_same, given_then}
+use Rattle.leveldb_store.proofs.KeptEntriesLemmas.{live_beside_batch, live_then}
 use Rattle.leveldb_store.proofs.SwitchLemmas.{tables_same}
+use Rattle.leveldb_store.specs.KeptEntries.{KeepsLiveTables}
 use Rattle.leveldb_store.specs.OpenStore.{OpenStoreValue}
 use Rattle.leveldb_store.specs.Write.{SyncsLog, open_log_path, with_writer}
 use Rattle.leveldb_store.specs.WriteBatch.{WritesBatch}
@@ -84,7 +88,17 @@ module _ {E C FP F : Type 0} {B : Boxed} (env : Ghosts E F)
 
   -- ---- tables
 
-  -- no table changes where the log alone does
+  -- no table changes, and all that are live stay so, where the log alone changes
+  live_beside : (set : VersionSetValue) (n : ℕ) (to : E) → set.full ≡ before.store.set.full
+      → (IsTrue env.models_disk → SameBut (log_path store n) (env.observed from).disk.files
+      (env.observed to).disk.files)
+      → KeepsLiveTables env.models_disk before.store.set (env.observed from) set (env.observed to)
+  live_beside set n to full but = record {
+    live = λ file there. subst (λ (e : Edit). Contains e.added file) (sym full) there;
+    files = λ modelled file there fits given. tables_same store n (env.observed from).disk.files
+        (env.observed to).disk.files (but modelled) file.number;
+  }
+
   tables_beside : (n : ℕ) (to : E)
       → SameBut (log_path store n) (env.observed from).disk.files (env.observed to).disk.files
       → KeepsGivenTables before.store.set (env.observed from).disk.files
@@ -96,6 +110,12 @@ module _ {E C FP F : Type 0} {B : Boxed} (env : Ghosts E F)
   -- no file changes
   module _ (to : E) (still : IsTrue env.models_disk
       → (env.observed to).disk.files ≡ (env.observed from).disk.files) where
+    pub live_where_still : (set : VersionSetValue) → set.full ≡ before.store.set.full
+        → KeepsLiveTables env.models_disk before.store.set (env.observed from) set
+        (env.observed to)
+    live_where_still set full = live_beside set zero to full
+        (λ modelled path differs. ap (λ (f : Files). f path) (still modelled))
+
     pub tables_where_still : IsTrue env.models_disk
         → KeepsGivenTables before.store.set (env.observed from).disk.files
         (env.observed to).disk.files
@@ -123,6 +143,7 @@ module _ {E C FP F : Type 0} {B : Boxed} (env : Ghosts E F)
         (λ (fails : (e : Status) × (result ≡ Err e)).
         subst (λ r. IsLockLeft request r (holds_lock env before from) (holds_lock env before from))
         (sym fails.1) (tt, refl)) why;
+    live = live_where_still from (λ modelled. refl) before.store.set refl;
     tables = tables_where_still from (λ modelled. refl);
     bytes = λ modelled syncs. bytes_where_still from (λ modelled. refl) modelled;
   }
@@ -142,6 +163,8 @@ module _ {E C FP F : Type 0} {B : Boxed} (env : Ghosts E F)
     lock = λ modelled. lock_stays (get snapshot key) result (holds_lock env before from)
         (holds_lock env before to)
         (ap (λ (l : List ℕ → Bool). l before.lock) (keeps.locks modelled)) refl;
+    live = live_where_still to (λ modelled. (keeps.disk modelled).has) value.set
+        (ap (λ (v : OpenStoreValue C). v.set.full) same);
     tables = tables_where_still to (λ modelled. (keeps.disk modelled).has);
     bytes = λ modelled syncs. absurd syncs;
   }
@@ -224,6 +247,9 @@ module _ {E C FP F : Type 0} {B : Boxed} (env : Ghosts E F)
             (env.observed from).disk.files (env.observed mid).disk.files
             ((syncs.does modelled).now modelled)
 
+        sync_full : value.set.full ≡ before.store.set.full
+        sync_full = ap (λ (v : OpenStoreValue C). v.set.full) (sync_only synced syncs)
+
         sync_bytes : IsTrue env.models_disk
             → SameBytes (env.observed from).disk.files (env.observed mid).disk.files
         sync_bytes modelled = ⊎_elim
@@ -268,6 +294,7 @@ module _ {E C FP F : Type 0} {B : Boxed} (env : Ghosts E F)
               (λ (fails : (e : Status) × (synced ≡ Err e)).
               subst (λ r. IsLockLeft request r (holds_lock env before from)
               (holds_lock env before mid)) (sym fails.1) (tt, stays)) why;
+          live = live_beside value.set before.store.log.number mid sync_full sync_but;
           tables = λ modelled. tables_beside before.store.log.number mid (sync_but modelled);
           bytes = λ modelled syncing. sync_bytes modelled;
         }
@@ -294,6 +321,7 @@ module _ {E C FP F : Type 0} {B : Boxed} (env : Ghosts E F)
               (env.observed mid).disk.locked (env.observed to).disk.locked (λ held. refl)
               (λ path. ap (λ (l : List ℕ → Bool). l path) (syncs.locks modelled))
               (relocks modelled));
+          live = live_beside value.set before.store.log.number to sync_full given_but;
           tables = λ modelled. tables_beside before.store.log.number to (given_but modelled);
           bytes = λ modelled syncing path. ap (λ (f : Files). option_map bytes_of (f path))
               (does.now modelled) ∙ sync_bytes modelled path;
@@ -327,6 +355,7 @@ module _ {E C FP F : Type 0} {B : Boxed} (env : Ghosts E F)
           tt,
           ap (λ (l : List ℕ → Bool). l before.lock) (made.makes.rest.locks modelled),
         );
+        live = made.makes.live;
         tables = made.makes.rest.tables;
         bytes = λ modelled syncs. absurd syncs;
       }
@@ -363,6 +392,9 @@ module _ {E C FP F : Type 0} {B : Boxed} (env : Ghosts E F)
               (λ path differs. batch_locks modelled path);
           lock = λ modelled. lock_stays (write items sync) result (holds_lock env before from)
               (holds_lock env before to) (batch_locks modelled before.lock) refl;
+          live = live_then env.models_disk made.makes.rest.store made.makes.rest.numbers
+              made.makes.live (live_beside_batch env (choices (options_in roomy)).format.order
+              roomy.store mid items sync result value to writes);
           tables = λ modelled. given_then before.store.set roomy.store.set made.makes.rest.store
               made.makes.rest.numbers (env.observed from).disk.files (env.observed mid).disk.files
               (env.observed to).disk.files (made.makes.rest.tables modelled)

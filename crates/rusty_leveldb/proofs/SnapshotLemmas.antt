@@ -214,6 +214,7 @@ module _ {E C FP F P : Type 0} {B : Boxed} {keys : InternalOrder C} {key_filters
         place = (refl, refl);
         others = rest.others;
         lock = rest.lock;
+        live = rest.live;
         tables = rest.tables;
         bytes = rest.bytes;
       }
@@ -223,6 +224,7 @@ module _ {E C FP F P : Type 0} {B : Boxed} {keys : InternalOrder C} {key_filters
         place = (refl, refl);
         others = rest.others;
         lock = rest.lock;
+        live = rest.live;
         tables = rest.tables;
         bytes = rest.bytes;
       }

@@ -22,7 +22,7 @@ use Rattle.rusty_leveldb.specs.State.{Request, Snapshot, refused}
 use Rattle.rusty_leveldb.specs.Serves.{refusal_of}
 use Rattle.rusty_leveldb.specs.Walks.{walk_of}
 use Rattle.rusty_leveldb.proofs.Others.{spares_same}
-use Rattle.rusty_leveldb.proofs.RestLemmas.{rest_still, tables_where_still}
+use Rattle.rusty_leveldb.proofs.RestLemmas.{live_where_still, rest_still, tables_where_still}
 use Rattle.rusty_leveldb.proofs.RowLemmas.{walk_row}
 use Rattle.rusty_leveldb.proofs.WalkingLemmas.{walk_closed, walk_goes, walk_starved, walk_unheld}
 
@@ -118,6 +118,8 @@ module _ {E C FP F P : Type 0} {B : Boxed} {keys : InternalOrder C} {key_filters
                   (λ path differs. ap (λ (l : List ℕ → Bool). l path) (walks.kept.locks modelled));
               lock = λ modelled. locks_stay result (holds_lock env before to) (holds_lock env before from)
                   (ap (λ (l : List ℕ → Bool). l before.lock) (walks.kept.locks modelled));
+              live = live_where_still env before from to (λ modelled. (walks.kept.disk modelled).has)
+                  before.store.set refl;
               tables = tables_where_still env before from to
                   (λ modelled. (walks.kept.disk modelled).has);
               bytes = λ modelled syncs. absurd syncs;

@@ -13,10 +13,12 @@ use Rattle.leveldb_mem.specs.MemTable.{FailsToPrepare, IsUnion, Kept, bytes_in, 
 use Rattle.leveldb_mem.specs.WriteBatch.{Batch, IsTooLong, batch_bytes, batch_of, max_length, with_item}
 use Rattle.leveldb_store.specs.BuildTable.{TableChoices}
 use Rattle.leveldb_version.specs.Format.{Format}
+use Rattle.leveldb_store.proofs.KeptEntriesLemmas.{entries_stay, entries_then, entries_written, live_beside_batch}
+use Rattle.leveldb_store.specs.KeptEntries.{KeepsEntries}
 use Rattle.leveldb_store.specs.OpenStore.{IsUnbroken, OpenStoreValue}
 use Rattle.leveldb_store.specs.Room.{FailsFor, FailsToMakeRoom, HasFailed, IsFull, TellsOnly}
 use Rattle.leveldb_store.specs.SoundCall.{IsSoundCall, any_meaning}
-use Rattle.leveldb_store.specs.WriteBatch.{FailsToWrite, WritesBatch}
+use Rattle.leveldb_store.specs.WriteBatch.{FailsToWrite, WritesBatch, next_batch, written_batch}
 use Rattle.rusty_leveldb.specs.Boxes.{EngineOf, InternalOrder}
 use Rattle.rusty_leveldb.specs.EngineValue.{FollowsStore}
 use Rattle.rusty_leveldb.specs.Calls.{EngineWrites, IsMemtableFull, KeepsMemory, KeepsModeOrBreaks, OneWaitsAtMost, WritesIntoRoom}
@@ -99,6 +101,8 @@ module _ {E C FP F P : Type 0} {B : Boxed} {keys : InternalOrder C} {key_filters
         written = tt;
         waits = tt;
         failed = (inr refl, (refl, λ room. (refl, refl)));
+        entries = entries_stay env (formats (options_in before)) before.store before.store from
+            refl;
         breaks = λ room. inr refl;
         snapshots = refl;
         options = record { rest = refl; sink = refl };
@@ -145,6 +149,7 @@ module _ {E C FP F P : Type 0} {B : Boxed} {keys : InternalOrder C} {key_filters
                   ),
             ),
           );
+          entries = made.makes.entries;
           breaks = λ room. absurd (made.makes.not_full room).2;
           snapshots = ap (λ (e : EngineOf E C FP F B). e.snapshots) made.rest;
           options = room_tells env choices before from (Err status) after to made;
@@ -227,6 +232,25 @@ module _ {E C FP F P : Type 0} {B : Boxed} {keys : InternalOrder C} {key_filters
           inr (room, waits ∙ ap (λ (v : OpenStoreValue C). v.waiting) (made.makes.not_full room).0))
           (full_or_not before.options.write_buffer_size before.store.recent)
       batch_waits (Err status) writes = tt
+
+      -- no entry is lost
+      batch_entries : (result : Result (Unit {0}) Status)
+          → WritesBatch env (formats (options_in roomy)).order roomy.store mid items sync result value
+          to → KeepsEntries env (formats (options_in before))
+          (written_batch result (next_batch before.store items)) before.store value to
+      batch_entries result writes =
+          let batch = written_batch result (next_batch before.store items) in
+          let format = formats (options_in before) in
+          let order = (formats (options_in roomy)).order in
+          let number = ap (λ (v : OpenStoreValue C). v.set.next_file) writes.rest in
+          entries_then env format batch before.store roomy.store value mid to
+          made.makes.rest.numbers (omega (arith, number))
+          (ap (λ (v : OpenStoreValue C). v.set.store) writes.rest)
+          (live_beside_batch env order roomy.store mid items sync result value to writes)
+          made.makes.entries
+          (subst (λ n. KeepsEntries env format (written_batch result (placed (n + 1) items))
+          roomy.store value to) made.makes.rest.last
+          (entries_written env order roomy.store mid items sync format result value to writes))
 
       -- or it isn't written, and no answer changes
       batch_failed : (result : Result (Unit {0}) Status)
@@ -353,6 +377,7 @@ module _ {E C FP F P : Type 0} {B : Boxed} {keys : InternalOrder C} {key_filters
             written = batch_written result writes_in;
             waits = batch_waits result writes_in;
             failed = batch_failed result writes_in;
+            entries = batch_entries result writes_in;
             breaks = batch_breaks result writes_in;
             snapshots = ap (λ (e : EngineOf E C FP F B). e.snapshots) made.rest;
             options = batch_tells env choices before from roomy mid made value

@@ -16,12 +16,13 @@ use Rattle.leveldb_iter.specs.declared.snapshot.Snapshot.{Snapshot as HeldSnapsh
 use Rattle.leveldb_mem.specs.MemTable.{IsUnion}
 use Rattle.leveldb_store.specs.BuildTable.{TableChoices}
 use Rattle.leveldb_store.specs.FoundLogs.{HasLogNotKept}
+use Rattle.leveldb_store.specs.KeptEntries.{KeepsEntries, KeepsLiveTables}
 use Rattle.leveldb_store.specs.Read.{GetsFromMemory, GetsFromTables}
 use Rattle.leveldb_store.specs.Room.{FailsFor, IsFull, TellsOnly}
 use Rattle.leveldb_store.specs.SoundCall.{TimeGoesOn}
 use Rattle.leveldb_store.specs.View.{MoveFails, WalksStore}
 use Rattle.leveldb_store.specs.Write.{open_log_path, with_writer}
-use Rattle.leveldb_store.specs.WriteBatch.{next_batch}
+use Rattle.leveldb_store.specs.WriteBatch.{next_batch, written_batch}
 use Rattle.leveldb_store.specs.Written.{KeepsGivenTables}
 use Rattle.leveldb_version.specs.Batches.{Each}
 use Rattle.leveldb_version.specs.Format.{Format, IsTableFault, Meaning, Agrees}
@@ -67,7 +68,9 @@ module _ {E C FP F : Type 0} {B : Boxed} (env : Ghosts E F) where
     -- and the lock, but that closing frees it
     pub lock : IsTrue env.models_disk
         → IsLockLeft request result (holds_lock env before from) (holds_lock env before to)
-    -- no table changes whose number was given, though it may be deleted
+    -- no live table is lost, and none changes whose number was given, though it may be deleted
+    pub live : KeepsLiveTables env.models_disk before.store.set (env.observed from)
+        after.store.set (env.observed to)
     pub tables : IsTrue env.models_disk → KeepsGivenTables before.store.set
         (env.observed from).disk.files (env.observed to).disk.files
     -- a sync adds no byte
@@ -166,6 +169,10 @@ module _ {E C FP F P : Type 0} {B : Boxed} {keys : InternalOrder C} {key_filters
     pub waits : OnOk result (OneWaitsAtMost before after)
     -- Err leaves what memory shows, and the mode, or a broken store
     pub failed : OnErr result (KeepsModeOrBreaks before after × KeepsMemory before after)
+    -- Ok or Err, no entry is lost that was in memory or is of the batch that was written: it is in
+    -- memory, or in tables that were added
+    pub entries : KeepsEntries env (formats_of choices (options_in before))
+        (written_batch result (next_batch before.store items)) before.store after.store to
     -- where the memtable wasn't full, an Err came before any call of the device, or broke the store
     pub breaks : OnErr result ((IsMemtableFull before → ⊥) → IsBroken after.mode ⊎ (to ≡ from))
     -- the same snapshots are held, and the options stay, but for the sink of their log

@@ -15,6 +15,7 @@ ghost use Rattle.leveldb_version.specs.VersionSetValue.{OpenManifest, broken, in
 ghost use Rattle.leveldb_version.specs.Writing.{table_edit};
 ghost use Rattle.leveldb_store.specs.BuildTable.{MakesTable, choices_of};
 ghost use Rattle.leveldb_version.specs.Format.{Agrees, Meaning, format_of};
+ghost use Rattle.leveldb_store.specs.KeptEntries.{TablesEntries};
 ghost use Rattle.leveldb_store.specs.OpenStore.{AreInLevels, AreNumbersGiven};
 ghost use Rattle.leveldb_store.specs.SoundCall.{IsSoundCall};
 ghost use Rattle.leveldb_store.specs.Switch.{TablesWaiting};
@@ -47,6 +48,8 @@ impl<E: Env, C: UserCmp + Copy + Drop> OpenStore<E, C> {
             ⟦<InternalKeyCmp<C> as Cmp>⟧ ⟦<InternalFilterPolicy<FP> as FilterPolicy>⟧
             ⟦<CompressorList as Compressors>⟧.codings options.now)
             (map internal_pair (waiting_entries self.old.waiting)) result self.new env.new }
+        ensures entries { OnOk result (TablesEntries E.Env (format_of C.Cmp FP.FilterPolicy
+            ⟦<CompressorList as Compressors>⟧.codings options.now) self.old self.new env.new) }
         ensures keeps { IsTrue E.models_disk → (meaning : Meaning)
             → Agrees (format_of C.Cmp FP.FilterPolicy
             ⟦<CompressorList as Compressors>⟧.codings options.now) meaning

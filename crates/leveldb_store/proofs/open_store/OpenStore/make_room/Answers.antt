@@ -34,7 +34,7 @@ returns-in_err-switch_log-clause-makes g c =
     let p = err_from_is_err_and c.from_residual-in_err-switch_log.result c.from_residual-in_err-switch_log.ensures.1 in
     rw (p.1, p.2)
     (no_room_made g.E.Env (order old.cmp) _ _ old from _ new to (c.if-not-is_full.ensures.0 refl)
-    (step_switched g.E.Env order _ old mid from at first.step first.numbers _ new to failed.switches failed.keeps failed.sound)
+    (step_switched g.E.Env order _ old mid from at first.step first.numbers first.none_waits _ new to failed.switches failed.keeps failed.sound)
     (inl (failed.switches.err.2 ∙ first.recent)))
 
 pub returns-in_err-switch_log-clause-sound : goal.returns-in_err-switch_log-clause-sound
@@ -42,7 +42,7 @@ returns-in_err-switch_log-clause-sound g c =
     let first = c.in_ok-table_if_waiting.ensures in
     let failed = c.in_err-switch_log.ensures in
     let p = err_from_is_err_and c.from_residual-in_err-switch_log.result c.from_residual-in_err-switch_log.ensures.1 in
-    let step = step_switched g.E.Env g.C.Cmp.cmp _ c.args.self.now c.table_if_waiting.new.self c.args.env.now c.table_if_waiting.new.env first.step first.numbers _ c.switch_log.new.self c.switch_log.new.env failed.switches failed.keeps failed.sound in
+    let step = step_switched g.E.Env g.C.Cmp.cmp _ c.args.self.now c.table_if_waiting.new.self c.args.env.now c.table_if_waiting.new.env first.step first.numbers first.none_waits _ c.switch_log.new.self c.switch_log.new.env failed.switches failed.keeps failed.sound in
     rw (p.1, p.2) step.sound
 
 pub table_if_waiting-requires-2-clause-usable : goal.table_if_waiting-requires-2-clause-usable
@@ -66,9 +66,9 @@ returns-clause-makes g c =
     let first = c.in_ok-table_if_waiting.ensures in
     let done = c.in_ok-switch_log.ensures in
     let last = c.table_if_waiting-2.ensures in
-    let second = step_switched g.E.Env order _ old mid from at first.step first.numbers (Ok tt) switched begun done.switches done.keeps done.sound in
+    let second = step_switched g.E.Env order _ old mid from at first.step first.numbers first.none_waits (Ok tt) switched begun done.switches done.keeps done.sound in
     room_tried g.E.Env (order old.cmp) _ _ old from result new to (c.if-not-is_full.ensures.0 refl)
-    (step_tabled g.E.Env order _ old mid from at first.step first.numbers first.recent switched begun done.switches second result new to last.step)
+    (step_tabled g.E.Env order _ old mid from at first.step first.numbers first.none_waits first.recent switched begun done.switches second result new to last.step)
     (ap (λ kept. kept.entries) last.recent ∙ done.switches.empty) (ap (λ kept. kept.places) last.recent ∙ done.switches.places) last.none_waits last.waits
 
 pub returns-clause-sound : goal.returns-clause-sound
@@ -82,8 +82,8 @@ returns-clause-sound g c =
     let begun = c.switch_log.new.env in
     let first = c.in_ok-table_if_waiting.ensures in
     let done = c.in_ok-switch_log.ensures in
-    let second = step_switched g.E.Env order _ old mid from at first.step first.numbers (Ok tt) switched begun done.switches done.keeps done.sound in
-    let all = step_tabled g.E.Env order _ old mid from at first.step first.numbers first.recent switched begun done.switches second c.table_if_waiting-2.result c.table_if_waiting-2.new.self c.table_if_waiting-2.new.env
+    let second = step_switched g.E.Env order _ old mid from at first.step first.numbers first.none_waits (Ok tt) switched begun done.switches done.keeps done.sound in
+    let all = step_tabled g.E.Env order _ old mid from at first.step first.numbers first.none_waits first.recent switched begun done.switches second c.table_if_waiting-2.result c.table_if_waiting-2.new.self c.table_if_waiting-2.new.env
     c.table_if_waiting-2.ensures.step in
     all.sound
 

@@ -12,7 +12,7 @@ returns-in_err-table_waiting-clause-step g c =
     rw (p.1, p.2)
     (step_of_table g.E.Env _ _ c.args.self.now c.args.env.now c.requires.usable
     (λ none. let never : true ≡ false = sym c.if-has_waiting.true ∙ c.has_waiting.ensures.1 none in absurd (cc never)) _ c.table_waiting.new.self c.table_waiting.new.env
-    failed.tables failed.keeps failed.sound)
+    failed.tables tt failed.keeps failed.sound)
 
 pub tidy_up-requires : goal.tidy_up-requires
 tidy_up-requires g c =
@@ -34,7 +34,7 @@ returns-clause-step g c =
           let to = w.tidy_up.new.env in
           let made = w.in_ok-table_waiting.ensures in
           let tabled = step_of_table g.E.Env (order old.cmp) _ old from c.requires.usable
-          (λ none. let never : true ≡ false = sym w.if-has_waiting.true ∙ c.has_waiting.ensures.1 none in absurd (cc never)) (Ok tt) mid at made.tables made.keeps made.sound in
+          (λ none. let never : true ≡ false = sym w.if-has_waiting.true ∙ c.has_waiting.ensures.1 none in absurd (cc never)) (Ok tt) mid at made.tables made.entries made.keeps made.sound in
           rw (w.self-is, w.env-is)
           (step_then g.E.Env (order old.cmp) _ old mid from at tabled (λ status never. absurd never) (Ok tt) mid to
           (step_in_order g.E.Env order _ (λ cmp status. ⊥) mid at (Ok tt) mid to tabled.rest.cmp
