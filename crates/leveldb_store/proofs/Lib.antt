@@ -49,6 +49,7 @@ mod OpeningDamageLemmas
 mod RecoverSetLemmas
 mod OpeningLogLemmas
 mod OpeningEndLemmas
+pub mod OpeningKeptLemmas
 mod OpeningMadeLemmas
 mod OpeningNumbersLemmas
 mod OpeningSameLemmas

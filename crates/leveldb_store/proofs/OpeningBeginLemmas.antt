@@ -24,7 +24,7 @@ use Rattle.leveldb_version.specs.Contents.{Contents}
 use Rattle.leveldb_version.specs.CurrentFile.{temp_path}
 use Rattle.leveldb_version.specs.LogEdit.{LogEditResult}
 use Rattle.leveldb_version.specs.Opening.{tables_edit}
-use Rattle.leveldb_version.specs.Paths.{IsFilePath, log_path, table_path}
+use Rattle.leveldb_version.specs.Paths.{IsFilePath, log_path, manifest_path, table_path}
 use Rattle.leveldb_version.specs.StoreSteps.{KeepsHistory}
 use Rattle.leveldb_version.specs.VersionEdit.{Edit, NewFile}
 use Rattle.leveldb_version.specs.VersionSetValue.{AreFileNumbersUsedUp, ManifestState, OpenManifest, VersionSetValue, broken, in_use, unmade, with_number_given}
@@ -33,6 +33,7 @@ use Rattle.leveldb_store.proofs.GivenNumbersLemmas.{given_later}
 use Rattle.leveldb_store.proofs.OpeningBytesLemmas.{log_bytes, logging_bytes, made_keys_bytes, made_tables_there}
 use Rattle.leveldb_store.proofs.OpeningEndLemmas.{IsOpenValue, edit_logged, log_spared, logged_manifest, logging_keeps, logging_spares, made_levels_fit, went_on}
 use Rattle.leveldb_store.proofs.OpeningFrontLemmas.{keeps_found_then}
+use Rattle.leveldb_store.proofs.OpeningKeptLemmas.{logging_loses, loses_at_log, loses_at_tables, loses_none, loses_then, number_is_new}
 use Rattle.leveldb_store.proofs.OpeningLogLemmas.{HasLogOpen, IsReplayedWith, log_opened, log_opening_keeps, replayed_recovered, replaying_keeps}
 use Rattle.leveldb_store.proofs.OpeningRecoverLemmas.{cause_of_step}
 use Rattle.leveldb_store.proofs.OpeningSameLemmas.{spares_then}
@@ -43,7 +44,7 @@ use Rattle.leveldb_store.specs.FoundLogs.{HasLogNotKept, LacksNumbersFor, LogsBe
 use Rattle.leveldb_store.specs.OpenStore.{AreInLevels, AreNumbersGiven, HasOwnManifest, OpenStoreValue}
 use Rattle.leveldb_store.specs.Opening.{SameButTables}
 use Rattle.leveldb_store.specs.OpeningSteps.{AreDamagedLogs, BeginsWriting, LogsIfWanted, MayBeWritten, OpensLog, ReplaysLogs, WasRecovered, WhyNotBegun, WhyNotReplayed, entries_to_write, files_to_write, made_files, number_to_write, set_to_write, size_to_write}
-use Rattle.leveldb_store.specs.OpensStore.{AreTablesThere, IsOpenedAs, KeepsFound, SameBesideOwn}
+use Rattle.leveldb_store.specs.OpensStore.{AreTablesThere, HasNewNumbers, IsOpenedAs, KeepsFound, LosesNoBytes, SameBesideOwn}
 use Rattle.leveldb_store.specs.ReplayLog.{HasCauseOr}
 use Rattle.leveldb_store.specs.Room.{IsFull}
 use Rattle.leveldb_store.specs.SoundCall.{BytesAreAppended}
@@ -134,9 +135,10 @@ module _ {E F D FP : Type 0} (env : Ghosts E F) {order : CmpGhosts D} {filters :
 
   -- an error at any of the steps
   refused_at : (C : Type 0) (to : E) (status : Status) → (IsTrue env.models_disk → Keeps to) → (IsTrue env.models_disk → Run (SameBesideOwn store first) (env.observed from) (env.observed to))
+      → (IsTrue env.models_disk → HasNewNumbers store set first → Run (LosesNoBytes store first) (env.observed from) (env.observed to))
       → BytesAreAppended env from to
       → SameLocks env.models_disk (env.observed from) (env.observed to) → HasCauseOr {T = OpenStoreValue C} Why (env.failures from) (env.failures to) (Err status) → Begins C (Err status) to
-  refused_at C to status keeps spares bytes locks cause = record {
+  refused_at C to status keeps spares loses bytes locks cause = record {
     path = tt;
     unbroken = tt;
     room = tt;
@@ -144,6 +146,7 @@ module _ {E F D FP : Type 0} (env : Ghosts E F) {order : CmpGhosts D} {filters :
     keeps = keeps;
     opens = λ modelled meaning agrees contents was. tt;
     others = spares;
+    kept = loses;
     bytes = bytes;
     locks = locks;
     cause = cause;
@@ -153,7 +156,8 @@ module _ {E F D FP : Type 0} (env : Ghosts E F) {order : CmpGhosts D} {filters :
   pub nothing_begun : (C : Type 0) (status : Status) → IsOutOfMemory status → Begins C (Err status) from
   nothing_begun C status memory = refused_at C from status
       (λ modelled meaning agrees contents was allowed there can bound reached. begun (env.observed from) (record { now = λ history c. c; crash = λ durable history s. s }))
-      (λ modelled. begun (env.observed from) (λ path other. refl)) (λ modelled before. before) (λ modelled. refl)
+      (λ modelled. begun (env.observed from) (λ path other. refl))
+      (λ modelled numbers. begun (env.observed from) (loses_none store first first refl)) (λ modelled before. before) (λ modelled. refl)
       (record { later = omega arith; ok = tt; uncounted = λ why. refl; cause = inl (inl memory) })
 
   -- ---- the logs are replayed
@@ -201,6 +205,10 @@ module _ {E F D FP : Type 0} (env : Ghosts E F) {order : CmpGhosts D} {filters :
         (λ now same path other. unmade_path path (λ n fits is. other (inl (Table, tt, (file_name Table n, n, made_name Table n fits, is)))) now same)
         (replays.spares.run modelled)
 
+    -- no byte is lost, where the numbers that are given are new
+    loses1 : IsTrue env.models_disk → HasNewNumbers store set first → Run (LosesNoBytes store first) (env.observed from) (env.observed e1)
+    loses1 modelled numbers = Run-mono (λ now same. loses_at_tables store set set1 may.path first now numbers.below same) (replays.spares.run modelled)
+
     keeps1 : IsTrue env.models_disk → Keeps e1
     keeps1 modelled meaning agrees contents was allowed there can bound reached =
         replaying_keeps env modelled store format.order meaning contents set set1 logs from e1 was.1 replays.spares allowed bound
@@ -211,7 +219,7 @@ module _ {E F D FP : Type 0} (env : Ghosts E F) {order : CmpGhosts D} {filters :
     why_not_replayed status (inr (inr damaged)) = inr (inr (inr (damaged.0, λ modelled. subst (λ s. AreDamagedLogs s first logs) may.path (damaged.1 modelled))))
 
   pub replay_refused : {C : Type 0} (status : Status) (set1 : VersionSetValue) (e1 : E) → ReplaysLogs env choices {C = C} limit set logs from (Err status) set1 e1 → Begins C (Err status) e1
-  replay_refused {C} status set1 e1 replays = refused_at C e1 status (keeps1 (Err status) set1 e1 replays) (spares1 (Err status) set1 e1 replays) replays.spares.bytes replays.spares.locks
+  replay_refused {C} status set1 e1 replays = refused_at C e1 status (keeps1 (Err status) set1 e1 replays) (spares1 (Err status) set1 e1 replays) (loses1 (Err status) set1 e1 replays) replays.spares.bytes replays.spares.locks
       (cause_of_step (env.failures from) (env.failures from) (env.failures e1) status refl (why_not_replayed (Err status) set1 e1 replays status) replays.cause)
 
   -- ---- the log to write is opened
@@ -263,6 +271,29 @@ module _ {E F D FP : Type 0} (env : Ghosts E F) {order : CmpGhosts D} {filters :
           let before = spares1 (Ok replay) set1 e1 replays modelled in
           Run-trans before (λ now spares. spares_then store first replayed_files now before.has spares)
           (Run-mono (λ now passes. log_spared replay.used store set2.next_file opens.number_fits replayed_files now passes) (run2 modelled))
+
+      loses2 : IsTrue env.models_disk → HasNewNumbers store set first → Run (LosesNoBytes store first) (env.observed from) (env.observed e2)
+      loses2 modelled numbers =
+          let before = loses1 (Ok replay) set1 e1 replays modelled numbers in
+          Run-trans before (λ now loses. loses_then store first replayed_files now before.has loses)
+          (Run-mono (λ now passes. loses_at_log store replay.used set2.next_file replayed_files now no_log passes) (run2 modelled))
+        where
+          next : ℕ
+          next = set2.next_file
+
+          same_next : next ≡ set1.next_file
+          same_next = ap (λ (s : VersionSetValue). s.next_file) set2_is
+
+          fits : next < 2 ^ 64
+          fits = let before = replays.spares.fits may.fits in omega (arith, same_next, before)
+
+          -- a new log isn't there yet
+          no_log : replayed_files (log_path store next) ≡ None
+          no_log = unmade_path (Ok replay) set1 e1 replays (log_path store next)
+              (λ n n_fits is. let apart = types_apart store (log_path store next) (table_path store n) Log Table (is_log_path store next fits) (is_table_path store n n_fits) (λ e. cc) in
+              let never : true ≡ false = sym ((bytes_decides (log_path store next) (table_path store n)).1 is) ∙ apart in cc)
+              replayed_files (replays.spares.run modelled).has
+              ∙ number_is_new store first set.next_file numbers.below Log next fits (let rises = replays.spares.numbers.rises in omega (arith, same_next, rises))
 
       keeps2 : IsTrue env.models_disk → Keeps e2
       keeps2 modelled meaning agrees contents was = keeps_found_then store format.order_name format.order meaning contents contents (env.observed from) (env.observed e1) (env.observed e2) (inl refl)
@@ -317,7 +348,7 @@ module _ {E F D FP : Type 0} (env : Ghosts E F) {order : CmpGhosts D} {filters :
     })
 
     pub log_refused : (cmp : C) (status : Status) (set3 : VersionSetValue) (e2 : E) → OpensLog env store cmp replay.used set2 e1 (Err status) set3 e2 → Begins C (Err status) e2
-    log_refused cmp status set3 e2 opens = refused_at C e2 status (keeps2 cmp (Err status) set3 e2 opens) (spares2 cmp (Err status) set3 e2 opens) (bytes2 cmp (Err status) set3 e2 opens) (locks2 cmp (Err status) set3 e2 opens)
+    log_refused cmp status set3 e2 opens = refused_at C e2 status (keeps2 cmp (Err status) set3 e2 opens) (spares2 cmp (Err status) set3 e2 opens) (loses2 cmp (Err status) set3 e2 opens) (bytes2 cmp (Err status) set3 e2 opens) (locks2 cmp (Err status) set3 e2 opens)
         (cause_of_step (env.failures from) (env.failures e1) (env.failures e2) status replays.cause.ok (λ used. inr (no_number status used)) opens.cause)
 
     -- ---- an edit is logged where one is wanted
@@ -405,6 +436,29 @@ module _ {E F D FP : Type 0} (env : Ghosts E F) {order : CmpGhosts D} {filters :
               (logging_spares env made set3 N e2 e3 set4 modelled (own3 modelled) fits3 result logged)
           spares3 false logged modelled = subst (λ e. Run (SameBesideOwn store (env.observed e2).disk.files) (env.observed e2) (env.observed e)) (sym logged.1) (begun (env.observed e2) (λ path other. refl))
 
+          loses3 : (b : Bool) → LogsIfWanted env b N made set3 e2 result set4 e3 → IsTrue env.models_disk → HasNewNumbers store set first → Run (LosesNoBytes store (env.observed e2).disk.files) (env.observed e2) (env.observed e3)
+          loses3 true logged modelled numbers = subst (λ s. Run (LosesNoBytes s (env.observed e2).disk.files) (env.observed e2) (env.observed e3)) path3
+              (logging_loses env made set3 N e2 e3 set4 modelled fits3 no_manifest result logged)
+            where
+              fits : set.manifest_number < 2 ^ 64
+              fits = let below = may.manifest_fits in let next = may.fits in omega (arith, below, next)
+
+              path : List ℕ
+              path = manifest_path store set.manifest_number
+
+              no_manifest : set3.manifest ≡ unmade → (env.observed e2).disk.files (manifest_path set3.store set3.manifest_number) ≡ None
+              no_manifest is = ap (λ s. (env.observed e2).disk.files (manifest_path s set3.manifest_number)) path3
+                  ∙ ap (λ n. (env.observed e2).disk.files (manifest_path store n)) same3.number
+                  ∙ manifest_still cmp (Ok pair) set3 e2 opens modelled path (file_name Descriptor set.manifest_number, set.manifest_number, made_name Descriptor set.manifest_number fits, refl)
+                  ∙ numbers.manifest (sym same3.manifest ∙ is)
+          loses3 false logged modelled numbers = subst (λ e. Run (LosesNoBytes store (env.observed e2).disk.files) (env.observed e2) (env.observed e)) (sym logged.1)
+              (begun (env.observed e2) (loses_none store (env.observed e2).disk.files (env.observed e2).disk.files refl))
+
+          all_lose : LogsIfWanted env wanted N made set3 e2 result set4 e3 → IsTrue env.models_disk → HasNewNumbers store set first → Run (LosesNoBytes store first) (env.observed from) (env.observed e3)
+          all_lose logged modelled numbers =
+              let before = loses2 cmp (Ok pair) set3 e2 opens modelled numbers in
+              Run-trans before (λ now loses. loses_then store first (env.observed e2).disk.files now before.has loses) (loses3 wanted logged modelled numbers)
+
           module _ (logged : LogsIfWanted env wanted N made set3 e2 result set4 e3) (locks : SameLocks env.models_disk (env.observed e2) (env.observed e3)) where
             all_keep : IsTrue env.models_disk → Keeps e3
             all_keep modelled meaning agrees contents was = keeps_found_then store format.order_name format.order meaning contents contents (env.observed from) (env.observed e2) (env.observed e3)
@@ -460,7 +514,7 @@ module _ {E F D FP : Type 0} (env : Ghosts E F) {order : CmpGhosts D} {filters :
           logged_cause false logged = absurd logged.2
 
           pub edit_refused : LogsIfWanted env wanted N made set3 e2 (Err status) set4 e3 → SameLocks env.models_disk (env.observed e2) (env.observed e3) → Begins C (Err status) e3
-          edit_refused logged locks = refused_at C e3 status (all_keep (Err status) set4 e3 logged locks) (all_spare (Err status) set4 e3 logged locks)
+          edit_refused logged locks = refused_at C e3 status (all_keep (Err status) set4 e3 logged locks) (all_spare (Err status) set4 e3 logged locks) (all_lose (Err status) set4 e3 logged)
               (all_bytes (Err status) set4 e3 logged locks) (all_locks (Err status) set4 e3 logged locks)
               (cause_of_step (env.failures from) (env.failures e2) (env.failures e3) status (opens.cause.ok ∙ replays.cause.ok) (λ why. inr why) (logged_cause wanted logged))
 
@@ -583,6 +637,7 @@ module _ {E F D FP : Type 0} (env : Ghosts E F) {order : CmpGhosts D} {filters :
               keeps = all_keep (Ok done) set4 e3 logged locks;
               opens = opened_by wanted refl logged;
               others = all_spare (Ok done) set4 e3 logged locks;
+              kept = all_lose (Ok done) set4 e3 logged;
               bytes = all_bytes (Ok done) set4 e3 logged locks;
               locks = all_locks (Ok done) set4 e3 logged locks;
               cause = record { later = omega (arith, none_counted); ok = none_counted; uncounted = tt; cause = tt };

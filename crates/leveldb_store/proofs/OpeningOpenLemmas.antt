@@ -15,10 +15,11 @@ use Rattle.leveldb_store.proofs.FoundLogsLemmas.{logs_same}
 use Rattle.leveldb_store.specs.BuildTable.{TableChoices}
 use Rattle.leveldb_store.specs.FoundLogs.{LacksNumbersFor}
 use Rattle.leveldb_version.specs.Format.{Agrees, Format, Meaning}
+use Rattle.leveldb_store.proofs.OpeningKeptLemmas.{loses_then}
 use Rattle.leveldb_store.specs.OpenStore.{OpenStoreValue}
 use Rattle.leveldb_store.specs.OpeningState.{with_comparator}
 use Rattle.leveldb_store.specs.OpeningSteps.{BeginsWriting, RecoversStore, WasRecovered, WhyNotBegun}
-use Rattle.leveldb_store.specs.OpensStore.{FailsToOpen, IsOpenedAs, IsSound, KeepsFound, LacksNumbers, OpensStore, WhyNotOpened}
+use Rattle.leveldb_store.specs.OpensStore.{FailsToOpen, HasNewNumbers, IsOpenedAs, IsSound, KeepsFound, LacksNumbers, LosesNoBytes, LosesNothing, OpensStore, WhyNotOpened}
 use Rattle.leveldb_store.specs.SoundCall.{BytesAreAppended}
 use Rattle.leveldb_store.specs.declared.opening.recovered_set.RecoveredSet.{RecoveredSet}
 
@@ -34,6 +35,7 @@ module _ {E F C : Type 0} (env : Ghosts E F) (format : Format) (store : List ℕ
     opens = λ modelled meaning agrees contents sound. tt;
     stays = recovers.stays;
     others = recovers.others;
+    kept = recovers.kept;
     locks = recovers.locks;
   }
 
@@ -104,6 +106,13 @@ module _ {E F D FP : Type 0} (env : Ghosts E F) {keys : CmpGhosts D} {filters : 
         all_keep modelled meaning agrees contents sound = keeps_found_then store format.order_name format.order meaning contents (with_comparator format.order_name contents) (env.observed from) (env.observed mid) (env.observed to) (inr refl) (recovers.keeps modelled meaning agrees contents sound)
             (begins.keeps modelled meaning agrees (with_comparator format.order_name contents) (was_recovered modelled meaning agrees contents sound))
 
+      -- no byte is lost
+      all_lose : (IsTrue env.models_disk → HasNewNumbers store it.versions (env.observed mid).disk.files → Run (LosesNoBytes store (env.observed mid).disk.files) (env.observed mid) (env.observed to))
+          → LosesNothing env store from to
+      all_lose later modelled there =
+          let run = recovers.kept modelled there in
+          Run-trans run (λ now loses. loses_then store (env.observed from).disk.files (env.observed mid).disk.files now run.has loses) (later modelled (recovers.ok.new_numbers modelled))
+
       -- what is appended are bytes
       pub recovered_bytes : (result : Result (OpenStoreValue C) Status) → Begins result → BytesAreAppended env from to
       recovered_bytes result begins modelled before = begins.bytes modelled (recovers.bytes modelled before)
@@ -120,6 +129,7 @@ module _ {E F D FP : Type 0} (env : Ghosts E F) {keys : CmpGhosts D} {filters : 
             (begins.opens modelled meaning agrees (with_comparator format.order_name contents) (was_recovered modelled meaning agrees contents sound));
         stays = λ modelled which. absurd (recovers.stays modelled which).0;
         others = λ modelled. let run = recovers.others modelled in Run-trans run (λ now spares. spares_then store (env.observed from).disk.files (env.observed mid).disk.files now run.has spares) (begins.others modelled);
+        kept = all_lose begins.kept;
         locks = λ modelled. begins.locks modelled ∙ recovers.locks modelled;
       }
       recovered_then (Err status) begins = record {
@@ -131,6 +141,7 @@ module _ {E F D FP : Type 0} (env : Ghosts E F) {keys : CmpGhosts D} {filters : 
         opens = λ modelled meaning agrees contents sound. tt;
         stays = λ modelled which. absurd (recovers.stays modelled which).0;
         others = λ modelled. let run = recovers.others modelled in Run-trans run (λ now spares. spares_then store (env.observed from).disk.files (env.observed mid).disk.files now run.has spares) (begins.others modelled);
+        kept = all_lose begins.kept;
         locks = λ modelled. begins.locks modelled ∙ recovers.locks modelled;
       }
 

@@ -37,7 +37,7 @@ use Rattle.leveldb_version.specs.Format.{Agrees, Format, Meaning}
 use Rattle.leveldb_store.specs.OpenStore.{AreInLevels, AreNumbersGiven, HasOwnManifest, IsUnbroken, OpenStoreValue}
 use Rattle.leveldb_store.specs.Opening.{AreMadeTables, GivesNumbers, SameButTables}
 use Rattle.leveldb_store.specs.OpeningState.{HasComparator, IsRecoveredWith, with_comparator}
-use Rattle.leveldb_store.specs.OpensStore.{AreTablesThere, HasHugeManifest, HasOtherComparator, HasSharedUserKey, IsBareFolder, IsDamaged, IsForbidden, IsForbiddenAs, IsNumberFound, IsOpenedAs, IsSound, IsTableOrLog, KeepsFound, LacksCurrent, LacksUsableEdits, LeavesFewNumbers, SameBesideOwn, WhyNotOpenable}
+use Rattle.leveldb_store.specs.OpensStore.{AreTablesThere, HasHugeManifest, HasNewNumbers, HasOtherComparator, HasSharedUserKey, IsBareFolder, IsDamaged, IsForbidden, IsForbiddenAs, IsNumberFound, IsOpenedAs, IsSound, IsTableOrLog, KeepsFound, LacksCurrent, LacksUsableEdits, LeavesFewNumbers, LosesNoBytes, LosesNothing, SameBesideOwn, WhyNotOpenable}
 use Rattle.leveldb_store.specs.FoundLogs.{HasLogNotKept, LacksNumbersFor, LogBeginsWith, LogsBeginWith}
 use Rattle.leveldb_store.specs.ReplayLog.{FailsAtLog, HasCauseOr, IsUnusable, MakesTablesOnly, table_files}
 use Rattle.leveldb_store.specs.Room.{IsFull}
@@ -537,6 +537,9 @@ module _ {E F : Type 0} (env : Ghosts E F) (format : Format) (store : List ℕ)
         → IsRecoveredWith store format.order meaning
         (with_comparator format.order_name contents) it.versions it.logs.keys
         (env.observed to).disk.files
+    -- no file has a number that is given from now on
+    pub new_numbers : IsTrue env.models_disk
+        → HasNewNumbers store it.versions (env.observed to).disk.files
     -- at most one number was given after those that were found
     pub numbers : IsTrue env.models_disk → (next : ℕ)
         × ComesAfterFound store (env.observed from).disk.files next
@@ -572,6 +575,7 @@ module _ {E F : Type 0} (env : Ghosts E F) (format : Format) (store : List ℕ)
     pub others : IsTrue env.models_disk
         → Run (SameBesideOwn store (env.observed from).disk.files) (env.observed from)
         (env.observed to)
+    pub kept : LosesNothing env store from to
     pub bytes : BytesAreAppended env from to
     pub locks : SameLocks env.models_disk (env.observed from) (env.observed to)
     pub cause : HasCauseOr
@@ -622,6 +626,10 @@ module _ {E F D FP : Type 0} (env : Ghosts E F) {order : CmpGhosts D} {filters :
         choices.format.order_name contents value (env.observed to).disk.files)
     pub others : IsTrue env.models_disk
         → Run (SameBesideOwn store (env.observed from).disk.files) (env.observed from)
+        (env.observed to)
+    -- where the numbers that are given are new, no byte is lost
+    pub kept : IsTrue env.models_disk → HasNewNumbers store set (env.observed from).disk.files
+        → Run (LosesNoBytes store (env.observed from).disk.files) (env.observed from)
         (env.observed to)
     pub bytes : BytesAreAppended env from to
     pub locks : SameLocks env.models_disk (env.observed from) (env.observed to)

@@ -1,5 +1,5 @@
 -- What opening a store returns and leaves of its files, and why it fails.
-use Rattle.std.specs.Prelude.{◌≡◌, ◌≢◌, ◌≤◌, ◌+◌, ◌^◌, ◌⊎◌, ℕ, All, Bool, false, List, None, Some, OnOk, IfOk, IsSome, IsSomeAnd, IsTrue, Result, length}
+use Rattle.std.specs.Prelude.{◌≡◌, ◌≢◌, ◌≤◌, ◌+◌, ◌^◌, ◌++◌, ◌⊎◌, ℕ, All, Bool, false, List, Option, None, Some, OnOk, IfOk, IsSome, IsSomeAnd, IsTrue, Result, length}
 use Rattle.std.specs.List.Sorted.{IsStrictlySortedBy}
 use Rattle.std.specs.Ordering.{nat_cmp}
 use Rattle.std.specs.declared.cmp.Ordering.{Ordering}
@@ -10,20 +10,22 @@ use Rattle.leveldb_base.specs.declared.cmp.Cmp.{Ghosts as CmpGhosts}
 use Rattle.leveldb_base.specs.declared.error.Status.{Status}
 use Rattle.leveldb_base.specs.declared.error.StatusCode.TheVariants.{AlreadyExists, Corruption, InvalidArgument, NotSupported}
 use Rattle.leveldb_base.specs.declared.types.FileType.{FileType}
-use Rattle.leveldb_base.specs.declared.types.FileType.TheVariants.{Log, Table}
-use Rattle.leveldb_env.specs.Env.{Files, FilesUnchanged, Observed, Run, SameLocks, bytes_of, in_folder}
+use Rattle.leveldb_base.specs.declared.types.FileType.TheVariants.{Log, Table, Temp}
+use Rattle.leveldb_env.specs.Env.{File, Files, FilesUnchanged, Observed, Run, SameLocks, bytes_of, in_folder}
 use Rattle.leveldb_env.specs.declared.env.Env.{Ghosts}
 use Rattle.leveldb_env.specs.declared.filter.FilterPolicy.{Ghosts as FilterGhosts}
 use Rattle.leveldb_mem.specs.WriteBatch.{Batch}
 use Rattle.leveldb_version.specs.Contents.{Contents, Store, made}
 use Rattle.leveldb_version.specs.Holds.{Holds, IsSafe, MatchesHistory}
 use Rattle.leveldb_version.specs.NewStore.{first_manifest}
-use Rattle.leveldb_version.specs.Paths.{current_path, table_path}
+use Rattle.leveldb_version.specs.Paths.{IsFilePath, current_path, manifest_path, table_path}
 use Rattle.leveldb_version.specs.Recover.{AreBeside, IsNamed, IsUsable, ShareUserKey}
 use Rattle.leveldb_version.specs.Store.{HasEdits, IsStore}
 use Rattle.leveldb_version.specs.StoreSteps.{AppendedAreBytes, KeepsHistory}
 use Rattle.leveldb_version.specs.VersionEdit.{Edit, NewFile}
 use Rattle.leveldb_version.specs.VersionSet.{FileSet, live_after}
+use Rattle.leveldb_version.specs.VersionSetValue.{VersionSetValue, unmade}
+use Rattle.leveldb_version.specs.Writing.{NumbersAreBelow}
 use Rattle.leveldb_store.specs.BuildTable.{TableChoices}
 use Rattle.leveldb_store.specs.FoundLogs.{HasLogNotKept, LogsBeginWith}
 use Rattle.leveldb_version.specs.Format.{Agrees, Format, IsTableOf, Meaning}
@@ -41,6 +43,33 @@ IsOwnPath store path = IsDataPath store path ⊎ (path ≡ current_path store)
 abbrev pub SameBesideOwn : List ℕ → Files → Files → Type 0
 SameBesideOwn store old new =
     (path : List ℕ) → (IsOwnPath store path → ⊥) → new path ≡ old path
+
+-- a path of a file that an opening replaces: `CURRENT`, by way of a temporary file
+abbrev pub IsReplacedPath : List ℕ → List ℕ → Type 0
+IsReplacedPath store path = (path ≡ current_path store) ⊎ IsFilePath Temp store path
+
+-- a file is there still, and its bytes are a prefix of those that are there now
+abbrev pub BeginsWithFile : File → Option File → Type 0
+BeginsWithFile file None = ⊥
+BeginsWithFile file (Some now) = (more : List ℕ) × (bytes_of now ≡ bytes_of file ++ more)
+
+-- no file is lost, and none loses a byte, but for those that are replaced
+abbrev pub LosesNoBytes : List ℕ → Files → Files → Type 0
+LosesNoBytes store before after = (path : List ℕ) → (IsReplacedPath store path → ⊥)
+    → (file : File) → before path ≡ Some file → BeginsWithFile file (after path)
+
+-- of a store that is there nothing is lost so, at any moment of a call
+abbrev pub LosesNothing : {E F : Type 0} → Ghosts E F → List ℕ → E → E → Type 0
+LosesNothing env store from to = IsTrue env.models_disk
+    → (env.observed from).disk.files (current_path store) ≢ None
+    → Run (LosesNoBytes store (env.observed from).disk.files) (env.observed from) (env.observed to)
+
+-- No file has a number that a set gives from now on, nor that of a manifest that its next edit
+-- begins.
+pub record HasNewNumbers (store : List ℕ) (set : VersionSetValue) (files : Files) : Type 0 where
+  pub below : NumbersAreBelow store files set.next_file
+  pub manifest : set.manifest ≡ unmade
+      → files (manifest_path store set.manifest_number) ≡ None
 
 -- ---- a store that is opened
 
@@ -251,6 +280,9 @@ module _ {E F : Type 0} (env : Ghosts E F) (store : List ℕ) (format : Format)
     pub others : IsTrue env.models_disk
         → Run (SameBesideOwn store (env.observed from).disk.files) (env.observed from)
         (env.observed to)
+    -- whatever the files are, none of a store that is there is deleted, nor are bytes of one
+    -- rewritten, but `CURRENT`'s
+    pub kept : LosesNothing env store from to
     pub locks : SameLocks env.models_disk (env.observed from) (env.observed to)
 
 module _ {E F D FP : Type 0} (env : Ghosts E F) (store : List ℕ) {keys : CmpGhosts D}

@@ -17,6 +17,7 @@ use Rattle.leveldb_mem.specs.MemTable.{IsUnion}
 use Rattle.leveldb_store.specs.BuildTable.{TableChoices}
 use Rattle.leveldb_store.specs.FoundLogs.{HasLogNotKept}
 use Rattle.leveldb_store.specs.KeptEntries.{KeepsEntries, KeepsLiveTables}
+use Rattle.leveldb_store.specs.OpensStore.{LosesNothing}
 use Rattle.leveldb_store.specs.Read.{GetsFromMemory, GetsFromTables}
 use Rattle.leveldb_store.specs.Room.{FailsFor, IsFull, TellsOnly}
 use Rattle.leveldb_store.specs.SoundCall.{TimeGoesOn}
@@ -408,6 +409,9 @@ module _ {E C FP F P : Type 0} {B : Boxed} {keys : InternalOrder C} {key_filters
     -- one that isn't to be made, or one that is there and must not be; and its files stay
     pub never_opens : IsTrue env.models_disk → NeverOpens name asked (env.observed from).disk
         → OnOk result ⊥ × MakesLockAlone name (env.observed from) (env.observed to)
+    -- one that fails deletes no file of a store that was there, damaged or not, and rewrites no bytes
+    -- but `CURRENT`'s
+    pub kept : OnErr result (LosesNothing env name from to)
     -- an opening that fails gives back the lock
     pub unopened : IfErr result (λ status. IsTrue env.models_disk
         → IsLockGivenBack env name asked from (HasLogNotKept (choices options) env.models_disk name
