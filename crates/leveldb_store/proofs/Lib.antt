@@ -3,6 +3,9 @@ mod StopsLemmas
 mod TableFileLemmas
 mod WriteTableLemmas
 mod OutputsLemmas
+mod MergingLemmas
+mod MergeLoopLemmas
+pub mod BearingLemmas
 pub mod WriteLemmas
 mod OpeningNamesLemmas
 mod OpeningCausesLemmas

@@ -2,6 +2,7 @@ pub mod BuildTable
 pub mod TableFile
 pub mod Outputs
 pub mod Passing
+pub mod Merging
 pub mod FoundLogs
 pub mod OpenStore
 pub mod OpenTables

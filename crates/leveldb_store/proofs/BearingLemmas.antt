@@ -1,0 +1,180 @@
+-- Walks that bear new tables: by what holds in each world that they reach, of a merge by its children,
+-- and of the tables of a version.
+use Rattle.std.specs.Prelude.{IsTrue, false}
+use Rattle.std.specs.Str.{bytes_eq}
+use Rattle.std.proofs.Common.{◌≡◌, ◌≢◌, ◌∙◌, ◌<◌, ◌≤◌, ◌^◌, ℕ, List, Option, sym, ap, subst, arith}
+use Rattle.leveldb_base.specs.Types.{Pair}
+use Rattle.leveldb_base.specs.declared.cmp.Cmp.{Ghosts as CmpGhosts}
+use Rattle.leveldb_base.specs.declared.cmp.internal.InternalKeyCmp.{InternalKeyCmp}
+use Rattle.leveldb_base.specs.declared.error.Status.{Status}
+use Rattle.leveldb_env.specs.Compressor.{Codings}
+use Rattle.leveldb_env.specs.declared.env.Env.{Ghosts as EnvGhosts}
+use Rattle.leveldb_env.specs.declared.filter.FilterPolicy.{Ghosts as FilterGhosts}
+use Rattle.leveldb_iter.specs.MergingIter.{FailsMerged, IsMergeAt}
+use Rattle.leveldb_iter.specs.MergingIterLaws.{merged_stays}
+use Rattle.leveldb_iter.specs.Walk.{KeyOrder}
+use Rattle.leveldb_iter.specs.declared.merging_iter.MergeCore.{MergeCore}
+use Rattle.leveldb_iter.specs.declared.walk.Walk.{Ghosts as WalkGhosts}
+use Rattle.leveldb_version.proofs.WalksBesideLemmas.{walks_stay_beside}
+use Rattle.leveldb_version.specs.Paths.{table_path}
+use Rattle.leveldb_version.specs.TableCache.{store_of}
+use Rattle.leveldb_version.specs.VersionIter.{AreOpenGiven, FailsInTables, IsAtInTables, IsOverTables, KeepsReading}
+use Rattle.leveldb_version.specs.WalksBeside.{ChangesBesideTables}
+use Rattle.leveldb_version.specs.declared.table_cache.moves.ReadTables.{ReadTables}
+use Rattle.leveldb_version.specs.declared.version_iter.VersionIter.{VersionIter}
+use Rattle.leveldb_store.specs.Merging.{BearsNewTables, ComesOf, LeavesFiles, by_move, by_writing, itself}
+use Rattle.leveldb_store.specs.Outputs.{ChangesNewTables}
+use Rattle.leveldb_store.proofs.OutputsLemmas.{tables_apart}
+
+module _ {E F T W : Type 0} (env : EnvGhosts E F) (walk : WalkGhosts W E T) (store : List ℕ)
+    (first : ℕ) (Given : E × T → Type 0) where
+  -- what new tables leave of a walk in a world of which this holds
+  pub record IsBorne (at to : E) (tables : T) : Type 0 where
+    pub given : Given (to, tables)
+    pub stays_over : (it : W) (order : KeyOrder) (pairs : List Pair)
+        → walk.over (at, tables) it order pairs → walk.over (to, tables) it order pairs
+    pub stays_at : (it : W) (order : KeyOrder) (pairs : List Pair) (position : Option ℕ)
+        → walk.is_at (at, tables) it order pairs position
+        → walk.is_at (to, tables) it order pairs position
+    pub excuses : (it : W) (later : E × T) (status : Status)
+        → walk.fails (to, tables) it later status → walk.fails (at, tables) it later status
+
+  -- moves keep it, and change no file
+  abbrev pub MovesKeep : Type 0
+  MovesKeep = (at to : E × T) → Given at → walk.keeps at to
+      → Given to × LeavesFiles env at.0 to.0
+
+  -- new tables keep it, and leave each walk where it is
+  abbrev pub NewTablesKeep : Type 0
+  NewTablesKeep = (at to : E) (tables : T) → Given (at, tables)
+      → ChangesNewTables env store first at to → IsBorne at to tables
+
+  module _ (moves : MovesKeep) (bears : NewTablesKeep) where
+    given_then : {start : E × T} → Given start → (world : E × T)
+        → ComesOf env walk store first start world → Given world
+    given_then given world itself = given
+    given_then given world (by_move at to come keeps) =
+        (moves at to (given_then given at come) keeps).0
+    given_then given world (by_writing at to tables come changes) =
+        (bears at to tables (given_then given (at, tables) come) changes).given
+
+    pub bears_new_tables : (start : E × T) → Given start
+        → BearsNewTables env walk store first start
+    bears_new_tables start given = record {
+      stays_at = λ at to tables come changes.
+          (bears at to tables (given_then given (at, tables) come) changes).stays_at;
+      excuses = λ at to tables come changes.
+          (bears at to tables (given_then given (at, tables) come) changes).excuses;
+      still = λ at to come keeps. (moves at to (given_then given at come) keeps).1;
+    }
+
+-- ---- a merge
+
+module _ {E F T I C : Type 0} (env : EnvGhosts E F) (child : WalkGhosts I E T) (cmp : CmpGhosts C)
+    (store : List ℕ) (first : ℕ) (Given : E × T → Type 0)
+    (merge : WalkGhosts (MergeCore C I) E T)
+    (from_at : (world : E × T) (it : MergeCore C I) (order : KeyOrder) (pairs : List Pair)
+    (position : Option ℕ) → merge.is_at world it order pairs position
+    → IsMergeAt child cmp world it order pairs position)
+    (to_at : (world : E × T) (it : MergeCore C I) (order : KeyOrder) (pairs : List Pair)
+    (position : Option ℕ) → IsMergeAt child cmp world it order pairs position
+    → merge.is_at world it order pairs position)
+    (from_fails : (world : E × T) (it : MergeCore C I) (later : E × T) (status : Status)
+    → merge.fails world it later status → FailsMerged child world it later status)
+    (to_fails : (world : E × T) (it : MergeCore C I) (later : E × T) (status : Status)
+    → FailsMerged child world it later status → merge.fails world it later status)
+    (keeps : (at to : E × T) → merge.keeps at to → child.keeps at to) where
+  -- a merge bears what its children bear
+  pub merge_bears : MovesKeep env child store first Given
+      → NewTablesKeep env child store first Given → (start : E × T) → Given start
+      → BearsNewTables env merge store first start
+  merge_bears moves bears start given = record {
+    stays_at = λ at to tables come changes it order pairs position was.
+        let borne = bears at to tables (reached (at, tables) come) changes in
+        to_at (to, tables) it order pairs position
+        (merged_stays (at, tables) (to, tables) borne.stays_over borne.stays_at it order pairs
+        position (from_at (at, tables) it order pairs position was));
+    excuses = λ at to tables come changes it later status failed.
+        let borne = bears at to tables (reached (at, tables) come) changes in
+        let any = from_fails (to, tables) it later status failed in
+        to_fails (at, tables) it later status
+        (any.0, any.1, any.2, any.3, borne.excuses any.1 later status any.4);
+    still = λ at to come kept. (moves at to (reached at come) (keeps at to kept)).1;
+  }
+    where
+      reached : (world : E × T) → ComesOf env merge store first start world → Given world
+      reached world itself = given
+      reached world (by_move at to come kept) =
+          (moves at to (reached at come) (keeps at to kept)).0
+      reached world (by_writing at to tables come changes) =
+          (bears at to tables (reached (at, tables) come) changes).given
+
+-- ---- the tables of a version
+
+module _ {E F C FP K : Type 0} (keys : CmpGhosts (InternalKeyCmp C)) (env : EnvGhosts E F)
+    (cmp : CmpGhosts C) (filters : FilterGhosts FP) (codings : K → Codings) (store : List ℕ)
+    (first : ℕ) (child : WalkGhosts (VersionIter C) E (ReadTables E C FP K F)) where
+  -- none of the tables that may be opened is a new one
+  pub record AreReadBelow (world : E × ReadTables E C FP K F) : Type 0 where
+    pub given : AreOpenGiven world
+    pub below : world.1.below ≤ first
+    pub store_is : store_of world.1.cache.now ≡ store
+
+  pub tables_keep : ((at to : E × ReadTables E C FP K F) → child.keeps at to
+      → KeepsReading keys env cmp filters codings at to)
+      → MovesKeep env child store first AreReadBelow
+  tables_keep reads at to was kept =
+      let keeps = reads at to kept in (
+        record {
+          given = keeps.given was.given;
+          below = omega (arith, was.below, keeps.below_stays);
+          store_is = keeps.tables.path ∙ was.store_is;
+        },
+        record {
+          run = keeps.tables.disk.disk;
+          locks = keeps.tables.disk.locks;
+          later = keeps.tables.later;
+        },
+      )
+
+  pub tables_borne : ((world : E × ReadTables E C FP K F) (it : VersionIter C) (order : KeyOrder)
+      (pairs : List Pair) → child.over world it order pairs
+      → IsOverTables keys env cmp filters codings world it order pairs)
+      → ((world : E × ReadTables E C FP K F) (it : VersionIter C) (order : KeyOrder)
+      (pairs : List Pair) → IsOverTables keys env cmp filters codings world it order pairs
+      → child.over world it order pairs)
+      → ((world : E × ReadTables E C FP K F) (it : VersionIter C) (order : KeyOrder)
+      (pairs : List Pair) (position : Option ℕ) → child.is_at world it order pairs position
+      → IsAtInTables keys env cmp filters codings world it order pairs position)
+      → ((world : E × ReadTables E C FP K F) (it : VersionIter C) (order : KeyOrder)
+      (pairs : List Pair) (position : Option ℕ)
+      → IsAtInTables keys env cmp filters codings world it order pairs position
+      → child.is_at world it order pairs position)
+      → ((world : E × ReadTables E C FP K F) (it : VersionIter C)
+      (later : E × ReadTables E C FP K F) (status : Status)
+      → child.fails world it later status
+      → FailsInTables keys env cmp filters codings world it later status)
+      → ((world : E × ReadTables E C FP K F) (it : VersionIter C)
+      (later : E × ReadTables E C FP K F) (status : Status)
+      → FailsInTables keys env cmp filters codings world it later status
+      → child.fails world it later status)
+      → NewTablesKeep env child store first AreReadBelow
+  tables_borne from_over to_over from_at to_at from_fails to_fails at to tables was changes =
+      let beside : ChangesBesideTables env tables at to = record {
+        later = changes.later;
+        files = λ modelled number fits below. (changes.run modelled).has _
+            (λ n least n_fits. subst (λ s. bytes_eq (table_path store n) (table_path s number) ≡ false)
+            (sym was.store_is)
+            (tables_apart store n number n_fits fits
+            (λ same. omega (arith, same, least, below, was.below))));
+      } in
+      let stay = walks_stay_beside keys env cmp filters codings tables at to beside was.given in
+      record {
+        given = record { given = stay.given; below = was.below; store_is = was.store_is };
+        stays_over = λ it order pairs over. to_over (to, tables) it order pairs
+            (stay.over it order pairs (from_over (at, tables) it order pairs over));
+        stays_at = λ it order pairs position here. to_at (to, tables) it order pairs position
+            (stay.at it order pairs position (from_at (at, tables) it order pairs position here));
+        excuses = λ it later status failed. to_fails (at, tables) it later status
+            (stay.excuses it later status (from_fails (to, tables) it later status failed));
+      }

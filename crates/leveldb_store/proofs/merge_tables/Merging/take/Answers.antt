@@ -1,0 +1,49 @@
+use Rattle.std.proofs.Common.{◌≡◌, ◌≤◌, ◌∙◌, ◌∷◌, ◌++◌, [], None, Some, ap, refl, sym, subst, length}
+use Rattle.std.proofs.lemmas.Result.{err_from_is_err_and}
+use Rattle.leveldb_base.proofs.HistoryLemmas.{exact_order}
+use Rattle.leveldb_base.specs.Entries.{entry_of_pair}
+use Rattle.leveldb_base.specs.Types.{Pair}
+use Rattle.leveldb_store.specs.Merging.{last_entry}
+use Rattle.leveldb_store.proofs.MergingLemmas.{in_place_pushed, misplaced, not_among, not_following, not_put, taken_gone, taken_put, untagged}
+use Rattle.leveldb_store.proofs.merge_tables.Merging.take.Goals as goal
+
+-- the key has no tag
+pub returns-then-key-lt-TAG_LEN-clause-takes : goal.returns-then-key-lt-TAG_LEN-clause-takes
+returns-then-key-lt-TAG_LEN-clause-takes g c = λ first read merged.
+    let order = c.args.plan.now.options.now.cmp in
+    let exact = exact_order (g.C.Cmp.accepts order) (g.C.Cmp.cmp order) (g.met.C.UserCmp.accepts_all order) (g.met.C.Cmp.preorder order) (g.met.C.UserCmp.exact order) in
+    let pair : Pair = (c.args.key.now, c.args.value.now) in
+    misplaced _ g.E.Env exact refl merged pair c.err.result c.err.ensures.code (untagged _ g.E.Env exact refl merged pair c.if-key-lt-TAG_LEN.true)
+
+-- it isn't after the one before
+pub returns-then-not-follows-clause-takes : goal.returns-then-not-follows-clause-takes
+returns-then-not-follows-clause-takes g c = λ first read merged.
+    let order = c.args.plan.now.options.now.cmp in
+    let exact = exact_order (g.C.Cmp.accepts order) (g.C.Cmp.cmp order) (g.met.C.UserCmp.accepts_all order) (g.met.C.Cmp.preorder order) (g.met.C.UserCmp.exact order) in
+    let pair : Pair = (c.args.key.now, c.args.value.now) in
+    let parsed = c.parse_internal_key-kind.ensures in
+    misplaced _ g.E.Env exact refl merged pair c.err-then-not-follows.result c.err-then-not-follows.ensures.code
+    (not_following _ g.E.Env exact refl merged pair (sym (c.if-not-follows.ensures (last_entry None read) (entry_of_pair pair) merged.passed parsed.sequence parsed.user)))
+
+-- it is in no input's range
+pub returns-then-not-is_among_inputs-clause-takes : goal.returns-then-not-is_among_inputs-clause-takes
+returns-then-not-is_among_inputs-clause-takes g c = λ first read merged.
+    let order = c.args.plan.now.options.now.cmp in
+    let exact = exact_order (g.C.Cmp.accepts order) (g.C.Cmp.cmp order) (g.met.C.UserCmp.accepts_all order) (g.met.C.Cmp.preorder order) (g.met.C.UserCmp.exact order) in
+    let pair : Pair = (c.args.key.now, c.args.value.now) in
+    let parsed = c.parse_internal_key-kind.ensures in
+    misplaced _ g.E.Env exact refl merged pair c.err-then-not-is_among_inputs.result c.err-then-not-is_among_inputs.ensures.code
+    (not_among _ g.E.Env exact refl merged pair (sym (rw parsed.user at c.if-not-is_among_inputs.ensures)))
+
+-- its entry goes
+pub returns-then-goes-clause-takes : goal.returns-then-goes-clause-takes
+returns-then-goes-clause-takes g c = λ first read merged.
+    let order = c.args.plan.now.options.now.cmp in
+    let exact = exact_order (g.C.Cmp.accepts order) (g.C.Cmp.cmp order) (g.met.C.UserCmp.accepts_all order) (g.met.C.Cmp.preorder order) (g.met.C.UserCmp.exact order) in
+    let pair : Pair = (c.args.key.now, c.args.value.now) in
+    let parsed = c.parse_internal_key-kind.ensures in
+    let may = sym (c.if-not-follows.ensures (last_entry None read) (entry_of_pair pair) merged.passed parsed.sequence parsed.user) in
+    let are = in_place_pushed exact read pair merged.are_read c.if-key-lt-TAG_LEN.false may (sym (rw parsed.user at c.if-not-is_among_inputs.ensures)) in
+    let went = sym (c.if-goes.ensures (last_entry None read) pair merged.passed parsed.kind parsed.sequence parsed.user) in
+    taken_gone _ g.E.Env exact refl merged pair are c.keep.result (ap (λ v. v.unfinished) c.end_table.ensures, ap (λ v. v.done) c.end_table.ensures) went
+    (ok_map c.keep.result c.keep.ensures.ok (λ kept. kept (entry_of_pair pair) parsed.sequence parsed.user)) c.keep.ensures.memory

@@ -1,0 +1,177 @@
+-- How the pairs of a walk are merged into new tables: what is left of them, what the walk has to bear
+-- meanwhile, and why it fails.
+use Rattle.std.specs.Prelude.{◌≡◌, ◌⊎◌, ◌≤◌, ℕ, Bool, true, not, length, List, [], ◌∷◌, ◌++◌, flat_map, Contains, Option, None, Some, Result, IfErr, IfOk, IsTrue, OnOk}
+use Rattle.std.specs.List.{filter}
+use Rattle.std.specs.declared.cmp.Ordering.{Ordering}
+use Rattle.leveldb_base.specs.Entries.{entries_of_pairs, entry_of_pair}
+use Rattle.leveldb_base.specs.History.{AreRising, Entry}
+use Rattle.leveldb_base.specs.KeyTypes.{internal_cmp, user_part}
+use Rattle.leveldb_base.specs.Thinning.{goes, thinned}
+use Rattle.leveldb_base.specs.Types.{Pair}
+use Rattle.leveldb_base.specs.declared.cmp.Cmp.{Ghosts as CmpGhosts}
+use Rattle.leveldb_base.specs.declared.error.Status.{Status}
+use Rattle.leveldb_base.specs.declared.error.StatusCode.TheVariants.{Corruption}
+use Rattle.leveldb_base.specs.declared.types.FileMetaData.{FileMetaData}
+use Rattle.leveldb_env.specs.Env.{FilesUnchanged, Run, SameLocks}
+use Rattle.leveldb_env.specs.EnvFile.{failed}
+use Rattle.leveldb_env.specs.declared.env.Env.{Ghosts as EnvGhosts}
+use Rattle.leveldb_env.specs.declared.filter.FilterPolicy.{Ghosts as FilterGhosts}
+use Rattle.leveldb_iter.specs.Walk.{KeyOrder, key_order}
+use Rattle.leveldb_iter.specs.declared.walk.Walk.{Ghosts as WalkGhosts}
+use Rattle.leveldb_store.specs.BuildTable.{TableChoices}
+use Rattle.leveldb_store.specs.Outputs.{AreTables, ChangesNewTables, HaveOutputs, IsBeginFault, OutputsValue}
+use Rattle.leveldb_store.specs.Passing.{IsJustBefore}
+use Rattle.leveldb_store.specs.TableFile.{FailsToWrite}
+use Rattle.leveldb_store.specs.declared.passing.Passing.{Passing}
+
+-- ---- what is left of pairs
+
+-- the pairs of all tables in turn
+abbrev pub all_pairs : List (List Pair) → List Pair
+all_pairs tables = flat_map (λ table. table) tables
+
+-- a pair's entry doesn't go
+abbrev pub stays : ℕ → (List ℕ → Bool) → List Pair → Pair → Bool
+stays smallest is_base pairs pair =
+    not (goes smallest is_base (entries_of_pairs pairs) (entry_of_pair pair))
+
+-- the pairs whose entries don't go, as they were and in their order
+abbrev pub pairs_left : ℕ → (List ℕ → Bool) → List Pair → List Pair
+pairs_left smallest is_base pairs = filter (stays smallest is_base pairs) pairs
+
+-- the entry of the last pair, or the one before them where there is none
+abbrev pub last_entry : Option Entry → List Pair → Option Entry
+last_entry before [] = before
+last_entry before (pair ∷ pairs) = last_entry (Some (entry_of_pair pair)) pairs
+
+-- ---- the walk meanwhile
+
+-- the files are, and were meanwhile, as they were, no lock changed, and no failure is forgotten
+pub record LeavesFiles {E F : Type 0} (env : EnvGhosts E F) (from to : E) : Type 0 where
+  pub run : IsTrue env.models_disk → Run (FilesUnchanged (env.observed from).disk.files)
+      (env.observed from) (env.observed to)
+  pub locks : SameLocks env.models_disk (env.observed from) (env.observed to)
+  pub later : env.failures from ≤ env.failures to
+
+module _ {E F T W : Type 0} (env : EnvGhosts E F) (walk : WalkGhosts W E T) (store : List ℕ)
+    (first : ℕ) where
+  -- a world that comes of another by moves of the walk, and by writing tables of numbers from the
+  -- first on
+  pub data ComesOf (start : E × T) : E × T → Type 0 where
+    itself : ComesOf start start
+    by_move : (at to : E × T) → ComesOf start at → walk.keeps at to → ComesOf start to
+    by_writing : (at to : E) (tables : T) → ComesOf start (at, tables)
+        → ChangesNewTables env store first at to → ComesOf start (to, tables)
+
+  -- A walk that new tables leave where it is, with no new error, and whose moves change no file.
+  pub record BearsNewTables (start : E × T) : Type 0 where
+    pub stays_at : (at to : E) (tables : T) → ComesOf start (at, tables)
+        → ChangesNewTables env store first at to → (it : W) (order : KeyOrder) (pairs : List Pair)
+        (position : Option ℕ) → walk.is_at (at, tables) it order pairs position
+        → walk.is_at (to, tables) it order pairs position
+    pub excuses : (at to : E) (tables : T) → ComesOf start (at, tables)
+        → ChangesNewTables env store first at to → (it : W) (later : E × T) (status : Status)
+        → walk.fails (to, tables) it later status → walk.fails (at, tables) it later status
+    pub still : (at to : E × T) → ComesOf start at → walk.keeps at to
+        → LeavesFiles env at.0 to.0
+
+-- ---- a merge
+
+-- What a merge is made with: what tables are built with, the store's folder, the smallest held
+-- number, which user keys no deeper level has, and which are within the ranges of the inputs.
+pub record Merge {C FP : Type 0} (order : CmpGhosts C) (filters : FilterGhosts FP) : Type 0 where
+  pub choices : TableChoices order filters
+  pub store : List ℕ
+  pub smallest : ℕ
+  pub is_base : List ℕ → Bool
+  pub is_among : List ℕ → Bool
+
+-- the merge that is made with these
+abbrev pub merge_of : {C FP : Type 0} {order : CmpGhosts C} {filters : FilterGhosts FP}
+    → TableChoices order filters → List ℕ → ℕ → (List ℕ → Bool) → (List ℕ → Bool)
+    → Merge order filters
+merge_of choices store smallest is_base is_among = record {
+  choices = choices;
+  store = store;
+  smallest = smallest;
+  is_base = is_base;
+  is_among = is_among;
+}
+
+-- the keys of pairs have tags, rise, and are within the ranges of the inputs
+pub record AreInPlace (cmp : List ℕ → List ℕ → Ordering) (is_among : List ℕ → Bool)
+    (pairs : List Pair) : Type 0 where
+  pub tagged : (pair : Pair) → Contains pairs pair → 8 ≤ length pair.0
+  pub rising : AreRising (internal_cmp cmp) pairs
+  pub among : (pair : Pair) → Contains pairs pair → is_among (user_part pair.0) ≡ true
+
+module _ {C FP : Type 0} {order : CmpGhosts C} {filters : FilterGhosts FP}
+    (merge : Merge order filters) where
+  -- pairs that were read one after another are in place
+  abbrev pub AreRead : List Pair → Type 0
+  AreRead pairs = AreInPlace merge.choices.format.order merge.is_among pairs
+
+  -- Why a pair isn't taken after those that were read: a builder fails, the numbers of files are used
+  -- up, or with it they aren't in place.
+  abbrev pub IsTakeFault : ℕ → List Pair → Pair → Status → Type 0
+  IsTakeFault next read pair status = IsBeginFault merge.choices.format.codings next status
+      ⊎ ((status.code ≡ Corruption) × (AreRead (read ++ pair ∷ []) → ⊥))
+
+  module _ {E F : Type 0} (env : EnvGhosts E F) (first : ℕ) where
+    -- These pairs were read: the outputs have what is left of them, and the last of them was the one
+    -- just before.
+    pub record HasMerged (read : List Pair) (next : ℕ) (at : E) (passing : Passing)
+        (outputs : OutputsValue E C FP F) : Type 0 where
+      pub are_read : AreRead read
+      pub passed : IsJustBefore passing (last_entry None read)
+      pub tables : List (List Pair)
+      pub pairs : List Pair
+      pub have : HaveOutputs merge.choices env merge.store first next at outputs tables pairs
+      pub left : all_pairs tables ++ pairs ≡ pairs_left merge.smallest merge.is_base read
+
+    -- what taking one pair more makes of a merge
+    pub record TakesPair (read : List Pair) (pair : Pair) (next : ℕ) (from : E)
+        (result : Result (Unit {0}) Status) (later : ℕ) (to : E) (passing : Passing)
+        (new : OutputsValue E C FP F) : Type 0 where
+      pub ok : OnOk result (HasMerged (read ++ pair ∷ []) later to passing new)
+      pub changes : ChangesNewTables env merge.store first from to
+      pub cause : FailsToWrite (IsTakeFault next read pair) (env.failures from) (env.failures to)
+          result
+
+    -- The files are tables of what is left of pairs that were read, in their order.
+    pub record MergesInto (read : List Pair) (next : ℕ) (files : List FileMetaData) (to : E)
+        : Type 0 where
+      pub are_read : AreRead read
+      pub tables : List (List Pair)
+      pub are_tables : AreTables merge.choices env merge.store first next to files tables
+      pub left : all_pairs tables ≡ pairs_left merge.smallest merge.is_base read
+      -- and so they have what is left of the entries
+      pub entries : entries_of_pairs (all_pairs tables)
+          ≡ thinned merge.smallest merge.is_base (entries_of_pairs read)
+
+    -- why a merge fails that writes: a builder fails, the numbers of files are used up, or it reads
+    -- what isn't in place
+    abbrev pub IsMergeFault : (InPlace : Type 0) → Status → Type 0
+    IsMergeFault InPlace status =
+        ((next : ℕ) × (first ≤ next)
+        × IsBeginFault merge.choices.format.codings next status)
+        ⊎ ((status.code ≡ Corruption) × (InPlace → ⊥))
+
+    -- What merging the pairs of a walk leaves and returns, whatever it reads; a walk that is over a
+    -- list reads that list.
+    pub record MergesTables {T W X : Type 0} (walk : WalkGhosts W E T)
+        (items : X → List FileMetaData) (start : E × T) (it : W) (result : Result X Status)
+        (later : ℕ) (end : E × T) : Type 0 where
+      pub ok : IfOk result (λ files. (read : List Pair)
+          × MergesInto read later (items files) end.0
+          × ((pairs : List Pair)
+          → walk.over start it (key_order order merge.choices.cmp) pairs → pairs ≡ read))
+      -- now and at each moment on the way no file changes but tables of numbers that were given
+      pub changes : ChangesNewTables env merge.store first start.0 end.0
+      -- A move failed; or at last a call that writes, and for pairs of a list that are in place it
+      -- is never for what is read.
+      pub cause : IfErr result (λ status. walk.fails start it end status
+          ⊎ ((mid : ℕ) × (env.failures start.0 ≤ mid)
+          × FailsToWrite (IsMergeFault ((pairs : List Pair)
+          × walk.over start it (key_order order merge.choices.cmp) pairs × AreRead pairs)) mid
+          (env.failures end.0) (failed status)))
