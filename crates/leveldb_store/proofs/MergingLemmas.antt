@@ -395,8 +395,8 @@ module _ {C FP : Type 0} {order : CmpGhosts C} {filters : FilterGhosts FP}
           subst (λ k. internal_cmp cmp k pair.0 ≡ Less) (last.2 ∙ ap last_added (sym is))
           (rises_to cmp exact read pair are.rising last.0 was_read.0)
 
-      follows_open : (open : Option (TableFile E C FP F)) → outputs.unfinished ≡ open
-          → IfSome open (λ table. 0 < table.core.count
+      follows_open : (one : Option (TableFile E C FP F)) → outputs.unfinished ≡ one
+          → IfSome one (λ table. 0 < table.core.count
           → order.cmp (order_of table.core) (last_of table.core) pair.0 ≡ Less)
       follows_open None e = tt
       follows_open (Some table) e some =
