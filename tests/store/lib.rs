@@ -13,6 +13,8 @@ mod iterators;
 #[cfg(test)]
 mod memory;
 #[cfg(test)]
+mod merged_inputs;
+#[cfg(test)]
 mod merging;
 #[cfg(test)]
 mod open_tables;

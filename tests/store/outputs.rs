@@ -161,9 +161,9 @@ pub fn path_of(alloc: Global, number: u64) -> Result<String> {
 }
 
 /// The pairs of a table.
-pub fn pairs_of(
+pub fn pairs_of<E: Env>(
     alloc: Global,
-    env: &mut RecordEnv,
+    env: &mut E,
     options: &SmallOptions,
     file: &FileMetaData,
 ) -> Result<Vec<(Bytes, Bytes)>> {

@@ -1,8 +1,8 @@
 -- Walks that bear new tables: by what holds in each world that they reach, of a merge by its children,
 -- and of the tables of a version.
-use Rattle.std.specs.Prelude.{IsTrue, false}
+use Rattle.std.specs.Prelude.{false}
 use Rattle.std.specs.Str.{bytes_eq}
-use Rattle.std.proofs.Common.{◌≡◌, ◌≢◌, ◌∙◌, ◌<◌, ◌≤◌, ◌^◌, ℕ, List, Option, sym, ap, subst, arith}
+use Rattle.std.proofs.Common.{◌≡◌, ◌↔◌, ◌∙◌, ◌≤◌, ℕ, List, Option, sym, subst, arith}
 use Rattle.leveldb_base.specs.Types.{Pair}
 use Rattle.leveldb_base.specs.declared.cmp.Cmp.{Ghosts as CmpGhosts}
 use Rattle.leveldb_base.specs.declared.cmp.internal.InternalKeyCmp.{InternalKeyCmp}
@@ -10,18 +10,19 @@ use Rattle.leveldb_base.specs.declared.error.Status.{Status}
 use Rattle.leveldb_env.specs.Compressor.{Codings}
 use Rattle.leveldb_env.specs.declared.env.Env.{Ghosts as EnvGhosts}
 use Rattle.leveldb_env.specs.declared.filter.FilterPolicy.{Ghosts as FilterGhosts}
-use Rattle.leveldb_iter.specs.MergingIter.{FailsMerged, IsMergeAt}
-use Rattle.leveldb_iter.specs.MergingIterLaws.{merged_stays}
+use Rattle.leveldb_iter.specs.MergingIter.{FailsMerged, IsMergeAt, IsMergeOver}
+use Rattle.leveldb_iter.specs.MergingIterLaws.{merged_stays, merged_stays_over}
 use Rattle.leveldb_iter.specs.Walk.{KeyOrder}
 use Rattle.leveldb_iter.specs.declared.merging_iter.MergeCore.{MergeCore}
 use Rattle.leveldb_iter.specs.declared.walk.Walk.{Ghosts as WalkGhosts}
 use Rattle.leveldb_version.proofs.WalksBesideLemmas.{walks_stay_beside}
 use Rattle.leveldb_version.specs.Paths.{table_path}
 use Rattle.leveldb_version.specs.TableCache.{store_of}
-use Rattle.leveldb_version.specs.VersionIter.{AreOpenGiven, FailsInTables, IsAtInTables, IsOverTables, KeepsReading}
+use Rattle.leveldb_version.specs.VersionIter.{FailsInTables, IsAtInTables, IsOverTables, KeepsReading}
 use Rattle.leveldb_version.specs.WalksBeside.{ChangesBesideTables}
 use Rattle.leveldb_version.specs.declared.table_cache.moves.ReadTables.{ReadTables}
 use Rattle.leveldb_version.specs.declared.version_iter.VersionIter.{VersionIter}
+use Rattle.leveldb_store.specs.MergeInputs.{ReadsBelow}
 use Rattle.leveldb_store.specs.Merging.{BearsNewTables, ComesOf, LeavesFiles, by_move, by_writing, itself}
 use Rattle.leveldb_store.specs.Outputs.{ChangesNewTables}
 use Rattle.leveldb_store.proofs.OutputsLemmas.{tables_apart}
@@ -73,56 +74,44 @@ module _ {E F T W : Type 0} (env : EnvGhosts E F) (walk : WalkGhosts W E T) (sto
 module _ {E F T I C : Type 0} (env : EnvGhosts E F) (child : WalkGhosts I E T) (cmp : CmpGhosts C)
     (store : List ℕ) (first : ℕ) (Given : E × T → Type 0)
     (merge : WalkGhosts (MergeCore C I) E T)
-    (from_at : (world : E × T) (it : MergeCore C I) (order : KeyOrder) (pairs : List Pair)
+    (over_is : (world : E × T) (it : MergeCore C I) (order : KeyOrder) (pairs : List Pair)
+    → merge.over world it order pairs ↔ IsMergeOver child cmp world it order pairs)
+    (at_is : (world : E × T) (it : MergeCore C I) (order : KeyOrder) (pairs : List Pair)
     (position : Option ℕ) → merge.is_at world it order pairs position
-    → IsMergeAt child cmp world it order pairs position)
-    (to_at : (world : E × T) (it : MergeCore C I) (order : KeyOrder) (pairs : List Pair)
-    (position : Option ℕ) → IsMergeAt child cmp world it order pairs position
-    → merge.is_at world it order pairs position)
-    (from_fails : (world : E × T) (it : MergeCore C I) (later : E × T) (status : Status)
-    → merge.fails world it later status → FailsMerged child world it later status)
-    (to_fails : (world : E × T) (it : MergeCore C I) (later : E × T) (status : Status)
-    → FailsMerged child world it later status → merge.fails world it later status)
+    ↔ IsMergeAt child cmp world it order pairs position)
+    (fails_is : (world : E × T) (it : MergeCore C I) (later : E × T) (status : Status)
+    → merge.fails world it later status ↔ FailsMerged child world it later status)
     (keeps : (at to : E × T) → merge.keeps at to → child.keeps at to) where
   -- a merge bears what its children bear
-  pub merge_bears : MovesKeep env child store first Given
-      → NewTablesKeep env child store first Given → (start : E × T) → Given start
-      → BearsNewTables env merge store first start
-  merge_bears moves bears start given = record {
-    stays_at = λ at to tables come changes it order pairs position was.
-        let borne = bears at to tables (reached (at, tables) come) changes in
-        to_at (to, tables) it order pairs position
-        (merged_stays (at, tables) (to, tables) borne.stays_over borne.stays_at it order pairs
-        position (from_at (at, tables) it order pairs position was));
-    excuses = λ at to tables come changes it later status failed.
-        let borne = bears at to tables (reached (at, tables) come) changes in
-        let any = from_fails (to, tables) it later status failed in
-        to_fails (at, tables) it later status
-        (any.0, any.1, any.2, any.3, borne.excuses any.1 later status any.4);
-    still = λ at to come kept. (moves at to (reached at come) (keeps at to kept)).1;
-  }
-    where
-      reached : (world : E × T) → ComesOf env merge store first start world → Given world
-      reached world itself = given
-      reached world (by_move at to come kept) =
-          (moves at to (reached at come) (keeps at to kept)).0
-      reached world (by_writing at to tables come changes) =
-          (bears at to tables (reached (at, tables) come) changes).given
+  pub merge_borne : NewTablesKeep env child store first Given
+      → NewTablesKeep env merge store first Given
+  merge_borne bears at to tables given changes =
+      let borne = bears at to tables given changes in
+      record {
+        given = borne.given;
+        stays_over = λ it order pairs was. (over_is (to, tables) it order pairs).1
+            (merged_stays_over (at, tables) (to, tables) borne.stays_over it.cmp it.children.items
+            order pairs ((over_is (at, tables) it order pairs).0 was));
+        stays_at = λ it order pairs position was. (at_is (to, tables) it order pairs position).1
+            (merged_stays (at, tables) (to, tables) borne.stays_over borne.stays_at it order pairs
+            position ((at_is (at, tables) it order pairs position).0 was));
+        excuses = λ it later status failed.
+            let any = (fails_is (to, tables) it later status).0 failed in
+            (fails_is (at, tables) it later status).1
+            (any.0, any.1, any.2, any.3, borne.excuses any.1 later status any.4);
+      }
+
+  pub merge_moves : MovesKeep env child store first Given → MovesKeep env merge store first Given
+  merge_moves moves at to given kept = moves at to given (keeps at to kept)
 
 -- ---- the tables of a version
 
 module _ {E F C FP K : Type 0} (keys : CmpGhosts (InternalKeyCmp C)) (env : EnvGhosts E F)
     (cmp : CmpGhosts C) (filters : FilterGhosts FP) (codings : K → Codings) (store : List ℕ)
     (first : ℕ) (child : WalkGhosts (VersionIter C) E (ReadTables E C FP K F)) where
-  -- none of the tables that may be opened is a new one
-  pub record AreReadBelow (world : E × ReadTables E C FP K F) : Type 0 where
-    pub given : AreOpenGiven world
-    pub below : world.1.below ≤ first
-    pub store_is : store_of world.1.cache.now ≡ store
-
   pub tables_keep : ((at to : E × ReadTables E C FP K F) → child.keeps at to
       → KeepsReading keys env cmp filters codings at to)
-      → MovesKeep env child store first AreReadBelow
+      → MovesKeep env child store first (ReadsBelow store first)
   tables_keep reads at to was kept =
       let keeps = reads at to kept in (
         record {
@@ -139,27 +128,16 @@ module _ {E F C FP K : Type 0} (keys : CmpGhosts (InternalKeyCmp C)) (env : EnvG
 
   pub tables_borne : ((world : E × ReadTables E C FP K F) (it : VersionIter C) (order : KeyOrder)
       (pairs : List Pair) → child.over world it order pairs
-      → IsOverTables keys env cmp filters codings world it order pairs)
-      → ((world : E × ReadTables E C FP K F) (it : VersionIter C) (order : KeyOrder)
-      (pairs : List Pair) → IsOverTables keys env cmp filters codings world it order pairs
-      → child.over world it order pairs)
+      ↔ IsOverTables keys env cmp filters codings world it order pairs)
       → ((world : E × ReadTables E C FP K F) (it : VersionIter C) (order : KeyOrder)
       (pairs : List Pair) (position : Option ℕ) → child.is_at world it order pairs position
-      → IsAtInTables keys env cmp filters codings world it order pairs position)
-      → ((world : E × ReadTables E C FP K F) (it : VersionIter C) (order : KeyOrder)
-      (pairs : List Pair) (position : Option ℕ)
-      → IsAtInTables keys env cmp filters codings world it order pairs position
-      → child.is_at world it order pairs position)
+      ↔ IsAtInTables keys env cmp filters codings world it order pairs position)
       → ((world : E × ReadTables E C FP K F) (it : VersionIter C)
       (later : E × ReadTables E C FP K F) (status : Status)
       → child.fails world it later status
-      → FailsInTables keys env cmp filters codings world it later status)
-      → ((world : E × ReadTables E C FP K F) (it : VersionIter C)
-      (later : E × ReadTables E C FP K F) (status : Status)
-      → FailsInTables keys env cmp filters codings world it later status
-      → child.fails world it later status)
-      → NewTablesKeep env child store first AreReadBelow
-  tables_borne from_over to_over from_at to_at from_fails to_fails at to tables was changes =
+      ↔ FailsInTables keys env cmp filters codings world it later status)
+      → NewTablesKeep env child store first (ReadsBelow store first)
+  tables_borne over_is at_is fails_is at to tables was changes =
       let beside : ChangesBesideTables env tables at to = record {
         later = changes.later;
         files = λ modelled number fits below. (changes.run modelled).has _
@@ -171,10 +149,10 @@ module _ {E F C FP K : Type 0} (keys : CmpGhosts (InternalKeyCmp C)) (env : EnvG
       let stay = walks_stay_beside keys env cmp filters codings tables at to beside was.given in
       record {
         given = record { given = stay.given; below = was.below; store_is = was.store_is };
-        stays_over = λ it order pairs over. to_over (to, tables) it order pairs
-            (stay.over it order pairs (from_over (at, tables) it order pairs over));
-        stays_at = λ it order pairs position here. to_at (to, tables) it order pairs position
-            (stay.at it order pairs position (from_at (at, tables) it order pairs position here));
-        excuses = λ it later status failed. to_fails (at, tables) it later status
-            (stay.excuses it later status (from_fails (to, tables) it later status failed));
+        stays_over = λ it order pairs over. (over_is (to, tables) it order pairs).1
+            (stay.over it order pairs ((over_is (at, tables) it order pairs).0 over));
+        stays_at = λ it order pairs position here. (at_is (to, tables) it order pairs position).1
+            (stay.at it order pairs position ((at_is (at, tables) it order pairs position).0 here));
+        excuses = λ it later status failed. (fails_is (at, tables) it later status).1
+            (stay.excuses it later status ((fails_is (to, tables) it later status).0 failed));
       }

@@ -5,7 +5,8 @@ mod WriteTableLemmas
 mod OutputsLemmas
 mod MergingLemmas
 mod MergeLoopLemmas
-pub mod BearingLemmas
+mod BearingLemmas
+mod MergeInputsLemmas
 pub mod WriteLemmas
 mod OpeningNamesLemmas
 mod OpeningCausesLemmas

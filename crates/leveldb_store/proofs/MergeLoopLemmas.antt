@@ -1,6 +1,11 @@
 -- The loop of a merge: where its walk is, which pairs are merged, and what moves and new tables leave.
-use Rattle.std.specs.Prelude.{IsTrue, slice_get}
-use Rattle.std.proofs.Common.{◌≡◌, ◌∙◌, ℕ, zero, suc, ◌+◌, ◌<◌, ◌≤◌, Bool, List, [], ◌∷◌, ◌++◌, drop, length, map, take, Option, None, Some, refl, sym, ap, subst, arith}
+use Rattle.std.specs.Prelude.{IsTrue}
+use Rattle.std.proofs.Common.{◌≡◌, ◌∙◌, ◌⊎◌, inl, inr, ⊎_elim, ℕ, ◌≤◌, List, [], ◌∷◌, ◌++◌, drop, take, Option, None, Some, Result, Ok, Err, refl, sym, ap, subst, arith}
+use Rattle.std.proofs.lemmas.List.{take-append-drop}
+use Rattle.leveldb_base.specs.Cmp.{IsExactOrder}
+use Rattle.leveldb_base.specs.Error.{IsOutOfMemory}
+use Rattle.leveldb_base.specs.KeyTypes.{internal_cmp}
+use Rattle.leveldb_base.specs.declared.error.Status.{Status}
 use Rattle.leveldb_base.specs.Types.{IsPosition, Pair, next_position, pair_at, position_within}
 use Rattle.leveldb_base.specs.declared.cmp.Cmp.{Ghosts as CmpGhosts}
 use Rattle.leveldb_base.specs.declared.types.FileMetaData.{FileMetaData}
@@ -8,55 +13,31 @@ use Rattle.leveldb_env.proofs.EnvLemmas.{Run-mono}
 use Rattle.leveldb_env.specs.Env.{Files}
 use Rattle.leveldb_env.specs.declared.env.Env.{Ghosts as EnvGhosts}
 use Rattle.leveldb_env.specs.declared.filter.FilterPolicy.{Ghosts as FilterGhosts}
-use Rattle.leveldb_iter.specs.Walk.{KeyOrder}
+use Rattle.leveldb_iter.specs.Walk.{key_order}
 use Rattle.leveldb_iter.specs.declared.walk.Walk.{Ghosts as WalkGhosts}
 use Rattle.leveldb_version.specs.Paths.{table_path}
 use Rattle.leveldb_version.specs.StoreSteps.{AppendedAreBytes}
+use Rattle.leveldb_version.specs.VersionSetValue.{VersionSetValue}
 use Rattle.leveldb_store.specs.BuildTable.{TableChoices, passed}
-use Rattle.leveldb_store.specs.Merging.{HasMerged, LeavesFiles, Merge}
-use Rattle.leveldb_store.specs.Outputs.{AreFinished, ChangesNewTables, HaveOutputs, IsOpenAfter, OutputsValue}
-use Rattle.leveldb_store.specs.Passing.{IsJustBefore}
+use Rattle.leveldb_store.specs.Merging.{AreRead, BearsNewTables, ComesOf, HasMerged, LeavesFiles, Merge, MergesTables, TakesPair, by_move, by_writing, itself}
+use Rattle.leveldb_store.specs.Opening.{GivesNumbers}
+use Rattle.leveldb_store.specs.Outputs.{AreFinished, ChangesNewTables, FinishesOpen, HaveOutputs, IsOpenAfter, OutputsValue}
+use Rattle.leveldb_store.specs.Switch.{MayGiveNumber}
 use Rattle.leveldb_store.specs.declared.passing.Passing.{Passing}
 use Rattle.leveldb_store.specs.declared.table_file.TableFile.{TableFile}
-use Rattle.leveldb_store.proofs.BuildTableLemmas.{pair_passed, passed_all, passed_first, passed_next, taken_next}
+use Rattle.leveldb_store.proofs.BuildTableLemmas.{pair_passed, passed_all, passed_first, passed_next, taken_all, taken_next}
+use Rattle.leveldb_store.proofs.MergingLemmas.{in_place_front, merged_all}
+use Rattle.leveldb_store.proofs.OutputsLemmas.{new-trans, rise_range}
+use Rattle.leveldb_store.proofs.ReplayFilesLemmas.{GivesNumbers-trans}
+use Rattle.leveldb_store.proofs.TableFileLemmas.{fails_later, own_fails}
 
 -- ---- positions
 
-some_none : {X : Type 0} {x : X} → Some x ≡ None → ⊥
-some_none e = cc
-
-same_Some : {X : Type 0} {x y : X} → Some x ≡ Some y → x ≡ y
-same_Some e = cc
-
--- the pairs before a position, and those from it on
+-- the pairs before a position
 abbrev pub before_position : List Pair → Option ℕ → List Pair
 before_position pairs position = take (passed pairs position) pairs
 
-abbrev pub from_position : List Pair → Option ℕ → List Pair
-from_position pairs position = drop (passed pairs position) pairs
-
-drop_next : (pairs : List Pair) (i : ℕ) (pair : Pair) → slice_get pairs i ≡ Some pair
-    → drop i pairs ≡ pair ∷ drop (i + 1) pairs
-drop_next [] i pair there = absurd (some_none (sym there))
-drop_next (first ∷ pairs) zero pair there = ap (λ p. p ∷ pairs) (same_Some there)
-drop_next (first ∷ pairs) (suc i) pair there =
-    let more : suc i + 1 ≡ suc (i + 1) = omega arith in
-    drop_next pairs i pair there ∙ ap (λ n. pair ∷ drop n (first ∷ pairs)) (sym more)
-
-drop_all : (pairs : List Pair) → drop (length pairs) pairs ≡ []
-drop_all [] = refl
-drop_all (first ∷ pairs) = drop_all pairs
-
--- the pair at a position is the first of those from it on
-pub from_pair : (pairs : List Pair) (position : Option ℕ) (pair : Pair)
-    → Some pair ≡ pair_at pairs position
-    → from_position pairs position
-    ≡ pair ∷ from_position pairs (next_position pairs position)
-from_pair pairs position pair there =
-    drop_next pairs (passed pairs position) pair (pair_passed pairs position pair there)
-    ∙ ap (λ n. pair ∷ drop n pairs) (sym (passed_next pairs position pair there))
-
--- and then the last of those before
+-- the pair at a position is the last of those before the next one
 pub before_pair : (pairs : List Pair) (position : Option ℕ) (pair : Pair)
     → Some pair ≡ pair_at pairs position
     → before_position pairs (next_position pairs position)
@@ -65,17 +46,8 @@ before_pair pairs position pair there =
     ap (λ n. take n pairs) (passed_next pairs position pair there)
     ∙ taken_next pairs (passed pairs position) pair (pair_passed pairs position pair there)
 
-pub from_first : (pairs : List Pair) → from_position pairs (position_within pairs 0) ≡ pairs
-from_first pairs = ap (λ n. drop n pairs) (passed_first pairs)
-
 pub before_first : (pairs : List Pair) → before_position pairs (position_within pairs 0) ≡ []
 before_first pairs = ap (λ n. take n pairs) (passed_first pairs)
-
--- at no pair none is left
-pub from_none : (pairs : List Pair) (position : Option ℕ) → IsPosition pairs position
-    → None ≡ pair_at pairs position → from_position pairs position ≡ []
-from_none pairs position here none =
-    ap (λ n. drop n pairs) (passed_all pairs position here none) ∙ drop_all pairs
 
 -- ---- the walk's moves
 
@@ -107,7 +79,12 @@ module _ {C FP : Type 0} {order : CmpGhosts C} {filters : FilterGhosts FP}
       smallest = were.0.smallest;
       largest = were.0.largest;
     },
-    were.1, were.2, were.3, were.4, were.5, finished_still files tables were.6,
+    were.1,
+    were.2,
+    were.3,
+    were.4,
+    were.5,
+    finished_still files tables were.6,
   )
   finished_still [] (pairs ∷ tables) were = absurd were
   finished_still (file ∷ files) [] were = absurd were
@@ -140,7 +117,6 @@ module _ {C FP : Type 0} {order : CmpGhosts C} {filters : FilterGhosts FP}
     cut = have.cut;
   }
 
-
 pub merged_still : {C FP : Type 0} {order : CmpGhosts C} {filters : FilterGhosts FP}
     (merge : Merge order filters) {E F : Type 0} (env : EnvGhosts E F) {from to : E}
     → LeavesFiles env from to → {first next : ℕ} {read : List Pair} {passing : Passing}
@@ -155,3 +131,219 @@ merged_still merge env still merged = record {
   have = have_still merge.choices env merge.store still merged.have;
   left = merged.left;
 }
+
+-- ---- numbers
+
+pub gives_may : {old mid new : VersionSetValue} → GivesNumbers old mid → MayGiveNumber mid new
+    → GivesNumbers old new
+gives_may {old} {mid} {new} gives may = GivesNumbers-trans gives (by may)
+  where
+    by : MayGiveNumber mid new → GivesNumbers mid new
+    by (inl same) = record {
+      set = same ∙ ap (λ (set : VersionSetValue). record mid { next_file = set.next_file; given = set.given }) (sym same);
+      rises = omega (arith, ap (λ (set : VersionSetValue). set.next_file) same);
+    }
+    by (inr given) = record {
+      set = given ∙ ap (λ (set : VersionSetValue). record mid { next_file = set.next_file; given = set.given }) (sym given);
+      rises = omega (arith, ap (λ (set : VersionSetValue). set.next_file) given);
+    }
+
+-- ---- the loop
+
+module _ {C FP : Type 0} {order : CmpGhosts C} {filters : FilterGhosts FP}
+    (merge : Merge order filters) {E F T W : Type 0} (env : EnvGhosts E F)
+    (walk : WalkGhosts W E T) (first : ℕ) (start : E × T) (from : W) where
+  -- the walk is at a position of its list, and these pairs are before it
+  pub record HasPassed (pairs read : List Pair) (at : E × T) (it : W) : Type 0 where
+    pub position : Option ℕ
+    pub here : walk.is_at at it (key_order order merge.choices.cmp) pairs position
+    pub before : before_position pairs position ≡ read
+
+  -- These pairs were read and merged, and the walk, if it is over a list, has passed them. Nothing
+  -- changed but new tables.
+  pub record MergesSoFar (next : ℕ) (at : E × T) (it : W) (passing : Passing)
+      (outputs : OutputsValue E C FP F) : Type 0 where
+    pub come : ComesOf env walk merge.store first start at
+    pub changes : ChangesNewTables env merge.store first start.0 at.0
+    pub read : List Pair
+    pub merged : HasMerged merge env first read next at.0 passing outputs
+    pub walked : (pairs : List Pair)
+        → walk.over start from (key_order order merge.choices.cmp) pairs
+        → HasPassed pairs read at it
+    pub excuses : (later : E × T) (status : Status) → walk.fails at it later status
+        → walk.fails start from later status
+
+  -- at each list that the walk is over it is at this pair
+  abbrev pub IsAtPair : E × T → W → Pair → Type 0
+  IsAtPair at it pair = (pairs : List Pair) (position : Option ℕ)
+      → walk.is_at at it (key_order order merge.choices.cmp) pairs position
+      → Some pair ≡ pair_at pairs position
+
+  -- or at no pair
+  abbrev pub IsAtEnd : E × T → W → Type 0
+  IsAtEnd at it = (pairs : List Pair) (position : Option ℕ)
+      → walk.is_at at it (key_order order merge.choices.cmp) pairs position
+      → IsPosition pairs position × (None ≡ pair_at pairs position)
+
+  module _ (bears : BearsNewTables env walk merge.store first start) where
+    -- the walk is at its first pair
+    pub so_far_begun : {at : E × T} {it : W} {passing : Passing}
+        {outputs : OutputsValue E C FP F} → HasMerged merge env first [] first at.0 passing outputs
+        → walk.keeps start at
+        → ((pairs : List Pair) → walk.over start from (key_order order merge.choices.cmp) pairs
+        → walk.is_at at it (key_order order merge.choices.cmp) pairs (position_within pairs 0))
+        → ((later : E × T) (status : Status) → walk.fails at it later status
+        → walk.fails start from later status)
+        → MergesSoFar first at it passing outputs
+    so_far_begun {at} merged kept begins excuses = record {
+      come = by_move start at itself kept;
+      changes = still_new env merge.store first (bears.still start at itself kept);
+      read = [];
+      merged = merged;
+      walked = λ pairs over. record {
+        position = position_within pairs 0;
+        here = begins pairs over;
+        before = before_first pairs;
+      };
+      excuses = excuses;
+    }
+
+    module _ {next later : ℕ} {at to : E} {tables : T} {it : W} {passing left : Passing}
+        {outputs new : OutputsValue E C FP F} {pair : Pair}
+        (so_far : MergesSoFar next (at, tables) it passing outputs) where
+      -- a pair was taken, and the walk is at the next one
+      pub so_far_next : {end : E × T} {now : W} {x : Unit {0}} → IsAtPair (at, tables) it pair
+          → TakesPair merge env first so_far.read pair next at (Ok x) later to left new
+          → walk.keeps (to, tables) end
+          → ((pairs : List Pair) (position : Option ℕ)
+          → walk.is_at (to, tables) it (key_order order merge.choices.cmp) pairs position
+          → walk.is_at end now (key_order order merge.choices.cmp) pairs
+          (next_position pairs position))
+          → ((latest : E × T) (status : Status) → walk.fails end now latest status
+          → walk.fails (to, tables) it latest status)
+          → MergesSoFar later end now left new
+      so_far_next {end} here takes kept moved excuses =
+          let come = by_writing at to tables so_far.come takes.changes in
+          let still = bears.still (to, tables) end come kept in
+          record {
+            come = by_move (to, tables) end come kept;
+            changes = new-trans env merge.store (new-trans env merge.store so_far.changes takes.changes)
+                (still_new env merge.store first still);
+            read = so_far.read ++ pair ∷ [];
+            merged = merged_still merge env still takes.ok;
+            walked = λ pairs over.
+                let past = so_far.walked pairs over in
+                record {
+                  position = next_position pairs past.position;
+                  here = moved pairs past.position (bears.stays_at at to tables so_far.come
+                      takes.changes it (key_order order merge.choices.cmp) pairs past.position
+                      past.here);
+                  before = before_pair pairs past.position pair
+                      (here pairs past.position past.here)
+                      ∙ ap (λ ps. ps ++ pair ∷ []) past.before;
+                };
+            excuses = λ latest status failed. so_far.excuses latest status
+                (bears.excuses at to tables so_far.come takes.changes it latest status
+                (excuses latest status failed));
+          }
+
+      -- it was taken, and the walk doesn't go on
+      pub merge_unmoved : {X : Type 0} {items : X → List FileMetaData} {end : E × T}
+          {x : Unit {0}} {status : Status}
+          → TakesPair merge env first so_far.read pair next at (Ok x) later to left new
+          → walk.keeps (to, tables) end → walk.fails (to, tables) it end status
+          → MergesTables merge env first {X = X} walk items start from (Err status) later end
+      merge_unmoved {end = end} {status = status} takes kept failed =
+          let come = by_writing at to tables so_far.come takes.changes in
+          let still = bears.still (to, tables) end come kept in
+          record {
+            ok = tt;
+            changes = new-trans env merge.store (new-trans env merge.store so_far.changes takes.changes)
+                (still_new env merge.store first still);
+            cause = inl (so_far.excuses end status
+                (bears.excuses at to tables so_far.come takes.changes it end status failed));
+          }
+
+      -- it isn't taken
+      pub merge_untaken : {X : Type 0} {items : X → List FileMetaData} {status : Status}
+          → IsAtPair (at, tables) it pair
+          → TakesPair merge env first so_far.read pair next at (Err status) later to left new
+          → MergesTables merge env first {X = X} walk items start from (Err status) later
+          (to, tables)
+      merge_untaken {status = status} here takes = record {
+        ok = tt;
+        changes = new-trans env merge.store so_far.changes takes.changes;
+        cause = inr (
+          env.failures at,
+          so_far.changes.later,
+          fails_later refl (⊎_elim
+              (λ fault. inl (next, rise_range first next _ so_far.merged.have.numbers, fault))
+              (λ misplaced. inr (misplaced.0, λ over. misplaced.1 (in_place over.0 over.1 over.2))))
+              takes.cause,
+        );
+      }
+        where
+          in_place : (pairs : List Pair)
+              → walk.over start from (key_order order merge.choices.cmp) pairs
+              → AreRead merge pairs → AreRead merge (so_far.read ++ pair ∷ [])
+          in_place pairs over are =
+              let past = so_far.walked pairs over in
+              let before = before_pair pairs past.position pair
+              (here pairs past.position past.here) ∙ ap (λ ps. ps ++ pair ∷ []) past.before in
+              let count = passed pairs (next_position pairs past.position) in
+              subst (AreRead merge) before (in_place_front (take count pairs) (drop count pairs)
+              (subst (AreRead merge) (sym (take-append-drop count pairs)) are))
+
+    -- the walk doesn't come to its first pair
+    pub merge_unbegun : {X : Type 0} {items : X → List FileMetaData} {later : ℕ} {end : E × T}
+        {status : Status} → walk.keeps start end → walk.fails start from end status
+        → MergesTables merge env first {X = X} walk items start from (Err status) later end
+    merge_unbegun {end = end} kept failed = record {
+      ok = tt;
+      changes = still_new env merge.store first (bears.still start end itself kept);
+      cause = inl failed;
+    }
+
+    module _ {next : ℕ} {at : E} {tables : T} {it : W} {passing : Passing}
+        {outputs : OutputsValue E C FP F}
+        (so_far : MergesSoFar next (at, tables) it passing outputs) {X : Type 0}
+        (items : X → List FileMetaData) where
+      -- memory is out before it comes to its end
+      pub merge_endless : {status : Status} → IsOutOfMemory status
+          → MergesTables merge env first walk items start from (Err status) next (at, tables)
+      merge_endless memory = record {
+        ok = tt;
+        changes = so_far.changes;
+        cause = inr (env.failures at, so_far.changes.later, own_fails refl (inl memory));
+      }
+
+      -- the last table is finished, or not
+      pub merge_finished : (exact : IsExactOrder merge.choices.format.order)
+          → order.cmp merge.choices.cmp ≡ internal_cmp merge.choices.format.order
+          → {to : E} → IsAtEnd (at, tables) it → (result : Result X Status)
+          → FinishesOpen merge.choices env merge.store first so_far.merged.tables
+          so_far.merged.pairs next at result items to
+          → MergesTables merge env first walk items start from result next (to, tables)
+      merge_finished exact cmp_is none (Ok files) finishes = record {
+        ok = (
+          so_far.read,
+          merged_all merge env exact cmp_is so_far.merged finishes.ok,
+          λ pairs over.
+              let past = so_far.walked pairs over in
+              let end = none pairs past.position past.here in
+              sym (taken_all pairs past.position end.0 end.1) ∙ past.before,
+        );
+        changes = new-trans env merge.store so_far.changes finishes.changes;
+        cause = tt;
+      }
+      merge_finished exact cmp_is none (Err status) finishes = record {
+        ok = tt;
+        changes = new-trans env merge.store so_far.changes finishes.changes;
+        cause = inr (
+          env.failures at,
+          so_far.changes.later,
+          fails_later refl (λ fault.
+              inl (next, rise_range first next _ so_far.merged.have.numbers, inl fault))
+              finishes.cause,
+        );
+      }

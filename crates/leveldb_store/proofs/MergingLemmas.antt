@@ -35,6 +35,11 @@ use Rattle.leveldb_store.specs.declared.table_file.TableFile.{TableFile}
 use Rattle.leveldb_store.proofs.OutputsLemmas.{new-none}
 use Rattle.leveldb_store.proofs.TableFileLemmas.{all_written, fails_later, own_fails}
 
+-- what holds after an Ok gives this
+pub ok_map : {T P Q : Type 0} (result : Result T Status) → OnOk result P → (P → Q) → OnOk result Q
+ok_map (Ok x) is so = so is
+ok_map (Err status) is so = tt
+
 -- ---- the pairs of tables
 
 all_pairs_last : (tables : List (List Pair)) (pairs : List Pair)
@@ -336,207 +341,203 @@ module _ {C FP : Type 0} {order : CmpGhosts C} {filters : FilterGhosts FP}
     (merge : Merge order filters) {E F : Type 0} (env : EnvGhosts E F)
     (exact : IsExactOrder merge.choices.format.order)
     (cmp_is : order.cmp merge.choices.cmp ≡ internal_cmp merge.choices.format.order) {first : ℕ}
-    where
-  -- before the first pair
-  pub merged_none : (at : E) {passing : Passing} → IsJustBefore passing None
-      → HasMerged merge env first [] first at passing no_outputs
-  merged_none at just = record {
-    are_read = in_place_none;
-    passed = just;
-    tables = [];
-    pairs = [];
-    have = record { finished = tt; opened = (refl, refl); numbers = omega arith; cut = tt };
-    left = refl;
-  }
-
-  module _ {read : List Pair} {next : ℕ} {from : E} {passing : Passing}
-      {outputs : OutputsValue E C FP F}
-      (merged : HasMerged merge env first read next from passing outputs) (pair : Pair) where
-    -- a pair that isn't in place is refused
-    pub misplaced : {later : ℕ} {left : Passing} {new : OutputsValue E C FP F}
-        (result : Result (Unit {0}) Status) → IsErrAnd result (λ status. status.code ≡ Corruption)
-        → (AreRead merge (read ++ pair ∷ []) → ⊥)
-        → TakesPair merge env first read pair next from result later from left new
-    misplaced (Ok x) never why = absurd never
-    misplaced (Err status) code why = record {
-      ok = tt;
-      changes = new-none env merge.store first from;
-      cause = own_fails refl (inr (inr (code, why), refl));
+  where
+    -- before the first pair
+    pub merged_none : (at : E) {passing : Passing} → IsJustBefore passing None
+        → HasMerged merge env first [] first at passing no_outputs
+    merged_none at just = record {
+      are_read = in_place_none;
+      passed = just;
+      tables = [];
+      pairs = [];
+      have = record { finished = tt; opened = (refl, refl); numbers = omega arith; cut = tt };
+      left = refl;
     }
 
-    pub untagged : length pair.0 < 8 → AreRead merge (read ++ pair ∷ []) → ⊥
-    untagged short are =
-        let tagged = are.tagged pair (Contains-push read pair) in omega (arith, short, tagged)
-
-    pub not_following : may_follow merge.choices.format.order (last_entry None read)
-        (entry_of_pair pair) ≡ false → AreRead merge (read ++ pair ∷ []) → ⊥
-    not_following not are =
-        let may = rising_follows merge.choices.format.order exact read pair are.rising in
-        let never : false ≡ true = sym not ∙ may in absurd (cc never)
-
-    pub not_among : merge.is_among (user_part pair.0) ≡ false
-        → AreRead merge (read ++ pair ∷ []) → ⊥
-    not_among not are =
-        let is = are.among pair (Contains-push read pair) in
-        let never : false ≡ true = sym not ∙ is in absurd (cc never)
-
-    module _ (are : AreRead merge (read ++ pair ∷ [])) where
-      -- the last pair that was put is before it
-      put_before : (put : Pair) (puts : List Pair) → merged.pairs ≡ put ∷ puts
-          → internal_cmp merge.choices.format.order (last_added merged.pairs) pair.0 ≡ Less
-      put_before put puts is =
-          let cmp = merge.choices.format.order in
-          let last = last_added_in put puts in
-          let there : Contains (all_pairs merged.tables ++ merged.pairs) last.0
-          = Contains-append_right (all_pairs merged.tables) merged.pairs last.0
-          (subst (λ ps. Contains ps last.0) (sym is) last.1) in
-          let was_read = of_filter (stays merge.smallest merge.is_base read) read last.0
-          (subst (λ ps. Contains ps last.0) merged.left there) in
-          subst (λ k. internal_cmp cmp k pair.0 ≡ Less) (last.2 ∙ ap last_added (sym is))
-          (rises_to cmp exact read pair are.rising last.0 was_read.0)
-
-      follows_open : (one : Option (TableFile E C FP F)) → outputs.unfinished ≡ one
-          → IfSome one (λ table. 0 < table.core.count
-          → order.cmp (order_of table.core) (last_of table.core) pair.0 ≡ Less)
-      follows_open None e = tt
-      follows_open (Some table) e some =
-          let cmp = merge.choices.format.order in
-          let is : IsOpenTable merge.choices env merge.store from table merged.pairs
-          = subst (λ o. IsOpenAfter merge.choices env merge.store from merged.tables o
-          merged.pairs) e merged.have.opened in
-          ap (λ c. order.cmp c (last_of table.core) pair.0) is.chosen.order_is
-          ∙ ap (λ (by : List ℕ → List ℕ → Ordering). by (last_of table.core) pair.0) cmp_is
-          ∙ ap (λ k. internal_cmp cmp k pair.0) is.last
-          ∙ put_before (table.smallest, is.first.0) is.first.1 is.first.2
-
-      never_unfit : IsUnfit order outputs.unfinished pair.0 → ⊥
-      never_unfit (inl short) = untagged short are
-      never_unfit (inr unfit) = unfit (follows_open outputs.unfinished refl)
-
-      pushed_left : pairs_left merge.smallest merge.is_base (read ++ pair ∷ [])
-          ≡ pairs_left merge.smallest merge.is_base read
-          ++ left_one merge.smallest merge.is_base (last_entry None read) pair
-      pushed_left = left_pushed merge.choices.format.order exact merge.smallest merge.is_base read
-          pair merged.are_read.rising are.rising
-
-      pushed_passed : {new : Passing} → IsJustBefore new (Some (entry_of_pair pair))
-          → IsJustBefore new (last_entry None (read ++ pair ∷ []))
-      pushed_passed {new} just =
-          subst (IsJustBefore new) (sym (last_entry_pushed None read pair)) just
-
-      -- its entry goes
-      pub taken_gone : {left : Passing} {now : OutputsValue E C FP F}
-          (result : Result (Unit {0}) Status)
+    module _ {read : List Pair} {next : ℕ} {from : E} {passing : Passing}
+        {outputs : OutputsValue E C FP F}
+        (merged : HasMerged merge env first read next from passing outputs) (pair : Pair) where
+      -- the outputs that differ in whether the open one is to end have the same tables
+      pub have_same : {now : OutputsValue E C FP F}
           → (now.unfinished ≡ outputs.unfinished) × (now.done ≡ outputs.done)
-          → goes_after merge.smallest merge.is_base (last_entry None read) (entry_of_pair pair)
-          ≡ true
-          → OnOk result (IsJustBefore left (Some (entry_of_pair pair)))
-          → IfErr result IsOutOfMemory
-          → TakesPair merge env first read pair next from result next from left now
-      taken_gone {left} {now} (Ok x) same went just memory = record {
-        ok = record {
-          are_read = are;
-          passed = pushed_passed just;
-          tables = merged.tables;
-          pairs = merged.pairs;
-          have = have_same same merged.have;
-          left = merged.left
-              ∙ sym (append-nil (pairs_left merge.smallest merge.is_base read))
-              ∙ ap (λ b. pairs_left merge.smallest merge.is_base read
-              ++ (if b then [] else pair ∷ [])) (sym went)
-              ∙ sym pushed_left;
-        };
-        changes = new-none env merge.store first from;
-        cause = all_written refl;
+          → HaveOutputs merge.choices env merge.store first next from now merged.tables merged.pairs
+      have_same {now} same = record {
+        finished = subst (λ fs. AreFinished merge.choices env merge.store from fs merged.tables)
+            (sym same.1) merged.have.finished;
+        opened = subst (λ o. IsOpenAfter merge.choices env merge.store from merged.tables o
+            merged.pairs) (sym same.0) merged.have.opened;
+        numbers = subst (λ o. RiseWithin first next (numbers_of now.done o)) (sym same.0)
+            (subst (λ fs. RiseWithin first next (numbers_of fs outputs.unfinished))
+            (sym same.1) merged.have.numbers);
+        cut = merged.have.cut;
       }
-        where
-          have_same : (now.unfinished ≡ outputs.unfinished) × (now.done ≡ outputs.done)
-              → HaveOutputs merge.choices env merge.store first next from outputs merged.tables
-              merged.pairs
-              → HaveOutputs merge.choices env merge.store first next from now merged.tables
-              merged.pairs
-          have_same are_same have = record {
-            finished = subst (λ fs. AreFinished merge.choices env merge.store from fs merged.tables)
-                (sym are_same.1) have.finished;
-            opened = subst (λ o. IsOpenAfter merge.choices env merge.store from merged.tables o
-                merged.pairs) (sym are_same.0) have.opened;
-            numbers = subst (λ o. RiseWithin first next (numbers_of now.done o)) (sym are_same.0)
-                (subst (λ fs. RiseWithin first next (numbers_of fs outputs.unfinished))
-                (sym are_same.1) have.numbers);
-            cut = have.cut;
-          }
-      taken_gone (Err status) same went just memory = record {
+
+      -- a pair that isn't in place is refused
+      pub misplaced : {later : ℕ} {left : Passing} {new : OutputsValue E C FP F}
+          (result : Result (Unit {0}) Status) → IsErrAnd result (λ status. status.code ≡ Corruption)
+          → (AreRead merge (read ++ pair ∷ []) → ⊥)
+          → TakesPair merge env first read pair next from result later from left new
+      misplaced (Ok x) never why = absurd never
+      misplaced (Err status) code why = record {
         ok = tt;
         changes = new-none env merge.store first from;
-        cause = own_fails refl (inl memory);
+        cause = own_fails refl (inr (inr (code, why), refl));
       }
 
-      -- it isn't put
-      pub not_put : {told now : OutputsValue E C FP F} {limit later : ℕ} {to : E} {left : Passing}
-          (result : Result (Unit {0}) Status) → told.unfinished ≡ outputs.unfinished → {status : Status}
-          → result ≡ Err status
-          → PutsPair merge.choices env merge.store first merged.tables merged.pairs limit pair next
-          from told (Err status) later to now
-          → TakesPair merge env first read pair next from result later to left now
-      not_put {told} {to = to} {left} {now} result same {status} is puts =
-          subst (λ r. TakesPair merge env first read pair next from r _ to left now) (sym is)
-          (record {
-            ok = tt;
-            changes = puts.changes;
-            cause = fails_later refl (⊎_elim (λ fault. inl (inl fault))
-                (⊎_elim (λ used_up. inl (inr used_up))
-                (λ unfit. absurd (never_unfit (subst (λ o. IsUnfit order o pair.0) same unfit.1)))))
-                puts.cause;
-          })
+      pub untagged : length pair.0 < 8 → AreRead merge (read ++ pair ∷ []) → ⊥
+      untagged short are =
+          let tagged = are.tagged pair (Contains-push read pair) in omega (arith, short, tagged)
 
-      -- it is put
-      pub taken_put : {told now : OutputsValue E C FP F} {limit later : ℕ} {to : E}
-          {left : Passing} (result : Result (Unit {0}) Status)
-          → goes_after merge.smallest merge.is_base (last_entry None read) (entry_of_pair pair)
-          ≡ false
-          → PutsPair merge.choices env merge.store first merged.tables merged.pairs limit pair next
-          from told (Ok tt) later to now
-          → OnOk result (IsJustBefore left (Some (entry_of_pair pair)))
-          → IfErr result IsOutOfMemory
-          → TakesPair merge env first read pair next from result later to left now
-      taken_put {told} {now} {limit} (Ok x) stayed puts just memory =
-          let due = is_due limit pair.0 told in
-          record {
-            ok = record {
-              are_read = are;
-              passed = pushed_passed just;
-              tables = tables_after due merged.tables merged.pairs;
-              pairs = pairs_after due merged.pairs pair;
-              have = puts.ok;
-              left = all_pairs_put due merged.tables merged.pairs pair
-                  ∙ ap (λ ps. ps ++ pair ∷ []) merged.left
-                  ∙ ap (λ b. pairs_left merge.smallest merge.is_base read
-                  ++ (if b then [] else pair ∷ [])) (sym stayed)
-                  ∙ sym pushed_left;
-            };
-            changes = puts.changes;
-            cause = all_written puts.cause.ok;
-          }
-      taken_put (Err status) stayed puts just memory = record {
-        ok = tt;
-        changes = puts.changes;
-        cause = own_fails puts.cause.ok (inl memory);
-      }
+      pub not_following : may_follow merge.choices.format.order (last_entry None read)
+          (entry_of_pair pair) ≡ false → AreRead merge (read ++ pair ∷ []) → ⊥
+      not_following not are =
+          let may = rising_follows merge.choices.format.order exact read pair are.rising in
+          let never : false ≡ true = sym not ∙ may in absurd (cc never)
 
-  -- the last table is finished
-  pub merged_all : {read : List Pair} {next : ℕ} {from to : E} {passing : Passing}
-      {outputs : OutputsValue E C FP F}
-      (merged : HasMerged merge env first read next from passing outputs)
-      {files : List FileMetaData}
-      → AreTables merge.choices env merge.store first next to files
-      (with_table merged.tables merged.pairs)
-      → MergesInto merge env first read next files to
-  merged_all {read} merged are =
-      let left = all_pairs_with merged.tables merged.pairs ∙ merged.left in
-      record {
-        are_read = merged.are_read;
-        tables = with_table merged.tables merged.pairs;
-        are_tables = are;
-        left = left;
-        entries = ap entries_of_pairs left ∙ entries_left merge.smallest merge.is_base read;
-      }
+      pub not_among : merge.is_among (user_part pair.0) ≡ false
+          → AreRead merge (read ++ pair ∷ []) → ⊥
+      not_among not are =
+          let is = are.among pair (Contains-push read pair) in
+          let never : false ≡ true = sym not ∙ is in absurd (cc never)
+
+      module _ (are : AreRead merge (read ++ pair ∷ [])) where
+        -- the last pair that was put is before it
+        put_before : (put : Pair) (puts : List Pair) → merged.pairs ≡ put ∷ puts
+            → internal_cmp merge.choices.format.order (last_added merged.pairs) pair.0 ≡ Less
+        put_before put puts is =
+            let cmp = merge.choices.format.order in
+            let last = last_added_in put puts in
+            let there : Contains (all_pairs merged.tables ++ merged.pairs) last.0
+            = Contains-append_right (all_pairs merged.tables) merged.pairs last.0
+            (subst (λ ps. Contains ps last.0) (sym is) last.1) in
+            let was_read = of_filter (stays merge.smallest merge.is_base read) read last.0
+            (subst (λ ps. Contains ps last.0) merged.left there) in
+            subst (λ k. internal_cmp cmp k pair.0 ≡ Less) (last.2 ∙ ap last_added (sym is))
+            (rises_to cmp exact read pair are.rising last.0 was_read.0)
+
+        follows_open : (one : Option (TableFile E C FP F)) → outputs.unfinished ≡ one
+            → IfSome one (λ table. 0 < table.core.count
+            → order.cmp (order_of table.core) (last_of table.core) pair.0 ≡ Less)
+        follows_open None e = tt
+        follows_open (Some table) e some =
+            let cmp = merge.choices.format.order in
+            let is : IsOpenTable merge.choices env merge.store from table merged.pairs
+            = subst (λ o. IsOpenAfter merge.choices env merge.store from merged.tables o
+            merged.pairs) e merged.have.opened in
+            ap (λ c. order.cmp c (last_of table.core) pair.0) is.chosen.order_is
+            ∙ ap (λ (by : List ℕ → List ℕ → Ordering). by (last_of table.core) pair.0) cmp_is
+            ∙ ap (λ k. internal_cmp cmp k pair.0) is.last
+            ∙ put_before (table.smallest, is.first.0) is.first.1 is.first.2
+
+        never_unfit : IsUnfit order outputs.unfinished pair.0 → ⊥
+        never_unfit (inl short) = untagged short are
+        never_unfit (inr unfit) = unfit (follows_open outputs.unfinished refl)
+
+        pushed_left : pairs_left merge.smallest merge.is_base (read ++ pair ∷ [])
+            ≡ pairs_left merge.smallest merge.is_base read
+            ++ left_one merge.smallest merge.is_base (last_entry None read) pair
+        pushed_left = left_pushed merge.choices.format.order exact merge.smallest merge.is_base read
+            pair merged.are_read.rising are.rising
+
+        pushed_passed : {new : Passing} → IsJustBefore new (Some (entry_of_pair pair))
+            → IsJustBefore new (last_entry None (read ++ pair ∷ []))
+        pushed_passed {new} just =
+            subst (IsJustBefore new) (sym (last_entry_pushed None read pair)) just
+
+        -- its entry goes
+        pub taken_gone : {left : Passing} {now : OutputsValue E C FP F}
+            (result : Result (Unit {0}) Status)
+            → (now.unfinished ≡ outputs.unfinished) × (now.done ≡ outputs.done)
+            → goes_after merge.smallest merge.is_base (last_entry None read) (entry_of_pair pair)
+            ≡ true
+            → OnOk result (IsJustBefore left (Some (entry_of_pair pair)))
+            → IfErr result IsOutOfMemory
+            → TakesPair merge env first read pair next from result next from left now
+        taken_gone {left} {now} (Ok x) same went just memory = record {
+          ok = record {
+            are_read = are;
+            passed = pushed_passed just;
+            tables = merged.tables;
+            pairs = merged.pairs;
+            have = have_same same;
+            left = merged.left
+                ∙ sym (append-nil (pairs_left merge.smallest merge.is_base read))
+                ∙ ap (λ b. pairs_left merge.smallest merge.is_base read
+                ++ (if b then [] else pair ∷ [])) (sym went)
+                ∙ sym pushed_left;
+          };
+          changes = new-none env merge.store first from;
+          cause = all_written refl;
+        }
+        taken_gone (Err status) same went just memory = record {
+          ok = tt;
+          changes = new-none env merge.store first from;
+          cause = own_fails refl (inl memory);
+        }
+
+        -- it isn't put
+        pub not_put : {told now : OutputsValue E C FP F} {limit later : ℕ} {to : E} {left : Passing}
+            {status : Status} → told.unfinished ≡ outputs.unfinished
+            → PutsPair merge.choices env merge.store first merged.tables merged.pairs limit pair next
+            from told (Err status) later to now
+            → TakesPair merge env first read pair next from (Err status) later to left now
+        not_put same puts = record {
+          ok = tt;
+          changes = puts.changes;
+          cause = fails_later refl (⊎_elim (λ fault. inl (inl fault))
+              (⊎_elim (λ used_up. inl (inr used_up))
+              (λ unfit. absurd (never_unfit (subst (λ o. IsUnfit order o pair.0) same unfit.1)))))
+              puts.cause;
+        }
+
+        -- it is put
+        pub taken_put : {told now : OutputsValue E C FP F} {limit later : ℕ} {to : E}
+            {left : Passing} (result : Result (Unit {0}) Status)
+            → goes_after merge.smallest merge.is_base (last_entry None read) (entry_of_pair pair)
+            ≡ false
+            → PutsPair merge.choices env merge.store first merged.tables merged.pairs limit pair next
+            from told (Ok tt) later to now
+            → OnOk result (IsJustBefore left (Some (entry_of_pair pair)))
+            → IfErr result IsOutOfMemory
+            → TakesPair merge env first read pair next from result later to left now
+        taken_put {told} {now} {limit} (Ok x) stayed puts just memory =
+            let due = is_due limit pair.0 told in
+            record {
+              ok = record {
+                are_read = are;
+                passed = pushed_passed just;
+                tables = tables_after due merged.tables merged.pairs;
+                pairs = pairs_after due merged.pairs pair;
+                have = puts.ok;
+                left = all_pairs_put due merged.tables merged.pairs pair
+                    ∙ ap (λ ps. ps ++ pair ∷ []) merged.left
+                    ∙ ap (λ b. pairs_left merge.smallest merge.is_base read
+                    ++ (if b then [] else pair ∷ [])) (sym stayed)
+                    ∙ sym pushed_left;
+              };
+              changes = puts.changes;
+              cause = all_written puts.cause.ok;
+            }
+        taken_put (Err status) stayed puts just memory = record {
+          ok = tt;
+          changes = puts.changes;
+          cause = own_fails puts.cause.ok (inl memory);
+        }
+
+    -- the last table is finished
+    pub merged_all : {read : List Pair} {next : ℕ} {from to : E} {passing : Passing}
+        {outputs : OutputsValue E C FP F}
+        (merged : HasMerged merge env first read next from passing outputs)
+        {files : List FileMetaData}
+        → AreTables merge.choices env merge.store first next to files
+        (with_table merged.tables merged.pairs)
+        → MergesInto merge env first read next files to
+    merged_all {read} merged are =
+        let left = all_pairs_with merged.tables merged.pairs ∙ merged.left in
+        record {
+          are_read = merged.are_read;
+          tables = with_table merged.tables merged.pairs;
+          are_tables = are;
+          left = left;
+          entries = ap entries_of_pairs left ∙ entries_left merge.smallest merge.is_base read;
+        }

@@ -3,6 +3,7 @@ pub mod TableFile
 pub mod Outputs
 pub mod Passing
 pub mod Merging
+pub mod MergeInputs
 pub mod FoundLogs
 pub mod OpenStore
 pub mod OpenTables

@@ -3,6 +3,7 @@
 #![tactic(auto)]
 
 pub mod build;
+pub mod merge_inputs;
 pub mod merge_tables;
 pub mod open_store;
 mod opening;

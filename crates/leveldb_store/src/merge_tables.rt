@@ -18,7 +18,7 @@ use leveldb_env::env::Env;
 use leveldb_env::filter::{FilterPolicy, InternalFilterPolicy};
 use leveldb_env::options::Options;
 use leveldb_iter::walk::Walk;
-use leveldb_version::version_set::VersionSet;
+use leveldb_version::version_set::LiveFiles;
 use std::alloc::{AllocError, Global};
 
 /// Where tables end, besides past their size.
@@ -51,7 +51,7 @@ impl<E: Env, C: UserCmp + Copy + Drop, FP: FilterPolicy + Copy + Drop> Merging<E
     fn take<L: MergeLevels, X: Cuts>(
         &mut self,
         env: &mut E,
-        versions: &mut VersionSet<E>,
+        versions: &mut LiveFiles<E>,
         plan: &MergePlan<'_, C, FP, L>,
         cut: &mut X,
         key: &[u8],
@@ -76,11 +76,15 @@ impl<E: Env, C: UserCmp + Copy + Drop, FP: FilterPolicy + Copy + Drop> Merging<E
             return err(plan.alloc, StatusCode::Corruption, "keys are out of order");
         }
         if !plan.levels.is_among_inputs(user) {
-            return err(plan.alloc, StatusCode::Corruption, "a key is in no input's range");
+            return err(
+                plan.alloc,
+                StatusCode::Corruption,
+                "a key is in no input's range",
+            );
         }
         self.outputs.end_table(cut.should_stop_before(key));
-        let levels = plan.levels;
-        if self.passing.goes(levels, plan.smallest, kind, sequence, user) {
+        let (levels, smallest) = (plan.levels, plan.smallest);
+        if self.passing.goes(levels, smallest, kind, sequence, user) {
             return self.passing.keep(sequence, user);
         }
         self.outputs
@@ -92,7 +96,8 @@ impl<E: Env, C: UserCmp + Copy + Drop, FP: FilterPolicy + Copy + Drop> Merging<E
 /// Merges the pairs of a walk over internal keys into new tables: each pair whose entry stays is in
 /// one of them, as it was, and the tables are cut between user keys, past the options'
 /// `max_file_size` or where `cut` says so. `Corruption` where a key has no tag, isn't after the one
-/// before it, or is in no input's range, whatever the walk reads. After an Err some of the tables may be there, which nothing names.
+/// before it, or is in no input's range, whatever the walk reads. After an Err some of the tables
+/// may be there, which nothing names.
 pub fn merge_tables<
     E: Env,
     T,
@@ -105,7 +110,7 @@ pub fn merge_tables<
     env: &mut E,
     tables: &mut T,
     walk: &mut W,
-    versions: &mut VersionSet<E>,
+    versions: &mut LiveFiles<E>,
     plan: &MergePlan<'_, C, FP, L>,
     cut: &mut X,
 ) -> Result<Vec<FileMetaData>>

@@ -4,7 +4,7 @@ use Rattle.leveldb_base.proofs.HistoryLemmas.{exact_order}
 use Rattle.leveldb_base.specs.Entries.{entry_of_pair}
 use Rattle.leveldb_base.specs.Types.{Pair}
 use Rattle.leveldb_store.specs.Merging.{last_entry}
-use Rattle.leveldb_store.proofs.MergingLemmas.{in_place_pushed, misplaced, not_among, not_following, not_put, taken_gone, taken_put, untagged}
+use Rattle.leveldb_store.proofs.MergingLemmas.{have_same, in_place_pushed, misplaced, not_among, not_following, not_put, ok_map, taken_gone, taken_put, untagged}
 use Rattle.leveldb_store.proofs.merge_tables.Merging.take.Goals as goal
 
 -- the key has no tag
@@ -47,3 +47,31 @@ returns-then-goes-clause-takes g c = λ first read merged.
     let went = sym (c.if-goes.ensures (last_entry None read) pair merged.passed parsed.kind parsed.sequence parsed.user) in
     taken_gone _ g.E.Env exact refl merged pair are c.keep.result (ap (λ v. v.unfinished) c.end_table.ensures, ap (λ v. v.done) c.end_table.ensures) went
     (ok_map c.keep.result c.keep.ensures.ok (λ kept. kept (entry_of_pair pair) parsed.sequence parsed.user)) c.keep.ensures.memory
+
+-- it isn't put
+pub returns-in_err-put-clause-takes : goal.returns-in_err-put-clause-takes
+returns-in_err-put-clause-takes g c = λ first read merged.
+    let order = c.args.plan.now.options.now.cmp in
+    let exact = exact_order (g.C.Cmp.accepts order) (g.C.Cmp.cmp order) (g.met.C.UserCmp.accepts_all order) (g.met.C.Cmp.preorder order) (g.met.C.UserCmp.exact order) in
+    let pair : Pair = (c.args.key.now, c.args.value.now) in
+    let parsed = c.parse_internal_key-kind.ensures in
+    let may = sym (c.if-not-follows.ensures (last_entry None read) (entry_of_pair pair) merged.passed parsed.sequence parsed.user) in
+    let are = in_place_pushed exact read pair merged.are_read c.if-key-lt-TAG_LEN.false may (sym (rw parsed.user at c.if-not-is_among_inputs.ensures)) in
+    let failed = err_from_is_err_and c.from_residual.result c.from_residual.ensures.1 in
+    let same = ap (λ v. v.unfinished) c.end_table.ensures in
+    rw failed.1 (rw failed.2 (not_put _ g.E.Env exact refl merged pair are same
+    (c.in_err-put.ensures.puts first merged.tables merged.pairs (have_same _ g.E.Env exact refl merged pair (same, ap (λ v. v.done) c.end_table.ensures)))))
+
+-- it is put
+pub returns-clause-takes : goal.returns-clause-takes
+returns-clause-takes g c = λ first read merged.
+    let order = c.args.plan.now.options.now.cmp in
+    let exact = exact_order (g.C.Cmp.accepts order) (g.C.Cmp.cmp order) (g.met.C.UserCmp.accepts_all order) (g.met.C.Cmp.preorder order) (g.met.C.UserCmp.exact order) in
+    let pair : Pair = (c.args.key.now, c.args.value.now) in
+    let parsed = c.parse_internal_key-kind.ensures in
+    let may = sym (c.if-not-follows.ensures (last_entry None read) (entry_of_pair pair) merged.passed parsed.sequence parsed.user) in
+    let are = in_place_pushed exact read pair merged.are_read c.if-key-lt-TAG_LEN.false may (sym (rw parsed.user at c.if-not-is_among_inputs.ensures)) in
+    let stayed = sym (c.if-goes.ensures (last_entry None read) pair merged.passed parsed.kind parsed.sequence parsed.user) in
+    taken_put _ g.E.Env exact refl merged pair are c.keep-2.result stayed
+    (c.in_ok-put.ensures.puts first merged.tables merged.pairs (have_same _ g.E.Env exact refl merged pair (ap (λ v. v.unfinished) c.end_table.ensures, ap (λ v. v.done) c.end_table.ensures)))
+    (ok_map c.keep-2.result c.keep-2.ensures.ok (λ kept. kept (entry_of_pair pair) parsed.sequence parsed.user)) c.keep-2.ensures.memory

@@ -1,0 +1,49 @@
+-- The walk that merges the tables of files: which pairs it is over where they are there, and that new
+-- tables leave it where it is.
+use Rattle.std.specs.Prelude.{◌≡◌, ◌≤◌, ℕ, List}
+use Rattle.leveldb_base.specs.Entries.{AreSorted, entries_of_pairs}
+use Rattle.leveldb_base.specs.Types.{Pair}
+use Rattle.leveldb_base.specs.declared.cmp.Cmp.{Ghosts as CmpGhosts}
+use Rattle.leveldb_base.specs.declared.cmp.internal.InternalKeyCmp.{InternalKeyCmp}
+use Rattle.leveldb_env.specs.Compressor.{Codings}
+use Rattle.leveldb_env.specs.declared.env.Env.{Ghosts as EnvGhosts}
+use Rattle.leveldb_env.specs.declared.filter.FilterPolicy.{Ghosts as FilterGhosts}
+use Rattle.leveldb_iter.specs.Walk.{key_order}
+use Rattle.leveldb_iter.specs.declared.merging_iter.MergeCore.{MergeCore}
+use Rattle.leveldb_iter.specs.declared.walk.Walk.{Ghosts as WalkGhosts}
+use Rattle.leveldb_version.specs.Format.{Meaning}
+use Rattle.leveldb_version.specs.Levels.{LiveTable, table_entries}
+use Rattle.leveldb_version.specs.Store.{SameEntries}
+use Rattle.leveldb_version.specs.TableCache.{store_of}
+use Rattle.leveldb_version.specs.Version.{VersionValue}
+use Rattle.leveldb_version.specs.VersionIter.{AreOpenGiven}
+use Rattle.leveldb_version.specs.VersionIters.{AreTablesToWalk}
+use Rattle.leveldb_version.specs.declared.table_cache.moves.ReadTables.{ReadTables}
+use Rattle.leveldb_version.specs.declared.version_iter.VersionIter.{VersionIter}
+use Rattle.leveldb_store.specs.Merging.{BearsNewTables}
+
+-- the tables of this store are read, and none is open or may be opened whose number is the first or
+-- above
+pub record ReadsBelow {E C FP K F : Type 0} (store : List ℕ) (first : ℕ)
+    (world : E × ReadTables E C FP K F) : Type 0 where
+  pub given : AreOpenGiven world
+  pub below : world.1.below ≤ first
+  pub store_is : store_of world.1.cache.now ≡ store
+
+module _ {E F C FP K : Type 0} (keys : CmpGhosts (InternalKeyCmp C)) (env : EnvGhosts E F)
+    (cmp : CmpGhosts C) (filters : FilterGhosts FP) (codings : K → Codings)
+    (walk : WalkGhosts (MergeCore (InternalKeyCmp C) (VersionIter C)) E (ReadTables E C FP K F))
+  where
+    -- A walk that merges the tables of a version's files, by this comparator of user keys.
+    pub record MergesTablesOf (inputs : VersionValue C) (compares : C)
+        (it : MergeCore (InternalKeyCmp C) (VersionIter C)) : Type 0 where
+      -- where they are there, it is over all their entries, sorted
+      pub over : (world : E × ReadTables E C FP K F) (meaning : Meaning) (tables : List LiveTable)
+          → AreTablesToWalk keys env cmp filters codings inputs meaning world tables
+          → cmp.cmp compares ≡ cmp.cmp inputs.cmp
+          → (pairs : List Pair) × walk.over world it (key_order keys (record { 0 = compares })) pairs
+          × AreSorted (cmp.cmp compares) (entries_of_pairs pairs)
+          × SameEntries (entries_of_pairs pairs) (table_entries tables)
+      -- new tables leave it where it is
+      pub bears : (store : List ℕ) (first : ℕ) (world : E × ReadTables E C FP K F)
+          → ReadsBelow store first world → BearsNewTables env walk store first world
