@@ -71,17 +71,21 @@ module _ {E F T W : Type 0} (env : EnvGhosts E F) (walk : WalkGhosts W E T) (sto
 
 -- ---- a merge
 
-module _ {E F T I C : Type 0} (env : EnvGhosts E F) (child : WalkGhosts I E T) (cmp : CmpGhosts C)
-    (store : List ℕ) (first : ℕ) (Given : E × T → Type 0)
-    (merge : WalkGhosts (MergeCore C I) E T)
-    (over_is : (world : E × T) (it : MergeCore C I) (order : KeyOrder) (pairs : List Pair)
-    → merge.over world it order pairs ↔ IsMergeOver child cmp world it order pairs)
-    (at_is : (world : E × T) (it : MergeCore C I) (order : KeyOrder) (pairs : List Pair)
-    (position : Option ℕ) → merge.is_at world it order pairs position
-    ↔ IsMergeAt child cmp world it order pairs position)
-    (fails_is : (world : E × T) (it : MergeCore C I) (later : E × T) (status : Status)
-    → merge.fails world it later status ↔ FailsMerged child world it later status)
-    (keeps : (at to : E × T) → merge.keeps at to → child.keeps at to) where
+-- the one walk is the merge of others of this kind
+pub record IsMergeOf {E T I C : Type 0} (child : WalkGhosts I E T) (cmp : CmpGhosts C)
+    (merge : WalkGhosts (MergeCore C I) E T) : Type 0 where
+  pub over_is : (world : E × T) (it : MergeCore C I) (order : KeyOrder) (pairs : List Pair)
+      → merge.over world it order pairs ↔ IsMergeOver child cmp world it order pairs
+  pub at_is : (world : E × T) (it : MergeCore C I) (order : KeyOrder) (pairs : List Pair)
+      (position : Option ℕ) → merge.is_at world it order pairs position
+      ↔ IsMergeAt child cmp world it order pairs position
+  pub fails_is : (world : E × T) (it : MergeCore C I) (later : E × T) (status : Status)
+      → merge.fails world it later status ↔ FailsMerged child world it later status
+  pub keeps : (at to : E × T) → merge.keeps at to → child.keeps at to
+
+module _ {E F T I C : Type 0} (env : EnvGhosts E F) {child : WalkGhosts I E T} {cmp : CmpGhosts C}
+    (store : List ℕ) (first : ℕ) (Given : E × T → Type 0) {merge : WalkGhosts (MergeCore C I) E T}
+    (is : IsMergeOf child cmp merge) where
   -- a merge bears what its children bear
   pub merge_borne : NewTablesKeep env child store first Given
       → NewTablesKeep env merge store first Given
@@ -89,70 +93,80 @@ module _ {E F T I C : Type 0} (env : EnvGhosts E F) (child : WalkGhosts I E T) (
       let borne = bears at to tables given changes in
       record {
         given = borne.given;
-        stays_over = λ it order pairs was. (over_is (to, tables) it order pairs).1
+        stays_over = λ it order pairs was. (is.over_is (to, tables) it order pairs).1
             (merged_stays_over (at, tables) (to, tables) borne.stays_over it.cmp it.children.items
-            order pairs ((over_is (at, tables) it order pairs).0 was));
-        stays_at = λ it order pairs position was. (at_is (to, tables) it order pairs position).1
+            order pairs ((is.over_is (at, tables) it order pairs).0 was));
+        stays_at = λ it order pairs position was.
+            (is.at_is (to, tables) it order pairs position).1
             (merged_stays (at, tables) (to, tables) borne.stays_over borne.stays_at it order pairs
-            position ((at_is (at, tables) it order pairs position).0 was));
+            position ((is.at_is (at, tables) it order pairs position).0 was));
         excuses = λ it later status failed.
-            let any = (fails_is (to, tables) it later status).0 failed in
-            (fails_is (at, tables) it later status).1
+            let any = (is.fails_is (to, tables) it later status).0 failed in
+            (is.fails_is (at, tables) it later status).1
             (any.0, any.1, any.2, any.3, borne.excuses any.1 later status any.4);
       }
 
   pub merge_moves : MovesKeep env child store first Given → MovesKeep env merge store first Given
-  merge_moves moves at to given kept = moves at to given (keeps at to kept)
+  merge_moves moves at to given kept = moves at to given (is.keeps at to kept)
 
 -- ---- the tables of a version
 
 module _ {E F C FP K : Type 0} (keys : CmpGhosts (InternalKeyCmp C)) (env : EnvGhosts E F)
-    (cmp : CmpGhosts C) (filters : FilterGhosts FP) (codings : K → Codings) (store : List ℕ)
-    (first : ℕ) (child : WalkGhosts (VersionIter C) E (ReadTables E C FP K F)) where
-  pub tables_keep : ((at to : E × ReadTables E C FP K F) → child.keeps at to
-      → KeepsReading keys env cmp filters codings at to)
-      → MovesKeep env child store first (ReadsBelow store first)
-  tables_keep reads at to was kept =
-      let keeps = reads at to kept in (
-        record {
-          given = keeps.given was.given;
-          below = omega (arith, was.below, keeps.below_stays);
-          store_is = keeps.tables.path ∙ was.store_is;
-        },
-        record {
-          run = keeps.tables.disk.disk;
-          locks = keeps.tables.disk.locks;
-          later = keeps.tables.later;
-        },
-      )
+    (cmp : CmpGhosts C) (filters : FilterGhosts FP) (codings : K → Codings) where
+  -- a walk is over the tables of files
+  pub record IsTableWalk (child : WalkGhosts (VersionIter C) E (ReadTables E C FP K F)) : Type 0
+    where
+      pub over_is : (world : E × ReadTables E C FP K F) (it : VersionIter C) (order : KeyOrder)
+          (pairs : List Pair) → child.over world it order pairs
+          ↔ IsOverTables keys env cmp filters codings world it order pairs
+      pub at_is : (world : E × ReadTables E C FP K F) (it : VersionIter C) (order : KeyOrder)
+          (pairs : List Pair) (position : Option ℕ) → child.is_at world it order pairs position
+          ↔ IsAtInTables keys env cmp filters codings world it order pairs position
+      pub fails_is : (world : E × ReadTables E C FP K F) (it : VersionIter C)
+          (later : E × ReadTables E C FP K F) (status : Status)
+          → child.fails world it later status
+          ↔ FailsInTables keys env cmp filters codings world it later status
+      pub keeps : (at to : E × ReadTables E C FP K F) → child.keeps at to
+          → KeepsReading keys env cmp filters codings at to
 
-  pub tables_borne : ((world : E × ReadTables E C FP K F) (it : VersionIter C) (order : KeyOrder)
-      (pairs : List Pair) → child.over world it order pairs
-      ↔ IsOverTables keys env cmp filters codings world it order pairs)
-      → ((world : E × ReadTables E C FP K F) (it : VersionIter C) (order : KeyOrder)
-      (pairs : List Pair) (position : Option ℕ) → child.is_at world it order pairs position
-      ↔ IsAtInTables keys env cmp filters codings world it order pairs position)
-      → ((world : E × ReadTables E C FP K F) (it : VersionIter C)
-      (later : E × ReadTables E C FP K F) (status : Status)
-      → child.fails world it later status
-      ↔ FailsInTables keys env cmp filters codings world it later status)
-      → NewTablesKeep env child store first (ReadsBelow store first)
-  tables_borne over_is at_is fails_is at to tables was changes =
-      let beside : ChangesBesideTables env tables at to = record {
-        later = changes.later;
-        files = λ modelled number fits below. (changes.run modelled).has _
-            (λ n least n_fits. subst (λ s. bytes_eq (table_path store n) (table_path s number) ≡ false)
-            (sym was.store_is)
-            (tables_apart store n number n_fits fits
-            (λ same. omega (arith, same, least, below, was.below))));
-      } in
-      let stay = walks_stay_beside keys env cmp filters codings tables at to beside was.given in
-      record {
-        given = record { given = stay.given; below = was.below; store_is = was.store_is };
-        stays_over = λ it order pairs over. (over_is (to, tables) it order pairs).1
-            (stay.over it order pairs ((over_is (at, tables) it order pairs).0 over));
-        stays_at = λ it order pairs position here. (at_is (to, tables) it order pairs position).1
-            (stay.at it order pairs position ((at_is (at, tables) it order pairs position).0 here));
-        excuses = λ it later status failed. (fails_is (at, tables) it later status).1
-            (stay.excuses it later status ((fails_is (to, tables) it later status).0 failed));
-      }
+  module _ (store : List ℕ) (first : ℕ)
+      {child : WalkGhosts (VersionIter C) E (ReadTables E C FP K F)} (is : IsTableWalk child)
+    where
+      pub tables_keep : MovesKeep env child store first (ReadsBelow store first)
+      tables_keep at to was kept =
+          let keeps = is.keeps at to kept in (
+            record {
+              given = keeps.given was.given;
+              below = omega (arith, was.below, keeps.below_stays);
+              store_is = keeps.tables.path ∙ was.store_is;
+            },
+            record {
+              run = keeps.tables.disk.disk;
+              locks = keeps.tables.disk.locks;
+              later = keeps.tables.later;
+            },
+          )
+
+      pub tables_borne : NewTablesKeep env child store first (ReadsBelow store first)
+      tables_borne at to tables was changes =
+          let beside : ChangesBesideTables env tables at to = record {
+            later = changes.later;
+            files = λ modelled number fits below. (changes.run modelled).has _
+                (λ n least n_fits. subst
+                (λ s. bytes_eq (table_path store n) (table_path s number) ≡ false)
+                (sym was.store_is)
+                (tables_apart store n number n_fits fits
+                (λ same. omega (arith, same, least, below, was.below))));
+          } in
+          let stay = walks_stay_beside keys env cmp filters codings tables at to beside was.given in
+          record {
+            given = record { given = stay.given; below = was.below; store_is = was.store_is };
+            stays_over = λ it order pairs over. (is.over_is (to, tables) it order pairs).1
+                (stay.over it order pairs ((is.over_is (at, tables) it order pairs).0 over));
+            stays_at = λ it order pairs position here.
+                (is.at_is (to, tables) it order pairs position).1
+                (stay.at it order pairs position
+                ((is.at_is (at, tables) it order pairs position).0 here));
+            excuses = λ it later status failed. (is.fails_is (at, tables) it later status).1
+                (stay.excuses it later status ((is.fails_is (to, tables) it later status).0 failed));
+          }

@@ -181,15 +181,18 @@ entries_filtered : (test : Entry → Bool) (pairs : List Pair)
     → entries_of_pairs (filter (λ pair. test (entry_of_pair pair)) pairs)
     ≡ filter test (entries_of_pairs pairs)
 entries_filtered test [] = refl
-entries_filtered test (pair ∷ pairs) = by (test (entry_of_pair pair))
+entries_filtered test (pair ∷ pairs) =
+    by (test (entry_of_pair pair)) (entries_filtered test pairs)
   where
-    by : (b : Bool) → entries_of_pairs
+    by : (b : Bool) → entries_of_pairs (filter (λ p. test (entry_of_pair p)) pairs)
+        ≡ filter test (entries_of_pairs pairs)
+        → entries_of_pairs
         (if b then pair ∷ filter (λ p. test (entry_of_pair p)) pairs
         else filter (λ p. test (entry_of_pair p)) pairs)
         ≡ (if b then entry_of_pair pair ∷ filter test (entries_of_pairs pairs)
         else filter test (entries_of_pairs pairs))
-    by true = ap (λ es. entry_of_pair pair ∷ es) (entries_filtered test pairs)
-    by false = entries_filtered test pairs
+    by true rest = ap (λ es. entry_of_pair pair ∷ es) rest
+    by false rest = rest
 
 entries_left : (smallest : ℕ) (is_base : List ℕ → Bool) (pairs : List Pair)
     → entries_of_pairs (pairs_left smallest is_base pairs)
@@ -220,6 +223,17 @@ module _ (cmp : List ℕ → List ℕ → Ordering) where
   before_pushed key (first ∷ pairs) pair all less =
       (all.0, before_pushed key pairs pair all.1 less)
 
+  -- those at the front
+  before_front : (key : List ℕ) (front rest : List Pair) → IsBeforeAll cmp key (front ++ rest)
+      → IsBeforeAll cmp key front
+  before_front key [] rest all = tt
+  before_front key (first ∷ front) rest all = (all.0, before_front key front rest all.1)
+
+  rising_front : (front rest : List Pair) → AreRising cmp (front ++ rest) → AreRising cmp front
+  rising_front [] rest rising = tt
+  rising_front (first ∷ front) rest rising =
+      (before_front first.0 front rest rising.0, rising_front front rest rising.1)
+
   before_last : (key : List ℕ) (front : List Pair) (last : Pair)
       → IsBeforeAll cmp key (front ++ last ∷ []) → cmp key last.0 ≡ Less
   before_last key [] last all = all.0
@@ -229,7 +243,7 @@ module _ (cmp : List ℕ → List ℕ → Ordering) where
   rising_pushed : IsTotalOrder cmp → (front : List Pair) (last pair : Pair)
       → AreRising cmp (front ++ last ∷ []) → cmp last.0 pair.0 ≡ Less
       → AreRising cmp ((front ++ last ∷ []) ++ pair ∷ [])
-  rising_pushed total [] last pair rising less = ((less, tt), tt, tt)
+  rising_pushed total [] last pair rising less = ((less, tt), (tt, tt))
   rising_pushed total (first ∷ front) last pair rising less = (
     before_pushed first.0 (front ++ last ∷ []) pair rising.0
         (total.trans first.0 last.0 pair.0 (before_last first.0 front last rising.0) less),
@@ -316,22 +330,11 @@ module _ {cmp : List ℕ → List ℕ → Ordering} {is_among : List ℕ → Boo
         (Contains-push_cases read pair other there);
   }
 
-  rising_front : (front rest : List Pair) → AreRising (internal_cmp cmp) (front ++ rest)
-      → AreRising (internal_cmp cmp) front
-  rising_front [] rest rising = tt
-  rising_front (first ∷ front) rest rising =
-      (before_front front rising.0, rising_front front rest rising.1)
-    where
-      before_front : (ps : List Pair) → IsBeforeAll (internal_cmp cmp) first.0 (ps ++ rest)
-          → IsBeforeAll (internal_cmp cmp) first.0 ps
-      before_front [] all = tt
-      before_front (p ∷ ps) all = (all.0, before_front ps all.1)
-
   pub in_place_front : (front rest : List Pair) → AreInPlace cmp is_among (front ++ rest)
       → AreInPlace cmp is_among front
   in_place_front front rest are = record {
     tagged = λ pair there. are.tagged pair (Contains-append_left front rest pair there);
-    rising = rising_front front rest are.rising;
+    rising = rising_front (internal_cmp cmp) front rest are.rising;
     among = λ pair there. are.among pair (Contains-append_left front rest pair there);
   }
 
@@ -419,7 +422,7 @@ module _ {C FP : Type 0} {order : CmpGhosts C} {filters : FilterGhosts FP}
             → IfSome one (λ table. 0 < table.core.count
             → order.cmp (order_of table.core) (last_of table.core) pair.0 ≡ Less)
         follows_open None e = tt
-        follows_open (Some table) e some =
+        follows_open (Some table) e = λ some.
             let cmp = merge.choices.format.order in
             let is : IsOpenTable merge.choices env merge.store from table merged.pairs
             = subst (λ o. IsOpenAfter merge.choices env merge.store from merged.tables o
@@ -439,9 +442,9 @@ module _ {C FP : Type 0} {order : CmpGhosts C} {filters : FilterGhosts FP}
         pushed_left = left_pushed merge.choices.format.order exact merge.smallest merge.is_base read
             pair merged.are_read.rising are.rising
 
-        pushed_passed : {new : Passing} → IsJustBefore new (Some (entry_of_pair pair))
+        pushed_passed : (new : Passing) → IsJustBefore new (Some (entry_of_pair pair))
             → IsJustBefore new (last_entry None (read ++ pair ∷ []))
-        pushed_passed {new} just =
+        pushed_passed new just =
             subst (IsJustBefore new) (sym (last_entry_pushed None read pair)) just
 
         -- its entry goes
@@ -456,7 +459,7 @@ module _ {C FP : Type 0} {order : CmpGhosts C} {filters : FilterGhosts FP}
         taken_gone {left} {now} (Ok x) same went just memory = record {
           ok = record {
             are_read = are;
-            passed = pushed_passed just;
+            passed = pushed_passed left just;
             tables = merged.tables;
             pairs = merged.pairs;
             have = have_same same;
@@ -492,20 +495,20 @@ module _ {C FP : Type 0} {order : CmpGhosts C} {filters : FilterGhosts FP}
 
         -- it is put
         pub taken_put : {told now : OutputsValue E C FP F} {limit later : ℕ} {to : E}
-            {left : Passing} (result : Result (Unit {0}) Status)
+            {left : Passing} {u : Unit {0}} (result : Result (Unit {0}) Status)
             → goes_after merge.smallest merge.is_base (last_entry None read) (entry_of_pair pair)
             ≡ false
             → PutsPair merge.choices env merge.store first merged.tables merged.pairs limit pair next
-            from told (Ok tt) later to now
+            from told (Ok u) later to now
             → OnOk result (IsJustBefore left (Some (entry_of_pair pair)))
             → IfErr result IsOutOfMemory
             → TakesPair merge env first read pair next from result later to left now
-        taken_put {told} {now} {limit} (Ok x) stayed puts just memory =
+        taken_put {told} {now} {limit} {left = left} (Ok x) stayed puts just memory =
             let due = is_due limit pair.0 told in
             record {
               ok = record {
                 are_read = are;
-                passed = pushed_passed just;
+                passed = pushed_passed left just;
                 tables = tables_after due merged.tables merged.pairs;
                 pairs = pairs_after due merged.pairs pair;
                 have = puts.ok;

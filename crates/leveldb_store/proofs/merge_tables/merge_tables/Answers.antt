@@ -35,7 +35,7 @@ returns-in_default-clause-merges g c = λ bears.
     let laws = g.met.W.Walk.laws in
     merge_finished _ g.E.Env g.W.Walk _ _ _ bears so_far _ exact refl
     (λ pairs position here. (laws.in_range (c.loop.env, c.loop.tables) c.loop.walk _ pairs position here, c.in_default.ensures ∙ laws.at_position (c.loop.env, c.loop.tables) c.loop.walk _ pairs position here))
-    c.finish.result (c.finish.ensures c.args.plan.now.store.now c.args.versions.now.next_file c.loop.versions.next_file so_far.merged.tables so_far.merged.pairs so_far.merged.have)
+    c.finish.result (c.finish.ensures.finishes c.args.plan.now.store.now c.args.versions.now.next_file c.loop.versions.next_file so_far.merged.tables so_far.merged.pairs so_far.merged.have)
 
 pub returns-in_default-clause-numbers : goal.returns-in_default-clause-numbers
 returns-in_default-clause-numbers g c = c.loop.invariant.numbers
