@@ -20,7 +20,7 @@ use leveldb_version::version_set::LiveFiles;
 use rusty_leveldb::db_impl::build_memtable;
 use std::alloc::Global;
 use std::process::Abort;
-use support::{Refusing, failed_with};
+use support::{Random, Refusing, failed_with};
 
 pub type SmallOptions = Options<DefaultCmp, BloomPolicy>;
 
@@ -30,20 +30,6 @@ const BESIDE: &str = "db/000001.log";
 
 /// The number of the first table: a new version set gives it next.
 pub const FIRST: u64 = 2;
-
-/// Numbers that look random, the same in each run.
-#[derive(Drop)]
-pub struct Random(pub u64);
-
-impl Random {
-    pub fn below(&mut self, bound: u64) -> u64 {
-        self.0 = self
-            .0
-            .wrapping_mul(6_364_136_223_846_793_005)
-            .wrapping_add(1_442_695_040_888_963_407);
-        (self.0 >> 33) % bound
-    }
-}
 
 /// A pair of an internal key and a value, and whether the table before it is told to end.
 #[derive(Drop)]

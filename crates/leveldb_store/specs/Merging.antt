@@ -166,7 +166,7 @@ module _ {C FP : Type 0} {order : CmpGhosts C} {filters : FilterGhosts FP}
           × MergesInto read later (items files) end.0
           × ((pairs : List Pair)
           → walk.over start it (key_order order merge.choices.cmp) pairs → pairs ≡ read))
-      -- now and at each moment on the way no file changes but tables of numbers that were given
+      -- now and at each moment on the way no file changes but tables of numbers from the first on
       pub changes : ChangesNewTables env merge.store first start.0 end.0
       -- moves of the walk and new tables lead to where it ends, so that what both keep is kept
       pub comes : ComesOf env walk merge.store first start end
