@@ -46,8 +46,8 @@ module _ {E F T W : Type 0} (env : EnvGhosts E F) (walk : WalkGhosts W E T) (sto
 
   -- new tables keep it, and leave each walk where it is
   abbrev pub NewTablesKeep : Type 0
-  NewTablesKeep = (at to : E) (tables : T) → Given (at, tables)
-      → ChangesNewTables env store first at to → IsBorne at to tables
+  NewTablesKeep = (at to : E) (tables : T) (next : ℕ) → Given (at, tables)
+      → ChangesNewTables env store first next at to → IsBorne at to tables
 
   module _ (moves : MovesKeep) (bears : NewTablesKeep) where
     given_then : {start : E × T} → Given start → (world : E × T)
@@ -55,16 +55,16 @@ module _ {E F T W : Type 0} (env : EnvGhosts E F) (walk : WalkGhosts W E T) (sto
     given_then given world itself = given
     given_then given world (by_move at to come keeps) =
         (moves at to (given_then given at come) keeps).0
-    given_then given world (by_writing at to tables come changes) =
-        (bears at to tables (given_then given (at, tables) come) changes).given
+    given_then given world (by_writing at to tables next come changes) =
+        (bears at to tables next (given_then given (at, tables) come) changes).given
 
     pub bears_new_tables : (start : E × T) → Given start
         → BearsNewTables env walk store first start
     bears_new_tables start given = record {
-      stays_at = λ at to tables come changes.
-          (bears at to tables (given_then given (at, tables) come) changes).stays_at;
-      excuses = λ at to tables come changes.
-          (bears at to tables (given_then given (at, tables) come) changes).excuses;
+      stays_at = λ at to tables next come changes.
+          (bears at to tables next (given_then given (at, tables) come) changes).stays_at;
+      excuses = λ at to tables next come changes.
+          (bears at to tables next (given_then given (at, tables) come) changes).excuses;
       still = λ at to come keeps. (moves at to (given_then given at come) keeps).1;
     }
 
@@ -88,8 +88,8 @@ module _ {E F T I C : Type 0} (env : EnvGhosts E F) {child : WalkGhosts I E T} {
   -- a merge bears what its children bear
   pub merge_borne : NewTablesKeep env child store first Given
       → NewTablesKeep env merge store first Given
-  merge_borne bears at to tables given changes =
-      let borne = bears at to tables given changes in
+  merge_borne bears at to tables next given changes =
+      let borne = bears at to tables next given changes in
       record {
         given = borne.given;
         stays_over = λ it order pairs was. (is.over_is (to, tables) it order pairs).1
@@ -147,11 +147,11 @@ module _ {E F C FP K : Type 0} (keys : CmpGhosts (InternalKeyCmp C)) (env : EnvG
           )
 
       pub tables_borne : NewTablesKeep env child store first (ReadsBelow store first)
-      tables_borne at to tables was changes =
+      tables_borne at to tables next was changes =
           let beside : ChangesBesideTables env tables at to = record {
             later = changes.later;
             files = λ modelled number fits below. (changes.run modelled).has _
-                (λ n least n_fits. subst
+                (λ n least below_next n_fits. subst
                 (λ s. bytes_eq (table_path store n) (table_path s number) ≡ false)
                 (sym was.store_is)
                 (tables_apart store n number n_fits fits

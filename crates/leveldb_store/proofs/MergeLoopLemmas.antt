@@ -26,7 +26,7 @@ use Rattle.leveldb_store.specs.declared.passing.Passing.{Passing}
 use Rattle.leveldb_store.specs.declared.table_file.TableFile.{TableFile}
 use Rattle.leveldb_store.proofs.BuildTableLemmas.{pair_passed, passed_first, passed_next, taken_all, taken_next}
 use Rattle.leveldb_store.proofs.MergingLemmas.{in_place_front, merged_all}
-use Rattle.leveldb_store.proofs.OutputsLemmas.{new-trans, rise_range}
+use Rattle.leveldb_store.proofs.OutputsLemmas.{new-rise, new-trans, rise_range}
 use Rattle.leveldb_store.proofs.ReplayFilesLemmas.{GivesNumbers-trans}
 use Rattle.leveldb_store.proofs.TableFileLemmas.{fails_later, own_fails}
 
@@ -51,8 +51,8 @@ before_first pairs = ap (λ n. take n pairs) (passed_first pairs)
 -- ---- the walk's moves
 
 module _ {E F : Type 0} (env : EnvGhosts E F) where
-  pub still_new : (store : List ℕ) (first : ℕ) {from to : E} → LeavesFiles env from to
-      → ChangesNewTables env store first from to
+  pub still_new : (store : List ℕ) (first : ℕ) {next : ℕ} {from to : E}
+      → LeavesFiles env from to → ChangesNewTables env store first next from to
   still_new store first still = record {
     run = λ modelled. Run-mono (λ files same path apart. ap (λ (f : Files). f path) same)
         (still.run modelled);
@@ -60,6 +60,13 @@ module _ {E F : Type 0} (env : EnvGhosts E F) where
     locks = still.locks;
     later = still.later;
   }
+
+  -- more new tables, below a greater number
+  pub new-then : (store : List ℕ) {first next later : ℕ} {from mid to : E} → next ≤ later
+      → ChangesNewTables env store first next from mid
+      → ChangesNewTables env store first later mid to
+      → ChangesNewTables env store first later from to
+  new-then store up one two = new-trans env store (new-rise env store up one) two
 
 module _ {C FP : Type 0} {order : CmpGhosts C} {filters : FilterGhosts FP}
     (choices : TableChoices order filters) {E F : Type 0} (env : EnvGhosts E F) (store : List ℕ)
@@ -167,7 +174,7 @@ module _ {C FP : Type 0} {order : CmpGhosts C} {filters : FilterGhosts FP}
   pub record MergesSoFar (next : ℕ) (at : E × T) (it : W) (passing : Passing)
       (outputs : OutputsValue E C FP F) : Type 0 where
     pub come : ComesOf env walk merge.store first start at
-    pub changes : ChangesNewTables env merge.store first start.0 at.0
+    pub changes : ChangesNewTables env merge.store first next start.0 at.0
     pub read : List Pair
     pub merged : HasMerged merge env first read next at.0 passing outputs
     pub walked : (pairs : List Pair)
@@ -215,7 +222,8 @@ module _ {C FP : Type 0} {order : CmpGhosts C} {filters : FilterGhosts FP}
         {outputs new : OutputsValue E C FP F} {pair : Pair}
         (so_far : MergesSoFar next (at, tables) it passing outputs) where
       -- a pair was taken, and the walk is at the next one
-      pub so_far_next : {end : E × T} {now : W} {x : Unit {0}} → IsAtPair (at, tables) it pair
+      pub so_far_next : {end : E × T} {now : W} {x : Unit {0}} → next ≤ later
+          → IsAtPair (at, tables) it pair
           → TakesPair merge env first so_far.read pair next at (Ok x) later to left new
           → walk.keeps (to, tables) end
           → ((pairs : List Pair) (position : Option ℕ)
@@ -225,12 +233,13 @@ module _ {C FP : Type 0} {order : CmpGhosts C} {filters : FilterGhosts FP}
           → ((latest : E × T) (status : Status) → walk.fails end now latest status
           → walk.fails (to, tables) it latest status)
           → MergesSoFar later end now left new
-      so_far_next {end} here takes kept moved excuses =
-          let come = by_writing at to tables so_far.come takes.changes in
+      so_far_next {end} up here takes kept moved excuses =
+          let come = by_writing at to tables later so_far.come takes.changes in
           let still = bears.still (to, tables) end come kept in
           record {
             come = by_move (to, tables) end come kept;
-            changes = new-trans env merge.store (new-trans env merge.store so_far.changes takes.changes)
+            changes = new-trans env merge.store
+                (new-then env merge.store up so_far.changes takes.changes)
                 (still_new env merge.store first still);
             read = so_far.read ++ pair ∷ [];
             merged = merged_still merge env still takes.ok;
@@ -238,7 +247,7 @@ module _ {C FP : Type 0} {order : CmpGhosts C} {filters : FilterGhosts FP}
                 let past = so_far.walked pairs over in
                 record {
                   position = next_position pairs past.position;
-                  here = moved pairs past.position (bears.stays_at at to tables so_far.come
+                  here = moved pairs past.position (bears.stays_at at to tables later so_far.come
                       takes.changes it (key_order order merge.choices.cmp) pairs past.position
                       past.here);
                   before = before_pair pairs past.position pair
@@ -246,26 +255,27 @@ module _ {C FP : Type 0} {order : CmpGhosts C} {filters : FilterGhosts FP}
                       ∙ ap (λ ps. ps ++ pair ∷ []) past.before;
                 };
             excuses = λ latest status failed. so_far.excuses latest status
-                (bears.excuses at to tables so_far.come takes.changes it latest status
+                (bears.excuses at to tables later so_far.come takes.changes it latest status
                 (excuses latest status failed));
           }
 
       -- it was taken, and the walk doesn't go on
       pub merge_unmoved : {X : Type 0} {items : X → List FileMetaData} {end : E × T}
-          {x : Unit {0}} {status : Status}
+          {x : Unit {0}} {status : Status} → next ≤ later
           → TakesPair merge env first so_far.read pair next at (Ok x) later to left new
           → walk.keeps (to, tables) end → walk.fails (to, tables) it end status
           → MergesTables merge env first {X = X} walk items start from (Err status) later end
-      merge_unmoved {end = end} {status = status} takes kept failed =
-          let come = by_writing at to tables so_far.come takes.changes in
+      merge_unmoved {end = end} {status = status} up takes kept failed =
+          let come = by_writing at to tables later so_far.come takes.changes in
           let still = bears.still (to, tables) end come kept in
           record {
             ok = tt;
-            changes = new-trans env merge.store (new-trans env merge.store so_far.changes takes.changes)
+            changes = new-trans env merge.store
+                (new-then env merge.store up so_far.changes takes.changes)
                 (still_new env merge.store first still);
             comes = by_move (to, tables) end come kept;
             cause = inl (so_far.excuses end status
-                (bears.excuses at to tables so_far.come takes.changes it end status failed));
+                (bears.excuses at to tables later so_far.come takes.changes it end status failed));
           }
 
       -- it isn't taken
@@ -276,8 +286,8 @@ module _ {C FP : Type 0} {order : CmpGhosts C} {filters : FilterGhosts FP}
           (to, tables)
       merge_untaken {status = status} up here takes = record {
         ok = tt;
-        changes = new-trans env merge.store so_far.changes takes.changes;
-        comes = by_writing at to tables so_far.come takes.changes;
+        changes = new-then env merge.store up so_far.changes takes.changes;
+        comes = by_writing at to tables later so_far.come takes.changes;
         cause = inr (
           env.failures at,
           so_far.changes.later,
@@ -341,13 +351,13 @@ module _ {C FP : Type 0} {order : CmpGhosts C} {filters : FilterGhosts FP}
               sym (taken_all pairs past.position end.0 end.1) ∙ past.before,
         );
         changes = new-trans env merge.store so_far.changes finishes.changes;
-        comes = by_writing at to tables so_far.come finishes.changes;
+        comes = by_writing at to tables next so_far.come finishes.changes;
         cause = tt;
       }
       merge_finished exact cmp_is {to = to} none (Err status) finishes = record {
         ok = tt;
         changes = new-trans env merge.store so_far.changes finishes.changes;
-        comes = by_writing at to tables so_far.come finishes.changes;
+        comes = by_writing at to tables next so_far.come finishes.changes;
         cause = inr (
           env.failures at,
           so_far.changes.later,

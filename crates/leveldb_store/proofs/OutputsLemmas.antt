@@ -115,7 +115,7 @@ tables_apart store m n fits other_fits differ = bytes_eq-apart _ _
 -- ---- the disk
 
 module _ {E F : Type 0} (env : EnvGhosts E F) (store : List ℕ) where
-  pub new-none : (first : ℕ) (at : E) → ChangesNewTables env store first at at
+  pub new-none : {next : ℕ} (first : ℕ) (at : E) → ChangesNewTables env store first next at at
   new-none first at = record {
     run = λ modelled. begun (env.observed at) (λ path apart. refl);
     bytes = λ modelled were. were;
@@ -123,8 +123,10 @@ module _ {E F : Type 0} (env : EnvGhosts E F) (store : List ℕ) where
     later = omega arith;
   }
 
-  pub new-trans : {first : ℕ} {from mid to : E} → ChangesNewTables env store first from mid
-      → ChangesNewTables env store first mid to → ChangesNewTables env store first from to
+  pub new-trans : {first next : ℕ} {from mid to : E}
+      → ChangesNewTables env store first next from mid
+      → ChangesNewTables env store first next mid to
+      → ChangesNewTables env store first next from to
   new-trans one two = record {
     run = λ modelled. Run-trans (one.run modelled)
         (λ files after path apart. after path apart ∙ (one.run modelled).has path apart)
@@ -135,11 +137,24 @@ module _ {E F : Type 0} (env : EnvGhosts E F) (store : List ℕ) where
   }
 
   -- from a number on, and so from a smaller one on
-  pub new-wider : {first next : ℕ} {from to : E} → first ≤ next
-      → ChangesNewTables env store next from to → ChangesNewTables env store first from to
-  new-wider least changes = record {
-    run = λ modelled. Run-mono
-        (λ files same path apart. same path (λ n up. apart n (omega (arith, up, least))))
+  pub new-wider : {first least next : ℕ} {from to : E} → least ≤ first
+      → ChangesNewTables env store first next from to
+      → ChangesNewTables env store least next from to
+  new-wider up changes = record {
+    run = λ modelled. Run-mono (λ files same path apart. same path
+        (λ n from_first. apart n (omega (arith, from_first, up)))) (changes.run modelled);
+    bytes = changes.bytes;
+    locks = changes.locks;
+    later = changes.later;
+  }
+
+  -- below a number, and so below a greater one
+  pub new-rise : {first next later : ℕ} {from to : E} → next ≤ later
+      → ChangesNewTables env store first next from to
+      → ChangesNewTables env store first later from to
+  new-rise up changes = record {
+    run = λ modelled. Run-mono (λ files same path apart. same path
+        (λ n from_first below. apart n from_first (omega (arith, below, up))))
         (changes.run modelled);
     bytes = changes.bytes;
     locks = changes.locks;
@@ -147,11 +162,12 @@ module _ {E F : Type 0} (env : EnvGhosts E F) (store : List ℕ) where
   }
 
   -- one table of such a number
-  pub new-one : {first number : ℕ} {from to : E} → first ≤ number → number < 2 ^ 64
-      → ChangesOneFile env (table_path store number) from to
-      → ChangesNewTables env store first from to
-  new-one {number = number} least fits changes = record {
-    run = λ modelled. Run-mono (λ files same path apart. same path (apart number least fits))
+  pub new-one : {first next number : ℕ} {from to : E} → first ≤ number → number < next
+      → number < 2 ^ 64 → ChangesOneFile env (table_path store number) from to
+      → ChangesNewTables env store first next from to
+  new-one {number = number} least below fits changes = record {
+    run = λ modelled. Run-mono
+        (λ files same path apart. same path (apart number least below fits))
         (changes.run modelled);
     bytes = changes.bytes;
     locks = changes.locks;
@@ -183,17 +199,19 @@ module _ {E F : Type 0} (env : EnvGhosts E F) (store : List ℕ) {path : List �
     (env.observed from) (env.observed mid) (Ok x))
     (locks : SameLocks env.models_disk (env.observed from) (env.observed mid))
     (cause : HasCause {T = X} IsOutOfMemory (env.failures from) (env.failures mid) (Ok x))
-    (named : IsTrue env.models_disk → env.name_of file ≡ path) {number next : ℕ}
+    (named : IsTrue env.models_disk → env.name_of file ≡ path) {number next later : ℕ}
     (path_is : path ≡ table_path store number) (number_is : number ≡ next)
-    (fits : number < 2 ^ 64) where
+    (fits : number < 2 ^ 64) (later_is : later ≡ next + 1) where
   created : ChangesOneFile env path from mid
   created = opening_changes env opening locks cause.later
 
   created_there : IsThere env (opened mid file)
   created_there modelled = (kept_file [], opened_is env opening named modelled)
 
-  new_table : {to : E} → ChangesOneFile env path from to → ChangesNewTables env store next from to
-  new_table {to} changes = new-one env store (omega (arith, number_is)) fits
+  new_table : {to : E} → ChangesOneFile env path from to
+      → ChangesNewTables env store next later from to
+  new_table {to} changes = new-one env store (omega (arith, number_is))
+      (omega (arith, number_is, later_is)) fits
       (subst (λ p. ChangesOneFile env p from to) path_is changes)
 
   -- its first pair is added
@@ -204,13 +222,13 @@ module _ {E F : Type 0} (env : EnvGhosts E F) (store : List ℕ) {path : List �
 
   pub first_changes : {bytes : List ℕ} {to : E} {after : F}
       → IsLonger env (opened mid file) bytes (opened to after)
-      → ChangesNewTables env store next from to
+      → ChangesNewTables env store next later from to
   first_changes longer = new_table (first_added longer)
 
   -- its first pair isn't added
   pub none_changes : {Own : Status → Type 0} {status : Status} {to : E}
       → (IsThere env (opened mid file) → StopsWriting env Own (opened mid file) status to)
-      → ChangesNewTables env store next from to
+      → ChangesNewTables env store next later from to
   none_changes stops = new_table
       (changes-trans env created (changes_named env named (stops created_there).changes))
 
@@ -290,8 +308,8 @@ module _ {C FP : Type 0} {order : CmpGhosts C} {filters : FilterGhosts FP}
         (map (λ (file : FileMetaData). file.num) outputs.done) open_numbers.0
 
     open_changes : {to : E} → ChangesOneFile env (env.name_of table.file) at to
-        → ChangesNewTables env store first at to
-    open_changes changes = new-one env store open_from open_is.fits
+        → ChangesNewTables env store first next at to
+    open_changes changes = new-one env store open_from open_numbers.1 open_is.fits
         (changes_named env open_is.named changes)
 
     -- the finished tables stay while the open one is written
@@ -636,10 +654,10 @@ module _ {C FP : Type 0} {order : CmpGhosts C} {filters : FilterGhosts FP}
     }
 
     -- the open table wasn't finished before it
-    pub unfinished_not_put : {T : Type 0} {later : ℕ} {to : E} {new : OutputsValue E C FP F}
+    pub unfinished_not_put : {T : Type 0} {to : E} {new : OutputsValue E C FP F}
         {files : T → List FileMetaData} {status : Status}
         → FinishesOpen choices env store first tables pairs {T = T} next from (Err status) files to
-        → PutsPair choices env store first tables pairs limit pair next from old (Err status) later
+        → PutsPair choices env store first tables pairs limit pair next from old (Err status) next
         to new
     unfinished_not_put {status = status} finishes = record {
       ok = tt;
@@ -680,13 +698,13 @@ module _ {C FP : Type 0} {order : CmpGhosts C} {filters : FilterGhosts FP}
         → AreTables choices env store first next mid done ready
         → AreCutBefore (pair ∷ []) ready
         → OnOk result (HaveOutputs choices env store first later to new ready (pair ∷ [])))
-        → ChangesNewTables env store next mid to
+        → next ≤ later → ChangesNewTables env store next later mid to
         → FailsToWrite (IsBeginFault choices.format.codings next) (env.failures mid)
         (env.failures to) result
         → PutsPair choices env store first tables pairs limit pair next from old result later to new
-    begun_is_put {mid} {to} {new} {later} done result why finishes begins changes cause = record {
+    begun_is_put {mid} {to} {new} {later} done result why finishes begins up changes cause = record {
       ok = by why;
-      changes = new-trans env store finishes.changes
+      changes = new-trans env store (new-rise env store up finishes.changes)
           (new-wider env store (rise_range first next _ have.numbers) changes);
       cause = fails_so result finishes.cause.ok
           (λ status. ⊎_elim (λ fault. inl fault) (λ used_up. inr (inl used_up))) cause;

@@ -56,22 +56,24 @@ pub record LeavesFiles {E F : Type 0} (env : EnvGhosts E F) (from to : E) : Type
 module _ {E F T W : Type 0} (env : EnvGhosts E F) (walk : WalkGhosts W E T) (store : List ℕ)
     (first : ℕ) where
   -- a world that comes of another by moves of the walk, and by writing tables of numbers from the
-  -- first on
+  -- first on and below some next one
   pub data ComesOf (start : E × T) : E × T → Type 0 where
     itself : ComesOf start start
     by_move : (at to : E × T) → ComesOf start at → walk.keeps at to → ComesOf start to
-    by_writing : (at to : E) (tables : T) → ComesOf start (at, tables)
-        → ChangesNewTables env store first at to → ComesOf start (to, tables)
+    by_writing : (at to : E) (tables : T) (next : ℕ) → ComesOf start (at, tables)
+        → ChangesNewTables env store first next at to → ComesOf start (to, tables)
 
   -- A walk that new tables leave where it is, with no new error, and whose moves change no file.
   pub record BearsNewTables (start : E × T) : Type 0 where
-    pub stays_at : (at to : E) (tables : T) → ComesOf start (at, tables)
-        → ChangesNewTables env store first at to → (it : W) (order : KeyOrder) (pairs : List Pair)
-        (position : Option ℕ) → walk.is_at (at, tables) it order pairs position
+    pub stays_at : (at to : E) (tables : T) (next : ℕ) → ComesOf start (at, tables)
+        → ChangesNewTables env store first next at to → (it : W) (order : KeyOrder)
+        (pairs : List Pair) (position : Option ℕ)
+        → walk.is_at (at, tables) it order pairs position
         → walk.is_at (to, tables) it order pairs position
-    pub excuses : (at to : E) (tables : T) → ComesOf start (at, tables)
-        → ChangesNewTables env store first at to → (it : W) (later : E × T) (status : Status)
-        → walk.fails (to, tables) it later status → walk.fails (at, tables) it later status
+    pub excuses : (at to : E) (tables : T) (next : ℕ) → ComesOf start (at, tables)
+        → ChangesNewTables env store first next at to → (it : W) (later : E × T)
+        (status : Status) → walk.fails (to, tables) it later status
+        → walk.fails (at, tables) it later status
     pub still : (at to : E × T) → ComesOf start at → walk.keeps at to
         → LeavesFiles env at.0 to.0
 
@@ -134,7 +136,7 @@ module _ {C FP : Type 0} {order : CmpGhosts C} {filters : FilterGhosts FP}
         (result : Result (Unit {0}) Status) (later : ℕ) (to : E) (passing : Passing)
         (new : OutputsValue E C FP F) : Type 0 where
       pub ok : OnOk result (HasMerged (read ++ pair ∷ []) later to passing new)
-      pub changes : ChangesNewTables env merge.store first from to
+      pub changes : ChangesNewTables env merge.store first later from to
       pub cause : FailsToWrite (IsTakeFault next read pair) (env.failures from) (env.failures to)
           result
 
@@ -166,8 +168,8 @@ module _ {C FP : Type 0} {order : CmpGhosts C} {filters : FilterGhosts FP}
           × MergesInto read later (items files) end.0
           × ((pairs : List Pair)
           → walk.over start it (key_order order merge.choices.cmp) pairs → pairs ≡ read))
-      -- now and at each moment on the way no file changes but tables of numbers from the first on
-      pub changes : ChangesNewTables env merge.store first start.0 end.0
+      -- now and at each moment on the way no file changes but tables of numbers that were given
+      pub changes : ChangesNewTables env merge.store first later start.0 end.0
       -- moves of the walk and new tables lead to where it ends, so that what both keep is kept
       pub comes : ComesOf env walk merge.store first start end
       -- A move failed; or at last a call that writes, and for pairs of a list that are in place it

@@ -148,19 +148,19 @@ module _ {C FP : Type 0} {order : CmpGhosts C} {filters : FilterGhosts FP}
 
 -- ---- the disk
 
--- the same but under the names of tables of numbers from the first on
-abbrev pub SameButNewTables : List ℕ → ℕ → Files → Files → Type 0
-SameButNewTables store first before after = (path : List ℕ)
-    → ((n : ℕ) → first ≤ n → n < 2 ^ 64 → bytes_eq (table_path store n) path ≡ false)
-    → after path ≡ before path
+-- the same but under the names of tables of numbers from the first on and below the next
+abbrev pub SameButNewTables : List ℕ → ℕ → ℕ → Files → Files → Type 0
+SameButNewTables store first next before after = (path : List ℕ)
+    → ((n : ℕ) → first ≤ n → n < next → n < 2 ^ 64
+    → bytes_eq (table_path store n) path ≡ false) → after path ≡ before path
 
 module _ {E F : Type 0} (env : EnvGhosts E F) where
-  -- Now and at each moment on the way no file changes but tables of numbers from the first on, nor
-  -- does a lock; what is appended are bytes; and no failure is forgotten.
-  pub record ChangesNewTables (store : List ℕ) (first : ℕ) (from to : E) : Type 0 where
+  -- Now and at each moment on the way no file changes but tables of numbers from the first on and
+  -- below the next, nor does a lock; what is appended are bytes; and no failure is forgotten.
+  pub record ChangesNewTables (store : List ℕ) (first next : ℕ) (from to : E) : Type 0 where
     pub run : IsTrue env.models_disk
-        → Run (SameButNewTables store first (env.observed from).disk.files) (env.observed from)
-        (env.observed to)
+        → Run (SameButNewTables store first next (env.observed from).disk.files)
+        (env.observed from) (env.observed to)
     pub bytes : IsTrue env.models_disk → AppendedAreBytes (env.observed from).disk.files
         → AppendedAreBytes (env.observed to).disk.files
     pub locks : SameLocks env.models_disk (env.observed from) (env.observed to)
@@ -199,7 +199,7 @@ module _ {C FP : Type 0} {order : CmpGhosts C} {filters : FilterGhosts FP}
     pub ok : let due = is_due limit pair.0 old in
         OnOk result (HaveOutputs choices env store first later to new
         (tables_after due tables pairs) (pairs_after due pairs pair))
-    pub changes : ChangesNewTables env store first from to
+    pub changes : ChangesNewTables env store first later from to
     pub cause : FailsToWrite (IsPutFault order choices.format.codings next old.unfinished pair.0)
         (env.failures from) (env.failures to) result
 
@@ -208,7 +208,7 @@ module _ {C FP : Type 0} {order : CmpGhosts C} {filters : FilterGhosts FP}
       (to : E) (new : OutputsValue E C FP F) : Type 0 where
     pub ok : OnOk result
         (HaveOutputs choices env store first next to new tables (pairs ++ pair ∷ []))
-    pub changes : ChangesNewTables env store first from to
+    pub changes : ChangesNewTables env store first next from to
     pub cause : FailsToWrite (IsBuildFault choices.format.codings) (env.failures from)
         (env.failures to) result
 
@@ -217,6 +217,6 @@ module _ {C FP : Type 0} {order : CmpGhosts C} {filters : FilterGhosts FP}
       (files : T → List FileMetaData) (to : E) : Type 0 where
     pub ok : IfOk result (λ made. AreTables choices env store first next to (files made)
         (with_table tables pairs))
-    pub changes : ChangesNewTables env store first from to
+    pub changes : ChangesNewTables env store first next from to
     pub cause : FailsToWrite (IsBuildFault choices.format.codings) (env.failures from)
         (env.failures to) result

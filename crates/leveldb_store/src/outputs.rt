@@ -206,7 +206,8 @@ impl<E: Env, C: UserCmp + Copy + Drop, FP: FilterPolicy + Copy + Drop> Outputs<E
             → AreCutBefore ((key.now, value.now) ∷ []) tables
             → OnOk result (HaveOutputs choices E.Env store.now first versions.new.next_file env.new
             self.new tables ((key.now, value.now) ∷ [])) }
-        ensures changes { ChangesNewTables E.Env store.now versions.old.next_file env.old env.new }
+        ensures changes { ChangesNewTables E.Env store.now versions.old.next_file
+            versions.new.next_file env.old env.new }
         ensures cause { let codings = ⟦<CompressorList as Compressors>⟧.codings
             options.now.compressor_list in FailsToWrite (IsBeginFault codings
             versions.old.next_file) (E.failures env.old) (E.failures env.new) result }

@@ -57,7 +57,7 @@ pub returns-in_err-advance-clause-merges : goal.returns-in_err-advance-clause-me
 returns-in_err-advance-clause-merges g c = λ bears.
     let so_far = c.loop.invariant.so_far bears in
     let failed = err_from_is_err_and c.from_residual-in_err-advance.result c.from_residual-in_err-advance.ensures.1 in
-    rw failed.1 (rw failed.2 (merge_unmoved _ g.E.Env g.W.Walk _ _ _ bears so_far
+    rw failed.1 (rw failed.2 (merge_unmoved _ g.E.Env g.W.Walk _ _ _ bears so_far (may_rise c.take.ensures.numbers)
     (c.in_ok-take.ensures.takes c.args.versions.now.next_file so_far.read so_far.merged) c.advance.ensures.moves.kept c.in_err-advance.ensures.moves.cause))
 
 pub returns-in_err-advance-clause-numbers : goal.returns-in_err-advance-clause-numbers
@@ -70,7 +70,7 @@ loop-preserved g c =
       numbers = gives_may c.loop.invariant.numbers c.take.ensures.numbers;
       so_far = λ bears.
           let so_far = c.loop.invariant.so_far bears in
-          so_far_next _ g.E.Env g.W.Walk _ _ _ bears so_far
+          so_far_next _ g.E.Env g.W.Walk _ _ _ bears so_far (may_rise c.take.ensures.numbers)
           (λ pairs position here. c.in-Some.ensures ∙ laws.at_position (c.loop.env, c.loop.tables) c.loop.walk _ pairs position here)
           (c.in_ok-take.ensures.takes c.args.versions.now.next_file so_far.read so_far.merged) c.advance.ensures.moves.kept
           (λ pairs position here. c.in_ok-advance.ensures.moves.ok _ pairs position here) c.advance.ensures.moves.excuses;

@@ -1,6 +1,7 @@
 use Rattle.std.specs.Prelude.{is_some}
 use Rattle.std.proofs.Common.{◌∙◌, inl, inr, ap, sym}
 use Rattle.std.proofs.lemmas.Result.{err_from_is_err_and}
+use Rattle.leveldb_store.proofs.MergeLoopLemmas.{may_rise}
 use Rattle.leveldb_store.proofs.OutputsLemmas.{added_is_put, begun_is_put, none_of, unfinished_not_put}
 use Rattle.leveldb_store.proofs.outputs.Outputs.put.Goals.{else-not-due-via-else-not-due, else-not-due-via-then-not-due+else-is_some}
 use Rattle.leveldb_store.proofs.outputs.Outputs.put.Goals as goal
@@ -25,4 +26,4 @@ returns-clause-puts g c = λ first tables pairs have.
       | else-not-due-via-else-not-due w ↦ inl (sym w.if-not-due.ensures)
     ])
     (c.in_ok-close.ensures.finishes c.args.store.now first c.args.versions.now.next_file tables pairs have)
-    (λ ready are cut. c.begin.ensures.begins first ready are cut) c.begin.ensures.changes c.begin.ensures.cause
+    (λ ready are cut. c.begin.ensures.begins first ready are cut) (may_rise c.begin.ensures.numbers) c.begin.ensures.changes c.begin.ensures.cause
