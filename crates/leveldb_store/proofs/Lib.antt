@@ -6,6 +6,7 @@ mod OutputsLemmas
 mod MergingLemmas
 mod MergeLoopLemmas
 mod BearingLemmas
+mod NewNumbersLemmas
 mod MergeInputsLemmas
 pub mod WriteLemmas
 mod OpeningNamesLemmas
