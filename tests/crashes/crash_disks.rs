@@ -18,6 +18,7 @@ use std::process::Abort;
 #[derive(Clone, Copy)]
 pub struct Setting {
     pub write_buffer_size: usize,
+    pub max_file_size: usize,
     /// Whether the last log and the manifest are used on.
     pub reuses: bool,
 }
@@ -25,12 +26,14 @@ pub struct Setting {
 /// The defaults: a store of these tests has one log then.
 pub const DEFAULTS: Setting = Setting {
     write_buffer_size: 4 << 20,
+    max_file_size: 2 << 20,
     reuses: true,
 };
 
 pub fn options_of(setting: Setting) -> Options<DefaultCmp, BloomPolicy> {
     let mut options = Options::default();
     options.write_buffer_size = setting.write_buffer_size;
+    options.max_file_size = setting.max_file_size;
     options.reuse_logs = setting.reuses;
     options.reuse_manifest = setting.reuses;
     options
@@ -38,9 +41,9 @@ pub fn options_of(setting: Setting) -> Options<DefaultCmp, BloomPolicy> {
 
 /// Lives of one store, one after another, and what it is opened with.
 #[derive(Clone, Copy)]
-pub struct Script {
+pub struct Script<'a> {
     pub setting: Setting,
-    pub lives: &'static [&'static [Step]],
+    pub lives: &'a [&'a [Step]],
 }
 
 /// The device and the calls of a script that was run.
@@ -234,7 +237,7 @@ pub fn record_life(alloc: Global, recorded: &mut Recorded, steps: &[Step]) -> Re
 }
 
 /// Runs a script on this device.
-pub fn record_on(alloc: Global, env: RecordEnv, script: Script) -> Result<Recorded> {
+pub fn record_on(alloc: Global, env: RecordEnv, script: Script<'_>) -> Result<Recorded> {
     let mut recorded = Recorded {
         setting: script.setting,
         env,
@@ -247,7 +250,7 @@ pub fn record_on(alloc: Global, env: RecordEnv, script: Script) -> Result<Record
 }
 
 /// Runs a script on an empty device.
-pub fn record(alloc: Global, script: Script) -> Result<Recorded> {
+pub fn record(alloc: Global, script: Script<'_>) -> Result<Recorded> {
     record_on(alloc, RecordEnv::new(alloc), script)
 }
 

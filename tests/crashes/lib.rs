@@ -1,6 +1,8 @@
 //! The tests of runs: sequences of calls with crashes and failures of the device, judged by a slow store, and the program.
 
 #[cfg(test)]
+mod compactions;
+#[cfg(test)]
 mod crash_disks;
 #[cfg(test)]
 mod crashes;

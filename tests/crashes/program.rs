@@ -5,12 +5,13 @@ use leveldb_env::infolog::Logger;
 use leveldb_env::mem_env::MemEnv;
 use rusty_leveldb::shell::ldb_main;
 use rusty_leveldb::{DB, Options};
+use slow_store::levels_of;
 use std::alloc::Global;
 use std::io::{self, Read, Write};
 use std::process::Abort;
 
 /// Lines that are no command.
-const BAD_LINES: [&[u8]; 58] = [
+const BAD_LINES: [&[u8]; 64] = [
     b"\n",
     b" ",
     b"get",
@@ -33,6 +34,12 @@ const BAD_LINES: [&[u8]; 58] = [
     b"put 61 31 32",
     b"del",
     b"del 61 62",
+    b"compact",
+    b"compact ",
+    b"compact 61",
+    b"compact 61 6",
+    b"compact . .  ",
+    b"compact 61 62 63",
     b"flush ",
     b"close 1",
     b"write",
@@ -198,7 +205,7 @@ pub fn assert_run<E: Env>(
 }
 
 /// Inputs one after another over one disk, each with its output.
-const ROWS: [(&[u8], &[u8]); 9] = [
+const ROWS: [(&[u8], &[u8]); 11] = [
     (b"", b""),
     (
         b"put 61 31\nget 61\nget 62\nflush\nclose\nget 61\n",
@@ -214,6 +221,14 @@ const ROWS: [(&[u8], &[u8]); 9] = [
     ),
     (b"write 0\ndel 61\nget 61\n", b"ok\nok\nnone\n"),
     (b"write 0 -. +0b=0c -0b\nget 0b\n", b"ok\nnone\n"),
+    (
+        b"put 61 31\nsnap\ndel 61\ncompact . .\ncompact 61 7a\ngetat 0 61\nget 61\nrelease 0\ncompact . 61\nget 61",
+        b"ok\nsnapshot 0\nok\nok\nok\nvalue 31\nnone\nok\nok\nnone\n",
+    ),
+    (
+        b"put 62 32\ncompact 7a 61\nget 62\nclose\ncompact . .",
+        b"ok\nok\nvalue 32\nok\nrefused InvalidArgument\n",
+    ),
 ];
 
 #[test]
@@ -221,6 +236,40 @@ fn commands(rt: HostRuntime) -> io::Result<()> {
     let mut env = MemEnv::new(rt.alloc());
     for (input, out) in &ROWS {
         assert_run(&rt, &mut env, rt.alloc(), &["db"], input, (0, out, b""))?;
+    }
+    Ok(())
+}
+
+/// Commands over an empty disk, and how the levels of the store begin that they leave.
+const COMPACTED: [(&[u8], &[u8], &str); 3] = [
+    (
+        b"put 61 31\ncompact . .\n",
+        b"ok\nok\n",
+        "level 2: 1 files, ",
+    ),
+    // The older value goes, and what is left goes down.
+    (
+        b"put 61 31\ncompact . .\nput 61 32\ncompact . .\n",
+        b"ok\nok\nok\nok\n",
+        "level 3: 1 files, ",
+    ),
+    // The first table isn't in the range.
+    (
+        b"put 61 31\ncompact . .\nput 7a 32\ncompact 7a .\n",
+        b"ok\nok\nok\nok\n",
+        "level 2: 2 files, ",
+    ),
+];
+
+#[test]
+fn compactions(rt: HostRuntime) -> Result<()> {
+    let alloc = rt.alloc();
+    for (input, out, begins) in &COMPACTED {
+        let mut env = MemEnv::new(alloc);
+        let wanted = (0, *out, b"".as_slice());
+        assert!(rt; assert_run(&rt, &mut env, alloc, &["db"], input, wanted).is_ok());
+        let levels = levels_of(alloc, &mut env, "db")?;
+        assert!(rt; levels.as_str().starts_with(*begins), "{levels}");
     }
     Ok(())
 }

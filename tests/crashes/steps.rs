@@ -22,6 +22,8 @@ pub enum Step {
     GetAt(usize, &'static str),
     Release(usize),
     Walk(Option<usize>, &'static [Move<'static>]),
+    /// Compacts the range between two keys; an empty one is an open end.
+    Compact(&'static str, &'static str),
     Flush,
     Close,
     Abandon,
@@ -80,6 +82,9 @@ fn command_of(alloc: Global, step: &Step) -> Result<Option<Command>> {
         Step::GetAt(number, key) => Command::GetAt(*number, bytes_of(alloc, key)?),
         Step::Release(number) => Command::Release(*number),
         Step::Walk(at, moves) => walk_of(alloc, *at, moves)?,
+        Step::Compact(from, to) => {
+            Command::Compact(bytes_of(alloc, from)?, bytes_of(alloc, to)?)
+        }
         Step::Flush => Command::Flush,
         Step::Close => Command::Close,
     }))
@@ -148,6 +153,7 @@ fn judge_failure(slow: &mut SlowStore, alloc: Global, step: &Step, status: &Stat
     }
     match (written_by(alloc, step)?, step) {
         (Some((items, _)), _) => slow.refused_write(&items, true),
+        (None, Step::Compact(_, _)) => slow.refused_compaction(),
         // It found no memory itself, so that nothing has changed, or the device found none.
         (None, Step::Flush) if status.code == StatusCode::OutOfMemory => {
             slow.refused_write(&[], true)
@@ -159,6 +165,7 @@ fn judge_failure(slow: &mut SlowStore, alloc: Global, step: &Step, status: &Stat
 fn judge_success(slow: &mut SlowStore, alloc: Global, step: &Step) -> Result<()> {
     match step {
         Step::Open => slow.opened(),
+        Step::Compact(_, _) => slow.compacted(),
         Step::Flush => slow.flushed(),
         Step::Close => slow.closed(),
         _ => match written_by(alloc, step)? {

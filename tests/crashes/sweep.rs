@@ -90,7 +90,7 @@ fn nothing_looked_at(alloc: Global) -> Result<Looked> {
 pub fn crash_everywhere(
     rt: &impl Abort,
     alloc: Global,
-    script: Script,
+    script: Script<'_>,
     kind: Tails,
 ) -> Result<Tally> {
     let recorded = record(alloc, script)?;
@@ -209,7 +209,7 @@ fn crash_twice_at(
 pub fn crash_twice_everywhere(
     rt: &impl Abort,
     alloc: Global,
-    script: Script,
+    script: Script<'_>,
     kinds: (Tails, Tails),
 ) -> Result<()> {
     let recorded = record(alloc, script)?;
@@ -287,7 +287,7 @@ fn reopen_at_the_end(rt: &impl Abort, alloc: Global, recorded: &mut Recorded) ->
 }
 
 /// Runs a script with one call of the device failing.
-fn record_failing(alloc: Global, script: Script, nth: u64, done: bool) -> Result<Recorded> {
+fn record_failing(alloc: Global, script: Script<'_>, nth: u64, done: bool) -> Result<Recorded> {
     let mut env = RecordEnv::new(alloc);
     env.fail(nth, done);
     record_on(alloc, env, script)
@@ -302,7 +302,7 @@ pub fn is_possible(alloc: Global, recorded: &Recorded) -> Result<bool> {
 fn fail_once(
     rt: &impl Abort,
     alloc: Global,
-    script: Script,
+    script: Script<'_>,
     nth: u64,
     done: bool,
     tally: &mut Tally,
@@ -320,7 +320,7 @@ fn fail_once(
 pub fn fail_everywhere(
     rt: &impl Abort,
     alloc: Global,
-    script: Script,
+    script: Script<'_>,
     done: bool,
 ) -> Result<Tally> {
     let calls = record(alloc, script)?.env.moment() / 2;

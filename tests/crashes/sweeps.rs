@@ -36,12 +36,12 @@ const THIRD: &[Step] = &[
     Step::Get("d"),
 ];
 
-const SCRIPT: Script = Script {
+const SCRIPT: Script<'static> = Script {
     setting: DEFAULTS,
     lives: &[FIRST, SECOND, THIRD],
 };
 
-const TWO_LIVES: Script = Script {
+const TWO_LIVES: Script<'static> = Script {
     setting: DEFAULTS,
     lives: &[FIRST, SECOND],
 };

@@ -45,25 +45,27 @@ const SECOND: &[Step] = &[
 ];
 
 /// The last log and the manifest are used on by each opening.
-const REUSING: Script = Script {
+const REUSING: Script<'static> = Script {
     setting: Setting {
         write_buffer_size: 300,
+        max_file_size: 2 << 20,
         reuses: true,
     },
     lives: &[FIRST, SECOND],
 };
 
 /// Each opening makes a new manifest, and a table of what the logs have.
-const ANEW: Script = Script {
+const ANEW: Script<'static> = Script {
     setting: Setting {
         write_buffer_size: 300,
+        max_file_size: 2 << 20,
         reuses: false,
     },
     lives: &[FIRST, SECOND],
 };
 
 /// Whether the tables are in these levels after a script.
-fn leaves(alloc: Global, script: Script, levels: &str) -> Result<bool> {
+fn leaves(alloc: Global, script: Script<'_>, levels: &str) -> Result<bool> {
     let mut recorded = record(alloc, script)?;
     has_levels(alloc, &mut recorded.env, "db", levels)
 }

@@ -79,9 +79,10 @@ const SECOND: &[Step] = &[
     Step::Walk(None, TURNING),
 ];
 
-const SCRIPT: Script = Script {
+const SCRIPT: Script<'static> = Script {
     setting: Setting {
         write_buffer_size: 300,
+        max_file_size: 2 << 20,
         reuses: true,
     },
     lives: &[FIRST, SECOND],
@@ -120,9 +121,10 @@ fn failures_with_their_change(rt: HostRuntime) -> Result<()> {
 }
 
 /// Three tables of one key each, and a fourth key, of which the next opening makes a table.
-const TABLES: Script = Script {
+const TABLES: Script<'static> = Script {
     setting: Setting {
         write_buffer_size: 1,
+        max_file_size: 2 << 20,
         reuses: true,
     },
     lives: &[&[

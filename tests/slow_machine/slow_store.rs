@@ -250,6 +250,24 @@ impl SlowStore {
         Ok(())
     }
 
+    /// A compaction was answered Ok: it changes nothing that is answered.
+    pub fn compacted(&mut self) -> Result<()> {
+        self.keep_mode(Mode::Open)
+    }
+
+    /// A compaction was refused: nothing changed, or the store is broken, with nothing pending.
+    pub fn refused_compaction(&mut self) -> Result<()> {
+        let mut states = Vec::new(self.alloc);
+        for state in &self.states {
+            if state.mode == Mode::Open {
+                add_state(&mut states, state.copy()?)?;
+                add_state(&mut states, state.in_mode(Mode::Broken, None)?)?;
+            }
+        }
+        self.states = states;
+        Ok(())
+    }
+
     /// A flush was refused by the device, or a close for any cause: the store is broken.
     pub fn broke(&mut self) -> Result<()> {
         let mut states = Vec::new(self.alloc);

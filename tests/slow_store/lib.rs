@@ -11,4 +11,4 @@ mod table;
 pub use compaction::{TableEntry, TableSpan, Trial, has, tables_to_compact, value_at, with};
 pub use files::{Contents, read_store};
 pub use levels::{compaction_inputs, files_with_key, has_overlap, new_table_level};
-pub use live_levels::has_levels;
+pub use live_levels::{has_levels, levels_of};

@@ -6,12 +6,17 @@ use leveldb_env::options::Options;
 use leveldb_version::version_set::VersionSet;
 use std::alloc::Global;
 
-/// Whether the live files of a store's manifest are in these levels. No file changes.
-pub fn has_levels<E: Env>(alloc: Global, env: &mut E, store: &str, wanted: &str) -> Result<bool> {
+/// The levels of the live files of a store's manifest. No file changes.
+pub fn levels_of<E: Env>(alloc: Global, env: &mut E, store: &str) -> Result<String> {
     let mut options = Options::default();
     options.reuse_logs = false;
     options.reuse_manifest = false;
     let mut set = VersionSet::new(alloc, store, &DefaultCmp)?;
     let _ = set.recover(env, &options)?;
-    Ok(set.current_summary()?.as_str() == wanted)
+    set.current_summary()
+}
+
+/// Whether the live files of a store's manifest are in these levels. No file changes.
+pub fn has_levels<E: Env>(alloc: Global, env: &mut E, store: &str, wanted: &str) -> Result<bool> {
+    Ok(levels_of(alloc, env, store)?.as_str() == wanted)
 }

@@ -103,6 +103,26 @@ fn writes_after_a_manifest_with_a_changed_byte(rt: HostRuntime) -> Result<()> {
     Ok(())
 }
 
+/// So it is where the store is compacted: the tables that compactions took stay in the folder.
+#[test]
+fn compactions_after_a_manifest_with_a_changed_byte(rt: HostRuntime) -> Result<()> {
+    let alloc = rt.alloc();
+    let mut env = with_two_tables(alloc)?;
+    damage_file(alloc, &mut env, "MANIFEST-000001", 53)?;
+    let mut engine = opened(alloc, &mut env, Options::default())?;
+    engine.put(&mut env, b"d", b"4")?;
+    engine.compact_range(&mut env, b"", b"")?;
+    let names = env.children(alloc, STORE)?;
+    engine.compact_range(&mut env, b"", b"")?;
+    for name in &names {
+        assert!(rt; are_there(alloc, &mut env, &[name.as_str()])?, "{name}");
+    }
+    engine.abandon(&mut env)?;
+    assert!(rt; are_there(alloc, &mut env, TABLES)?);
+    assert!(rt; env.exists("db/MANIFEST-000001")?);
+    Ok(())
+}
+
 /// Whichever byte of a manifest is changed, an opening fails or keeps all tables: no edit is lost in silence.
 #[test]
 fn each_byte_of_a_manifest(rt: HostRuntime) -> Result<()> {

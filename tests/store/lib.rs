@@ -7,6 +7,10 @@ mod batches;
 #[cfg(test)]
 mod build_table;
 #[cfg(test)]
+mod compactions;
+#[cfg(test)]
+mod compactions_of_many;
+#[cfg(test)]
 mod damage;
 #[cfg(test)]
 mod engines;
@@ -14,6 +18,8 @@ mod engines;
 mod iterators;
 #[cfg(test)]
 mod memory;
+#[cfg(test)]
+mod merged_inputs;
 #[cfg(test)]
 mod merging;
 #[cfg(test)]

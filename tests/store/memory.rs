@@ -27,7 +27,7 @@ const SECOND: [Batch; 3] = [
     (true, &[("b", None)]),
 ];
 
-/// What is found in the end. The key d is in the range of two newer tables, through which its look-up goes first.
+/// What is found in the end. The key d was written once, in the first life.
 const FOUND: [(&str, &str); 5] = [
     ("a", "none"),
     ("b", "none"),
@@ -79,12 +79,26 @@ impl Trial {
         if !self.is_refused(&written) {
             return written;
         }
+        self.mend(engine)?;
+        self.write_once(engine, batch)
+    }
+
+    /// Opens the store again, where a call broke it, since the device had no memory for an append.
+    fn mend(&mut self, engine: &mut DefaultEngine<MemEnv>) -> Result<()> {
         if engine.check_writable().is_err() {
-            // The device had no memory for an append, so the store is broken.
             self.env.unlock("db/LOCK")?;
             *engine = self.open_once(true)?;
         }
-        self.write_once(engine, batch)
+        Ok(())
+    }
+
+    fn compact(&mut self, engine: &mut DefaultEngine<MemEnv>) -> Result<()> {
+        let compacted = engine.compact_range(&mut self.env, b"", b"");
+        if !self.is_refused(&compacted) {
+            return compacted;
+        }
+        self.mend(engine)?;
+        engine.compact_range(&mut self.env, b"", b"")
     }
 
     fn find_once(&mut self, engine: &mut DefaultEngine<MemEnv>, key: &str) -> Result<String> {
@@ -102,12 +116,13 @@ impl Trial {
         found
     }
 
-    /// Opens the store, writes these batches, and gives back its lock.
+    /// Opens the store, writes these batches, compacts all, and gives back its lock.
     fn live(&mut self, reuses: bool, batches: &[Batch]) -> Result<()> {
         let mut engine = self.open(reuses)?;
         for batch in batches {
             self.write(&mut engine, batch)?;
         }
+        self.compact(&mut engine)?;
         engine.abandon(&mut self.env)
     }
 }

@@ -9,19 +9,20 @@ use leveldb_base::cmp::{DefaultCmp, InternalKeyCmp};
 use leveldb_base::error::{Result, StatusCode};
 use leveldb_base::key_types::{ValueType, parse_internal_key};
 use leveldb_base::types::FileMetaData;
+use leveldb_env::env::Env;
 use leveldb_env::filter::BloomPolicy;
 use leveldb_env::mem_env::RecordEnv;
 use leveldb_iter::unlent::Unlent;
 use leveldb_store::merge_tables::{Cuts, MergePlan, merge_tables};
 use leveldb_store::passing::MergeLevels;
-use leveldb_version::version_set::LiveFiles;
+use leveldb_version::version_set::VersionSet;
 use std::alloc::Global;
 use std::process::Abort;
 use support::{Listed, Random, failed_with};
 
 /// No deeper level has a user key that begins with an even byte, and the inputs' ranges end below those that begin with 100.
 #[derive(Drop)]
-struct EvenKeys;
+pub struct EvenKeys;
 
 fn is_even(user: &[u8]) -> bool {
     user.first().is_some_and(|byte| byte % 2 == 0)
@@ -59,7 +60,7 @@ impl Cuts for Told<'_> {
 type Plan<'a> = MergePlan<'a, DefaultCmp, BloomPolicy, EvenKeys>;
 
 /// Entries of random numbers, each number once, sorted by their internal keys.
-fn entries(alloc: Global, random: &mut Random, count: u64) -> Result<Vec<Put>> {
+pub fn entries(alloc: Global, random: &mut Random, count: u64) -> Result<Vec<Put>> {
     let mut entries = Vec::new(alloc);
     for sequence in 1..=count {
         let user = [random.below(6) as u8, random.below(4) as u8];
@@ -98,18 +99,23 @@ fn goes(smallest: u64, entries: &[Put], entry: &Put) -> bool {
     shadowed || kind == ValueType::TypeDeletion && sequence <= smallest && is_even(user)
 }
 
+/// A copy of an entry.
+pub fn copy_of(alloc: Global, entry: &Put, told: bool) -> Result<Put> {
+    let mut key = Vec::new(alloc);
+    key.extend_from_slice(entry.key.as_slice())?;
+    let mut value = Vec::new(alloc);
+    value.extend_from_slice(entry.value.as_slice())?;
+    Ok(Put { key, value, told })
+}
+
 /// What is left of entries; one is told if it or an entry that went just before it was.
-fn slow_merge(alloc: Global, smallest: u64, entries: &[Put]) -> Result<Vec<Put>> {
+pub fn slow_merge(alloc: Global, smallest: u64, entries: &[Put]) -> Result<Vec<Put>> {
     let mut left = Vec::new(alloc);
     let mut told = false;
     for entry in entries {
         told = told || entry.told;
         if !goes(smallest, entries, entry) {
-            let mut key = Vec::new(alloc);
-            key.extend_from_slice(entry.key.as_slice())?;
-            let mut value = Vec::new(alloc);
-            value.extend_from_slice(entry.value.as_slice())?;
-            left.push(Put { key, value, told })?;
+            left.push(copy_of(alloc, entry, told)?)?;
             told = false;
         }
     }
@@ -130,7 +136,7 @@ fn walk_over(alloc: Global, entries: &[Put]) -> Result<Unlent<Listed<InternalKey
 fn merge(
     alloc: Global,
     env: &mut RecordEnv,
-    versions: &mut LiveFiles<RecordEnv>,
+    versions: &mut VersionSet<RecordEnv, DefaultCmp>,
     options: &SmallOptions,
     smallest: u64,
     entries: &[Put],
@@ -150,7 +156,34 @@ fn merge(
     merge_tables(env, &mut (), &mut walk, versions, &plan, &mut told)
 }
 
-/// Asserts that the tables have what the slow merge leaves, cut as the plain list says. Returns how many entries went.
+/// Asserts that the tables, of numbers from the first on, have these entries, cut as the plain list says.
+pub fn assert_has<E: Env>(
+    rt: &impl Abort,
+    alloc: Global,
+    env: &mut E,
+    options: &SmallOptions,
+    first: u64,
+    files: &[FileMetaData],
+    left: &[Put],
+) -> Result<()> {
+    let begins = plain_cuts(alloc, options, left)?;
+    assert!(rt; files.len() == begins.len());
+    let mut at = 0;
+    for (nth, file) in files.iter().enumerate() {
+        assert!(rt; file.num == first + nth as u64 && at == begins[nth]);
+        assert!(rt; file.smallest.as_slice() == left[at].key.as_slice());
+        for (key, value) in &pairs_of(alloc, env, options, file)? {
+            assert!(rt; key.as_slice() == left[at].key.as_slice());
+            assert!(rt; value.as_slice() == left[at].value.as_slice());
+            at += 1;
+        }
+        assert!(rt; file.largest.as_slice() == left[at - 1].key.as_slice());
+    }
+    assert!(rt; at == left.len());
+    Ok(())
+}
+
+/// Asserts that the tables have what the slow merge leaves. Returns how many entries went.
 fn compare(
     rt: &impl Abort,
     alloc: Global,
@@ -161,21 +194,17 @@ fn compare(
     let mut env = RecordEnv::new(alloc);
     let mut versions = new_set(alloc)?;
     let files = merge(alloc, &mut env, &mut versions, options, smallest, entries)?;
-    let left = slow_merge(alloc, smallest, entries)?;
-    let begins = plain_cuts(alloc, options, left.as_slice())?;
-    assert!(rt; files.len() == begins.len());
     assert!(rt; env.tails(alloc, env.moment(), false)?.is_empty());
-    let mut at = 0;
-    for (nth, file) in files.iter().enumerate() {
-        assert!(rt; file.num == FIRST + nth as u64 && at == begins[nth]);
-        for (key, value) in &pairs_of(alloc, &mut env, options, file)? {
-            assert!(rt; key.as_slice() == left[at].key.as_slice());
-            assert!(rt; value.as_slice() == left[at].value.as_slice());
-            at += 1;
-        }
-        assert!(rt; file.largest.as_slice() == left[at - 1].key.as_slice());
-    }
-    assert!(rt; at == left.len());
+    let left = slow_merge(alloc, smallest, entries)?;
+    assert_has(
+        rt,
+        alloc,
+        &mut env,
+        options,
+        FIRST,
+        files.as_slice(),
+        left.as_slice(),
+    )?;
     Ok(entries.len() - left.len())
 }
 
@@ -322,7 +351,7 @@ fn a_merge_of_values_keeps_all(rt: HostRuntime) -> Result<()> {
         entries.as_slice(),
     )?;
     assert!(rt; !files.is_empty());
-    assert!(rt; leveldb_env::env::Env::exists(&mut env, &path_of(alloc, FIRST)?)?);
+    assert!(rt; env.exists(&path_of(alloc, FIRST)?)?);
     let mut count = 0;
     for file in &files {
         count += pairs_of(alloc, &mut env, &small(1), file)?.len();

@@ -16,7 +16,7 @@ use leveldb_store::outputs::Outputs;
 use leveldb_table::cache::Cache;
 use leveldb_table::table_builder::builder_core::BuilderCore;
 use leveldb_table::table_reader::Table;
-use leveldb_version::version_set::LiveFiles;
+use leveldb_version::version_set::VersionSet;
 use rusty_leveldb::db_impl::build_memtable;
 use std::alloc::Global;
 use std::process::Abort;
@@ -116,14 +116,14 @@ pub fn plain_cuts(alloc: Global, options: &SmallOptions, puts: &[Put]) -> Result
     Ok(begins)
 }
 
-pub fn new_set(alloc: Global) -> Result<LiveFiles<RecordEnv>> {
-    LiveFiles::new(alloc, "db", &DefaultCmp)
+pub fn new_set(alloc: Global) -> Result<VersionSet<RecordEnv, DefaultCmp>> {
+    VersionSet::new(alloc, "db", &DefaultCmp)
 }
 
 fn write_all(
     alloc: Global,
     env: &mut RecordEnv,
-    versions: &mut LiveFiles<RecordEnv>,
+    versions: &mut VersionSet<RecordEnv, DefaultCmp>,
     options: &SmallOptions,
     puts: &[Put],
 ) -> Result<Vec<FileMetaData>> {
@@ -147,9 +147,9 @@ pub fn path_of(alloc: Global, number: u64) -> Result<String> {
 }
 
 /// The pairs of a table.
-pub fn pairs_of(
+pub fn pairs_of<E: Env>(
     alloc: Global,
-    env: &mut RecordEnv,
+    env: &mut E,
     options: &SmallOptions,
     file: &FileMetaData,
 ) -> Result<Vec<(Bytes, Bytes)>> {
@@ -278,7 +278,7 @@ pub fn with_log(alloc: Global) -> Result<RecordEnv> {
 pub fn changes_only_tables(
     alloc: Global,
     env: &mut RecordEnv,
-    versions: &mut LiveFiles<RecordEnv>,
+    versions: &mut VersionSet<RecordEnv, DefaultCmp>,
 ) -> Result<bool> {
     let next = versions.new_file_number()?;
     let mut known = Vec::new(alloc);

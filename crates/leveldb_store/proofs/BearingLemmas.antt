@@ -39,10 +39,9 @@ module _ {E F T W : Type 0} (env : EnvGhosts E F) (walk : WalkGhosts W E T) (sto
     pub excuses : (it : W) (later : E × T) (status : Status)
         → walk.fails (to, tables) it later status → walk.fails (at, tables) it later status
 
-  -- moves keep it, and change no file
+  -- moves keep it
   abbrev pub MovesKeep : Type 0
-  MovesKeep = (at to : E × T) → Given at → walk.keeps at to
-      → Given to × LeavesFiles env at.0 to.0
+  MovesKeep = (at to : E × T) → Given at → walk.keeps at to → Given to
 
   -- new tables keep it, and leave each walk where it is
   abbrev pub NewTablesKeep : Type 0
@@ -54,7 +53,7 @@ module _ {E F T W : Type 0} (env : EnvGhosts E F) (walk : WalkGhosts W E T) (sto
         → ComesOf env walk store first start world → Given world
     given_then given world itself = given
     given_then given world (by_move at to come keeps) =
-        (moves at to (given_then given at come) keeps).0
+        moves at to (given_then given at come) keeps
     given_then given world (by_writing at to tables next come changes) =
         (bears at to tables next (given_then given (at, tables) come) changes).given
 
@@ -65,7 +64,6 @@ module _ {E F T W : Type 0} (env : EnvGhosts E F) (walk : WalkGhosts W E T) (sto
           (bears at to tables next (given_then given (at, tables) come) changes).stays_at;
       excuses = λ at to tables next come changes.
           (bears at to tables next (given_then given (at, tables) come) changes).excuses;
-      still = λ at to come keeps. (moves at to (given_then given at come) keeps).1;
     }
 
 -- ---- a merge
@@ -110,6 +108,17 @@ module _ {E F T I C : Type 0} (env : EnvGhosts E F) {child : WalkGhosts I E T} {
 
 -- ---- the tables of a version
 
+-- moves that only read change no file
+pub reading_leaves : {E F C FP K : Type 0} {keys : CmpGhosts (InternalKeyCmp C)}
+    (env : EnvGhosts E F) {cmp : CmpGhosts C} {filters : FilterGhosts FP} {codings : K → Codings}
+    {at to : E × ReadTables E C FP K F} → KeepsReading keys env cmp filters codings at to
+    → LeavesFiles env at.0 to.0
+reading_leaves env keeps = record {
+  run = keeps.tables.disk.disk;
+  locks = keeps.tables.disk.locks;
+  later = keeps.tables.later;
+}
+
 module _ {E F C FP K : Type 0} (keys : CmpGhosts (InternalKeyCmp C)) (env : EnvGhosts E F)
     (cmp : CmpGhosts C) (filters : FilterGhosts FP) (codings : K → Codings) where
   -- a walk is over the tables of files
@@ -133,18 +142,12 @@ module _ {E F C FP K : Type 0} (keys : CmpGhosts (InternalKeyCmp C)) (env : EnvG
     where
       pub tables_keep : MovesKeep env child store first (ReadsBelow store first)
       tables_keep at to was kept =
-          let keeps = is.keeps at to kept in (
-            record {
-              given = keeps.given was.given;
-              below = omega (arith, was.below, keeps.below_stays);
-              store_is = keeps.tables.path ∙ was.store_is;
-            },
-            record {
-              run = keeps.tables.disk.disk;
-              locks = keeps.tables.disk.locks;
-              later = keeps.tables.later;
-            },
-          )
+          let keeps = is.keeps at to kept in
+          record {
+            given = keeps.given was.given;
+            below = omega (arith, was.below, keeps.below_stays);
+            store_is = keeps.tables.path ∙ was.store_is;
+          }
 
       pub tables_borne : NewTablesKeep env child store first (ReadsBelow store first)
       tables_borne at to tables next was changes =

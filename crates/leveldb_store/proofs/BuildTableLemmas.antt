@@ -1,6 +1,6 @@
 -- How a builder gets the pairs of a walk, what its table is to a store, and what the file's calls leave.
 use Rattle.std.proofs.Common.{◌≡◌, ◌≢◌, ◌⊎◌, inl, inr, ⊎_elim, ℕ, zero, suc, ◌+◌, ◌^◌, ◌<◌, ◌≤◌, Bool, true, false, List, [], ◌∷◌, ◌++◌, length, take, map, flat_map, nat_lt, Option, None, Some, Result, Ok, Err, refl, sym, ◌∙◌, ap, subst, append_assoc, arith}
-use Rattle.std.specs.Prelude.{All, IfOk, IsTrue, OnOk, slice_get, slice_index_or, if◌then◌else◌, ◌&&◌}
+use Rattle.std.specs.Prelude.{All, IfOk, IsTrue, slice_get, slice_index_or, if◌then◌else◌, ◌&&◌}
 use Rattle.std.specs.List.{concat}
 use Rattle.std.proofs.lemmas.Bool.{cases_lt, le-leb, lt-ltb}
 use Rattle.std.proofs.lemmas.List.{nil_from_length, length-append, append-nil, take_all}
@@ -262,13 +262,21 @@ module _ {C FP : Type 0} {order : CmpGhosts C} {filters : FilterGhosts FP} (codi
       unbroken = unbroken;
     }
 
-    -- and one that takes the next
-    pub HasTaken-more : {core mid new : TableBuilt C FP} {from at to : S} (pairs : List Pair) (count : ℕ) (pair : Pair) → slice_get pairs count ≡ Some pair
-        → HasTaken order filters codings puts core from (take count pairs) mid at → AddsPair puts (IsBegun codings order filters mid) (IsBegun codings order filters new) at pair to → KeepsChoices mid new → new.broken ≡ false
-        → HasTaken order filters codings puts core from (take (count + 1) pairs) new to
-    HasTaken-more {core} {mid} {new} {from} {at} {to} pairs count pair there taken added kept unbroken =
-        subst (λ ps. HasTaken order filters codings puts core from ps new to) (sym (taken_next pairs count pair there))
-        (record { adds = AddsPairs-more puts taken.adds added; choices = KeepsChoices-trans taken.choices kept; unbroken = unbroken })
+    -- and one that takes one pair more
+    HasTaken-more : {core mid new : TableBuilt C FP} {from at to : S} {pairs : List Pair} {pair : Pair}
+        → HasTaken order filters codings puts core from pairs mid at → AddsPair puts (IsBegun codings order filters mid) (IsBegun codings order filters new) at pair to → KeepsChoices mid new → new.broken ≡ false
+        → HasTaken order filters codings puts core from (pairs ++ pair ∷ []) new to
+    HasTaken-more taken added kept unbroken =
+        record { adds = AddsPairs-more puts taken.adds added; choices = KeepsChoices-trans taken.choices kept; unbroken = unbroken }
+
+  -- what a new builder has put is what it is begun with
+  pub taken_begun : {core mid : TableBuilt C FP} {written : List ℕ} {pairs : List Pair}
+      → IsBegun codings order filters core [] []
+      → HasTaken order filters codings puts_all core [] pairs mid written
+      → IsBegun codings order filters mid written pairs
+  taken_begun {mid = mid} {pairs = pairs} begun taken =
+      subst (λ bytes. IsBegun codings order filters mid bytes pairs)
+      (sym (all_put taken.adds.put)) (taken.adds.begun [] [] begun)
 
   module _ {E F : Type 0} (env : EnvGhosts E F) where
     -- nothing is in the file yet
@@ -281,13 +289,27 @@ module _ {C FP : Type 0} {order : CmpGhosts C} {filters : FilterGhosts FP} (codi
     }
 
     -- one more
+    pub taken_added : {core mid new : TableBuilt C FP} {from to : Opened E F} {written : List ℕ}
+        {pairs : List Pair} {pair : Pair}
+        → HasTaken order filters codings puts_all core [] pairs mid written
+        → (one : AddsToFile order filters codings env mid from pair new to) → KeepsChoices mid new
+        → HasTaken order filters codings puts_all core [] (pairs ++ pair ∷ []) new
+        (written ++ one.bytes)
+    taken_added taken one kept = HasTaken-more puts_all taken (record {
+      bytes = one.bytes;
+      put = PutsAll-one puts_all (refl, refl);
+      begun = one.begun;
+    }) kept one.unbroken
+
     pub adds_all-more : {core mid new : TableBuilt C FP} {from at to : Opened E F} (pairs : List Pair) (count : ℕ) (pair : Pair) → slice_get pairs count ≡ Some pair
         → AddsAllToFile order filters codings env core from (take count pairs) mid at → AddsToFile order filters codings env mid at pair new to → KeepsChoices mid new
         → AddsAllToFile order filters codings env core from (take (count + 1) pairs) new to
-    adds_all-more pairs count pair there all one kept = record {
+    adds_all-more {core} {new = new} pairs count pair there all one kept = record {
       bytes = all.bytes ++ one.bytes;
       longer = IsLonger-trans env all.longer one.longer;
-      taken = HasTaken-more puts_all pairs count pair there all.taken (record { bytes = one.bytes; put = PutsAll-one puts_all (refl, refl); begun = one.begun }) kept one.unbroken;
+      taken = subst (λ ps. HasTaken order filters codings puts_all core [] ps new
+          (all.bytes ++ one.bytes)) (sym (taken_next pairs count pair there))
+          (taken_added all.taken one kept);
       last = last_taken pairs count pair there one.last;
     }
 

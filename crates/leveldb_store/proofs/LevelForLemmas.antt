@@ -69,7 +69,7 @@ module _ (cmp : List ℕ → List ℕ → Ordering) (range : UserRange) where
   )
 
   module _ (these those : List NewFile) (same : IsPermutation these those) where
-    overlapped_alike : (level : ℕ) → is_overlapped cmp level range these
+    pub overlapped_alike : (level : ℕ) → is_overlapped cmp level range these
         ≡ is_overlapped cmp level range those
     overlapped_alike level =
         let here : NewFile → Bool = λ file. file.level == level in
@@ -77,7 +77,7 @@ module _ (cmp : List ℕ → List ℕ → Ordering) (range : UserRange) where
         ∙ list_any-IsPermutation (λ file. here file && overlaps cmp range file) these those same
         ∙ sym (any_kept (overlaps cmp range) here those)
 
-    size_alike : (level : ℕ) → total_size (overlapping cmp level range these)
+    pub size_alike : (level : ℕ) → total_size (overlapping cmp level range these)
         ≡ total_size (overlapping cmp level range those)
     size_alike level =
         let here : NewFile → Bool = λ file. file.level == level in

@@ -7,7 +7,19 @@ mod MergingLemmas
 mod MergeLoopLemmas
 mod BearingLemmas
 mod NewNumbersLemmas
+mod NewTablesLemmas
+mod CompactKeepsLemmas
+mod CompactEditLemmas
+mod CompactStoreLemmas
+mod CompactCallLemmas
 mod MergeInputsLemmas
+mod MergedOpenLemmas
+mod MergedInputsLemmas
+mod MergedFilesLemmas
+mod MergedMadeLemmas
+mod MergedCausesLemmas
+mod MergeFilesLemmas
+mod MovedFileLemmas
 pub mod WriteLemmas
 mod OpeningNamesLemmas
 mod ListingLemmas
@@ -73,3 +85,10 @@ mod ViewListsLemmas
 mod ViewTablesLemmas
 mod ViewChildrenLemmas
 mod ViewStoreLemmas
+pub mod NoNewEntriesLemmas
+pub mod CompactedLemmas
+mod ReplacedFilesLemmas
+mod CompactPickedLemmas
+mod CompactLevelLemmas
+mod CompactRangeLemmas
+mod TabledEntriesLemmas

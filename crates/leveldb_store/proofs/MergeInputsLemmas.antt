@@ -1,19 +1,24 @@
 -- The walk that merges the tables of files.
-use Rattle.std.specs.Prelude.{All, slice_index_or}
-use Rattle.std.proofs.Common.{◌≡◌, ◌∙◌, ℕ, List, [], None, sym, ap, subst}
+use Rattle.std.specs.Prelude.{All, Contains}
+use Rattle.std.proofs.Common.{◌≡◌, ◌<◌, ◌^◌, ◌∙◌, ⊎_elim, ℕ, List, [], ◌∷◌, None, length, sym, ap, subst}
+use Rattle.std.proofs.lemmas.Option.{get_or_from_slice_get}
 use Rattle.std.specs.declared.cmp.Ordering.{Ordering}
+use Rattle.leveldb_base.proofs.HistoryLemmas.{in_cases, in_front, in_none, in_rest}
 use Rattle.leveldb_base.specs.Cmp.{IsExactOrder}
-use Rattle.leveldb_base.specs.Entries.{AreSorted, entries_of_pairs}
+use Rattle.leveldb_base.specs.Entries.{entries_of_pairs, entry_of_pair}
+use Rattle.leveldb_base.specs.History.{AreRising}
+use Rattle.leveldb_base.specs.KeyTypes.{internal_cmp}
 use Rattle.leveldb_base.specs.Types.{Pair}
 use Rattle.leveldb_base.specs.declared.cmp.Cmp.{Ghosts as CmpGhosts}
 use Rattle.leveldb_base.specs.declared.cmp.internal.InternalKeyCmp.{InternalKeyCmp}
+use Rattle.leveldb_base.specs.declared.error.Status.{Status}
 use Rattle.leveldb_env.specs.Compressor.{Codings}
 use Rattle.leveldb_env.specs.declared.env.Env.{Ghosts as EnvGhosts}
 use Rattle.leveldb_env.specs.declared.filter.FilterPolicy.{Ghosts as FilterGhosts}
 use Rattle.leveldb_iter.proofs.MergeCountLemmas.{layers_merged}
-use Rattle.leveldb_iter.specs.Children.{AreOver}
+use Rattle.leveldb_iter.specs.Children.{AnyFails, AreOver}
 use Rattle.leveldb_iter.specs.MergedEntries.{internal_order}
-use Rattle.leveldb_iter.specs.MergingIter.{AreMerged, IsMergeAt}
+use Rattle.leveldb_iter.specs.MergingIter.{AreMerged, FailsMerged, IsMergeAt}
 use Rattle.leveldb_iter.specs.MergingIterLaws.{merged_over_list}
 use Rattle.leveldb_iter.specs.Walk.{IsSortedIn, KeyOrder, key_order}
 use Rattle.leveldb_iter.specs.declared.merging_iter.MergeCore.{MergeCore}
@@ -23,8 +28,8 @@ use Rattle.leveldb_version.proofs.SearchLemmas.{all_from_contains}
 use Rattle.leveldb_version.proofs.VersionLayersLemmas.{version_iters_are_layers}
 use Rattle.leveldb_version.specs.Batches.{Each}
 use Rattle.leveldb_version.specs.Levels.{LiveTable, table_entries}
-use Rattle.leveldb_version.specs.Store.{SameEntries}
-use Rattle.leveldb_version.specs.Version.{VersionValue}
+use Rattle.leveldb_version.specs.Store.{IsInternalPair, SameEntries}
+use Rattle.leveldb_version.specs.Version.{AreInVersionOrder, VersionValue, new_files_of}
 use Rattle.leveldb_version.specs.VersionIter.{IsOverTables}
 use Rattle.leveldb_version.specs.VersionIters.{AreOverLayers, AreVersionIters}
 use Rattle.leveldb_version.specs.declared.table_cache.moves.ReadTables.{ReadTables}
@@ -33,7 +38,34 @@ use Rattle.leveldb_store.specs.MergeInputs.{MergesTablesOf, ReadsBelow}
 use Rattle.leveldb_store.specs.View.{any_in_order}
 use Rattle.leveldb_store.proofs.BearingLemmas.{IsMergeOf, IsTableWalk, bears_new_tables, merge_borne, merge_moves, tables_borne, tables_keep}
 use Rattle.leveldb_store.proofs.ViewListsLemmas.{each_at, each_by_index}
+use Rattle.leveldb_store.proofs.ViewReadsLemmas.{fails_between}
 use Rattle.leveldb_store.proofs.ViewStoreLemmas.{orders_keys}
+use Rattle.leveldb_store.proofs.ViewTablesLemmas.{tables_there}
+
+-- ---- pairs of entries
+
+-- each pair is that of its entry
+abbrev pub AreInternal : List Pair → Type 0
+AreInternal pairs = Each IsInternalPair pairs (entries_of_pairs pairs)
+
+-- so is each of them alone
+pub pair_internal : (pairs : List Pair) → AreInternal pairs → (pair : Pair)
+    → Contains pairs pair → IsInternalPair pair (entry_of_pair pair)
+pair_internal [] are pair there = absurd (in_none pair there)
+pair_internal (first ∷ pairs) are pair there = ⊎_elim
+    (λ (same : first ≡ pair). subst (λ (p : Pair). IsInternalPair p (entry_of_pair p)) same are.0)
+    (λ (rest : Contains pairs pair). pair_internal pairs are.1 pair rest)
+    (in_cases first pair pairs there)
+
+-- and pairs are, of which each one is
+pub pairs_internal : (pairs : List Pair)
+    → ((pair : Pair) → Contains pairs pair → IsInternalPair pair (entry_of_pair pair))
+    → AreInternal pairs
+pairs_internal [] each = tt
+pairs_internal (first ∷ pairs) each = (
+  each first (in_front first pairs),
+  pairs_internal pairs (λ pair there. each pair (in_rest first pair pairs there)),
+)
 
 -- Walks over layers of the entries of tables are merged to all of these, sorted.
 module _ {E F C FP K : Type 0} {keys : CmpGhosts (InternalKeyCmp C)} (env : EnvGhosts E F)
@@ -62,9 +94,34 @@ module _ {E F C FP K : Type 0} {keys : CmpGhosts (InternalKeyCmp C)} (env : EnvG
       IsOverTables keys env cmp filters codings world it
       (key_order keys (record { 0 = world.1.cmp })) pairs) iters over.lists over.counted over.over)
 
-  are_over : AreOver child world iters order over.lists
-  are_over k it at = (is.over_is world it order (slice_index_or over.lists k [])).1
-      (each_at Over iters over.lists k it [] each_over at)
+  internal : (pairs : List Pair) → Contains over.lists pairs → AreInternal pairs
+  internal = over.internal
+
+  -- walks that are over pairs of entries
+  abbrev reads : WalkGhosts (VersionIter C) E (ReadTables E C FP K F)
+  reads = record child {
+    over = λ at it by pairs. child.over at it by pairs × AreInternal pairs;
+  }
+
+  are_over : AreOver reads world iters order over.lists
+  are_over k it at = each_at (λ one pairs. child.over world one order pairs × AreInternal pairs)
+      iters over.lists k it [] both at
+    where
+      each_and_there : (lists : List (List Pair))
+          → ((pairs : List Pair) → Contains lists pairs → Contains over.lists pairs)
+          → (its : List (VersionIter C)) → Each Over its lists
+          → Each (λ one pairs. child.over world one order pairs × AreInternal pairs) its lists
+      each_and_there [] within [] each = tt
+      each_and_there [] within (one ∷ its) each = absurd each
+      each_and_there (pairs ∷ lists) within [] each = absurd each
+      each_and_there (pairs ∷ lists) within (one ∷ its) each = (
+        ((is.over_is world one order pairs).1 each.0, internal pairs (within pairs (in_front pairs lists))),
+        each_and_there lists (λ other there. within other (in_rest pairs other lists there)) its each.1,
+      )
+
+      both : Each (λ one pairs. child.over world one order pairs × AreInternal pairs) iters
+          over.lists
+      both = each_and_there over.lists (λ pairs there. there) iters each_over
 
   sorted : All (IsSortedIn order) over.lists
   sorted = all_from_contains (IsSortedIn order) over.lists (λ pairs there.
@@ -73,26 +130,50 @@ module _ {E F C FP K : Type 0} {keys : CmpGhosts (InternalKeyCmp C)} (env : EnvG
   pub inputs_merged : (pairs : List Pair)
       × AreMerged child keys world (record { 0 = compares }) iters
       (key_order keys (record { 0 = compares })) pairs
-      × AreSorted (cmp.cmp compares) (entries_of_pairs pairs)
+      × AreRising (internal_cmp (cmp.cmp compares)) pairs
       × SameEntries (entries_of_pairs pairs) (table_entries tables)
+      × AreInternal pairs
   inputs_merged =
-      let has = layers_merged child keys (record { 0 = compares })
+      let has = layers_merged reads keys (record { 0 = compares })
       (any_in_order (cmp.cmp compares)) exact (sym (keys_are compares)) world iters over.lists
       over.counted are_over sorted over.layered in (
         has.0,
         subst (λ o. AreMerged child keys world (record { 0 = compares }) iters o has.0)
-            (sym (keys_are compares)) has.1,
-        has.2.sorted,
+            (sym (keys_are compares)) (record {
+              lists = has.1.lists;
+              counted = has.1.counted;
+              over = λ k it at. (has.1.over k it at).0;
+              merge = has.1.merge;
+              ordered = has.1.ordered;
+            }),
+        has.1.merge.sorted.rising,
         λ entry. (
           λ there. (over.exactly entry).0 ((has.2.exactly entry).0 there),
           λ there. (has.2.exactly entry).1 ((over.exactly entry).1 there),
         ),
+        pairs_internal has.0 (λ pair there.
+            let any = (has.1.merge.exactly pair).0 there in
+            let from = list_over has.1.lists has.1.counted has.1.over any.1 (any.0, any.2, any.3) in
+            pair_internal any.1 from pair any.4),
       )
+    where
+      -- a list of the merge is that of a walk
+      list_over : (lists : List (List Pair)) → length lists ≡ length iters
+          → AreOver reads world iters order lists → (pairs : List Pair) → Contains lists pairs
+          → AreInternal pairs
+      list_over lists counted all pairs there =
+          let walked = each_by_index (λ one list. child.over world one order list
+          × AreInternal list) iters lists counted (λ k one list at_one at_list.
+          subst (λ (l : List Pair). child.over world one order l × AreInternal l)
+          (get_or_from_slice_get lists k list [] at_list) (all k one at_one)) in
+          (each_second (λ one list. child.over world one order list × AreInternal list) iters
+          lists pairs walked there).2.1
 
 -- ---- the walk
 
 module _ {E F C FP K : Type 0} {keys : CmpGhosts (InternalKeyCmp C)} (env : EnvGhosts E F)
-    (cmp : CmpGhosts C) (filters : FilterGhosts FP) (codings : K → Codings)
+    (counts : (e : E) → env.failures e < 2 ^ 64) (cmp : CmpGhosts C)
+    (filters : FilterGhosts FP) (codings : K → Codings)
     (keys_are : (c : C)
     → key_order keys (record { 0 = c }) ≡ internal_order (any_in_order (cmp.cmp c)))
     (exact : (c : C) → IsExactOrder (cmp.cmp c))
@@ -102,12 +183,16 @@ module _ {E F C FP K : Type 0} {keys : CmpGhosts (InternalKeyCmp C)} (env : EnvG
     -- new walks over the tables of a version are merged
     pub tables_merged : {inputs : VersionValue C} {compares : C} {iters : List (VersionIter C)}
         {it : MergeCore (InternalKeyCmp C) (VersionIter C)} → AreVersionIters inputs iters
+        → AreInVersionOrder (cmp.cmp inputs.cmp) (new_files_of inputs)
         → ((world : E × ReadTables E C FP K F) (order : KeyOrder) (pairs : List Pair)
         → AreMerged child keys world (record { 0 = compares }) iters order pairs
         → IsMergeAt child keys world it order pairs None)
+        → ((world later : E × ReadTables E C FP K F) (status : Status)
+        → FailsMerged child world it later status → AnyFails child world iters later status)
         → IsTableWalk keys env cmp filters codings child → IsMergeOf child keys walk
         → MergesTablesOf keys env cmp filters codings walk inputs compares it
-    tables_merged {inputs} {compares} {iters} {it} are made is merges = record {
+    tables_merged {inputs} {compares} {iters} {it} are in_order made fails is merges = record {
+      in_order = in_order;
       over = λ world meaning tables there same.
           let read = world.1.cmp in
           let layers = version_iters_are_layers keys env cmp filters codings inputs iters are world
@@ -120,7 +205,21 @@ module _ {E F C FP K : Type 0} {keys : CmpGhosts (InternalKeyCmp C)} (env : EnvG
                 (merged_over_list world it order all.0 None (made world order all.0 all.1)),
             all.2,
             all.3,
+            all.4,
           );
+      lacks = λ world meaning tables there later status failed.
+          let read = world.1.cmp in
+          let any = fails world later status ((merges.fails_is world it later status).0 failed) in
+          let those = tables_there env cmp filters codings inputs world (exact read)
+          (orders_keys cmp read (keys_are read)) meaning tables there iters are any.1
+          (any.0, any.2, any.3) in
+          fails_between env counts cmp filters codings world later status
+          (((is.fails_is world any.1 later status).0 any.4).lacks meaning those.0 those.1);
+      fault = λ world now later status failed.
+          let any = (merges.fails_is world now later status).0 failed in
+          fails_between env counts cmp filters codings world later status
+          ((is.fails_is world any.1 later status).0 any.4).fault;
+      leaves = λ from to kept. is.keeps from to (merges.keeps from to kept);
       bears = λ store first world reads.
           bears_new_tables env walk store first (ReadsBelow store first)
           (merge_moves env store first (ReadsBelow store first) merges

@@ -1,5 +1,5 @@
 -- The loop of a merge: where its walk is, which pairs are merged, and what moves and new tables leave.
-use Rattle.std.proofs.Common.{◌≡◌, ◌≤◌, ◌∙◌, ◌⊎◌, inl, inr, ⊎_elim, ℕ, List, [], ◌∷◌, ◌++◌, drop, take, Option, None, Some, Result, Ok, Err, refl, sym, ap, subst, arith}
+use Rattle.std.proofs.Common.{◌≡◌, ◌≤◌, ◌∙◌, inl, inr, ℕ, List, [], ◌∷◌, ◌++◌, drop, take, Option, None, Some, Result, Ok, Err, refl, sym, ap, subst, arith}
 use Rattle.std.proofs.lemmas.List.{take-append-drop}
 use Rattle.leveldb_base.specs.Cmp.{IsExactOrder}
 use Rattle.leveldb_base.specs.Error.{IsOutOfMemory}
@@ -14,19 +14,21 @@ use Rattle.leveldb_env.specs.declared.env.Env.{Ghosts as EnvGhosts}
 use Rattle.leveldb_env.specs.declared.filter.FilterPolicy.{Ghosts as FilterGhosts}
 use Rattle.leveldb_iter.specs.Walk.{key_order}
 use Rattle.leveldb_iter.specs.declared.walk.Walk.{Ghosts as WalkGhosts}
+use Rattle.leveldb_version.proofs.SafeLemmas.{some_is}
 use Rattle.leveldb_version.specs.Paths.{table_path}
 use Rattle.leveldb_version.specs.StoreSteps.{AppendedAreBytes}
 use Rattle.leveldb_version.specs.VersionSetValue.{VersionSetValue}
 use Rattle.leveldb_store.specs.BuildTable.{TableChoices, passed}
-use Rattle.leveldb_store.specs.Merging.{AreRead, BearsNewTables, ComesOf, HasMerged, LeavesFiles, Merge, MergesTables, TakesPair, by_move, by_writing, itself}
-use Rattle.leveldb_store.specs.Opening.{GivesNumbers}
+use Rattle.leveldb_store.specs.Merging.{BearsNewTables, ComesOf, HasMerged, LeavesFiles, Merge, MergesTables, MovesLeaveFiles, TakesPair, by_move, by_writing, itself}
+use Rattle.leveldb_store.specs.Opening.{GivesNumbers, TakesBackNew}
 use Rattle.leveldb_store.specs.Outputs.{AreFinished, ChangesNewTables, FinishesOpen, HaveOutputs, IsOpenAfter, OutputsValue}
 use Rattle.leveldb_store.specs.Switch.{MayGiveNumber}
 use Rattle.leveldb_store.specs.declared.passing.Passing.{Passing}
 use Rattle.leveldb_store.specs.declared.table_file.TableFile.{TableFile}
 use Rattle.leveldb_store.proofs.BuildTableLemmas.{pair_passed, passed_first, passed_next, taken_all, taken_next}
-use Rattle.leveldb_store.proofs.MergingLemmas.{in_place_front, merged_all}
-use Rattle.leveldb_store.proofs.OutputsLemmas.{new-rise, new-trans, rise_range}
+use Rattle.leveldb_store.proofs.MergingLemmas.{merged_all, open_read}
+use Rattle.leveldb_store.proofs.NotTabledLemmas.{some_not_tabled}
+use Rattle.leveldb_store.proofs.OutputsLemmas.{new-rise, new-trans}
 use Rattle.leveldb_store.proofs.ReplayFilesLemmas.{GivesNumbers-trans}
 use Rattle.leveldb_store.proofs.TableFileLemmas.{fails_later, own_fails}
 
@@ -100,14 +102,14 @@ module _ {C FP : Type 0} {order : CmpGhosts C} {filters : FilterGhosts FP}
       → IsOpenAfter choices env store to tables table pairs
   open_still tables None pairs none = none
   open_still tables (Some table) pairs is = record {
+    start = is.start;
+    is_new = is.is_new;
     written = is.written;
-    begun = is.begun;
+    taken = is.taken;
     there = λ modelled. ap (λ (f : Files). f (env.name_of table.file)) (still.run modelled).has
         ∙ is.there modelled;
     named = is.named;
     fits = is.fits;
-    unbroken = is.unbroken;
-    chosen = is.chosen;
     first = is.first;
     bytes = is.bytes;
     last = is.last;
@@ -154,6 +156,15 @@ gives_may {old} {mid} {new} gives may = GivesNumbers-trans gives (by may)
       rises = omega (arith, ap (λ (set : VersionSetValue). set.next_file) given);
     }
 
+pub back_may : {old mid new : VersionSetValue} → GivesNumbers old mid → TakesBackNew old mid
+    → MayGiveNumber mid new → TakesBackNew old new
+back_may gives back (inl same) number is =
+    back number (sym (ap (λ (set : VersionSetValue). set.given) same) ∙ is)
+back_may {mid = mid} gives back (inr given) number is =
+    let at : mid.next_file ≡ number =
+    some_is mid.next_file number (sym (ap (λ (set : VersionSetValue). set.given) given) ∙ is) in
+    inr (omega (arith, gives.rises, at))
+
 pub may_rise : {old new : VersionSetValue} → MayGiveNumber old new → old.next_file ≤ new.next_file
 may_rise (inl same) = omega (arith, ap (λ (set : VersionSetValue). set.next_file) same)
 may_rise (inr given) = omega (arith, ap (λ (set : VersionSetValue). set.next_file) given)
@@ -169,19 +180,25 @@ module _ {C FP : Type 0} {order : CmpGhosts C} {filters : FilterGhosts FP}
     pub here : walk.is_at at it (key_order order merge.choices.cmp) pairs position
     pub before : before_position pairs position ≡ read
 
-  -- These pairs were read and merged, and the walk, if it is over a list, has passed them. Nothing
-  -- changed but new tables.
+  -- These pairs were read and merged, and the walk, if it is over a list and bears new tables, has
+  -- passed them. Nothing changed but new tables.
   pub record MergesSoFar (next : ℕ) (at : E × T) (it : W) (passing : Passing)
       (outputs : OutputsValue E C FP F) : Type 0 where
     pub come : ComesOf env walk merge.store first start at
     pub changes : ChangesNewTables env merge.store first next start.0 at.0
     pub read : List Pair
     pub merged : HasMerged merge env first read next at.0 passing outputs
-    pub walked : (pairs : List Pair)
+    pub walked : BearsNewTables env walk merge.store first start → (pairs : List Pair)
         → walk.over start from (key_order order merge.choices.cmp) pairs
         → HasPassed pairs read at it
-    pub excuses : (later : E × T) (status : Status) → walk.fails at it later status
-        → walk.fails start from later status
+    pub excuses : BearsNewTables env walk merge.store first start → (later : E × T)
+        (status : Status) → walk.fails at it later status → walk.fails start from later status
+
+  -- the first of each list that the walk is over, from its beginning, are these pairs
+  abbrev pub AreFirst : List Pair → Type 0
+  AreFirst read = BearsNewTables env walk merge.store first start → (pairs : List Pair)
+      → walk.over start from (key_order order merge.choices.cmp) pairs
+      → (rest : List Pair) × (pairs ≡ read ++ rest)
 
   -- at each list that the walk is over it is at this pair
   abbrev pub IsAtPair : E × T → W → Pair → Type 0
@@ -195,7 +212,7 @@ module _ {C FP : Type 0} {order : CmpGhosts C} {filters : FilterGhosts FP}
       → walk.is_at at it (key_order order merge.choices.cmp) pairs position
       → IsPosition pairs position × (None ≡ pair_at pairs position)
 
-  module _ (bears : BearsNewTables env walk merge.store first start) where
+  module _ (leaves : MovesLeaveFiles env walk) where
     -- the walk is at its first pair
     pub so_far_begun : {at : E × T} {it : W} {passing : Passing}
         {outputs : OutputsValue E C FP F} → HasMerged merge env first [] first at.0 passing outputs
@@ -207,16 +224,32 @@ module _ {C FP : Type 0} {order : CmpGhosts C} {filters : FilterGhosts FP}
         → MergesSoFar first at it passing outputs
     so_far_begun {at} merged kept begins excuses = record {
       come = by_move start at itself kept;
-      changes = still_new env merge.store first (bears.still start at itself kept);
+      changes = still_new env merge.store first (leaves start at kept);
       read = [];
       merged = merged;
-      walked = λ pairs over. record {
+      walked = λ bears pairs over. record {
         position = position_within pairs 0;
         here = begins pairs over;
         before = before_first pairs;
       };
-      excuses = excuses;
+      excuses = λ bears. excuses;
     }
+
+    module _ {next : ℕ} {at : E × T} {it : W} {passing : Passing}
+        {outputs : OutputsValue E C FP F} (pair : Pair)
+        (so_far : MergesSoFar next at it passing outputs) where
+      -- the pairs that were read and this one are the first of the walk's list
+      first_with : IsAtPair at it pair → AreFirst (so_far.read ++ pair ∷ [])
+      first_with here bears pairs over =
+          let past = so_far.walked bears pairs over in
+          let count = passed pairs (next_position pairs past.position) in
+          let before : take count pairs ≡ so_far.read ++ pair ∷ []
+          = before_pair pairs past.position pair (here pairs past.position past.here)
+          ∙ ap (λ ps. ps ++ pair ∷ []) past.before in (
+            drop count pairs,
+            sym (take-append-drop count pairs)
+                ∙ ap (λ ps. ps ++ drop count pairs) before,
+          )
 
     module _ {next later : ℕ} {at to : E} {tables : T} {it : W} {passing left : Passing}
         {outputs new : OutputsValue E C FP F} {pair : Pair}
@@ -235,7 +268,7 @@ module _ {C FP : Type 0} {order : CmpGhosts C} {filters : FilterGhosts FP}
           → MergesSoFar later end now left new
       so_far_next {end} up here takes kept moved excuses =
           let come = by_writing at to tables later so_far.come takes.changes in
-          let still = bears.still (to, tables) end come kept in
+          let still = leaves (to, tables) end kept in
           record {
             come = by_move (to, tables) end come kept;
             changes = new-trans env merge.store
@@ -243,8 +276,8 @@ module _ {C FP : Type 0} {order : CmpGhosts C} {filters : FilterGhosts FP}
                 (still_new env merge.store first still);
             read = so_far.read ++ pair ∷ [];
             merged = merged_still merge env still takes.ok;
-            walked = λ pairs over.
-                let past = so_far.walked pairs over in
+            walked = λ bears pairs over.
+                let past = so_far.walked bears pairs over in
                 record {
                   position = next_position pairs past.position;
                   here = moved pairs past.position (bears.stays_at at to tables later so_far.come
@@ -254,7 +287,7 @@ module _ {C FP : Type 0} {order : CmpGhosts C} {filters : FilterGhosts FP}
                       (here pairs past.position past.here)
                       ∙ ap (λ ps. ps ++ pair ∷ []) past.before;
                 };
-            excuses = λ latest status failed. so_far.excuses latest status
+            excuses = λ bears latest status failed. so_far.excuses bears latest status
                 (bears.excuses at to tables later so_far.come takes.changes it latest status
                 (excuses latest status failed));
           }
@@ -267,15 +300,22 @@ module _ {C FP : Type 0} {order : CmpGhosts C} {filters : FilterGhosts FP}
           → MergesTables merge env first {X = X} walk items start from (Err status) later end
       merge_unmoved {end = end} {status = status} up takes kept failed =
           let come = by_writing at to tables later so_far.come takes.changes in
-          let still = bears.still (to, tables) end come kept in
+          let still = leaves (to, tables) end kept in
           record {
             ok = tt;
             changes = new-trans env merge.store
                 (new-then env merge.store up so_far.changes takes.changes)
                 (still_new env merge.store first still);
             comes = by_move (to, tables) end come kept;
-            cause = inl (so_far.excuses end status
-                (bears.excuses at to tables later so_far.come takes.changes it end status failed));
+            cause = inl (record {
+              at = (to, tables);
+              now = it;
+              come = come;
+              kept = kept;
+              failed = failed;
+              from_start = λ bears. so_far.excuses bears end status (bears.excuses at to tables later
+                  so_far.come takes.changes it end status failed);
+            });
           }
 
       -- it isn't taken
@@ -284,30 +324,18 @@ module _ {C FP : Type 0} {order : CmpGhosts C} {filters : FilterGhosts FP}
           → TakesPair merge env first so_far.read pair next at (Err status) later to left new
           → MergesTables merge env first {X = X} walk items start from (Err status) later
           (to, tables)
-      merge_untaken {status = status} up here takes = record {
+      merge_untaken up here takes = record {
         ok = tt;
         changes = new-then env merge.store up so_far.changes takes.changes;
         comes = by_writing at to tables later so_far.come takes.changes;
         cause = inr (
           env.failures at,
           so_far.changes.later,
-          fails_later refl (⊎_elim
-              (λ fault. inl (next, rise_range first next _ so_far.merged.have.numbers, up, fault))
-              (λ misplaced. inr (misplaced.0, λ over. misplaced.1 (in_place over.0 over.1 over.2))))
-              takes.cause,
+          so_far.read ++ pair ∷ [],
+          first_with pair so_far here,
+          fails_later refl (λ fault. fault) takes.cause,
         );
       }
-        where
-          in_place : (pairs : List Pair)
-              → walk.over start from (key_order order merge.choices.cmp) pairs
-              → AreRead merge pairs → AreRead merge (so_far.read ++ pair ∷ [])
-          in_place pairs over are =
-              let past = so_far.walked pairs over in
-              let before = before_pair pairs past.position pair
-              (here pairs past.position past.here) ∙ ap (λ ps. ps ++ pair ∷ []) past.before in
-              let count = passed pairs (next_position pairs past.position) in
-              subst (AreRead merge) before (in_place_front (take count pairs) (drop count pairs)
-              (subst (AreRead merge) (sym (take-append-drop count pairs)) are))
 
     -- the walk doesn't come to its first pair
     pub merge_unbegun : {X : Type 0} {items : X → List FileMetaData} {later : ℕ} {end : E × T}
@@ -315,15 +343,32 @@ module _ {C FP : Type 0} {order : CmpGhosts C} {filters : FilterGhosts FP}
         → MergesTables merge env first {X = X} walk items start from (Err status) later end
     merge_unbegun {end = end} kept failed = record {
       ok = tt;
-      changes = still_new env merge.store first (bears.still start end itself kept);
+      changes = still_new env merge.store first (leaves start end kept);
       comes = by_move start end itself kept;
-      cause = inl failed;
+      cause = inl (record {
+        at = start;
+        now = from;
+        come = itself;
+        kept = kept;
+        failed = failed;
+        from_start = λ bears. failed;
+      });
     }
 
     module _ {next : ℕ} {at : E} {tables : T} {it : W} {passing : Passing}
         {outputs : OutputsValue E C FP F}
         (so_far : MergesSoFar next (at, tables) it passing outputs) {X : Type 0}
         (items : X → List FileMetaData) where
+      -- the pairs that were read are the first of the walk's list
+      first_read : AreFirst so_far.read
+      first_read bears pairs over =
+          let past = so_far.walked bears pairs over in
+          let count = passed pairs past.position in (
+            drop count pairs,
+            sym (take-append-drop count pairs)
+                ∙ ap (λ ps. ps ++ drop count pairs) past.before,
+          )
+
       -- memory is out before it comes to its end
       pub merge_endless : {status : Status} → IsOutOfMemory status
           → MergesTables merge env first walk items start from (Err status) next (at, tables)
@@ -331,7 +376,13 @@ module _ {C FP : Type 0} {order : CmpGhosts C} {filters : FilterGhosts FP}
         ok = tt;
         changes = so_far.changes;
         comes = so_far.come;
-        cause = inr (env.failures at, so_far.changes.later, own_fails refl (inl memory));
+        cause = inr (
+          env.failures at,
+          so_far.changes.later,
+          so_far.read,
+          first_read,
+          own_fails refl (inl memory),
+        );
       }
 
       -- the last table is finished, or not
@@ -345,8 +396,8 @@ module _ {C FP : Type 0} {order : CmpGhosts C} {filters : FilterGhosts FP}
         ok = (
           so_far.read,
           merged_all merge env exact cmp_is so_far.merged finishes.ok,
-          λ pairs over.
-              let past = so_far.walked pairs over in
+          λ bears pairs over.
+              let past = so_far.walked bears pairs over in
               let end = none pairs past.position past.here in
               sym (taken_all pairs past.position end.0 end.1) ∙ past.before,
         );
@@ -361,8 +412,9 @@ module _ {C FP : Type 0} {order : CmpGhosts C} {filters : FilterGhosts FP}
         cause = inr (
           env.failures at,
           so_far.changes.later,
-          fails_later refl (λ fault.
-              inl (next, rise_range first next _ so_far.merged.have.numbers, omega arith, inl fault))
-              finishes.cause,
+          so_far.read,
+          first_read,
+          fails_later refl (λ not. inl (some_not_tabled merge.choices
+              (open_read merge env exact cmp_is so_far.merged) not)) finishes.cause,
         );
       }

@@ -3,7 +3,7 @@ use Rattle.std.specs.Prelude.{Contains, IfErr, IfSome, IsErrAnd, OnOk, if◌then
 use Rattle.std.proofs.Common.{◌≡◌, ◌⊎◌, ◌∙◌, inl, inr, ⊎_elim, ℕ, ◌<◌, ◌≤◌, Bool, true, false, List, [], ◌∷◌, ◌++◌, length, Option, None, Some, Result, Ok, Err, refl, sym, ap, subst, arith, append_assoc}
 use Rattle.std.proofs.lemmas.Bool.{lt-ltb, ltb-true}
 use Rattle.std.proofs.lemmas.List.{append-nil, map-append}
-use Rattle.std.proofs.lemmas.List.Elements.{Contains-append_left, Contains-append_right, Contains-push, Contains-push_cases}
+use Rattle.std.proofs.lemmas.List.Elements.{Contains-append_cases, Contains-append_left, Contains-append_right, Contains-push, Contains-push_cases}
 use Rattle.std.specs.Cmp.{IsTotalOrder, nat_cmp_is, ranked}
 use Rattle.std.specs.List.{filter}
 use Rattle.std.specs.Ordering.{nat_cmp, ordering_then}
@@ -28,10 +28,11 @@ use Rattle.leveldb_env.specs.declared.filter.FilterPolicy.{Ghosts as FilterGhost
 use Rattle.leveldb_table.specs.BlockBuilder.{last_added}
 use Rattle.leveldb_table.specs.TableBuilder.{last_of, order_of}
 use Rattle.leveldb_store.specs.Merging.{AreInPlace, AreRead, HasMerged, Merge, MergesInto, TakesPair, all_pairs, last_entry, pairs_left, stays}
-use Rattle.leveldb_store.specs.Outputs.{AreFinished, AreTables, HaveOutputs, IsOpenAfter, IsOpenTable, IsUnfit, OutputsValue, PutsPair, RiseWithin, is_due, no_outputs, numbers_of, pairs_after, tables_after, with_table}
+use Rattle.leveldb_store.specs.Outputs.{AreFinished, AreNextNumbers, AreTables, HaveOutputs, IsOpenAfter, IsOpenTable, IsUnfit, OutputsValue, PutsPair, is_due, no_outputs, numbers_of, pairs_after, tables_after, with_table}
 use Rattle.leveldb_store.specs.Passing.{IsJustBefore, may_come, may_follow}
 use Rattle.leveldb_store.specs.declared.passing.Passing.{Passing}
 use Rattle.leveldb_store.specs.declared.table_file.TableFile.{TableFile}
+use Rattle.leveldb_store.proofs.NotTabledLemmas.{more_not_tabled}
 use Rattle.leveldb_store.proofs.OutputsLemmas.{new-none}
 use Rattle.leveldb_store.proofs.TableFileLemmas.{all_written, fails_later, own_fails}
 
@@ -353,9 +354,19 @@ module _ {C FP : Type 0} {order : CmpGhosts C} {filters : FilterGhosts FP}
       passed = just;
       tables = [];
       pairs = [];
-      have = record { finished = tt; opened = (refl, refl); numbers = omega arith; cut = tt };
+      have = record { finished = tt; opened = (refl, refl); numbers = refl; cut = tt };
       left = refl;
     }
+
+    -- the pairs that the open table has were read
+    pub open_read : {read : List Pair} {next : ℕ} {from : E} {passing : Passing}
+        {outputs : OutputsValue E C FP F}
+        (merged : HasMerged merge env first read next from passing outputs) (put : Pair)
+        → Contains merged.pairs put → Contains read put
+    open_read {read} merged put there =
+        (of_filter (stays merge.smallest merge.is_base read) read put
+        (subst (λ ps. Contains ps put) merged.left
+        (Contains-append_right (all_pairs merged.tables) merged.pairs put there))).0
 
     module _ {read : List Pair} {next : ℕ} {from : E} {passing : Passing}
         {outputs : OutputsValue E C FP F}
@@ -369,8 +380,8 @@ module _ {C FP : Type 0} {order : CmpGhosts C} {filters : FilterGhosts FP}
             (sym same.1) merged.have.finished;
         opened = subst (λ o. IsOpenAfter merge.choices env merge.store from merged.tables o
             merged.pairs) (sym same.0) merged.have.opened;
-        numbers = subst (λ o. RiseWithin first next (numbers_of now.done o)) (sym same.0)
-            (subst (λ fs. RiseWithin first next (numbers_of fs outputs.unfinished))
+        numbers = subst (λ o. AreNextNumbers first next (numbers_of now.done o)) (sym same.0)
+            (subst (λ fs. AreNextNumbers first next (numbers_of fs outputs.unfinished))
             (sym same.1) merged.have.numbers);
         cut = merged.have.cut;
       }
@@ -384,7 +395,7 @@ module _ {C FP : Type 0} {order : CmpGhosts C} {filters : FilterGhosts FP}
       misplaced (Err status) code why = record {
         ok = tt;
         changes = new-none env merge.store first from;
-        cause = own_fails refl (inr (inr (code, why), refl));
+        cause = own_fails refl (inr (inr (inr (code, why)), refl));
       }
 
       pub untagged : length pair.0 < 8 → AreRead merge (read ++ pair ∷ []) → ⊥
@@ -410,13 +421,10 @@ module _ {C FP : Type 0} {order : CmpGhosts C} {filters : FilterGhosts FP}
         put_before put puts is =
             let cmp = merge.choices.format.order in
             let last = last_added_in put puts in
-            let there : Contains (all_pairs merged.tables ++ merged.pairs) last.0
-            = Contains-append_right (all_pairs merged.tables) merged.pairs last.0
+            let was_read = open_read merged last.0
             (subst (λ ps. Contains ps last.0) (sym is) last.1) in
-            let was_read = of_filter (stays merge.smallest merge.is_base read) read last.0
-            (subst (λ ps. Contains ps last.0) merged.left there) in
             subst (λ k. internal_cmp cmp k pair.0 ≡ Less) (last.2 ∙ ap last_added (sym is))
-            (rises_to cmp exact read pair are.rising last.0 was_read.0)
+            (rises_to cmp exact read pair are.rising last.0 was_read)
 
         follows_open : (one : Option (TableFile E C FP F)) → outputs.unfinished ≡ one
             → IfSome one (λ table. 0 < table.core.count
@@ -427,7 +435,8 @@ module _ {C FP : Type 0} {order : CmpGhosts C} {filters : FilterGhosts FP}
             let is : IsOpenTable merge.choices env merge.store from table merged.pairs
             = subst (λ o. IsOpenAfter merge.choices env merge.store from merged.tables o
             merged.pairs) e merged.have.opened in
-            ap (λ c. order.cmp c (last_of table.core) pair.0) is.chosen.order_is
+            ap (λ c. order.cmp c (last_of table.core) pair.0)
+            (is.taken.choices.same_order ∙ is.is_new.order)
             ∙ ap (λ (by : List ℕ → List ℕ → Ordering). by (last_of table.core) pair.0) cmp_is
             ∙ ap (λ k. internal_cmp cmp k pair.0) is.last
             ∙ put_before (table.smallest, is.first.0) is.first.1 is.first.2
@@ -478,17 +487,25 @@ module _ {C FP : Type 0} {order : CmpGhosts C} {filters : FilterGhosts FP}
           cause = own_fails refl (inl memory);
         }
 
+        -- the open table's pairs and this one were read
+        put_read : (put : Pair) → Contains (merged.pairs ++ pair ∷ []) put
+            → Contains (read ++ pair ∷ []) put
+        put_read put there = ⊎_elim
+            (λ were. Contains-append_left read (pair ∷ []) put (open_read merged put were))
+            (λ last. Contains-append_right read (pair ∷ []) put last)
+            (Contains-append_cases merged.pairs (pair ∷ []) put there)
+
         -- it isn't put
         pub not_put : {told now : OutputsValue E C FP F} {limit later : ℕ} {to : E} {left : Passing}
             {status : Status} → told.unfinished ≡ outputs.unfinished
-            → PutsPair merge.choices env merge.store first merged.tables merged.pairs limit pair next
-            from told (Err status) later to now
+            → PutsPair merge.choices env merge.store first merged.tables merged.pairs limit pair from
+            told (Err status) later to now
             → TakesPair merge env first read pair next from (Err status) later to left now
         not_put same puts = record {
           ok = tt;
           changes = puts.changes;
-          cause = fails_later refl (⊎_elim (λ fault. inl (inl fault))
-              (⊎_elim (λ used_up. inl (inr used_up))
+          cause = fails_later refl (⊎_elim (λ not. inl (more_not_tabled merge.choices put_read not))
+              (⊎_elim (λ used_up. inr (inl used_up))
               (λ unfit. absurd (never_unfit (subst (λ o. IsUnfit order o pair.0) same unfit.1)))))
               puts.cause;
         }
@@ -498,8 +515,8 @@ module _ {C FP : Type 0} {order : CmpGhosts C} {filters : FilterGhosts FP}
             {left : Passing} {u : Unit {0}} (result : Result (Unit {0}) Status)
             → goes_after merge.smallest merge.is_base (last_entry None read) (entry_of_pair pair)
             ≡ false
-            → PutsPair merge.choices env merge.store first merged.tables merged.pairs limit pair next
-            from told (Ok u) later to now
+            → PutsPair merge.choices env merge.store first merged.tables merged.pairs limit pair from
+            told (Ok u) later to now
             → OnOk result (IsJustBefore left (Some (entry_of_pair pair)))
             → IfErr result IsOutOfMemory
             → TakesPair merge env first read pair next from result later to left now

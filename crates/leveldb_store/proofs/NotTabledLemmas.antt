@@ -1,6 +1,7 @@
--- Why no table is built of a walk's pairs: three causes.
-use Rattle.std.specs.Prelude.{IsSomeAnd, IsTrue}
-use Rattle.std.proofs.Common.{◌≡◌, ◌⊎◌, ◌∙◌, inl, inr, ⊎_elim, ℕ, true, false, List, [], Option, None, Some, Ok, Err, refl, sym}
+-- Why no table is built of pairs: three causes; and where a builder stopped.
+use Rattle.std.specs.Prelude.{Contains, IsSomeAnd, IsTrue, slice_get}
+use Rattle.std.proofs.Common.{◌≡◌, ◌⊎◌, ◌∙◌, inl, inr, ⊎_elim, ℕ, true, false, List, [], ◌∷◌, ◌++◌, length, take, Option, None, Some, Ok, Err, refl, sym, subst, arith}
+use Rattle.std.proofs.lemmas.List.{take-append-le, take_all}
 use Rattle.leveldb_base.specs.BlockHandle.{Handle}
 use Rattle.leveldb_base.specs.Error.{IsOutOfMemory}
 use Rattle.leveldb_base.specs.Types.{Pair}
@@ -13,16 +14,21 @@ use Rattle.leveldb_env.specs.declared.filter.FilterPolicy.{Ghosts as FilterGhost
 use Rattle.leveldb_table.specs.Block.{BlockEntry}
 use Rattle.leveldb_table.specs.Footer.{footer_bytes}
 use Rattle.leveldb_table.specs.PutBlock.{IsNoMetaindex, IsNotPut, IsPutError, StopsAtFooter, StopsFrom}
-use Rattle.leveldb_table.specs.TableBuilder.{TableBuilt}
+use Rattle.leveldb_table.specs.TableBuilder.{IsNewBuilder, TableBuilt}
 use Rattle.leveldb_table.specs.TableBuilderAdd.{IsAddError, IsNotAdded, IsNotClosed, IsNotLined}
 use Rattle.leveldb_table.specs.TableBuilderFinish.{IsFinishError, StopsFromFilters, StopsFromIndex}
-use Rattle.leveldb_store.specs.BuildTable.{IsNotTabled, TableChoices, flushes_all, puts_all}
-use Rattle.leveldb_store.specs.TableFile.{IsAddFault, IsBuildFault, IsFinishFault}
+use Rattle.leveldb_store.specs.BuildTable.{AreSomeNotTabled, HasTaken, IsNotTabled, TableChoices, flushes_all, puts_all}
+use Rattle.leveldb_store.specs.TableFile.{IsAddFault, IsFinishFault}
 use Rattle.leveldb_version.specs.Format.{HasCompressorError}
 
+-- ---- three causes
+
 module _ (codings : Codings) (status : Status) where
+  -- out of memory, what isn't supported, or a compressor that is set
   abbrev Fault : Type 0
-  Fault = IsBuildFault codings status
+  Fault = IsOutOfMemory status ⊎ (status.code ≡ NotSupported)
+      ⊎ ((id : ℕ) × (coding : Coding) × (codings id ≡ Some coding) × (block : List ℕ)
+      × IsTrue (coding.encode_fails block status.code))
 
   memory_fault : IsOutOfMemory status → Fault
   memory_fault memory = inl memory
@@ -144,20 +150,6 @@ module _ (codings : Codings) (status : Status) where
             core.compressor (filters.name core.filter.policy) last puts_all
             flushes_all) at_index at to meta.2
 
-module _ {C FP : Type 0} (order : CmpGhosts C) (filters : FilterGhosts FP) (codings : Codings)
-    (core : TableBuilt C FP) (usable : core.broken ≡ false) (status : Status) where
-  -- whatever a builder doesn't take
-  pub not_added_causes : (pair : Pair) → IsAddFault order filters codings core pair status
-      → IsBuildFault codings status
-  not_added_causes pair fault =
-      let is = fault [] in add_fault codings status order filters core pair [] is.0 usable is.1
-
-  -- or finish
-  pub not_finished_causes : IsFinishFault order filters codings core status
-      → IsBuildFault codings status
-  not_finished_causes fault =
-      let is = fault [] in finish_fault codings status order filters core [] is.0 usable is.1
-
 -- Memory is out; it isn't supported, as an entry, a filter or a count that is too large, or an id
 -- without a compressor; or a compressor that is set fails for a block.
 pub not_tabled_causes : {C FP : Type 0} {order : CmpGhosts C} {filters : FilterGhosts FP}
@@ -176,3 +168,79 @@ not_tabled_causes {order = order} {filters = filters} choices pairs status
     at_pair.at at_pair.to at_pair.taken.unbroken at_pair.cause)
     (λ at_end. finish_fault choices.format.codings status order filters at_end.mid at_end.at at_end.to
     at_end.taken.unbroken at_end.cause) stops)
+
+-- ---- where a builder stopped
+
+-- the pairs that a builder took, and the next one
+next_of : (pairs : List Pair) (pair : Pair)
+    → slice_get (pairs ++ pair ∷ []) (length pairs) ≡ Some pair
+next_of [] pair = refl
+next_of (first ∷ pairs) pair = next_of pairs pair
+
+taken_of : (pairs : List Pair) (pair : Pair) → take (length pairs) (pairs ++ pair ∷ []) ≡ pairs
+taken_of pairs pair = take-append-le (length pairs) pairs (pair ∷ []) (omega arith)
+    ∙ take_all (length pairs) pairs (omega arith)
+
+module _ {C FP : Type 0} {order : CmpGhosts C} {filters : FilterGhosts FP}
+    (choices : TableChoices order filters) {core mid : TableBuilt C FP} {written : List ℕ}
+    {pairs : List Pair}
+    (is_new : IsNewBuilder order filters choices.cmp choices.policy choices.id choices.block_size
+    choices.restarts core)
+    (taken : HasTaken order filters choices.format.codings puts_all core [] pairs mid written)
+    {status : Status} where
+  -- it doesn't take the next pair
+  pub not_tabled_next : (pair : Pair)
+      → IsAddFault order filters choices.format.codings mid pair status
+      → IsNotTabled choices (pairs ++ pair ∷ []) status
+  not_tabled_next pair fault =
+      let failed = fault written in
+      inr (
+        core,
+        is_new,
+        inl (record {
+          count = length pairs;
+          pair = pair;
+          next = next_of pairs pair;
+          mid = mid;
+          at = written;
+          taken = subst (λ ps. HasTaken order filters choices.format.codings puts_all core [] ps mid
+              written) (sym (taken_of pairs pair)) taken;
+          to = failed.0;
+          cause = failed.1;
+        }),
+      )
+
+  -- it doesn't finish
+  pub not_tabled_end : IsFinishFault order filters choices.format.codings mid status
+      → IsNotTabled choices pairs status
+  not_tabled_end fault =
+      let failed = fault written in
+      inr (
+        core,
+        is_new,
+        inr (record {
+          mid = mid;
+          at = written;
+          taken = taken;
+          to = failed.0;
+          cause = failed.1;
+        }),
+      )
+
+-- of some of more pairs no table is built either
+pub some_not_tabled : {C FP : Type 0} {order : CmpGhosts C} {filters : FilterGhosts FP}
+    (choices : TableChoices order filters) {pairs more : List Pair} {status : Status}
+    → ((pair : Pair) → Contains pairs pair → Contains more pair)
+    → IsNotTabled choices pairs status → AreSomeNotTabled choices more status
+some_not_tabled choices {pairs} among not =
+    record { some = pairs; among = among; not_tabled = not }
+
+pub more_not_tabled : {C FP : Type 0} {order : CmpGhosts C} {filters : FilterGhosts FP}
+    (choices : TableChoices order filters) {pairs more : List Pair} {status : Status}
+    → ((pair : Pair) → Contains pairs pair → Contains more pair)
+    → AreSomeNotTabled choices pairs status → AreSomeNotTabled choices more status
+more_not_tabled choices among not = record {
+  some = not.some;
+  among = λ pair there. among pair (not.among pair there);
+  not_tabled = not.not_tabled;
+}

@@ -32,7 +32,7 @@ use Rattle.leveldb_store.specs.Written.{KeepsGivenTables, KeepsTables, SparesRes
 -- ---- which tables are closed
 
 -- the number of each file is among those of the files
-number_in : (file : NewFile) (files : List NewFile) → Contains files file
+pub number_in : (file : NewFile) (files : List NewFile) → Contains files file
     → Contains (map (λ (it : NewFile). it.number) files) file.number
 number_in file [] there = absurd (in_none file there)
 number_in file (first ∷ files) there = ⊎_elim

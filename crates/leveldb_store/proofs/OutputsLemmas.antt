@@ -1,10 +1,13 @@
 -- Tables that are written one after another.
-use Rattle.std.specs.Prelude.{IfErr, IsErrAnd, IsOk, IsTrue, OnOk, if◌then◌else◌, is_ok, is_some, ◌&&◌, not}
-use Rattle.std.proofs.Common.{◌≡◌, ◌≢◌, ◌⊎◌, ◌∙◌, inl, inr, ⊎_elim, ℕ, ◌+◌, ◌<◌, ◌≤◌, ◌^◌, Bool, false, true, List, [], ◌∷◌, ◌++◌, length, map, Option, None, Some, Result, Ok, Err, refl, sym, ap, subst, arith, append_assoc}
+use Rattle.std.specs.Prelude.{Contains, IfErr, IsErrAnd, IsOk, IsTrue, OnOk, if◌then◌else◌, is_ok, is_some, ◌&&◌, not}
+use Rattle.std.proofs.Common.{◌≡◌, ◌≢◌, ◌⊎◌, ◌∙◌, inl, inr, ⊎_elim, ℕ, ◌+◌, ◌<◌, ◌≤◌, ◌^◌, Bool, false, true, List, [], ◌∷◌, ◌++◌, length, map, Option, None, Some, Result, Ok, Err, refl, sym, ap, subst, arith}
 use Rattle.std.proofs.lemmas.Bool.{le-leb}
-use Rattle.std.proofs.lemmas.List.{append-nil, map-append}
+use Rattle.std.proofs.lemmas.List.{map-append}
+use Rattle.std.proofs.lemmas.List.Elements.{Contains-append_left, Contains-append_right}
 use Rattle.std.specs.Cmp.Lexicographic.{bytes_decides}
 use Rattle.std.specs.Str.{bytes_eq}
+use Rattle.leveldb_base.proofs.EntriesLemmas.{map_in}
+use Rattle.leveldb_base.proofs.HistoryLemmas.{in_cases, in_none}
 use Rattle.leveldb_base.proofs.NamesLemmas.{made_paths_apart}
 use Rattle.leveldb_base.specs.Cmp.{internal_accepts}
 use Rattle.leveldb_base.specs.KeyTypes.{user_part}
@@ -20,51 +23,89 @@ use Rattle.leveldb_env.specs.Env.{AreBytes, BeforeOrAfter, ChangesFiles, HasCaus
 use Rattle.leveldb_env.specs.EnvFile.{IsLonger, opened, opened_file}
 use Rattle.leveldb_env.specs.declared.env.Env.{Ghosts as EnvGhosts}
 use Rattle.leveldb_env.specs.declared.filter.FilterPolicy.{Ghosts as FilterGhosts}
-use Rattle.leveldb_table.specs.BlockBuilder.{last_added}
-use Rattle.leveldb_table.specs.TableBuilder.{IsBegun, IsNewBuilder, KeepsChoices, TableBuilt, last_of}
+use Rattle.leveldb_table.specs.TableBuilder.{IsNewBuilder, KeepsChoices, TableBuilt, last_of}
 use Rattle.leveldb_version.specs.Paths.{table_path}
 use Rattle.leveldb_version.specs.Store.{IsFirstKey, IsLastKey}
-use Rattle.leveldb_store.specs.BuildTable.{TableChoices}
-use Rattle.leveldb_store.specs.Outputs.{AddsPair, AreCutBefore, AreFinished, AreTables, ChangesNewTables, FinishesOpen, HasChoices, HaveOutputs, IsBeginFault, IsCutBefore, IsOpenAfter, IsOpenTable, IsUnfit, OutputsValue, PutsPair, RiseWithin, is_due, is_due_in, numbers_of, pairs_after, tables_after, with_table}
+use Rattle.leveldb_store.specs.BuildTable.{IsNotTabled, TableChoices, puts_all}
+use Rattle.leveldb_store.specs.Outputs.{AddsPair, AreCutBefore, AreFinished, AreNextNumbers, AreTables, ChangesNewTables, FinishesOpen, HaveOutputs, IsBeginFault, IsCutBefore, IsOpenAfter, IsOpenTable, IsUnfit, OutputsValue, PutsPair, is_due, is_due_in, numbers_of, pairs_after, tables_after, with_table}
 use Rattle.leveldb_store.specs.TableFile.{AddsToFile, ChangesOneFile, FailsToWrite, FinishesFile, IsAddFault, IsFinishFault, IsMetadataOf, IsThere, StopsWriting}
 use Rattle.leveldb_store.specs.declared.table_file.TableFile.{TableFile}
-use Rattle.leveldb_store.proofs.BuildTableLemmas.{IsTableUnder-same, last_key_of, last_pushed}
-use Rattle.leveldb_store.proofs.NotTabledLemmas.{not_added_causes, not_finished_causes}
+use Rattle.leveldb_store.proofs.BuildTableLemmas.{HasTaken-none, IsTableUnder-same, last_key_of, last_pushed, taken_added, taken_begun}
+use Rattle.leveldb_store.proofs.NotTabledLemmas.{not_tabled_end, not_tabled_next, some_not_tabled}
 use Rattle.leveldb_store.proofs.TableFileLemmas.{all_written, changes-trans, changes_named, fails_later, fails_so, longer_changes, longer_file_is, opened_is, opening_changes, own_fails, sync_changes, synced_file_is}
 
 -- ---- numbers
 
--- the first is at most the next
-pub rise_range : (first next : ℕ) (numbers : List ℕ) → RiseWithin first next numbers
-    → first ≤ next
-rise_range first next [] rise = rise
-rise_range first next (number ∷ numbers) rise =
-    let rest = rise_range (number + 1) next numbers rise.1 in omega (arith, rise.0, rest)
+-- one is between the first and the next for each number
+pub next_is : (first next : ℕ) (numbers : List ℕ) → AreNextNumbers first next numbers
+    → next ≡ first + length numbers
+next_is first next [] are = omega (arith, are)
+next_is first next (number ∷ numbers) are =
+    let rest = next_is (first + 1) next numbers are.1 in omega (arith, rest)
 
--- a greater next one
-pub rise_later : (first next later : ℕ) (numbers : List ℕ) → next ≤ later
-    → RiseWithin first next numbers → RiseWithin first later numbers
-rise_later first next later [] up rise = omega (arith, up, rise)
-rise_later first next later (number ∷ numbers) up rise =
-    (rise.0, rise_later (number + 1) next later numbers up rise.1)
+-- the first is at most the next
+pub next_range : (first next : ℕ) (numbers : List ℕ) → AreNextNumbers first next numbers
+    → first ≤ next
+next_range first next numbers are = let is = next_is first next numbers are in omega (arith, is)
 
 -- one number more
-pub rise_push : (first next later number : ℕ) (numbers : List ℕ) → next ≤ number
-    → number < later → RiseWithin first next numbers
-    → RiseWithin first later (numbers ++ number ∷ [])
-rise_push first next later number [] up below rise =
-    (omega (arith, rise, up), omega (arith, below))
-rise_push first next later number (other ∷ numbers) up below rise =
-    (rise.0, rise_push (other + 1) next later number numbers up below rise.1)
+pub next_pushed : (first next later number : ℕ) (numbers : List ℕ) → number ≡ next
+    → later ≡ number + 1 → AreNextNumbers first next numbers
+    → AreNextNumbers first later (numbers ++ number ∷ [])
+next_pushed first next later number [] is later_is are =
+    (omega (arith, is, are), omega (arith, is, later_is, are))
+next_pushed first next later number (other ∷ numbers) is later_is are =
+    (are.0, next_pushed (first + 1) next later number numbers is later_is are.1)
 
--- the last number is above the others
-pub rise_last : (first next number : ℕ) (numbers : List ℕ)
-    → RiseWithin first next (numbers ++ number ∷ [])
-    → RiseWithin first number numbers × (number < next)
-rise_last first next number [] rise = (rise.0, omega (arith, rise.1))
-rise_last first next number (other ∷ numbers) rise =
-    let rest = rise_last (other + 1) next number numbers rise.1 in
-    ((rise.0, rest.0), rest.1)
+-- the last number is the next after the others
+pub next_last : (first next number : ℕ) (numbers : List ℕ)
+    → AreNextNumbers first next (numbers ++ number ∷ [])
+    → AreNextNumbers first number numbers × (next ≡ number + 1)
+next_last first next number [] are = (sym are.0, omega (arith, are.0, are.1))
+next_last first next number (other ∷ numbers) are =
+    let rest = next_last (first + 1) next number numbers are.1 in ((are.0, rest.0), rest.1)
+
+-- each number is from the first on and below the next
+pub next_within : (first next : ℕ) (numbers : List ℕ) → AreNextNumbers first next numbers
+    → (number : ℕ) → Contains numbers number → (first ≤ number) × (number < next)
+next_within first next [] are number there = absurd (in_none number there)
+next_within first next (other ∷ numbers) are number there = ⊎_elim
+    (λ (is : other ≡ number).
+    let up = next_range (first + 1) next numbers are.1 in
+    (omega (arith, is, are.0), omega (arith, is, are.0, up)))
+    (λ later.
+    let rest = next_within (first + 1) next numbers are.1 number later in
+    (omega (arith, rest.0), rest.1))
+    (in_cases other number numbers there)
+
+-- so each file has a number of its own, of those that were given
+pub file_numbers_within : (first next : ℕ) (files : List FileMetaData)
+    → AreNextNumbers first next (map (λ (file : FileMetaData). file.num) files)
+    → (file : FileMetaData) → Contains files file → (first ≤ file.num) × (file.num < next)
+file_numbers_within first next files are file there = next_within first next
+    (map (λ (f : FileMetaData). f.num) files) are file.num
+    (map_in (λ (f : FileMetaData). f.num) files file there)
+
+pub known_by_number : (first next : ℕ) (files : List FileMetaData)
+    → AreNextNumbers first next (map (λ (file : FileMetaData). file.num) files)
+    → (a b : FileMetaData) → Contains files a → Contains files b → a.num ≡ b.num → a ≡ b
+known_by_number first next [] are a b a_there b_there same = absurd (in_none a a_there)
+known_by_number first next (file ∷ files) are a b a_there b_there same = ⊎_elim
+    (λ (a_is : file ≡ a). ⊎_elim
+    (λ (b_is : file ≡ b). sym a_is ∙ b_is)
+    (λ b_later.
+    let above = file_numbers_within (first + 1) next files are.1 b b_later in
+    let a_num = ap (λ (f : FileMetaData). f.num) a_is in
+    absurd (omega (arith, above.0, same, a_num, are.0)))
+    (in_cases file b files b_there))
+    (λ a_later. ⊎_elim
+    (λ (b_is : file ≡ b).
+    let above = file_numbers_within (first + 1) next files are.1 a a_later in
+    let b_num = ap (λ (f : FileMetaData). f.num) b_is in
+    absurd (omega (arith, above.0, same, b_num, are.0)))
+    (λ b_later. known_by_number (first + 1) next files are.1 a b a_later b_later same)
+    (in_cases file b files b_there))
+    (in_cases file a files a_there)
 
 -- ---- cuts
 
@@ -263,18 +304,18 @@ module _ {C FP : Type 0} {order : CmpGhosts C} {filters : FilterGhosts FP}
   finished_stay : {number : ℕ} {from to : E} → number < 2 ^ 64
       → ChangesOneFile env (table_path store number) from to → (first : ℕ)
       (files : List FileMetaData) (tables : List (List Pair))
-      → RiseWithin first number (map (λ (file : FileMetaData). file.num) files)
+      → AreNextNumbers first number (map (λ (file : FileMetaData). file.num) files)
       → AreFinished choices env store from files tables
       → AreFinished choices env store to files tables
-  finished_stay fits changes first [] [] rise were = tt
-  finished_stay {number} {from} {to} fits changes first (file ∷ files) (pairs ∷ tables) rise were =
-      let above = rise_range (file.num + 1) number
-      (map (λ (file : FileMetaData). file.num) files) rise.1 in (
+  finished_stay fits changes first [] [] are were = tt
+  finished_stay {number} {from} {to} fits changes first (file ∷ files) (pairs ∷ tables) are were =
+      let above = next_range (first + 1) number
+      (map (λ (file : FileMetaData). file.num) files) are.1 in (
         record {
           bytes = were.0.bytes;
           built = were.0.built;
           kept = λ modelled. (changes.run modelled).has (table_path store file.num)
-              (tables_apart store number file.num fits were.1 (λ e. omega (arith, e, above)))
+              (tables_apart store number file.num fits were.1 (λ e. omega (arith, e, above, are.0)))
               ∙ were.0.kept modelled;
           size = were.0.size;
           smallest = were.0.smallest;
@@ -285,10 +326,10 @@ module _ {C FP : Type 0} {order : CmpGhosts C} {filters : FilterGhosts FP}
         were.3,
         were.4,
         were.5,
-        finished_stay fits changes (file.num + 1) files tables rise.1 were.6,
+        finished_stay fits changes (first + 1) files tables are.1 were.6,
       )
-  finished_stay fits changes first [] (pairs ∷ tables) rise were = absurd were
-  finished_stay fits changes first (file ∷ files) [] rise were = absurd were
+  finished_stay fits changes first [] (pairs ∷ tables) are were = absurd were
+  finished_stay fits changes first (file ∷ files) [] are were = absurd were
 
   module _ {first next : ℕ} {at : E} {outputs : OutputsValue E C FP F} {table : TableFile E C FP F}
       {tables : List (List Pair)} {pairs : List Pair}
@@ -297,19 +338,19 @@ module _ {C FP : Type 0} {order : CmpGhosts C} {filters : FilterGhosts FP}
     open_is : IsOpenTable choices env store at table pairs
     open_is = subst (λ o. IsOpenAfter choices env store at tables o pairs) is have.opened
 
-    open_numbers : RiseWithin first table.number
-        (map (λ (file : FileMetaData). file.num) outputs.done) × (table.number < next)
-    open_numbers = rise_last first next table.number
+    open_numbers : AreNextNumbers first table.number
+        (map (λ (file : FileMetaData). file.num) outputs.done) × (next ≡ table.number + 1)
+    open_numbers = next_last first next table.number
         (map (λ (file : FileMetaData). file.num) outputs.done)
-        (subst (λ o. RiseWithin first next (numbers_of outputs.done o)) is have.numbers)
+        (subst (λ o. AreNextNumbers first next (numbers_of outputs.done o)) is have.numbers)
 
     open_from : first ≤ table.number
-    open_from = rise_range first table.number
+    open_from = next_range first table.number
         (map (λ (file : FileMetaData). file.num) outputs.done) open_numbers.0
 
     open_changes : {to : E} → ChangesOneFile env (env.name_of table.file) at to
         → ChangesNewTables env store first next at to
-    open_changes changes = new-one env store open_from open_numbers.1 open_is.fits
+    open_changes changes = new-one env store open_from (omega (arith, open_numbers.1)) open_is.fits
         (changes_named env open_is.named changes)
 
     -- the finished tables stay while the open one is written
@@ -324,14 +365,16 @@ module _ {C FP : Type 0} {order : CmpGhosts C} {filters : FilterGhosts FP}
 
   -- ---- a table is begun
 
-  choices_kept : {core new : TableBuilt C FP} → KeepsChoices core new → HasChoices choices core
-      → HasChoices choices new
-  choices_kept kept has = record {
-    order_is = kept.same_order ∙ has.order_is;
-    policy_is = kept.same_policy ∙ has.policy_is;
-    id_is = kept.same_compressor ∙ has.id_is;
-    intervals = (kept.same_intervals.0 ∙ has.intervals.0, kept.same_intervals.1 ∙ has.intervals.1);
-  }
+  -- its first pair isn't taken
+  pub not_begun : {core made : TableBuilt C FP} (pair : Pair) {status : Status}
+      → IsNewBuilder order filters choices.cmp choices.policy choices.id choices.block_size
+      choices.restarts core
+      → made ≡ core → IsAddFault order filters choices.format.codings made pair status
+      → IsNotTabled choices (pair ∷ []) status
+  not_begun {core} pair {status} is_new made_is fault = not_tabled_next choices is_new
+      (HasTaken-none choices.format.codings puts_all core [] is_new.unbroken) pair
+      (subst (λ (b : TableBuilt C FP). IsAddFault order filters choices.format.codings b pair
+      status) made_is fault)
 
   -- a new builder's table has its first pair
   pub table_begun : {number : ℕ} {mid to : E} {core : TableBuilt C FP}
@@ -347,24 +390,20 @@ module _ {C FP : Type 0} {order : CmpGhosts C} {filters : FilterGhosts FP}
       → KeepsChoices made.core after.core → after.number ≡ made.number
       → after.smallest ≡ made.smallest
       → IsOpenTable choices env store to after (pair ∷ [])
-  table_begun {core = core} pair is_new core_is number_is smallest_is fits empty named bytes adds kept
-      same_number same_smallest = record {
+  table_begun {made = made} pair is_new core_is number_is smallest_is fits empty named bytes adds kept
+      same_number same_smallest =
+      let start = subst (IsNewBuilder order filters choices.cmp choices.policy choices.id
+      choices.block_size choices.restarts) (sym core_is) is_new in
+      record {
+        start = made.core;
+        is_new = start;
         written = adds.bytes;
-        begun = adds.begun [] [] (subst (λ (b : TableBuilt C FP).
-            IsBegun choices.format.codings order filters b [] []) (sym core_is)
-            (is_new.begun choices.format.codings));
+        taken = taken_added choices.format.codings env
+            (HasTaken-none choices.format.codings puts_all made.core [] start.unbroken) adds kept;
         there = λ modelled. longer_file_is env (kept_file []) adds.longer modelled (empty modelled);
         named = λ modelled. adds.longer.file modelled ∙ named modelled
             ∙ ap (table_path store) (sym (same_number ∙ number_is));
         fits = omega (arith, fits, same_number, number_is);
-        unbroken = adds.unbroken;
-        chosen = choices_kept kept (subst (λ (b : TableBuilt C FP). HasChoices choices b) (sym core_is)
-            (record {
-              order_is = is_new.order;
-              policy_is = is_new.policy;
-              id_is = is_new.compressor;
-              intervals = is_new.interval;
-            }));
         first = (
           pair.1,
           [],
@@ -390,14 +429,14 @@ module _ {C FP : Type 0} {order : CmpGhosts C} {filters : FilterGhosts FP}
       record {
         finished = subst (λ fs. AreFinished choices env store to fs tables) (sym done_is)
             (finished_stay fits changes first done tables
-            (rise_later first next number numbers (omega (arith, number_is)) are.numbers)
+            (subst (λ n. AreNextNumbers first n numbers) (sym number_is) are.numbers)
             are.finished);
         opened = subst (λ o. IsOpenAfter choices env store to tables o (pair ∷ [])) (sym now)
             opened;
-        numbers = subst (λ o. RiseWithin first later (numbers_of new.done o)) (sym now)
-            (subst (λ fs. RiseWithin first later
+        numbers = subst (λ o. AreNextNumbers first later (numbers_of new.done o)) (sym now)
+            (subst (λ fs. AreNextNumbers first later
             (map (λ (file : FileMetaData). file.num) fs ++ after.number ∷ [])) (sym done_is)
-            (rise_push first next later after.number numbers (omega (arith, named, number_is))
+            (next_pushed first next later after.number numbers (omega (arith, named, number_is))
             (omega (arith, named, number_is, later_is)) are.numbers));
         cut = cut;
       }
@@ -412,15 +451,15 @@ module _ {C FP : Type 0} {order : CmpGhosts C} {filters : FilterGhosts FP}
       → after.smallest ≡ table.smallest
       → IsOpenTable choices env store to after (pairs ++ pair ∷ [])
   table_added {pairs = pairs} pair is adds kept same_number same_smallest = record {
+    start = is.start;
+    is_new = is.is_new;
     written = is.written ++ adds.bytes;
-    begun = adds.begun is.written pairs is.begun;
+    taken = taken_added choices.format.codings env is.taken adds kept;
     there = λ modelled. longer_file_is env (record { kept = []; since = is.written }) adds.longer
         modelled (is.there modelled);
     named = λ modelled. adds.longer.file modelled ∙ is.named modelled
         ∙ ap (table_path store) (sym same_number);
     fits = omega (arith, is.fits, same_number);
-    unbroken = adds.unbroken;
-    chosen = choices_kept kept is.chosen;
     first = (
       is.first.0,
       is.first.1 ++ pair ∷ [],
@@ -457,10 +496,10 @@ module _ {C FP : Type 0} {order : CmpGhosts C} {filters : FilterGhosts FP}
               (still_finished have is changes);
           opened = subst (λ o. IsOpenAfter choices env store to tables o (pairs ++ pair ∷ []))
               (sym now) more;
-          numbers = subst (λ o. RiseWithin first next (numbers_of new.done o)) (sym now)
-              (subst (λ fs. RiseWithin first next
+          numbers = subst (λ o. AreNextNumbers first next (numbers_of new.done o)) (sym now)
+              (subst (λ fs. AreNextNumbers first next
               (map (λ (file : FileMetaData). file.num) fs ++ after.number ∷ [])) (sym done)
-              (rise_push first table.number next after.number list (omega (arith, same_number))
+              (next_pushed first table.number next after.number list same_number
               (omega (arith, same_number, numbers.1)) numbers.0));
           cut = cut_same pairs (pairs ++ pair ∷ [])
               (cut_longer pairs (pair ∷ []) (open_is have is).first) tables have.cut;
@@ -471,11 +510,12 @@ module _ {C FP : Type 0} {order : CmpGhosts C} {filters : FilterGhosts FP}
   pair_added {table = table} pair have is now done kept same_number same_smallest (Err status) none
       stops =
       let stopped = stops (open_there have is) in
+      let opened = open_is have is in
       record {
         ok = tt;
         changes = open_changes have is stopped.changes;
-        cause = fails_later refl (not_added_causes order filters choices.format.codings table.core
-            (open_is have is).unbroken status pair) stopped.cause;
+        cause = fails_later refl (not_tabled_next choices opened.is_new opened.taken pair)
+            stopped.cause;
       }
 
   -- ---- the open table is finished
@@ -492,12 +532,17 @@ module _ {C FP : Type 0} {order : CmpGhosts C} {filters : FilterGhosts FP}
       → IsMetadataOf table.number table.smallest (last_of table.core) made
       → AreFinished choices env store to (made ∷ []) (pairs ∷ [])
   table_finished {from} {to} {table} {pairs} made is finishes known =
-      let chosen = is.chosen in
-      let built = finishes.made is.written pairs is.begun in (
+      let is_new = is.is_new in
+      let kept = is.taken.choices in
+      let built = finishes.made is.written pairs (taken_begun choices.format.codings
+      (is_new.begun choices.format.codings) is.taken) in (
         record {
           bytes = is.written ++ finishes.bytes;
-          built = IsTableUnder-same order filters choices.format.codings chosen.order_is
-              chosen.policy_is chosen.id_is chosen.intervals.0 chosen.intervals.1 built.0;
+          built = IsTableUnder-same order filters choices.format.codings
+              (kept.same_order ∙ is_new.order) (kept.same_policy ∙ is_new.policy)
+              (kept.same_compressor ∙ is_new.compressor)
+              (kept.same_intervals.0 ∙ is_new.interval.0)
+              (kept.same_intervals.1 ∙ is_new.interval.1) built.0;
           kept = λ modelled.
               let was = longer_file_is env (record { kept = []; since = is.written })
               finishes.longer modelled (is.there modelled) in
@@ -542,15 +587,15 @@ module _ {C FP : Type 0} {order : CmpGhosts C} {filters : FilterGhosts FP}
         let opened = open_is have is in
         let numbers = open_numbers have is in
         let list = map (λ (file : FileMetaData). file.num) old.done in
-        let rise : RiseWithin first next (list ++ made.num ∷ [])
-        = rise_push first table.number next made.num list (omega (arith, known.number_is))
+        let more : AreNextNumbers first next (list ++ made.num ∷ [])
+        = next_pushed first table.number next made.num list known.number_is
         (omega (arith, known.number_is, numbers.1)) numbers.0 in
         let all : AreTables choices env store first next to (old.done ++ made ∷ [])
         (tables ++ pairs ∷ []) = record {
           finished = finished_pushed to old.done tables made pairs (still_finished have is changes)
               (table_finished made opened finishes known);
-          numbers = subst (RiseWithin first next)
-              (sym (map-append (λ (file : FileMetaData). file.num) old.done (made ∷ []))) rise;
+          numbers = subst (AreNextNumbers first next)
+              (sym (map-append (λ (file : FileMetaData). file.num) old.done (made ∷ []))) more;
           cut = cut_push pairs [] tables have.cut tt;
         } in
         record {
@@ -569,11 +614,12 @@ module _ {C FP : Type 0} {order : CmpGhosts C} {filters : FilterGhosts FP}
         → FinishesOpen choices env store first tables pairs {T = T} next from (Err status) files to
     open_unfinished files status stops =
         let stopped = stops (open_there have is) in
+        let opened = open_is have is in
         record {
           ok = tt;
           changes = open_changes have is stopped.changes;
-          cause = fails_later refl (not_finished_causes order filters choices.format.codings
-              table.core (open_is have is).unbroken status) stopped.cause;
+          cause = fails_later refl (not_tabled_end choices opened.is_new opened.taken)
+              stopped.cause;
         }
 
   -- of another type
@@ -612,7 +658,7 @@ module _ {C FP : Type 0} {order : CmpGhosts C} {filters : FilterGhosts FP}
       = subst (λ o. IsOpenAfter choices env store at tables o pairs) none have.opened in
       let all : AreTables choices env store first next at old.done tables = record {
         finished = have.finished;
-        numbers = subst (λ o. RiseWithin first next (numbers_of old.done o)) none have.numbers;
+        numbers = subst (λ o. AreNextNumbers first next (numbers_of old.done o)) none have.numbers;
         cut = cut_same pairs [] (λ table cut. tt) tables have.cut;
       } in
       record {
@@ -632,8 +678,7 @@ module _ {C FP : Type 0} {order : CmpGhosts C} {filters : FilterGhosts FP}
     pub unfit_not_put : {later : ℕ} {new : OutputsValue E C FP F}
         (result : Result (Unit {0}) Status) → IsErrAnd result (λ status. status.code ≡ Corruption)
         → IsUnfit order old.unfinished pair.0
-        → PutsPair choices env store first tables pairs limit pair next from old result later from
-        new
+        → PutsPair choices env store first tables pairs limit pair from old result later from new
     unfit_not_put (Ok x) never unfit = absurd never
     unfit_not_put (Err status) code unfit = record {
       ok = tt;
@@ -645,24 +690,25 @@ module _ {C FP : Type 0} {order : CmpGhosts C} {filters : FilterGhosts FP}
     pub added_is_put : {to : E} {new : OutputsValue E C FP F} (result : Result (Unit {0}) Status)
         → is_due limit pair.0 old ≡ false
         → AddsPair choices env store first tables pairs pair next from result to new
-        → PutsPair choices env store first tables pairs limit pair next from old result next to new
+        → PutsPair choices env store first tables pairs limit pair from old result next to new
     added_is_put {to} {new} result due adds = record {
       ok = subst (λ b. OnOk result (HaveOutputs choices env store first next to new
           (tables_after b tables pairs) (pairs_after b pairs pair))) (sym due) adds.ok;
       changes = adds.changes;
-      cause = fails_so result refl (λ status fault. inl fault) adds.cause;
+      cause = fails_so result refl
+          (λ status not. inl (some_not_tabled choices (λ other there. there) not)) adds.cause;
     }
 
     -- the open table wasn't finished before it
     pub unfinished_not_put : {T : Type 0} {to : E} {new : OutputsValue E C FP F}
         {files : T → List FileMetaData} {status : Status}
         → FinishesOpen choices env store first tables pairs {T = T} next from (Err status) files to
-        → PutsPair choices env store first tables pairs limit pair next from old (Err status) next
-        to new
+        → PutsPair choices env store first tables pairs limit pair from old (Err status) next to new
     unfinished_not_put {status = status} finishes = record {
       ok = tt;
       changes = finishes.changes;
-      cause = fails_later refl (λ fault. inl fault) finishes.cause;
+      cause = fails_later refl (λ not. inl (some_not_tabled choices
+          (Contains-append_left pairs (pair ∷ [])) not)) finishes.cause;
     }
 
     -- an open table that is due has a pair, and the user key changes after its last
@@ -699,15 +745,15 @@ module _ {C FP : Type 0} {order : CmpGhosts C} {filters : FilterGhosts FP}
         → AreCutBefore (pair ∷ []) ready
         → OnOk result (HaveOutputs choices env store first later to new ready (pair ∷ [])))
         → next ≤ later → ChangesNewTables env store next later mid to
-        → FailsToWrite (IsBeginFault choices.format.codings next) (env.failures mid)
-        (env.failures to) result
-        → PutsPair choices env store first tables pairs limit pair next from old result later to new
+        → FailsToWrite (IsBeginFault choices pair later) (env.failures mid) (env.failures to) result
+        → PutsPair choices env store first tables pairs limit pair from old result later to new
     begun_is_put {mid} {to} {new} {later} done result why finishes begins up changes cause = record {
       ok = by why;
       changes = new-trans env store (new-rise env store up finishes.changes)
-          (new-wider env store (rise_range first next _ have.numbers) changes);
+          (new-wider env store (next_range first next _ have.numbers) changes);
       cause = fails_so result finishes.cause.ok
-          (λ status. ⊎_elim (λ fault. inl fault) (λ used_up. inr (inl used_up))) cause;
+          (λ status. ⊎_elim (λ not. inl (some_not_tabled choices
+          (Contains-append_right pairs (pair ∷ [])) not)) (λ used_up. inr (inl used_up))) cause;
     }
       where
         by : (is_due limit pair.0 old ≡ true) ⊎ (old.unfinished ≡ None)

@@ -197,7 +197,7 @@ module _ {E F C : Type 0} (env : Ghosts E F) (cmp : List ℕ → List ℕ → Or
 
   module _ {O : Status → Type 0} (old mid : OpenStoreValue C) (from at : E)
       (first : Step O old from (Ok tt) mid at) where
-    written_on : IsTrue env.models_disk → (meaning : Meaning) → Agrees format meaning
+    pub written_on : IsTrue env.models_disk → (meaning : Meaning) → Agrees format meaning
         → IsWritten cmp meaning old (env.observed from).disk.files
         → IsWritten cmp meaning mid (env.observed at).disk.files
     written_on modelled meaning agrees w =

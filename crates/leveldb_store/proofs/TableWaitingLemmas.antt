@@ -212,7 +212,7 @@ own_again old new kept own manifest used =
 -- ---- what is kept
 
 -- compressors that are set in a format decode the same by what ids mean
-agreed_decode_more : (format : Format) (meaning : Meaning) → Agrees format meaning
+pub agreed_decode_more : (format : Format) (meaning : Meaning) → Agrees format meaning
     → DecodesMore (Decodes format.codings) (Decodes meaning.codings)
 agreed_decode_more format meaning agrees id stored text decoded =
     by (format.codings id) refl decoded
@@ -513,7 +513,7 @@ module _ {E F C D FP : Type 0} {order : CmpGhosts D} {filters : FilterGhosts FP}
           (away manifest.path path Descriptor tt (own modelled manifest used) spared)
           ∙ spares_made (Ok file) m modelled path spared
 
-      same_logged : (result : Result (Unit {0}) Status) → Logged result → IsTrue env.models_disk
+      pub same_logged : (result : Result (Unit {0}) Status) → Logged result → IsTrue env.models_disk
           → SameGiven old.set (env.observed from).disk.files (env.observed to).disk.files
       same_logged result l modelled = same_then old.set (env.observed from).disk.files
           (env.observed mid).disk.files (env.observed to).disk.files
@@ -693,7 +693,7 @@ module _ {E F C D FP : Type 0} {order : CmpGhosts D} {filters : FilterGhosts FP}
   }
 
   -- the table is there by what names and ids mean
-  has_made : HasTable old.set.store cmp (IsTableOf cmp meaning) (env.observed mid).disk.files
+  pub has_made : HasTable old.set.store cmp (IsTableOf cmp meaning) (env.observed mid).disk.files
       made_table
   has_made =
       let f = choices.format in

@@ -64,7 +64,7 @@ refused_for Invalid one weaker short = short
 refused_for (Refused status) one weaker why = weaker status why
 
 -- a count that rose between two numbers, or was at its greatest, did so in a wider range
-wider : (a b c d : ℕ) → a ≤ b → b ≤ c → c ≤ d → HasFailed b c → HasFailed a d
+pub wider : (a b c d : ℕ) → a ≤ b → b ≤ c → c ≤ d → HasFailed b c → HasFailed a d
 wider a b c d low risen high (inl less) = inl (omega (arith, low, high, less))
 wider a b c d low risen high (inr full) = ⊎_elim (λ (same : a ≡ b). inr (same ∙ full))
     (⊎_elim (λ (less : a < b). inl (omega (arith, less, risen, high))) (λ (more : b < a). absurd (omega (arith, low, more)))) (cases_order a b)

@@ -1,26 +1,21 @@
 -- A walk over the view of a store only reads, and its errors are counted.
 use Rattle.std.proofs.Common.{◌≡◌, ◌≤◌, ◌<◌, ◌^◌, ◌-◌, ◌⊎◌, ⊎_elim, inl, inr, ℕ, ◌∙◌, ap, arith, subst, sym}
-use Rattle.std.proofs.lemmas.Bool.{cases_lt, cases_order}
+use Rattle.std.proofs.lemmas.Bool.{cases_lt}
 use Rattle.leveldb_base.specs.Error.{IsOutOfMemory}
 use Rattle.leveldb_base.specs.declared.cmp.Cmp.{Ghosts as CmpGhosts}
 use Rattle.leveldb_base.specs.declared.cmp.internal.InternalKeyCmp.{InternalKeyCmp}
 use Rattle.leveldb_base.specs.declared.error.Status.{Status}
-use Rattle.leveldb_base.specs.declared.error.StatusCode.TheVariants.{NotSupported}
 use Rattle.leveldb_base.specs.declared.types.LdbIterator.{Ghosts as IteratorGhosts}
 use Rattle.leveldb_env.specs.Compressor.{Codings}
 use Rattle.leveldb_env.specs.declared.env.Env.{Ghosts as EnvGhosts}
 use Rattle.leveldb_env.specs.declared.filter.FilterPolicy.{Ghosts as FilterGhosts}
 use Rattle.leveldb_iter.specs.declared.walk.Walk.{Ghosts as WalkGhosts}
-use Rattle.leveldb_version.specs.Format.{IsTableFault, LacksCompressor, Meaning}
 use Rattle.leveldb_version.specs.StoreWalk.{FailsInStore}
 use Rattle.leveldb_version.specs.TableCache.{MatchesFiles, TableOptions, files_at}
-use Rattle.leveldb_version.specs.TableMoves.{FileTable}
-use Rattle.leveldb_version.specs.VersionIter.{AreOpenGiven, AreTablesThere, FailsInTables, FailsOr, KeepsReading, reading}
+use Rattle.leveldb_version.specs.VersionIter.{AreOpenGiven, FailsOr, KeepsReading}
 use Rattle.leveldb_version.specs.VersionIterLaws.{reading_stays}
-use Rattle.leveldb_version.specs.declared.store_walk.StoreWalk.{StoreWalk}
 use Rattle.leveldb_version.specs.declared.store_walk.StoreWalk.TheVariants.{Memory, Tables}
 use Rattle.leveldb_version.specs.declared.table_cache.moves.ReadTables.{ReadTables}
-use Rattle.leveldb_version.specs.declared.version_iter.VersionIter.{VersionIter}
 use Rattle.leveldb_store.specs.OpenStore.{OpenStoreValue}
 use Rattle.leveldb_store.specs.Room.{HasFailed}
 use Rattle.leveldb_store.specs.View.{CountsErrors, FailsBetween, IsWorldOf, ReadsAlone}
@@ -34,6 +29,20 @@ counted_or_not from to fits = ⊎_elim
     (λ (most : 2 ^ 64 - 1 ≤ to). inl (inr (omega (arith, fits, not, most))))
     (cases_lt to (2 ^ 64 - 1)))
     (cases_lt from to)
+
+module _ {E C FP K F : Type 0} (env : EnvGhosts E F) (counts : (e : E) → env.failures e < 2 ^ 64)
+    (cmp : CmpGhosts C) (filters : FilterGhosts FP) (codings : K → Codings) where
+  -- why a move over tables fails, between two worlds
+  pub fails_between : {Why : Type 0} (from to : E × ReadTables E C FP K F) (status : Status)
+      → FailsOr env cmp filters codings Why from to status
+      → FailsBetween env from to (λ e. Why) status
+  fails_between from to status (inl out) = inl out
+  fails_between from to status (inr (inl rose)) = inr (inl (inl rose))
+  fails_between from to status (inr (inr (inl full))) = ⊎_elim
+      (λ (failed : HasFailed (env.failures from.0) (env.failures to.0)). inr (inl failed))
+      (λ none. absurd (none.0 full))
+      (counted_or_not (env.failures from.0) (env.failures to.0) (counts from.0))
+  fails_between from to status (inr (inr (inr why))) = inr (inr why)
 
 module _ {E C FP K F M : Type 0} (order : CmpGhosts (InternalKeyCmp C)) (env : EnvGhosts E F) (counts : (e : E) → env.failures e < 2 ^ 64)
     (cmp : CmpGhosts C) (filters : FilterGhosts FP) (codings : K → Codings) (iterator : IteratorGhosts M) where

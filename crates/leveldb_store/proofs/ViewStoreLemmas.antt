@@ -1,6 +1,6 @@
 -- A walk over the view of the merge of a store's children is one over the store's view.
 use Rattle.std.specs.Prelude.{Contains, min}
-use Rattle.std.proofs.Common.{◌≡◌, ◌<◌, ◌≤◌, ◌^◌, ◌-◌, inl, inr, ⊎_elim, ℕ, Bool, true, List, ◌++◌, map, sym, ap, subst, append_assoc}
+use Rattle.std.proofs.Common.{◌≡◌, ◌<◌, ◌≤◌, ◌^◌, inl, inr, ⊎_elim, ℕ, Bool, true, List, ◌++◌, map, sym, ap, subst, append_assoc}
 use Rattle.std.proofs.lemmas.List.Elements.{Contains-append_cases}
 use Rattle.leveldb_base.proofs.EntriesLemmas.{in_map}
 use Rattle.leveldb_base.specs.Cmp.{IsExactOrder, internal_accepts}
@@ -35,12 +35,11 @@ use Rattle.leveldb_version.specs.declared.table_cache.moves.ReadTables.{ReadTabl
 use Rattle.leveldb_version.specs.CurrentVersion.{IsCurrent}
 use Rattle.leveldb_store.specs.OpenStore.{AreInLevels, AreNumbersGiven, OpenStoreValue}
 use Rattle.leveldb_store.specs.Read.{in_memory}
-use Rattle.leveldb_store.specs.Room.{HasFailed}
 use Rattle.leveldb_store.specs.View.{AreChildrenOf, FailsBetween, IsOfNoCompressor, ShowsIn, ViewsMerge, ViewsStore, any_in_order, options_in}
 use Rattle.leveldb_store.specs.Written.{waiting_entries}
 use Rattle.leveldb_store.proofs.ViewChildrenLemmas.{IsMergedView, merged_view}
 use Rattle.leveldb_store.proofs.ViewHistoryLemmas.{view_of_history}
-use Rattle.leveldb_store.proofs.ViewReadsLemmas.{counted_or_not}
+use Rattle.leveldb_store.proofs.ViewReadsLemmas.{fails_between}
 use Rattle.leveldb_store.proofs.ViewTablesLemmas.{tables_to_walk, there_for}
 
 -- where no order of keys refuses one
@@ -72,17 +71,7 @@ module _ {E F C FP K M : Type 0} {keys : CmpGhosts (InternalKeyCmp C)} (env : En
   -- ---- why a child fails
 
   between : {Why : Type 0} (from to : E × ReadTables E C FP K F) (status : Status) → FailsOr env cmp filters codings Why from to status → FailsBetween env from to (λ e. Why) status
-  between from to status fails = ⊎_elim
-      (λ (out : IsOutOfMemory status). inl out)
-      (⊎_elim
-      (λ (rose : env.failures from.0 < env.failures to.0). inr (inl (inl rose)))
-      (⊎_elim
-      (λ (full : env.failures to.0 ≡ 2 ^ 64 - 1). ⊎_elim
-      (λ (failed : HasFailed (env.failures from.0) (env.failures to.0)). inr (inl failed))
-      (λ none. absurd (none.0 full))
-      (counted_or_not (env.failures from.0) (env.failures to.0) (counts from.0)))
-      (λ why. inr (inr why))))
-      fails
+  between = fails_between env counts cmp filters codings
 
   fault_one : (from to : E × ReadTables E C FP K F) (status : Status) (one : StoreWalk C M) → FailsInStore keys env cmp filters codings iterator from one to status
       → FailsBetween env from to (λ e. IsTableFault (options_in env cmp filters codings from).format e.code) status

@@ -1,8 +1,8 @@
 -- The live tables of an open store as the walks over its version read them.
-use Rattle.std.specs.Prelude.{All, Contains, IsPermutation, IsTrue}
-use Rattle.std.proofs.Common.{◌≡◌, ◌<◌, ◌^◌, ℕ, List, None, length, map, refl, sym, ◌∙◌, ap, subst, arith}
+use Rattle.std.specs.Prelude.{All, Contains, IsPermutation}
+use Rattle.std.proofs.Common.{◌≡◌, ◌<◌, ◌^◌, ℕ, List, None, map, sym, ◌∙◌, ap, subst, arith}
 use Rattle.std.proofs.lemmas.List.Elements.{All-contains}
-use Rattle.std.proofs.lemmas.List.Sorted.{Contains-permutation, IsPermutation-sym}
+use Rattle.std.proofs.lemmas.List.Sorted.{Contains-permutation}
 use Rattle.std.specs.List.{IsDistinct}
 use Rattle.std.specs.declared.cmp.Ordering.{Ordering}
 use Rattle.leveldb_base.proofs.EntriesLemmas.{map_in}
@@ -16,17 +16,16 @@ use Rattle.leveldb_env.specs.declared.filter.FilterPolicy.{Ghosts as FilterGhost
 use Rattle.leveldb_version.proofs.PairwiseLemmas.{each_more_of}
 use Rattle.leveldb_version.proofs.SearchLemmas.{all_from_contains}
 use Rattle.leveldb_version.proofs.WalkTablesLemmas.{IsTableFor, walk_pairs}
-use Rattle.leveldb_version.specs.Batches.{Each}
 use Rattle.leveldb_version.specs.Format.{Agrees, IsTableOf, Meaning}
 use Rattle.leveldb_version.specs.Levels.{LevelOrder, LiveTable}
 use Rattle.leveldb_version.specs.Paths.{table_path}
 use Rattle.leveldb_version.specs.Store.{HasTable}
 use Rattle.leveldb_version.specs.TableCache.{files_at, store_of}
 use Rattle.leveldb_version.specs.TableMoves.{FileTable, IsIndexedFor, IsTableAt}
-use Rattle.leveldb_version.specs.Version.{AreInVersionOrder, new_files_of}
+use Rattle.leveldb_version.specs.Version.{AreInVersionOrder, VersionValue, new_files_of}
 use Rattle.leveldb_version.specs.VersionEdit.{NewFile, new_file_of}
 use Rattle.leveldb_version.specs.VersionIter.{AreTablesThere, table_in}
-use Rattle.leveldb_version.specs.VersionIters.{AreTablesToWalk, AreVersionIters, OrdersInternalKeys, files_of_walks}
+use Rattle.leveldb_version.specs.VersionIters.{AreTablesToWalk, AreVersionIters, OrdersInternalKeys}
 use Rattle.leveldb_version.specs.VersionSet.{is_same_file, level_file}
 use Rattle.leveldb_version.specs.declared.table_cache.moves.ReadTables.{ReadTables}
 use Rattle.leveldb_version.specs.declared.version_iter.VersionIter.{VersionIter}
@@ -34,6 +33,34 @@ use Rattle.leveldb_version.specs.CurrentVersion.{IsCurrent}
 use Rattle.leveldb_store.specs.OpenStore.{AreInLevels, AreNumbersGiven, OpenStoreValue}
 use Rattle.leveldb_store.specs.View.{IsWorldOf, options_in}
 use Rattle.leveldb_store.specs.Written.{HasLiveTables}
+
+-- the tables of a version that are there, as those of one of its walks
+module _ {E F C FP K : Type 0} {keys : CmpGhosts (InternalKeyCmp C)} (env : EnvGhosts E F)
+    (cmp : CmpGhosts C) (filters : FilterGhosts FP) (codings : K → Codings)
+    (version : VersionValue C) (world : E × ReadTables E C FP K F)
+    (exact : IsExactOrder (cmp.cmp world.1.cmp))
+    (orders : OrdersInternalKeys keys (cmp.cmp world.1.cmp) world.1.cmp)
+    (meaning : Meaning) (tables : List LiveTable)
+    (are : AreTablesToWalk keys env cmp filters codings version meaning world tables)
+    (iters : List (VersionIter C)) (walks : AreVersionIters version iters) where
+  pub tables_there : (it : VersionIter C) → Contains iters it → (tabled : List FileTable)
+      × AreTablesThere keys env cmp filters codings meaning world it tabled
+  tables_there it c =
+      let part = it.files.now in
+      let among = subst (λ (parts : List (List (ℕ × FileMetaData))). Contains parts part) walks.files (map_in (λ (one : VersionIter C). one.files.now) iters it c) in
+      let has_pairs = (walk_pairs env cmp filters codings version world exact orders meaning tables are part among).1 in
+      let none = All-contains (λ (one : VersionIter C). one.core ≡ None) iters it walks.not_begun c in (
+        has_pairs.tabled,
+        record {
+          matched = are.matched;
+          agrees = are.agrees;
+          each = each_more_of (IsTableFor env cmp filters codings version world exact orders meaning tables are)
+              (λ file table. ((new_file_of file).number < 2 ^ 64) × ((new_file_of file).largest ≡ table.largest)
+              × IsTableAt (cmp.cmp world.1.cmp) meaning (files_at env world.0) (table_path (store_of world.1.cache.now) (new_file_of file).number) table × ((new_file_of file).number < world.1.below))
+              part has_pairs.tabled (λ file table is. is.at) has_pairs.each;
+          indexed = subst (IsIndexedFor keys (keys.cmp (record { 0 = world.1.cmp })) (table_in has_pairs.tabled it.at).parts) (sym none) tt;
+        },
+      )
 
 module _ {E F C FP K : Type 0} {keys : CmpGhosts (InternalKeyCmp C)} (env : EnvGhosts E F) (cmp : CmpGhosts C) (filters : FilterGhosts FP) (codings : K → Codings)
     (value : OpenStoreValue C) (current : IsCurrent (cmp.cmp value.cmp) value.cmp value.set value.current) (given : AreNumbersGiven value.set value.set.full.added)
@@ -73,19 +100,5 @@ module _ {E F C FP K : Type 0} {keys : CmpGhosts (InternalKeyCmp C)} (env : EnvG
       (iters : List (VersionIter C)) (walks : AreVersionIters value.current iters) where
     -- each walk's files are tables, by what names and ids mean
     pub there_for : (it : VersionIter C) → Contains iters it → (tabled : List FileTable) × AreTablesThere keys env cmp filters codings meaning world it tabled
-    there_for it c =
-        let part = it.files.now in
-        let among = subst (λ (parts : List (List (ℕ × FileMetaData))). Contains parts part) walks.files (map_in (λ (one : VersionIter C). one.files.now) iters it c) in
-        let has_pairs = (walk_pairs env cmp filters codings value.current world exact orders meaning tables tables_to_walk part among).1 in
-        let none = All-contains (λ (one : VersionIter C). one.core ≡ None) iters it walks.not_begun c in (
-          has_pairs.tabled,
-          record {
-            matched = tables_to_walk.matched;
-            agrees = agrees;
-            each = each_more_of (IsTableFor env cmp filters codings value.current world exact orders meaning tables tables_to_walk)
-                (λ file table. ((new_file_of file).number < 2 ^ 64) × ((new_file_of file).largest ≡ table.largest)
-                × IsTableAt (cmp.cmp world.1.cmp) meaning (files_at env world.0) (table_path (store_of world.1.cache.now) (new_file_of file).number) table × ((new_file_of file).number < world.1.below))
-                part has_pairs.tabled (λ file table is. is.at) has_pairs.each;
-            indexed = subst (IsIndexedFor keys (keys.cmp (record { 0 = world.1.cmp })) (table_in has_pairs.tabled it.at).parts) (sym none) tt;
-          },
-        )
+    there_for = tables_there env cmp filters codings value.current world exact orders meaning tables
+        tables_to_walk iters walks

@@ -1,5 +1,5 @@
 -- What `build_table` makes of a walk, what changes on the way, and why it fails.
-use Rattle.std.specs.Prelude.{◌≡◌, ◌≢◌, ◌⊎◌, ℕ, Bool, true, false, List, [], ◌++◌, length, take, max, slice_get, All, Option, None, Some, Result, Ok, IfOk, IsTrue}
+use Rattle.std.specs.Prelude.{◌≡◌, ◌≢◌, ◌⊎◌, ℕ, Bool, true, false, List, [], ◌++◌, length, take, max, slice_get, All, Contains, Option, None, Some, Result, Ok, IfOk, IsTrue}
 use Rattle.std.specs.declared.cmp.Ordering.{Ordering}
 use Rattle.leveldb_base.specs.Error.{IsOutOfMemory}
 use Rattle.leveldb_base.specs.History.{AreRising, Entry}
@@ -235,3 +235,10 @@ module _ {C FP : Type 0} {order : CmpGhosts C} {filters : FilterGhosts FP}
     pub cause : HasCause (λ status. IsOutOfMemory status
         ⊎ ((IsNotTabled status ⊎ Fails status) × (env.failures new ≡ env.failures old)))
         (env.failures old) (env.failures new) result
+
+-- no table is built of some of these pairs
+pub record AreSomeNotTabled {C FP : Type 0} {order : CmpGhosts C} {filters : FilterGhosts FP}
+    (choices : TableChoices order filters) (pairs : List Pair) (status : Status) : Type 0 where
+  pub some : List Pair
+  pub among : (pair : Pair) → Contains some pair → Contains pairs pair
+  pub not_tabled : IsNotTabled choices some status

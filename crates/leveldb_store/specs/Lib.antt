@@ -24,3 +24,4 @@ pub mod Listing
 pub mod OpeningSteps
 pub mod SoundCall
 pub mod RoomSteps
+pub mod Compact

@@ -18,8 +18,9 @@ use Rattle.leveldb_env.specs.declared.env.Env.{Ghosts as EnvGhosts}
 use Rattle.leveldb_env.specs.declared.filter.FilterPolicy.{Ghosts as FilterGhosts}
 use Rattle.leveldb_iter.specs.Walk.{KeyOrder, key_order}
 use Rattle.leveldb_iter.specs.declared.walk.Walk.{Ghosts as WalkGhosts}
-use Rattle.leveldb_store.specs.BuildTable.{TableChoices}
-use Rattle.leveldb_store.specs.Outputs.{AreTables, ChangesNewTables, HaveOutputs, IsBeginFault, OutputsValue}
+use Rattle.leveldb_version.specs.VersionSetValue.{AreFileNumbersUsedUp}
+use Rattle.leveldb_store.specs.BuildTable.{AreSomeNotTabled, TableChoices}
+use Rattle.leveldb_store.specs.Outputs.{AreTables, ChangesNewTables, HaveOutputs, OutputsValue}
 use Rattle.leveldb_store.specs.Passing.{IsJustBefore}
 use Rattle.leveldb_store.specs.TableFile.{FailsToWrite}
 use Rattle.leveldb_store.specs.declared.passing.Passing.{Passing}
@@ -63,7 +64,7 @@ module _ {E F T W : Type 0} (env : EnvGhosts E F) (walk : WalkGhosts W E T) (sto
     by_writing : (at to : E) (tables : T) (next : ℕ) → ComesOf start (at, tables)
         → ChangesNewTables env store first next at to → ComesOf start (to, tables)
 
-  -- A walk that new tables leave where it is, with no new error, and whose moves change no file.
+  -- A walk that new tables leave where it is, with no new error.
   pub record BearsNewTables (start : E × T) : Type 0 where
     pub stays_at : (at to : E) (tables : T) (next : ℕ) → ComesOf start (at, tables)
         → ChangesNewTables env store first next at to → (it : W) (order : KeyOrder)
@@ -74,8 +75,21 @@ module _ {E F T W : Type 0} (env : EnvGhosts E F) (walk : WalkGhosts W E T) (sto
         → ChangesNewTables env store first next at to → (it : W) (later : E × T)
         (status : Status) → walk.fails (to, tables) it later status
         → walk.fails (at, tables) it later status
-    pub still : (at to : E × T) → ComesOf start at → walk.keeps at to
-        → LeavesFiles env at.0 to.0
+
+  -- A move failed, in a world to which the walk came; where it bears new tables, it might have failed
+  -- in the beginning.
+  pub record FailsOnWay (start : E × T) (it : W) (end : E × T) (status : Status) : Type 0 where
+    pub at : E × T
+    pub now : W
+    pub come : ComesOf start at
+    pub kept : walk.keeps at end
+    pub failed : walk.fails at now end status
+    pub from_start : BearsNewTables start → walk.fails start it end status
+
+-- moves of a walk change no file
+abbrev pub MovesLeaveFiles : {E F T W : Type 0} → EnvGhosts E F → WalkGhosts W E T → Type 0
+MovesLeaveFiles {E} {F} {T} env walk =
+    (at to : E × T) → walk.keeps at to → LeavesFiles env at.0 to.0
 
 -- ---- a merge
 
@@ -113,11 +127,12 @@ module _ {C FP : Type 0} {order : CmpGhosts C} {filters : FilterGhosts FP}
   abbrev pub AreRead : List Pair → Type 0
   AreRead pairs = AreInPlace merge.choices.format.order merge.is_among pairs
 
-  -- Why a pair isn't taken after those that were read: a builder fails, the numbers of files are used
-  -- up, or with it they aren't in place.
-  abbrev pub IsTakeFault : ℕ → List Pair → Pair → Status → Type 0
-  IsTakeFault next read pair status = IsBeginFault merge.choices.format.codings next status
-      ⊎ ((status.code ≡ Corruption) × (AreRead (read ++ pair ∷ []) → ⊥))
+  -- Why pairs aren't merged that are read in turn, where the numbers of files come to this one: no
+  -- table is built of some of them, the numbers are used up, or they aren't in place.
+  abbrev pub IsMergeFault : (later : ℕ) → List Pair → Status → Type 0
+  IsMergeFault later read status = AreSomeNotTabled merge.choices read status
+      ⊎ AreFileNumbersUsedUp later status
+      ⊎ ((status.code ≡ Corruption) × (AreRead read → ⊥))
 
   module _ {E F : Type 0} (env : EnvGhosts E F) (first : ℕ) where
     -- These pairs were read: the outputs have what is left of them, and the last of them was the one
@@ -137,8 +152,8 @@ module _ {C FP : Type 0} {order : CmpGhosts C} {filters : FilterGhosts FP}
         (new : OutputsValue E C FP F) : Type 0 where
       pub ok : OnOk result (HasMerged (read ++ pair ∷ []) later to passing new)
       pub changes : ChangesNewTables env merge.store first later from to
-      pub cause : FailsToWrite (IsTakeFault next read pair) (env.failures from) (env.failures to)
-          result
+      pub cause : FailsToWrite (IsMergeFault later (read ++ pair ∷ [])) (env.failures from)
+          (env.failures to) result
 
     -- The files are tables of what is left of pairs that were read, in their order.
     pub record MergesInto (read : List Pair) (next : ℕ) (files : List FileMetaData) (to : E)
@@ -151,31 +166,25 @@ module _ {C FP : Type 0} {order : CmpGhosts C} {filters : FilterGhosts FP}
       pub entries : entries_of_pairs (all_pairs tables)
           ≡ thinned merge.smallest merge.is_base (entries_of_pairs read)
 
-    -- Why a merge fails that writes, and comes to this number of files: a builder fails, the numbers
-    -- are used up, or it reads what isn't in place.
-    abbrev pub IsMergeFault : (later : ℕ) → (InPlace : Type 0) → Status → Type 0
-    IsMergeFault later InPlace status =
-        ((next : ℕ) × (first ≤ next) × (next ≤ later)
-        × IsBeginFault merge.choices.format.codings next status)
-        ⊎ ((status.code ≡ Corruption) × (InPlace → ⊥))
-
     -- What merging the pairs of a walk leaves and returns, whatever it reads; a walk that is over a
-    -- list reads that list.
+    -- list, and bears new tables, reads that list.
     pub record MergesTables {T W X : Type 0} (walk : WalkGhosts W E T)
         (items : X → List FileMetaData) (start : E × T) (it : W) (result : Result X Status)
         (later : ℕ) (end : E × T) : Type 0 where
       pub ok : IfOk result (λ files. (read : List Pair)
           × MergesInto read later (items files) end.0
-          × ((pairs : List Pair)
+          × (BearsNewTables env walk merge.store first start → (pairs : List Pair)
           → walk.over start it (key_order order merge.choices.cmp) pairs → pairs ≡ read))
       -- now and at each moment on the way no file changes but tables of numbers that were given
       pub changes : ChangesNewTables env merge.store first later start.0 end.0
       -- moves of the walk and new tables lead to where it ends, so that what both keep is kept
       pub comes : ComesOf env walk merge.store first start end
-      -- A move failed; or at last a call that writes, and for pairs of a list that are in place it
-      -- is never for what is read.
-      pub cause : IfErr result (λ status. walk.fails start it end status
-          ⊎ ((mid : ℕ) × (env.failures start.0 ≤ mid)
-          × FailsToWrite (IsMergeFault later ((pairs : List Pair)
-          × walk.over start it (key_order order merge.choices.cmp) pairs × AreRead pairs)) mid
-          (env.failures end.0) (failed status)))
+      -- A move failed; or, after some pairs were read, at last a call that writes. Where the walk is
+      -- over a list, and bears new tables, they are the first of it.
+      pub cause : IfErr result (λ status.
+          FailsOnWay env walk merge.store first start it end status
+          ⊎ ((mid : ℕ) × (env.failures start.0 ≤ mid) × (read : List Pair)
+          × (BearsNewTables env walk merge.store first start → (pairs : List Pair)
+          → walk.over start it (key_order order merge.choices.cmp) pairs
+          → (rest : List Pair) × (pairs ≡ read ++ rest))
+          × FailsToWrite (IsMergeFault later read) mid (env.failures end.0) (failed status)))

@@ -1,5 +1,5 @@
 -- What an opening replays of a store's logs.
-use Rattle.std.specs.Prelude.{◌≡◌, ◌≢◌, ◌≤◌, ◌<◌, ◌^◌, ℕ, Bool, if◌then◌else◌, List, ◌++◌, AllPairs, Contains, IsTrue, map, max}
+use Rattle.std.specs.Prelude.{◌≡◌, ◌≢◌, ◌⊎◌, ◌≤◌, ◌<◌, ◌^◌, ℕ, Bool, if◌then◌else◌, List, ◌++◌, AllPairs, Contains, IsTrue, Some, map, max}
 use Rattle.std.specs.declared.cmp.Ordering.{Ordering}
 use Rattle.leveldb_base.specs.History.{Entry, greatest}
 use Rattle.leveldb_env.specs.Env.{Files, Observed, Run}
@@ -30,6 +30,11 @@ pub record LogInMemory : Type 0 where
 pub record GivesNumbers (old new : VersionSetValue) : Type 0 where
   pub set : new ≡ record old { next_file = new.next_file; given = new.given }
   pub rises : old.next_file ≤ new.next_file
+
+-- the number that may be taken back is the one that might be before, or was given since
+abbrev pub TakesBackNew : VersionSetValue → VersionSetValue → Type 0
+TakesBackNew old new = (number : ℕ) → new.given ≡ Some number
+    → (old.given ≡ Some number) ⊎ (old.next_file ≤ number)
 
 -- each file is the same but those of tables whose numbers are given from one set to the other, and
 -- fit into 64 bits

@@ -1,6 +1,6 @@
 -- Tables that are written one after another: which pairs each has, where one ends, what their writing
 -- leaves of the disk, and why it fails.
-use Rattle.std.specs.Prelude.{◌≡◌, ◌≢◌, ◌⊎◌, ◌≤◌, ◌<◌, ◌+◌, ◌-◌, ◌^◌, ◌&&◌, ◌||◌, ℕ, Bool, true, false, not, nat_lt, max, min, length, List, [], ◌∷◌, ◌++◌, map, Option, None, Some, Result, IfOk, IfSome, IsTrue, OnOk}
+use Rattle.std.specs.Prelude.{◌≡◌, ◌≢◌, ◌⊎◌, ◌≤◌, ◌<◌, ◌+◌, ◌-◌, ◌^◌, ◌&&◌, ◌||◌, ℕ, Bool, true, false, not, nat_lt, min, length, List, [], ◌∷◌, ◌++◌, map, Option, None, Some, Result, IfOk, IfSome, IsTrue, OnOk}
 use Rattle.std.specs.Str.{bytes_eq}
 use Rattle.std.specs.declared.cmp.Ordering.TheVariants.{Less}
 use Rattle.leveldb_base.specs.KeyTypes.{user_part}
@@ -9,18 +9,17 @@ use Rattle.leveldb_base.specs.declared.cmp.Cmp.{Ghosts as CmpGhosts}
 use Rattle.leveldb_base.specs.declared.error.Status.{Status}
 use Rattle.leveldb_base.specs.declared.error.StatusCode.TheVariants.{Corruption}
 use Rattle.leveldb_base.specs.declared.types.FileMetaData.{FileMetaData}
-use Rattle.leveldb_env.specs.Compressor.{Codings}
 use Rattle.leveldb_env.specs.Env.{AreBytes, Files, Run, SameLocks}
 use Rattle.leveldb_env.specs.declared.env.Env.{Ghosts as EnvGhosts}
 use Rattle.leveldb_env.specs.declared.filter.FilterPolicy.{Ghosts as FilterGhosts}
 use Rattle.leveldb_table.specs.BlockBuilder.{last_added}
-use Rattle.leveldb_table.specs.TableBuilder.{IsBegun, TableBuilt, last_of, order_of, policy_of, table_estimate}
+use Rattle.leveldb_table.specs.TableBuilder.{IsNewBuilder, TableBuilt, last_of, order_of, table_estimate}
 use Rattle.leveldb_version.specs.Paths.{table_path}
 use Rattle.leveldb_version.specs.Store.{IsFirstKey}
 use Rattle.leveldb_version.specs.StoreSteps.{AppendedAreBytes}
 use Rattle.leveldb_version.specs.VersionSetValue.{AreFileNumbersUsedUp}
-use Rattle.leveldb_store.specs.BuildTable.{IsTableFile, TableChoices}
-use Rattle.leveldb_store.specs.TableFile.{FailsToWrite, IsBuildFault}
+use Rattle.leveldb_store.specs.BuildTable.{AreSomeNotTabled, HasTaken, IsNotTabled, IsTableFile, TableChoices, puts_all}
+use Rattle.leveldb_store.specs.TableFile.{FailsToWrite}
 use Rattle.leveldb_store.specs.declared.table_file.TableFile.{TableFile}
 
 -- ---- what the outputs are
@@ -78,11 +77,11 @@ AreCutBefore pairs (table ∷ []) = IsCutBefore table pairs
 AreCutBefore pairs (table ∷ next ∷ tables) =
     IsCutBefore table next × AreCutBefore pairs (next ∷ tables)
 
--- numbers rise, from the first on and below the next
-abbrev pub RiseWithin : ℕ → ℕ → List ℕ → Type 0
-RiseWithin first next [] = first ≤ next
-RiseWithin first next (number ∷ numbers) =
-    (first ≤ number) × RiseWithin (number + 1) next numbers
+-- the numbers from the first on and below the next, one after another
+abbrev pub AreNextNumbers : ℕ → ℕ → List ℕ → Type 0
+AreNextNumbers first next [] = first ≡ next
+AreNextNumbers first next (number ∷ numbers) =
+    (number ≡ first) × AreNextNumbers (first + 1) next numbers
 
 -- the numbers of the finished tables, and that of the open one
 abbrev pub numbers_of : {E C FP F : Type 0} → List FileMetaData → Option (TableFile E C FP F)
@@ -91,60 +90,54 @@ numbers_of done None = map (λ file. file.num) done
 numbers_of done (Some table) = map (λ file. file.num) done ++ table.number ∷ []
 
 module _ {C FP : Type 0} {order : CmpGhosts C} {filters : FilterGhosts FP}
-    (choices : TableChoices order filters) where
-  -- a builder under the choices
-  pub record HasChoices (core : TableBuilt C FP) : Type 0 where
-    pub order_is : order_of core ≡ choices.cmp
-    pub policy_is : policy_of core ≡ choices.policy
-    pub id_is : core.compressor ≡ choices.id
-    pub intervals : (core.block.interval ≡ max 1 choices.restarts) × (core.index.interval ≡ 1)
+    (choices : TableChoices order filters) {E F : Type 0} (env : EnvGhosts E F) (store : List ℕ) where
+  -- The table is open under its number, and its builder has taken these pairs since it was a new
+  -- one of the choices: what it put is in its file, and a crash keeps none of it yet.
+  pub record IsOpenTable (at : E) (table : TableFile E C FP F) (pairs : List Pair) : Type 0 where
+    pub start : TableBuilt C FP
+    pub is_new : IsNewBuilder order filters choices.cmp choices.policy choices.id
+        choices.block_size choices.restarts start
+    pub written : List ℕ
+    pub taken : HasTaken order filters choices.format.codings puts_all start [] pairs table.core
+        written
+    pub there : IsTrue env.models_disk → (env.observed at).disk.files (env.name_of table.file)
+        ≡ Some (record { kept = []; since = written })
+    pub named : IsTrue env.models_disk → env.name_of table.file ≡ table_path store table.number
+    pub fits : table.number < 2 ^ 64
+    pub first : IsFirstKey table.smallest pairs
+    pub bytes : AreBytes table.smallest
+    pub last : last_of table.core ≡ last_added pairs
 
-  module _ {E F : Type 0} (env : EnvGhosts E F) (store : List ℕ) where
-    -- The table is open under its number, and these pairs were added: what was put so far is in its
-    -- file, and a crash keeps none of it yet.
-    pub record IsOpenTable (at : E) (table : TableFile E C FP F) (pairs : List Pair) : Type 0 where
-      pub written : List ℕ
-      pub begun : IsBegun choices.format.codings order filters table.core written pairs
-      pub there : IsTrue env.models_disk → (env.observed at).disk.files (env.name_of table.file)
-          ≡ Some (record { kept = []; since = written })
-      pub named : IsTrue env.models_disk → env.name_of table.file ≡ table_path store table.number
-      pub fits : table.number < 2 ^ 64
-      pub unbroken : table.core.broken ≡ false
-      pub chosen : HasChoices table.core
-      pub first : IsFirstKey table.smallest pairs
-      pub bytes : AreBytes table.smallest
-      pub last : last_of table.core ≡ last_added pairs
+  -- a table is open and has these pairs; or none is, and there is no pair and no other table
+  abbrev pub IsOpenAfter : E → List (List Pair) → Option (TableFile E C FP F) → List Pair
+      → Type 0
+  IsOpenAfter at tables None pairs = (tables ≡ []) × (pairs ≡ [])
+  IsOpenAfter at tables (Some table) pairs = IsOpenTable at table pairs
 
-    -- a table is open and has these pairs; or none is, and there is no pair and no other table
-    abbrev pub IsOpenAfter : E → List (List Pair) → Option (TableFile E C FP F) → List Pair
-        → Type 0
-    IsOpenAfter at tables None pairs = (tables ≡ []) × (pairs ≡ [])
-    IsOpenAfter at tables (Some table) pairs = IsOpenTable at table pairs
+  -- the files are tables of these pairs, in turn, all of them kept, and an edit may have them
+  abbrev pub AreFinished : E → List FileMetaData → List (List Pair) → Type 0
+  AreFinished at [] [] = Unit {0}
+  AreFinished at (file ∷ files) (pairs ∷ tables) =
+      IsTableFile choices pairs env.models_disk store (env.observed at).disk.files file
+      × (file.num < 2 ^ 64) × (file.size < 2 ^ 64) × (file.allowed_seeks ≡ 0)
+      × AreBytes file.smallest × AreBytes file.largest × AreFinished at files tables
+  AreFinished at files tables = ⊥
 
-    -- the files are tables of these pairs, in turn, all of them kept, and an edit may have them
-    abbrev pub AreFinished : E → List FileMetaData → List (List Pair) → Type 0
-    AreFinished at [] [] = Unit {0}
-    AreFinished at (file ∷ files) (pairs ∷ tables) =
-        IsTableFile choices pairs env.models_disk store (env.observed at).disk.files file
-        × (file.num < 2 ^ 64) × (file.size < 2 ^ 64) × (file.allowed_seeks ≡ 0)
-        × AreBytes file.smallest × AreBytes file.largest × AreFinished at files tables
-    AreFinished at files tables = ⊥
+  -- These files are tables of these pairs, cut between user keys, and each number from the first
+  -- on and below the next is that of one, in their order.
+  pub record AreTables (first next : ℕ) (at : E) (files : List FileMetaData)
+      (tables : List (List Pair)) : Type 0 where
+    pub finished : AreFinished at files tables
+    pub numbers : AreNextNumbers first next (map (λ file. file.num) files)
+    pub cut : AreCutBefore [] tables
 
-    -- These files are tables of these pairs, cut between user keys, and their numbers rise from the
-    -- first on and are below the next.
-    pub record AreTables (first next : ℕ) (at : E) (files : List FileMetaData)
-        (tables : List (List Pair)) : Type 0 where
-      pub finished : AreFinished at files tables
-      pub numbers : RiseWithin first next (map (λ file. file.num) files)
-      pub cut : AreCutBefore [] tables
-
-    -- The finished tables have these pairs, in turn, and the open one has these.
-    pub record HaveOutputs (first next : ℕ) (at : E) (outputs : OutputsValue E C FP F)
-        (tables : List (List Pair)) (pairs : List Pair) : Type 0 where
-      pub finished : AreFinished at outputs.done tables
-      pub opened : IsOpenAfter at tables outputs.unfinished pairs
-      pub numbers : RiseWithin first next (numbers_of outputs.done outputs.unfinished)
-      pub cut : AreCutBefore pairs tables
+  -- The finished tables have these pairs, in turn, and the open one has these.
+  pub record HaveOutputs (first next : ℕ) (at : E) (outputs : OutputsValue E C FP F)
+      (tables : List (List Pair)) (pairs : List Pair) : Type 0 where
+    pub finished : AreFinished at outputs.done tables
+    pub opened : IsOpenAfter at tables outputs.unfinished pairs
+    pub numbers : AreNextNumbers first next (numbers_of outputs.done outputs.unfinished)
+    pub cut : AreCutBefore pairs tables
 
 -- ---- the disk
 
@@ -174,17 +167,21 @@ abbrev pub IsUnfit : {E C FP F : Type 0} → CmpGhosts C → Option (TableFile E
 IsUnfit order unfinished key = (length key < 8) ⊎ (IfSome unfinished (λ table. 0 < table.core.count
     → order.cmp (order_of table.core) (last_of table.core) key ≡ Less) → ⊥)
 
--- a builder fails, the numbers of files are used up, or the key is unfit
-abbrev pub IsPutFault : {E C FP F : Type 0} → CmpGhosts C → Codings → ℕ
-    → Option (TableFile E C FP F) → List ℕ → Status → Type 0
-IsPutFault order codings next unfinished key status =
-    IsBuildFault codings status ⊎ AreFileNumbersUsedUp next status
-    ⊎ ((status.code ≡ Corruption) × IsUnfit order unfinished key)
+module _ {C FP : Type 0} {order : CmpGhosts C} {filters : FilterGhosts FP}
+    (choices : TableChoices order filters) where
+  -- Why a pair isn't put into outputs whose open table has these pairs, where the numbers of files
+  -- come to this one: no table is built of some of them and it, the numbers are used up, or its key
+  -- is unfit.
+  abbrev pub IsPutFault : {E F : Type 0} → List Pair → Option (TableFile E C FP F) → Pair
+      → (later : ℕ) → Status → Type 0
+  IsPutFault pairs unfinished pair later status =
+      AreSomeNotTabled choices (pairs ++ pair ∷ []) status ⊎ AreFileNumbersUsedUp later status
+      ⊎ ((status.code ≡ Corruption) × IsUnfit order unfinished pair.0)
 
--- a builder fails, or the numbers of files are used up
-abbrev pub IsBeginFault : Codings → ℕ → Status → Type 0
-IsBeginFault codings next status =
-    IsBuildFault codings status ⊎ AreFileNumbersUsedUp next status
+  -- why no table is begun with a pair: none is built of it, or the numbers of files are used up
+  abbrev pub IsBeginFault : Pair → (later : ℕ) → Status → Type 0
+  IsBeginFault pair later status =
+      IsNotTabled choices (pair ∷ []) status ⊎ AreFileNumbersUsedUp later status
 
 -- ---- calls
 
@@ -193,14 +190,14 @@ module _ {C FP : Type 0} {order : CmpGhosts C} {filters : FilterGhosts FP}
     (first : ℕ) (tables : List (List Pair)) (pairs : List Pair) where
   -- What putting a pair leaves of outputs that have these pairs: it is in the open table, or that one
   -- ended and it is the first of a new one.
-  pub record PutsPair (limit : ℕ) (pair : Pair) (next : ℕ) (from : E) (old : OutputsValue E C FP F)
+  pub record PutsPair (limit : ℕ) (pair : Pair) (from : E) (old : OutputsValue E C FP F)
       (result : Result (Unit {0}) Status) (later : ℕ) (to : E) (new : OutputsValue E C FP F)
       : Type 0 where
     pub ok : let due = is_due limit pair.0 old in
         OnOk result (HaveOutputs choices env store first later to new
         (tables_after due tables pairs) (pairs_after due pairs pair))
     pub changes : ChangesNewTables env store first later from to
-    pub cause : FailsToWrite (IsPutFault order choices.format.codings next old.unfinished pair.0)
+    pub cause : FailsToWrite (IsPutFault choices pairs old.unfinished pair later)
         (env.failures from) (env.failures to) result
 
   -- what adding a pair to the open table leaves of them
@@ -209,7 +206,7 @@ module _ {C FP : Type 0} {order : CmpGhosts C} {filters : FilterGhosts FP}
     pub ok : OnOk result
         (HaveOutputs choices env store first next to new tables (pairs ++ pair ∷ []))
     pub changes : ChangesNewTables env store first next from to
-    pub cause : FailsToWrite (IsBuildFault choices.format.codings) (env.failures from)
+    pub cause : FailsToWrite (IsNotTabled choices (pairs ++ pair ∷ [])) (env.failures from)
         (env.failures to) result
 
   -- what finishing the open table leaves of them
@@ -218,5 +215,5 @@ module _ {C FP : Type 0} {order : CmpGhosts C} {filters : FilterGhosts FP}
     pub ok : IfOk result (λ made. AreTables choices env store first next to (files made)
         (with_table tables pairs))
     pub changes : ChangesNewTables env store first next from to
-    pub cause : FailsToWrite (IsBuildFault choices.format.codings) (env.failures from)
-        (env.failures to) result
+    pub cause : FailsToWrite (IsNotTabled choices pairs) (env.failures from) (env.failures to)
+        result

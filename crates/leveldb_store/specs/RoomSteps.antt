@@ -6,13 +6,15 @@ use Rattle.leveldb_base.specs.declared.cmp.Cmp.{Ghosts as CmpGhosts}
 use Rattle.leveldb_base.specs.declared.error.Status.{Status}
 use Rattle.leveldb_env.specs.declared.env.Env.{Ghosts}
 use Rattle.leveldb_env.specs.declared.filter.FilterPolicy.{Ghosts as FilterGhosts}
+use Rattle.leveldb_version.specs.TableCache.{files_at}
 use Rattle.leveldb_version.specs.VersionSetValue.{AreFileNumbersUsedUp}
 use Rattle.leveldb_store.specs.BuildTable.{TableChoices}
 use Rattle.leveldb_version.specs.Format.{Agrees, Format, Meaning}
 use Rattle.leveldb_store.specs.OpenStore.{IsUnbroken, OpenStoreValue}
 use Rattle.leveldb_store.specs.Room.{AreEntriesNotTabled, FailsFor, IsFileLost}
 use Rattle.leveldb_store.specs.SoundCall.{IsSoundCall}
-use Rattle.leveldb_store.specs.Written.{KeepsWritten, SparesRest}
+use Rattle.leveldb_store.specs.Written.{IsWritten, KeepsWritten, SparesRest}
+use Rattle.leveldb_store.specs.WrittenFrom.{AddsNoEntry}
 
 module _ {E F C : Type 0} (env : Ghosts E F) (cmp : List ℕ → List ℕ → Ordering) where
   -- Why no table is made of the entries that wait, where the device didn't fail: out of memory; the
@@ -36,3 +38,9 @@ module _ {E F C : Type 0} (env : Ghosts E F) (cmp : List ℕ → List ℕ → Or
     pub rest : SparesRest env.models_disk old (env.observed from) new (env.observed to)
     pub cause : FailsFor Excused (env.failures from) (env.failures to) result
     pub sound : IsSoundCall env cmp (Agrees format) old from result new to
+
+  -- of a store that is written no entry is new, as `AddsNoEntry` says
+  abbrev pub AddsNone : Format → OpenStoreValue C → E → OpenStoreValue C → E → Type 0
+  AddsNone format old from new to = IsTrue env.models_disk → (meaning : Meaning)
+      → Agrees format meaning → IsWritten cmp meaning old (files_at env from)
+      → AddsNoEntry cmp meaning old (files_at env from) new (files_at env to)

@@ -1,13 +1,12 @@
 -- A table that goes to its file block by block: what the file has, what changes on the way, and why
 -- that stops.
-use Rattle.std.specs.Prelude.{◌≡◌, ◌⊎◌, ◌<◌, ◌≤◌, ◌+◌, ◌^◌, ℕ, List, [], ◌∷◌, ◌++◌, length, false, Some, Result, Ok, Err, IsTrue}
+use Rattle.std.specs.Prelude.{◌≡◌, ◌⊎◌, ◌<◌, ◌≤◌, ◌+◌, ◌^◌, ℕ, List, [], ◌∷◌, ◌++◌, length, false, Some, Result, IsTrue}
 use Rattle.leveldb_base.specs.Error.{IsOutOfMemory}
 use Rattle.leveldb_base.specs.Types.{Pair}
 use Rattle.leveldb_base.specs.declared.cmp.Cmp.{Ghosts as CmpGhosts}
 use Rattle.leveldb_base.specs.declared.error.Status.{Status}
-use Rattle.leveldb_base.specs.declared.error.StatusCode.TheVariants.{NotSupported}
 use Rattle.leveldb_base.specs.declared.types.FileMetaData.{FileMetaData}
-use Rattle.leveldb_env.specs.Compressor.{Coding, Codings}
+use Rattle.leveldb_env.specs.Compressor.{Codings}
 use Rattle.leveldb_env.specs.Env.{AreBytes, File, HasCause, Run, SameBut, SameLocks, kept_file}
 use Rattle.leveldb_env.specs.EnvFile.{IsLonger, Opened, Syncs, done, failed, opened, opened_file}
 use Rattle.leveldb_env.specs.declared.env.Env.{Ghosts as EnvGhosts}
@@ -16,7 +15,6 @@ use Rattle.leveldb_table.specs.BlockBuilder.{last_added}
 use Rattle.leveldb_table.specs.TableBuilder.{IsBegun, TableBuilt, last_of, order_of, policy_of}
 use Rattle.leveldb_table.specs.TableBuilderAdd.{IsAddError}
 use Rattle.leveldb_table.specs.TableBuilderFinish.{IsFinishError}
-use Rattle.leveldb_version.specs.Store.{IsLastKey}
 use Rattle.leveldb_version.specs.StoreSteps.{AppendedAreBytes}
 use Rattle.leveldb_store.specs.BuildTable.{HasTaken, IsTableUnder, flushes_all, puts_all}
 
@@ -47,13 +45,6 @@ IsUncounted Own before now status = IsOutOfMemory status ⊎ (Own status × (now
 -- of these causes, out of memory, or since the device failed
 abbrev pub FailsToWrite : {T : Type 0} → (Status → Type 0) → ℕ → ℕ → Result T Status → Type 0
 FailsToWrite Own before now result = HasCause (IsUncounted Own before now) before now result
-
--- why a builder that isn't broken fails though no put does: out of memory, what isn't supported, or
--- a compressor that is set
-abbrev pub IsBuildFault : Codings → Status → Type 0
-IsBuildFault codings status = IsOutOfMemory status ⊎ (status.code ≡ NotSupported)
-    ⊎ ((id : ℕ) × (coding : Coding) × (codings id ≡ Some coding) × (block : List ℕ)
-    × IsTrue (coding.encode_fails block status.code))
 
 module _ {E F : Type 0} (env : EnvGhosts E F) where
   -- a call that writes a table's file failed, for one of these causes or another

@@ -1,15 +1,17 @@
 -- What a call keeps of an open store that may drop entries, as one that compacts: what the store
 -- showed it shows from the smallest held number on, which is the caller's.
-use Rattle.std.specs.Prelude.{◌≤◌, ℕ, Bool, List, IsTrue}
+use Rattle.std.specs.Prelude.{◌≤◌, ◌++◌, ℕ, Bool, List, Contains, IsTrue}
 use Rattle.std.specs.declared.cmp.Ordering.{Ordering}
-use Rattle.leveldb_base.specs.History.{History}
-use Rattle.leveldb_env.specs.Env.{Observed, Run}
+use Rattle.leveldb_base.specs.History.{Entry, History}
+use Rattle.leveldb_env.specs.Env.{Files, Observed, Run}
 use Rattle.leveldb_version.specs.Contents.{Store}
 use Rattle.leveldb_version.specs.Format.{IsTableOf, Meaning}
+use Rattle.leveldb_version.specs.Levels.{LiveTable, table_entries}
 use Rattle.leveldb_version.specs.ShownFrom.{KeepsFrom}
 use Rattle.leveldb_version.specs.StoreSteps.{KeepsHistory}
 use Rattle.leveldb_store.specs.OpenStore.{IsUnbroken, OpenStoreValue}
-use Rattle.leveldb_store.specs.Written.{IsWritten, KeepsStore, KeepsWritten, Shows}
+use Rattle.leveldb_store.specs.Read.{in_memory}
+use Rattle.leveldb_store.specs.Written.{HasLiveTables, IsWritten, KeepsStore, KeepsWritten, Shows}
 
 -- `cmp` is the order of user keys, and `meaning` what names and ids in the files mean.
 module _ {C : Type 0} (cmp : List ℕ → List ℕ → Ordering) (meaning : Meaning) where
@@ -33,3 +35,12 @@ module _ {C : Type 0} (cmp : List ℕ → List ℕ → Ordering) (meaning : Mean
   KeepsWrittenFrom smallest old from new to = (allowed : Store → Bool)
       → IsWritten cmp meaning old from.disk.files
       → KeepsStoreFrom smallest (λ store. IsTrue (allowed store)) old from new to
+
+  -- The store has live tables after a call, and no entry is new that is in memory or in one of them:
+  -- it was in memory or in a live table before.
+  abbrev pub AddsNoEntry : OpenStoreValue C → Files → OpenStoreValue C → Files → Type 0
+  AddsNoEntry old before new after = (live : List LiveTable)
+      → HasLiveTables cmp meaning old before live → (now : List LiveTable)
+      × HasLiveTables cmp meaning new after now
+      × ((entry : Entry) → Contains (in_memory new ++ table_entries now) entry
+      → Contains (in_memory old ++ table_entries live) entry)

@@ -1,10 +1,10 @@
 //! The loop of a compaction: the pairs of a walk go to new tables, but for those whose entries may
 //! go.
-ghost use Rattle.std.specs.Prelude.{List, ℕ};
+ghost use Rattle.std.specs.Prelude.{◌≡◌, List, ℕ};
 ghost use Rattle.leveldb_base.specs.Types.{Pair};
 ghost use Rattle.leveldb_store.specs.BuildTable.{choices_of};
-ghost use Rattle.leveldb_store.specs.Merging.{BearsNewTables, HasMerged, MergesTables, TakesPair, merge_of};
-ghost use Rattle.leveldb_store.specs.Opening.{GivesNumbers};
+ghost use Rattle.leveldb_store.specs.Merging.{HasMerged, MergesTables, MovesLeaveFiles, TakesPair, merge_of};
+ghost use Rattle.leveldb_store.specs.Opening.{GivesNumbers, TakesBackNew};
 ghost use Rattle.leveldb_store.specs.Switch.{MayGiveNumber};
 
 use crate::outputs::Outputs;
@@ -18,7 +18,7 @@ use leveldb_env::env::Env;
 use leveldb_env::filter::{FilterPolicy, InternalFilterPolicy};
 use leveldb_env::options::Options;
 use leveldb_iter::walk::Walk;
-use leveldb_version::version_set::LiveFiles;
+use leveldb_version::version_set::VersionSet;
 use std::alloc::{AllocError, Global};
 
 /// Where tables end, besides past their size.
@@ -51,7 +51,7 @@ impl<E: Env, C: UserCmp + Copy + Drop, FP: FilterPolicy + Copy + Drop> Merging<E
     fn take<L: MergeLevels, X: Cuts>(
         &mut self,
         env: &mut E,
-        versions: &mut LiveFiles<E>,
+        versions: &mut VersionSet<E, C>,
         plan: &MergePlan<'_, C, FP, L>,
         cut: &mut X,
         key: &[u8],
@@ -63,10 +63,11 @@ impl<E: Env, C: UserCmp + Copy + Drop, FP: FilterPolicy + Copy + Drop> Merging<E
             let merge = merge_of choices plan.now.store.now plan.now.smallest
             (L.is_base plan.now.levels.now) (L.is_among plan.now.levels.now) in
             (first : ℕ) (read : List Pair) → HasMerged merge E.Env first read
-            versions.old.next_file env.old self.old.passing self.old.outputs
-            → TakesPair merge E.Env first read (key.now, value.now) versions.old.next_file env.old
-            result versions.new.next_file env.new self.new.passing self.new.outputs }
-        ensures numbers { MayGiveNumber versions.old versions.new }
+            versions.old.set.next_file env.old self.old.passing self.old.outputs
+            → TakesPair merge E.Env first read (key.now, value.now) versions.old.set.next_file env.old
+            result versions.new.set.next_file env.new self.new.passing self.new.outputs }
+        ensures numbers { MayGiveNumber versions.old.set versions.new.set }
+        ensures version { versions.new.current ≡ versions.old.current }
     {
         if key.len() < TAG_LEN {
             return err(plan.alloc, StatusCode::Corruption, "a key has no tag");
@@ -110,7 +111,7 @@ pub fn merge_tables<
     env: &mut E,
     tables: &mut T,
     walk: &mut W,
-    versions: &mut LiveFiles<E>,
+    versions: &mut VersionSet<E, C>,
     plan: &MergePlan<'_, C, FP, L>,
     cut: &mut X,
 ) -> Result<Vec<FileMetaData>>
@@ -119,10 +120,12 @@ pub fn merge_tables<
         ⟦<CompressorList as Compressors>⟧.codings plan.now.options.now in
         let merge = merge_of choices plan.now.store.now plan.now.smallest
         (L.is_base plan.now.levels.now) (L.is_among plan.now.levels.now) in
-        BearsNewTables E.Env W.Walk plan.now.store.now versions.old.next_file (env.old, tables.old)
-        → MergesTables merge E.Env versions.old.next_file W.Walk (λ files. files.items)
-        (env.old, tables.old) walk.old result versions.new.next_file (env.new, tables.new) }
-    ensures numbers { GivesNumbers versions.old versions.new }
+        MovesLeaveFiles E.Env W.Walk
+        → MergesTables merge E.Env versions.old.set.next_file W.Walk (λ files. files.items)
+        (env.old, tables.old) walk.old result versions.new.set.next_file (env.new, tables.new) }
+    ensures numbers { GivesNumbers versions.old.set versions.new.set }
+    ensures back { TakesBackNew versions.old.set versions.new.set }
+    ensures version { versions.new.current ≡ versions.old.current }
 {
     let mut merging = Merging {
         passing: Passing::new(plan.alloc),

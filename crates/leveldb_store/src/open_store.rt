@@ -2,7 +2,10 @@
 ghost use Rattle.std.specs.Prelude.{◌≡◌, ◌↔◌, IsTrue, false};
 ghost use Rattle.leveldb_store.specs.OpenStore.{IsUnbroken};
 
+mod compact;
+mod compact_range;
 mod damage;
+mod merge_files;
 mod obsolete;
 mod read;
 mod room;

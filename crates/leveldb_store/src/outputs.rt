@@ -21,7 +21,7 @@ use leveldb_env::env::Env;
 use leveldb_env::filter::{FilterPolicy, InternalFilterPolicy};
 use leveldb_env::options::Options;
 use leveldb_table::table_builder::builder_core::BuilderCore;
-use leveldb_version::version_set::LiveFiles;
+use leveldb_version::version_set::VersionSet;
 use std::alloc::Global;
 use std::marker::Model;
 
@@ -76,7 +76,7 @@ impl<E: Env, C: UserCmp + Copy + Drop, FP: FilterPolicy + Copy + Drop> Outputs<E
     pub fn put(
         &mut self,
         env: &mut E,
-        versions: &mut LiveFiles<E>,
+        versions: &mut VersionSet<E, C>,
         store: &str,
         options: &Options<C, FP>,
         key: &[u8],
@@ -86,11 +86,12 @@ impl<E: Env, C: UserCmp + Copy + Drop, FP: FilterPolicy + Copy + Drop> Outputs<E
             ⟦<InternalKeyCmp<C> as Cmp>⟧ ⟦<InternalFilterPolicy<FP> as FilterPolicy>⟧
             ⟦<CompressorList as Compressors>⟧.codings options.now in
             (first : ℕ) (tables : List (List Pair)) (pairs : List Pair)
-            → HaveOutputs choices E.Env store.now first versions.old.next_file env.old self.old
+            → HaveOutputs choices E.Env store.now first versions.old.set.next_file env.old self.old
             tables pairs → PutsPair choices E.Env store.now first tables pairs
-            options.now.max_file_size (key.now, value.now) versions.old.next_file env.old self.old
-            result versions.new.next_file env.new self.new }
-        ensures numbers { MayGiveNumber versions.old versions.new }
+            options.now.max_file_size (key.now, value.now) env.old self.old result
+            versions.new.set.next_file env.new self.new }
+        ensures numbers { MayGiveNumber versions.old.set versions.new.set }
+        ensures version { versions.new.current ≡ versions.old.current }
     {
         if key.len() < TAG_LEN {
             return err(self.alloc, StatusCode::Corruption, "a key has no tag");
@@ -190,7 +191,7 @@ impl<E: Env, C: UserCmp + Copy + Drop, FP: FilterPolicy + Copy + Drop> Outputs<E
     fn begin(
         &mut self,
         env: &mut E,
-        versions: &mut LiveFiles<E>,
+        versions: &mut VersionSet<E, C>,
         store: &str,
         options: &Options<C, FP>,
         key: &[u8],
@@ -202,16 +203,19 @@ impl<E: Env, C: UserCmp + Copy + Drop, FP: FilterPolicy + Copy + Drop> Outputs<E
             ⟦<InternalKeyCmp<C> as Cmp>⟧ ⟦<InternalFilterPolicy<FP> as FilterPolicy>⟧
             ⟦<CompressorList as Compressors>⟧.codings options.now in
             (first : ℕ) (tables : List (List Pair)) → AreTables choices E.Env store.now first
-            versions.old.next_file env.old self.old.done tables
+            versions.old.set.next_file env.old self.old.done tables
             → AreCutBefore ((key.now, value.now) ∷ []) tables
-            → OnOk result (HaveOutputs choices E.Env store.now first versions.new.next_file env.new
+            → OnOk result (HaveOutputs choices E.Env store.now first versions.new.set.next_file env.new
             self.new tables ((key.now, value.now) ∷ [])) }
-        ensures changes { ChangesNewTables E.Env store.now versions.old.next_file
-            versions.new.next_file env.old env.new }
-        ensures cause { let codings = ⟦<CompressorList as Compressors>⟧.codings
-            options.now.compressor_list in FailsToWrite (IsBeginFault codings
-            versions.old.next_file) (E.failures env.old) (E.failures env.new) result }
-        ensures numbers { MayGiveNumber versions.old versions.new }
+        ensures changes { ChangesNewTables E.Env store.now versions.old.set.next_file
+            versions.new.set.next_file env.old env.new }
+        ensures cause { let choices = choices_of C.Cmp FP.FilterPolicy
+            ⟦<InternalKeyCmp<C> as Cmp>⟧ ⟦<InternalFilterPolicy<FP> as FilterPolicy>⟧
+            ⟦<CompressorList as Compressors>⟧.codings options.now in
+            FailsToWrite (IsBeginFault choices (key.now, value.now) versions.new.set.next_file)
+            (E.failures env.old) (E.failures env.new) result }
+        ensures numbers { MayGiveNumber versions.old.set versions.new.set }
+        ensures version { versions.new.current ≡ versions.old.current }
     {
         self.done.reserve(1)?;
         let smallest = copied_key(self.alloc, key)?;

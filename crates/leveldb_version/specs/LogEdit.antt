@@ -1,10 +1,10 @@
 -- What logging an edit does to a version set and to its manifest.
-use Rattle.std.specs.Prelude.{◌≡◌, ◌≢◌, ◌⊎◌, ℕ, Bool, List, [], ◌∷◌, Some, None, Result, IfErr, IsErrAnd, IsTrue, OnOk}
+use Rattle.std.specs.Prelude.{◌≡◌, ◌≢◌, ◌⊎◌, ◌<◌, ◌^◌, ℕ, Bool, List, [], ◌∷◌, Some, None, Result, IfErr, IsErrAnd, IsTrue, OnOk}
 use Rattle.std.specs.Option.{option_or, unwrap_or}
 use Rattle.leveldb_base.specs.declared.error.Status.{Status}
 use Rattle.leveldb_base.specs.declared.error.StatusCode.TheVariants.{InvalidArgument}
 use Rattle.leveldb_base.specs.Error.{IsOutOfMemory}
-use Rattle.leveldb_env.specs.Env.{AppendedAreBytes, ChangesFiles, Files, FilesUnchanged, HasCause, Observed, PrefixAppended, Run, extended, synced}
+use Rattle.leveldb_env.specs.Env.{AppendedAreBytes, AreBytes, ChangesFiles, Files, FilesUnchanged, HasCause, Observed, PrefixAppended, Run, extended, synced}
 use Rattle.leveldb_env.specs.WholeFiles.{IsLost, IsLostUnobserved}
 use Rattle.leveldb_mem.specs.Log.{log_block_size}
 use Rattle.leveldb_mem.specs.Log.Writer.{IsWriterBroken, after_frame, frame, new_writer}
@@ -78,6 +78,15 @@ pub record AppendsEdit (models_disk : Bool) (manifest : OpenManifest) (old : Ver
   -- an Err is out of memory, the manifest is missing, or a failure was counted
   pub cause : HasCause (IsLost models_disk manifest.path before failed now_failed)
       failed now_failed result
+
+-- The edit's record is bytes, and the next file's number has 64 bits; or the call fails before it
+-- does anything.
+abbrev pub WritesBytes : Bool → VersionSetValue → Edit → Observed → Result (Unit {0}) Status
+    → Observed → Type 0
+WritesBytes models_disk old edit before result after =
+    (AreBytes (edit_record old edit) × (old.next_file < 2 ^ 64))
+    ⊎ (OnOk result ⊥
+    × (IsTrue models_disk → Run (FilesUnchanged before.disk.files) before after))
 
 -- ---- into a new manifest
 

@@ -137,9 +137,10 @@ impl<C: UserCmp + Copy + Drop> Compaction<C> {
         self.inputs.files(self.level + parent).get(index)
     }
 
-    /// The files that it takes, as a version.
+    /// The files that it takes, as a version in the order of its own.
     pub fn inputs(&self) -> &Version<C>
-        ensures { result.now ≡ self.now.inputs }
+        ensures inputs { result.now ≡ self.now.inputs }
+        ensures order { self.now.inputs.cmp ≡ self.now.version.cmp }
     {
         &self.inputs
     }

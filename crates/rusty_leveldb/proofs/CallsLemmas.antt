@@ -32,7 +32,7 @@ use Rattle.rusty_leveldb.specs.Frame.{MayTouch}
 use Rattle.rusty_leveldb.specs.Machine.{Step}
 use Rattle.rusty_leveldb.specs.Serves.{refusal_of, setting_between}
 use Rattle.rusty_leveldb.specs.State as machine
-use Rattle.rusty_leveldb.specs.State.{Refusal, Request, Snapshot, State, close, flush, get, refused, write}
+use Rattle.rusty_leveldb.specs.State.{Refusal, Request, Snapshot, State, close, compact_range, flush, get, refused, write}
 use Rattle.rusty_leveldb.proofs.ClosingLemmas.{close_locked, close_unsynced, closed_now, counted_error, flush_goes}
 use Rattle.rusty_leveldb.proofs.EngineLemmas.{follows_broken, follows_open}
 use Rattle.rusty_leveldb.proofs.Moments.{moments_none}
@@ -74,6 +74,7 @@ halted_by mode e = ⊎_elim (λ (out : RefusedAsClosed mode e). inl out.0)
 abbrev pub Writes : Request → Type 0
 Writes (write items sync) = Unit {0}
 Writes flush = Unit {0}
+Writes (compact_range low high) = Unit {0}
 Writes close = Unit {0}
 Writes request = ⊥
 
@@ -82,6 +83,7 @@ module _ (setting : Setting) (old : State) where
       → Step machine.closed setting old request (refused refusal) old
   closed_step (write items sync) writes refusal says = (says, refl)
   closed_step flush writes refusal says = (says, refl)
+  closed_step (compact_range low high) writes refusal says = (says, refl)
   closed_step close writes refusal says = (says, refl)
   closed_step request writes refusal says = absurd writes
 
@@ -89,6 +91,7 @@ module _ (setting : Setting) (old : State) where
       → Step machine.broken setting old request (refused refusal) old
   broken_step (write items sync) writes refusal says = (says, refl)
   broken_step flush writes refusal says = (says, refl)
+  broken_step (compact_range low high) writes refusal says = (says, refl)
   broken_step close writes refusal says = (says, refl)
   broken_step request writes refusal says = absurd writes
 

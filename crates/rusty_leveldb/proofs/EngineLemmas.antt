@@ -211,6 +211,23 @@ module _ {E C FP F : Type 0} {B : Boxed} {keys : InternalOrder C} (env : Ghosts 
   SameSnapshots new = (new.mode ≡ machine.closed → ⊥)
       → (new.held ≡ old.held) × (new.given ≡ old.given)
 
+  -- a call that keeps what is shown, and takes no entry from the history, keeps the views
+  pub views_kept : (value : OpenStoreValue C) (files : Files) (new : State) → SameSnapshots new
+      → new.format ≡ old.format
+      → greatest (entries_of old.history) ≤ greatest (entries_of new.history)
+      → KeepsShown order meaning before.store (env.observed from).disk.files old.history value files
+      new.history
+      → (new.mode ≡ machine.closed → ⊥) → ShowsViews meaning value files new
+  views_kept value files new snapshots format_is grows shows used =
+      let views = was.memory_is.shows not_closed in record {
+        since = views.since;
+        shows = subst (λ (f : Format). Shows f.order meaning value files new.history views.since)
+            (sym format_is) (shows views.since views.shows);
+        now = let least = views.now in omega (arith, least, grows);
+        held = λ one there. views.held one
+            (subst (λ held. Contains held one) (snapshots used).0 there);
+      }
+
   -- What the engine and the environment are in the end, for this state of the machine. It has the
   -- store and the format of the state before, and its snapshots.
   pub record Ends (after : EngineOf E C FP F B) (to : E) (new : State) : Type 0 where
@@ -221,9 +238,8 @@ module _ {E C FP F : Type 0} {B : Boxed} {keys : InternalOrder C} (env : Ghosts 
     pub format_is : new.format ≡ old.format
     pub mode : after.mode ≡ new.mode
     pub last : after.store.set.last_sequence ≡ new.last
-    pub grows : greatest (entries_of old.history) ≤ greatest (entries_of new.history)
-    pub shows : KeepsShown order meaning before.store (env.observed from).disk.files old.history
-        after.store (env.observed to).disk.files new.history
+    pub views : (new.mode ≡ machine.closed → ⊥)
+        → ShowsViews meaning after.store (env.observed to).disk.files new
     pub snapshots : after.snapshots ≡ before.snapshots
     pub same_snapshots : SameSnapshots new
     pub tables : HasOwnTables keys env formats after (env.observed to).disk.files
@@ -236,19 +252,6 @@ module _ {E C FP F : Type 0} {B : Boxed} {keys : InternalOrder C} (env : Ghosts 
 
   module _ (after : EngineOf E C FP F B) (to : E) (new : State)
       (ends : Ends after to new) where
-    views_then : (new.mode ≡ machine.closed → ⊥)
-        → ShowsViews meaning after.store (env.observed to).disk.files new
-    views_then used =
-        let views = was.memory_is.shows not_closed in record {
-          since = views.since;
-          shows = subst (λ (f : Format). Shows f.order meaning after.store
-              (env.observed to).disk.files new.history views.since) (sym ends.format_is)
-              (ends.shows views.since views.shows);
-          now = let least = views.now in let more = ends.grows in omega (arith, least, more);
-          held = λ one there. views.held one
-              (subst (λ held. Contains held one) (ends.same_snapshots used).0 there);
-        }
-
     snapshots_then : (new.mode ≡ machine.closed → ⊥) → HasSnapshots after.snapshots new
     snapshots_then used =
         let has : HasSnapshots after.snapshots old =
@@ -270,7 +273,7 @@ module _ {E C FP F : Type 0} {B : Boxed} {keys : InternalOrder C} (env : Ghosts 
       named = λ in_use. ends.store_is ∙ name_is
           ∙ ap (λ (f : Format). made (Some f.order_name)) (sym ends.format_is);
       last = λ in_use. ends.last;
-      shows = views_then;
+      shows = ends.views;
       snapshots = snapshots_then;
       tables = λ in_use. ends.tables;
       writes = λ is. subst (λ (f : Format). IsWritten f.order meaning after.store

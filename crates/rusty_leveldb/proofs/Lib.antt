@@ -4,6 +4,7 @@ pub mod RunsLemmas
 pub mod LawsLemmas
 mod ViewsLemmas
 mod WalkLawsLemmas
+pub mod CompactionLawsLemmas
 pub mod ReadsLemmas
 pub mod UnopenedLemmas
 pub mod Bounds
@@ -37,7 +38,9 @@ pub mod ClosingLemmas
 pub mod ReadingLemmas
 pub mod WalkLemmas
 pub mod WalkingLemmas
+pub mod KeptLemmas
 pub mod WritingLemmas
+pub mod CompactingLemmas
 pub mod RestLemmas
 pub mod SnapshotLemmas
 pub mod CallsLemmas
@@ -47,5 +50,6 @@ mod IteratorLawsLemmas
 mod IteratingLemmas
 mod ScanLemmas
 pub mod WriteCallLemmas
+pub mod CompactCallLemmas
 pub mod UnknownLemmas
 mod RowLemmas

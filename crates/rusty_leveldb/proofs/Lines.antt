@@ -52,6 +52,7 @@ no_put words none command.Snap bytes e = other_heads 112 115 _ _ (λ h. omega (a
 no_put words none (command.GetAt number key) bytes e = other_heads 112 103 _ _ (λ h. omega (arith, h)) e.2
 no_put words none (command.Release number) bytes e = other_heads 112 114 _ _ (λ h. omega (arith, h)) e.2
 no_put words none (command.Walk at moves) bytes e = other_heads 112 119 _ _ (λ h. omega (arith, h)) e.2
+no_put words none (command.Compact from to) bytes e = other_heads 112 99 _ _ (λ h. omega (arith, h)) e
 no_put words none command.Flush bytes e = other_heads 112 102 _ _ (λ h. omega (arith, h)) e
 no_put words none command.Close bytes e = other_heads 112 99 _ _ (λ h. omega (arith, h)) e
 
@@ -64,6 +65,7 @@ no_delete word none command.Snap bytes e = other_heads 100 115 _ _ (λ h. omega 
 no_delete word none (command.GetAt number key) bytes e = other_heads 100 103 _ _ (λ h. omega (arith, h)) e.2
 no_delete word none (command.Release number) bytes e = other_heads 100 114 _ _ (λ h. omega (arith, h)) e.2
 no_delete word none (command.Walk at moves) bytes e = other_heads 100 119 _ _ (λ h. omega (arith, h)) e.2
+no_delete word none (command.Compact from to) bytes e = other_heads 100 99 _ _ (λ h. omega (arith, h)) e
 no_delete word none command.Flush bytes e = other_heads 100 102 _ _ (λ h. omega (arith, h)) e
 no_delete word none command.Close bytes e = other_heads 100 99 _ _ (λ h. omega (arith, h)) e
 
@@ -76,6 +78,7 @@ no_get word none command.Snap bytes e = other_heads 103 115 _ _ (λ h. omega (ar
 no_get word none (command.GetAt number key) bytes e = other_heads 32 97 _ _ (λ h. omega (arith, h)) (ap (drop 3) e.2)
 no_get word none (command.Release number) bytes e = other_heads 103 114 _ _ (λ h. omega (arith, h)) e.2
 no_get word none (command.Walk at moves) bytes e = other_heads 103 119 _ _ (λ h. omega (arith, h)) e.2
+no_get word none (command.Compact from to) bytes e = other_heads 103 99 _ _ (λ h. omega (arith, h)) e
 no_get word none command.Flush bytes e = other_heads 103 102 _ _ (λ h. omega (arith, h)) e
 no_get word none command.Close bytes e = other_heads 103 99 _ _ (λ h. omega (arith, h)) e
 
@@ -93,6 +96,7 @@ only_get_at words none (command.GetAt number key) bytes e =
     (append_cancel_left (codes "getat ") words ((e.0 ++ codes " ") ++ hex_word key.items) e.2 ∙ append_assoc e.0 (codes " ") (hex_word key.items))
 only_get_at words none (command.Release number) bytes e = other_heads 103 114 _ _ (λ h. omega (arith, h)) e.2
 only_get_at words none (command.Walk at moves) bytes e = other_heads 103 119 _ _ (λ h. omega (arith, h)) e.2
+only_get_at words none (command.Compact from to) bytes e = other_heads 103 99 _ _ (λ h. omega (arith, h)) e
 only_get_at words none command.Flush bytes e = other_heads 103 102 _ _ (λ h. omega (arith, h)) e
 only_get_at words none command.Close bytes e = other_heads 103 99 _ _ (λ h. omega (arith, h)) e
 
@@ -143,8 +147,27 @@ no_release digits none (command.Release number) bytes e =
     let P : List ℕ → Type 0 = λ xs. IsNumber xs number in
     none number (subst P (sym (append_cancel_left (codes "release ") digits e.0 e.2)) e.1)
 no_release digits none (command.Walk at moves) bytes e = other_heads 114 119 _ _ (λ h. omega (arith, h)) e.2
+no_release digits none (command.Compact from to) bytes e = other_heads 114 99 _ _ (λ h. omega (arith, h)) e
 no_release digits none command.Flush bytes e = other_heads 114 102 _ _ (λ h. omega (arith, h)) e
 no_release digits none command.Close bytes e = other_heads 114 99 _ _ (λ h. omega (arith, h)) e
+
+pub no_compact : (words : List ℕ) → IsPairReading 32 words None → IsNoLine (codes "compact " ++ words)
+no_compact words none (command.Put key value) bytes e = other_heads 99 112 _ _ (λ h. omega (arith, h)) e
+no_compact words none (command.Delete key) bytes e = other_heads 99 100 _ _ (λ h. omega (arith, h)) e
+no_compact words none (command.Write sync items) bytes e = other_heads 99 119 _ _ (λ h. omega (arith, h)) e
+no_compact words none (command.Get key) bytes e = other_heads 99 103 _ _ (λ h. omega (arith, h)) e
+no_compact words none command.Snap bytes e = other_heads 99 115 _ _ (λ h. omega (arith, h)) e
+no_compact words none (command.GetAt number key) bytes e = other_heads 99 103 _ _ (λ h. omega (arith, h)) e.2
+no_compact words none (command.Release number) bytes e = other_heads 99 114 _ _ (λ h. omega (arith, h)) e.2
+no_compact words none (command.Walk at moves) bytes e = other_heads 99 119 _ _ (λ h. omega (arith, h)) e.2
+no_compact words none (command.Compact from to) bytes e =
+    none from.items to.items (
+      bytes.0,
+      bytes.1,
+      append_cancel_left (codes "compact ") words ((hex_word from.items ++ codes " ") ++ hex_word to.items) e ∙ append_assoc (hex_word from.items) (codes " ") (hex_word to.items),
+    )
+no_compact words none command.Flush bytes e = other_heads 99 102 _ _ (λ h. omega (arith, h)) e
+no_compact words none command.Close bytes e = other_heads 111 108 _ _ (λ h. omega (arith, h)) (ap (drop 1) e)
 
 -- a line that begins as a write is a write
 only_write : (words : List ℕ) → ((sync : Bool) (items : List Item) → All ItemHasBytes items → words ≡ sync_word sync ++ words_text item_word items → ⊥)
@@ -157,6 +180,7 @@ only_write words none command.Snap bytes e = other_heads 119 115 _ _ (λ h. omeg
 only_write words none (command.GetAt number key) bytes e = other_heads 119 103 _ _ (λ h. omega (arith, h)) e.2
 only_write words none (command.Release number) bytes e = other_heads 119 114 _ _ (λ h. omega (arith, h)) e.2
 only_write words none (command.Walk at moves) bytes e = other_heads 114 97 _ _ (λ h. omega (arith, h)) (ap (drop 1) e.2)
+only_write words none (command.Compact from to) bytes e = other_heads 119 99 _ _ (λ h. omega (arith, h)) e
 only_write words none command.Flush bytes e = other_heads 119 102 _ _ (λ h. omega (arith, h)) e
 only_write words none command.Close bytes e = other_heads 119 99 _ _ (λ h. omega (arith, h)) e
 
@@ -192,6 +216,7 @@ only_walk words none command.Snap bytes e = other_heads 119 115 _ _ (λ h. omega
 only_walk words none (command.GetAt number key) bytes e = other_heads 119 103 _ _ (λ h. omega (arith, h)) e.2
 only_walk words none (command.Release number) bytes e = other_heads 119 114 _ _ (λ h. omega (arith, h)) e.2
 only_walk words none (command.Walk at moves) bytes e = none at e.0 moves.items e.1 bytes (append_cancel_left (codes "walk ") words (e.0 ++ words_text move_word moves.items) e.2)
+only_walk words none (command.Compact from to) bytes e = other_heads 119 99 _ _ (λ h. omega (arith, h)) e
 only_walk words none command.Flush bytes e = other_heads 119 102 _ _ (λ h. omega (arith, h)) e
 only_walk words none command.Close bytes e = other_heads 119 99 _ _ (λ h. omega (arith, h)) e
 
@@ -203,18 +228,20 @@ pub no_name : (line : List ℕ) → (line ≢ codes "snap") × (line ≢ codes "
     → ((rest : List ℕ) → line ≢ codes "get " ++ rest)
     → ((rest : List ℕ) → line ≢ codes "getat " ++ rest)
     → ((rest : List ℕ) → line ≢ codes "release " ++ rest)
+    → ((rest : List ℕ) → line ≢ codes "compact " ++ rest)
     → ((rest : List ℕ) → line ≢ codes "walk " ++ rest)
     → IsNoLine line
-no_name line no_names no_put_line no_delete_line no_write_line no_get_line no_get_at_line no_release_line no_walk_line (command.Put key value) bytes e = no_put_line ((hex_word key.items ++ codes " ") ++ hex_word value.items) e
-no_name line no_names no_put_line no_delete_line no_write_line no_get_line no_get_at_line no_release_line no_walk_line (command.Delete key) bytes e = no_delete_line (hex_word key.items) e
-no_name line no_names no_put_line no_delete_line no_write_line no_get_line no_get_at_line no_release_line no_walk_line (command.Write sync items) bytes e = no_write_line (sync_word sync ++ words_text item_word items.items) e
-no_name line no_names no_put_line no_delete_line no_write_line no_get_line no_get_at_line no_release_line no_walk_line (command.Get key) bytes e = no_get_line (hex_word key.items) e
-no_name line no_names no_put_line no_delete_line no_write_line no_get_line no_get_at_line no_release_line no_walk_line command.Snap bytes e = no_names.0 e
-no_name line no_names no_put_line no_delete_line no_write_line no_get_line no_get_at_line no_release_line no_walk_line (command.GetAt number key) bytes e = no_get_at_line ((e.0 ++ codes " ") ++ hex_word key.items) e.2
-no_name line no_names no_put_line no_delete_line no_write_line no_get_line no_get_at_line no_release_line no_walk_line (command.Release number) bytes e = no_release_line e.0 e.2
-no_name line no_names no_put_line no_delete_line no_write_line no_get_line no_get_at_line no_release_line no_walk_line (command.Walk at moves) bytes e = no_walk_line (e.0 ++ words_text move_word moves.items) e.2
-no_name line no_names no_put_line no_delete_line no_write_line no_get_line no_get_at_line no_release_line no_walk_line command.Flush bytes e = no_names.1 e
-no_name line no_names no_put_line no_delete_line no_write_line no_get_line no_get_at_line no_release_line no_walk_line command.Close bytes e = no_names.2 e
+no_name line no_names no_put_line no_delete_line no_write_line no_get_line no_get_at_line no_release_line no_compact_line no_walk_line (command.Put key value) bytes e = no_put_line ((hex_word key.items ++ codes " ") ++ hex_word value.items) e
+no_name line no_names no_put_line no_delete_line no_write_line no_get_line no_get_at_line no_release_line no_compact_line no_walk_line (command.Delete key) bytes e = no_delete_line (hex_word key.items) e
+no_name line no_names no_put_line no_delete_line no_write_line no_get_line no_get_at_line no_release_line no_compact_line no_walk_line (command.Write sync items) bytes e = no_write_line (sync_word sync ++ words_text item_word items.items) e
+no_name line no_names no_put_line no_delete_line no_write_line no_get_line no_get_at_line no_release_line no_compact_line no_walk_line (command.Get key) bytes e = no_get_line (hex_word key.items) e
+no_name line no_names no_put_line no_delete_line no_write_line no_get_line no_get_at_line no_release_line no_compact_line no_walk_line command.Snap bytes e = no_names.0 e
+no_name line no_names no_put_line no_delete_line no_write_line no_get_line no_get_at_line no_release_line no_compact_line no_walk_line (command.GetAt number key) bytes e = no_get_at_line ((e.0 ++ codes " ") ++ hex_word key.items) e.2
+no_name line no_names no_put_line no_delete_line no_write_line no_get_line no_get_at_line no_release_line no_compact_line no_walk_line (command.Release number) bytes e = no_release_line e.0 e.2
+no_name line no_names no_put_line no_delete_line no_write_line no_get_line no_get_at_line no_release_line no_compact_line no_walk_line (command.Walk at moves) bytes e = no_walk_line (e.0 ++ words_text move_word moves.items) e.2
+no_name line no_names no_put_line no_delete_line no_write_line no_get_line no_get_at_line no_release_line no_compact_line no_walk_line (command.Compact from to) bytes e = no_compact_line ((hex_word from.items ++ codes " ") ++ hex_word to.items) e
+no_name line no_names no_put_line no_delete_line no_write_line no_get_line no_get_at_line no_release_line no_compact_line no_walk_line command.Flush bytes e = no_names.1 e
+no_name line no_names no_put_line no_delete_line no_write_line no_get_line no_get_at_line no_release_line no_compact_line no_walk_line command.Close bytes e = no_names.2 e
 
 -- ---- changes
 

@@ -25,11 +25,11 @@ use Rattle.leveldb_store.proofs.SwitchLemmas.{tables_same}
 use Rattle.leveldb_store.specs.OpenStore.{OpenStoreValue}
 use Rattle.leveldb_store.specs.Write.{SyncsLog, open_log_path, with_writer}
 use Rattle.leveldb_store.specs.WriteBatch.{WritesBatch}
-use Rattle.leveldb_store.specs.Written.{IsData, KeepsGivenTables}
+use Rattle.leveldb_store.specs.Written.{IsData, KeepsGivenTables, SparesRest}
 use Rattle.rusty_leveldb.specs.Boxes.{EngineOf, InternalOrder}
 use Rattle.rusty_leveldb.specs.Calls.{IsLockLeft, LeavesRest, SparesBut, held_after}
 use Rattle.rusty_leveldb.specs.Engine.{holds_lock, options_in}
-use Rattle.rusty_leveldb.specs.Frame.{MayTouchOrLog, SameBytes, Spares, Touches}
+use Rattle.rusty_leveldb.specs.Frame.{IsSyncing, MayTouchOrLog, SameBytes, Spares, Touches}
 use Rattle.rusty_leveldb.specs.State as machine
 use Rattle.rusty_leveldb.specs.State.{Request, Snapshot, abandon, close, flush, get, open_mode, write}
 use Rattle.rusty_leveldb.proofs.ClosingLemmas.{freed, freed_other}
@@ -304,6 +304,31 @@ module _ {E C FP F : Type 0} {B : Boxed} (env : Ghosts E F)
             given_but modelled path differs = ap (λ (f : Files). f path) (does.now modelled)
                 ∙ sync_but modelled path differs
 
+    -- ---- calls that change data alone, and add no batch
+
+    pub rest_kept : {T : Type 0} (request : Request) (result : Result T Status)
+        → ((kind : FileType) → Touches open_mode request kind → IsData kind)
+        → ((kind : FileType) → IsData kind → Touches open_mode request kind)
+        → ((held : Bool) → held ≡ held_after request held) → (IsSyncing request → ⊥)
+        → (after : EngineOf E C FP F B) (to : E) → after.lock ≡ before.lock
+        → SparesRest env.models_disk before.store (env.observed from) after.store (env.observed to)
+        → LeavesRest env before from request result after to
+    rest_kept request result of_data touches left syncs_not after to lock rest = record {
+      place = (lock, rest.store);
+      others = λ modelled own. open_spares request (open_log_path after.store)
+          after.store.log.number to
+          (ap (λ s. log_path s after.store.log.number) rest.store) of_data
+          (λ path foreign. rest.files modelled path
+          (λ may. foreign (inl (may.0, touches may.0 may.1, may.2))))
+          (λ path differs. ap (λ (l : List ℕ → Bool). l path) (rest.locks modelled));
+      lock = λ modelled. lock_stays request result (holds_lock env before from)
+          (holds_lock env before to)
+          (ap (λ (l : List ℕ → Bool). l before.lock) (rest.locks modelled))
+          (left (holds_lock env before from));
+      tables = rest.tables;
+      bytes = λ modelled syncs. absurd (syncs_not syncs);
+    }
+
     -- ---- writes
 
     module _ {P : Type 0} {keys : InternalOrder C} {key_filters : FilterGhosts P}
@@ -313,23 +338,9 @@ module _ {E C FP F : Type 0} {B : Boxed} (env : Ghosts E F)
       pub rest_roomless : (after : EngineOf E C FP F B) (to : E) (status : Status)
           → EngineMakesRoom env choices before from (Err status) after to
           → LeavesRest env {T = Unit {0}} before from (write items sync) (Err status) after to
-      rest_roomless after to status made = record {
-        place = (
-          ap (λ (e : EngineOf E C FP F B). e.lock) made.rest,
-          made.makes.rest.store,
-        );
-        others = λ modelled own. open_spares (write items sync) (open_log_path after.store)
-            after.store.log.number to
-            (ap (λ s. log_path s after.store.log.number) made.makes.rest.store) (λ kind is. is)
-            (λ path foreign. made.makes.rest.files modelled path (λ may. foreign (inl may)))
-            (λ path differs. ap (λ (l : List ℕ → Bool). l path) (made.makes.rest.locks modelled));
-        lock = λ modelled. (
-          tt,
-          ap (λ (l : List ℕ → Bool). l before.lock) (made.makes.rest.locks modelled),
-        );
-        tables = made.makes.rest.tables;
-        bytes = λ modelled syncs. absurd syncs;
-      }
+      rest_roomless after to status made = rest_kept (write items sync) (Err status)
+          (λ kind is. is) (λ kind is. is) (λ held. refl) (λ syncs. syncs) after to
+          (ap (λ (e : EngineOf E C FP F B). e.lock) made.rest) made.makes.rest
 
       -- it was, and then the batch was written or not
       module _ (roomy : EngineOf E C FP F B) (mid : E)

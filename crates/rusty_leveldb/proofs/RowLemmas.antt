@@ -13,10 +13,10 @@ use Rattle.leveldb_version.specs.Format.{Format, Meaning}
 use Rattle.rusty_leveldb.specs.Boxes.{EngineOf, InternalOrder}
 use Rattle.rusty_leveldb.specs.Causes.{Cause, out_of_memory, device_failed, lock_is_held, bad_operand, store_exists, used_up, too_large, compressor_failed, lacks_compressor, Comes, IsBrokenRefusal, IsClosedRefusal, Setting}
 use Rattle.rusty_leveldb.specs.Engine.{Answers, AnswersAs}
-use Rattle.rusty_leveldb.specs.Machine.{Abandons, AllDurable, Breaks, Closes, Gives, Keeps, KeepsOrBreaks, LeavesRefused, MayBreak, Opens, Rejects, Releases, Risk, Step, Writes, added_batch, risk_between, risk_of}
-use Rattle.rusty_leveldb.specs.Rows.{FindsValue, FromEachState, FromStatesOf, IsAbandoned, NotClosed, NotFlushed, NotOpened, NotUnlocked, NotWritten, RejectsByMode, Row, StaysAsItWas, WalksView}
-use Rattle.rusty_leveldb.specs.Serves.{IsSpared, done_or, found_or, given_engine, refusal_of, setting_between, snapshot_of, snapshot_or}
-use Rattle.rusty_leveldb.specs.State.{Answer, Mode, Opening, open_mode, open_store, broken, closed, Refusal, Request, Snapshot, State, abandon, close, done, flush, found, get, get_snapshot, refused, release_snapshot, snapshot, walk, walked, write}
+use Rattle.rusty_leveldb.specs.Machine.{AllDurable, Breaks, Closes, Gives, Keeps, KeepsOrBreaks, LeavesRefused, Opens, Rejects, Releases, Risk, Step, Writes, added_batch, risk_between, risk_of}
+use Rattle.rusty_leveldb.specs.Rows.{FindsValue, FromEachState, FromStatesOf, IsAbandoned, IsMemoryOrDevice, NotClosed, NotCompacted, NotFlushed, NotOpened, NotUnlocked, NotWritten, RejectsByMode, Row, StaysAsItWas, WalksView}
+use Rattle.rusty_leveldb.specs.Serves.{IsSpared, done_or, found_or, refusal_of, setting_between, snapshot_of, snapshot_or}
+use Rattle.rusty_leveldb.specs.State.{Answer, Mode, Opening, open_mode, open_store, broken, closed, Request, Snapshot, State, abandon, close, compact_range, done, flush, found, get, get_snapshot, refused, release_snapshot, snapshot, walk, walked, write}
 use Rattle.rusty_leveldb.specs.Walks.{landing_of, walk_of, walked_or}
 
 -- ---- from a step to a row
@@ -57,6 +57,12 @@ flushes : IsRowOf flush done (λ _ old new. AllDurable old new)
 flushes setting old new closed step = absurd step
 flushes setting old new broken step = absurd step
 flushes setting old new open_mode step = step.1
+
+compacts : (low high : List ℕ)
+    → IsRowOf (compact_range low high) done (λ _ old new. Keeps old new)
+compacts low high setting old new closed step = absurd step
+compacts low high setting old new broken step = absurd step
+compacts low high setting old new open_mode step = step.1
 
 -- a request that its mode refuses
 rejects_closed : (e : Status) (old new : State) → old.mode ≡ closed
@@ -104,6 +110,25 @@ module _ (e : Status) (setting : Setting) (old new : State) where
   not_closed closed is step = inl (rejects_closed e old new is step)
   not_closed broken is step = inl (rejects_broken e old new is step)
   not_closed open_mode is step = left_unclosed step.cause step.comes step.leaves
+
+module _ (low high : List ℕ) (e : Status) (setting : Setting) (old new : State) where
+  left_uncompacted : (cause : Cause) → Comes setting old (compact_range low high) (refusal_of e) cause
+      → LeavesRefused setting old (compact_range low high) (refusal_of e) cause new
+      → Keeps old new ⊎ (IsMemoryOrDevice setting e × Breaks old None new)
+  left_uncompacted out_of_memory comes (inl keeps) = inl keeps
+  left_uncompacted out_of_memory comes (inr breaks) = inr (inl comes.1, breaks.1)
+  left_uncompacted device_failed comes (inl keeps) = inl keeps
+  left_uncompacted device_failed comes (inr breaks) = inr (inr comes.1, breaks.1)
+  left_uncompacted cause comes (inl keeps) = inl keeps
+  left_uncompacted cause comes (inr breaks) = absurd breaks.0
+
+  not_compacted : (mode : Mode) → old.mode ≡ mode
+      → Step mode setting old (compact_range low high) (refused (refusal_of e)) new
+      → NotCompacted e setting old new
+  not_compacted closed is step = inl (rejects_closed e old new is step)
+  not_compacted broken is step = inl (rejects_broken e old new is step)
+  not_compacted open_mode is step =
+      inr (is, left_uncompacted step.cause step.comes step.leaves)
 
 finds : (at : Option Snapshot) (key : List ℕ) (value : Option (List ℕ))
     → IsRowOf (get at key) (found value) (FindsValue at key value)
@@ -284,6 +309,20 @@ module _ {E C FP F : Type 0} {B : Boxed} (keys : InternalOrder C) (env : Ghosts 
       tt,
       in_mode flush (refused (refusal_of e)) _
           (λ setting old new. not_flushed e setting old new old.mode refl) (λ old new. refl) step,
+    )
+
+    -- a compaction
+    pub compact_row : (low high : List ℕ) (result : Result (Unit {0}) Status)
+        → Steps (compact_range low high) (done_or result)
+        → OnOk result (Takes (λ _ old new. Keeps old new))
+        × IfErr result (λ e. Takes (NotCompacted e))
+    compact_row low high (Ok nothing) step =
+        (is_row (compact_range low high) done _ (compacts low high) (λ old new. refl) step, tt)
+    compact_row low high (Err e) step = (
+      tt,
+      in_mode (compact_range low high) (refused (refusal_of e)) _
+          (λ setting old new. not_compacted low high e setting old new old.mode refl)
+          (λ old new. refl) step,
     )
 
     -- a look-up

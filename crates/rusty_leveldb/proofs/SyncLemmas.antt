@@ -37,7 +37,7 @@ use Rattle.rusty_leveldb.specs.Machine.{Breaks, LeavesRefused, MayBreak, Refuses
 use Rattle.rusty_leveldb.specs.Serves.{Goes, IsSpared, Represents, refusal_of, setting_between}
 use Rattle.rusty_leveldb.specs.State as machine
 use Rattle.rusty_leveldb.specs.State.{Answer, Request, State, open_mode, refused}
-use Rattle.rusty_leveldb.proofs.EngineLemmas.{Ends, SameSnapshots, Stays, goes, is_of, machine_spares, none, not_closed, same_format, state_open}
+use Rattle.rusty_leveldb.proofs.EngineLemmas.{Ends, SameSnapshots, Stays, goes, is_of, machine_spares, none, not_closed, same_format, state_open, views_kept}
 use Rattle.rusty_leveldb.proofs.Others.{bytes_same, bytes_synced}
 use Rattle.rusty_leveldb.proofs.ReadsLemmas.{may_stay}
 
@@ -246,12 +246,14 @@ module _ {E C FP F : Type 0} {B : Boxed} {keys : InternalOrder C} (env : Ghosts 
         last = ap (λ (v : OpenStoreValue C). v.set.last_sequence) syncs.ok
             ∙ was.memory_is.last (not_closed env formats store meaning before from old was opened)
             ∙ sym last_is;
-        grows = let same_end = ap (λ (h : History). greatest (entries_of h)) history_is in
-            omega (arith, same_end);
-        shows = λ since s. subst (λ h. Shows old.format.order meaning value
+        views = views_kept env formats store meaning before from old was opened value
+            (env.observed to).disk.files new snapshots format_is
+            (let same_end = ap (λ (h : History). greatest (entries_of h)) history_is in
+            omega (arith, same_end))
+            (λ since s. subst (λ h. Shows old.format.order meaning value
             (env.observed to).disk.files h since) (sym history_is)
             (subst (λ (files : Files). Shows old.format.order meaning value files old.history since)
-            (sym same) (durable.shows since s));
+            (sym same) (durable.shows since s)));
         snapshots = refl;
         same_snapshots = snapshots;
         tables = tables_logged value m (env.observed to).disk.files
@@ -353,8 +355,9 @@ module _ {E C FP F : Type 0} {B : Boxed} {keys : InternalOrder C} (env : Ghosts 
       mode = mode_is;
       last = ap (λ (v : VersionSetValue). v.last_sequence) (sync_set value mid status syncs).0
           ∙ was.memory_is.last (not_closed env formats store meaning before from old was opened);
-      grows = omega arith;
-      shows = left.shows;
+      views = views_kept env formats store meaning before from old was opened value
+          (env.observed mid).disk.files broke_now (λ in_use. (refl, refl)) refl (omega arith)
+          left.shows;
       snapshots = refl;
       same_snapshots = λ in_use. (refl, refl);
       tables = tables_logged value m (env.observed mid).disk.files

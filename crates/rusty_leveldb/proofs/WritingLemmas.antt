@@ -12,18 +12,16 @@ use Rattle.leveldb_env.specs.Env.{Files, Run}
 use Rattle.leveldb_env.specs.Options.{Boxed, OptionsOf}
 use Rattle.leveldb_env.specs.declared.env.Env.{Ghosts}
 use Rattle.leveldb_env.specs.declared.filter.FilterPolicy.{Ghosts as FilterGhosts}
-use Rattle.leveldb_env.proofs.EnvLemmas.{Run-mono, Run-trans, bytes_eq-apart}
+use Rattle.leveldb_env.proofs.EnvLemmas.{Run-trans, bytes_eq-apart}
 use Rattle.leveldb_mem.specs.WriteBatch.{batch_bytes, max_length}
 use Rattle.leveldb_version.proofs.NumbersLemmas.{entries_more, greatest_append}
-use Rattle.leveldb_version.specs.Holds.{Holds}
 use Rattle.leveldb_version.specs.Paths.{IsFilePath, lock_path}
-use Rattle.leveldb_version.specs.Store.{IsStore}
-use Rattle.leveldb_version.specs.StoreSteps.{AppendedAreBytes, KeepsHistory}
+use Rattle.leveldb_version.specs.StoreSteps.{AppendedAreBytes}
 use Rattle.leveldb_base.specs.Entries.{internal_pair}
 use Rattle.leveldb_mem.specs.MemTable.{Kept}
 use Rattle.leveldb_store.proofs.NotTabledLemmas.{not_tabled_causes}
 use Rattle.leveldb_store.specs.BuildTable.{TableChoices}
-use Rattle.leveldb_version.specs.Format.{Agrees, Format, HasCompressorError, IsTableOf, Meaning}
+use Rattle.leveldb_version.specs.Format.{Agrees, Format, HasCompressorError, Meaning}
 use Rattle.leveldb_version.specs.TableCache.{TableOptions, table_options}
 use Rattle.leveldb_store.proofs.OpenTablesLemmas.{open_after_batch, open_after_call}
 use Rattle.leveldb_store.specs.OpenStore.{IsUnbroken, OpenStoreValue}
@@ -32,8 +30,9 @@ use Rattle.leveldb_store.specs.Room.{AreEntriesNotTabled, FailsToMakeRoom, HasFa
 use Rattle.leveldb_store.specs.SoundCall.{IsSoundCall, any_meaning}
 use Rattle.leveldb_store.specs.Write.{open_log_path}
 use Rattle.leveldb_store.specs.WriteBatch.{AddsBatch, FailsToWrite, HoldsBatches, IsOf, LeavesHistory, WritesBatch, next_batch}
-use Rattle.leveldb_store.specs.Written.{IsDataPath, IsWritten, KeepsShown, KeepsStore, KeepsWritten, SparesRest}
+use Rattle.leveldb_store.specs.Written.{IsDataPath, IsWritten, KeepsShown, KeepsStore, KeepsWritten}
 use Rattle.rusty_leveldb.specs.Boxes.{EngineOf, InternalOrder}
+use Rattle.rusty_leveldb.specs.Compact.{ChangesStore}
 use Rattle.rusty_leveldb.specs.EngineValue.{FollowsStore}
 use Rattle.rusty_leveldb.specs.Causes.{Cause, Comes, Fits, Setting, compressor_failed, device_failed, out_of_memory, too_large, used_up}
 use Rattle.rusty_leveldb.specs.Engine.{HasOwnTables, Recalls, options_in, scene, formats_of, tables_by}
@@ -42,9 +41,10 @@ use Rattle.rusty_leveldb.specs.Machine.{Breaks, Refuses, Risk, Step, Writes, add
 use Rattle.rusty_leveldb.specs.Serves.{Goes, IsSpared, Represents, refusal_of, setting_between}
 use Rattle.rusty_leveldb.specs.State as machine
 use Rattle.rusty_leveldb.specs.State.{State, done, open_mode, refused, write}
-use Rattle.rusty_leveldb.proofs.EngineLemmas.{SameSnapshots, Stays, agreeing, follows_open, goes, is_of, machine_spares, name_is, none, not_closed, same_format, state_open, store_named}
+use Rattle.rusty_leveldb.proofs.EngineLemmas.{SameSnapshots, Stays, agreeing, follows_open, goes, is_of, machine_spares, none, not_closed, same_format, state_open, views_kept}
+use Rattle.rusty_leveldb.proofs.KeptLemmas.{kept_holds, kept_last, kept_path, kept_run, kept_spares, spared_first, store_tells, told_by}
 use Rattle.rusty_leveldb.proofs.Moments.{grows_by, spared_more}
-use Rattle.rusty_leveldb.proofs.ReadsLemmas.{keeps_holds, may_stay, spared_keeps}
+use Rattle.rusty_leveldb.proofs.ReadsLemmas.{may_stay}
 use Rattle.rusty_leveldb.proofs.SyncLemmas.{log_is_own, log_is_there, risk_now, spares_data}
 
 -- a number up to another is that one, or below it
@@ -76,12 +76,7 @@ module _ {E C FP F P : Type 0} {B : Boxed} {keys : InternalOrder C} {key_filters
         (Agrees (choices (options_in before)).format) before.store from result after.store to
     pub closes : ClosesObsolete env before.store.set from before.tables to after.tables
     -- nothing else of the engine changes but the sink of the options' log, and its mode
-    pub rest : after ≡ record before {
-      store = after.store;
-      options = record (options_in before) { log = after.options.log };
-      tables = after.tables;
-      mode = after.mode;
-    }
+    pub rest : ChangesStore before after
     pub sink : is_some after.options.log ≡ is_some before.options.log
     -- it is broken where the store is
     pub mode : FollowsStore after.mode after.store
@@ -93,13 +88,8 @@ pub room_tells : {E C FP F P : Type 0} {B : Boxed} {keys : InternalOrder C}
     (from : E) (result : Result (Unit {0}) Status) (after : EngineOf E C FP F B) (to : E)
     → EngineMakesRoom env choices before from result after to
     → TellsOnly (options_in before) (options_in after)
-room_tells {E} {C} {FP} {F} {B = B} env choices before from result after to
-    made = record {
-      rest = ap (λ (e : EngineOf E C FP F B). options_in e) made.rest
-          ∙ ap (λ (c : C). record (options_in before) { cmp = c; log = after.options.log })
-          made.makes.rest.cmp;
-      sink = made.sink;
-    }
+room_tells env choices before from result after to made =
+    store_tells before after made.rest made.makes.rest.cmp made.sink
 
 -- what tables are opened with stays
 pub room_by : {E C FP F P : Type 0} {B : Boxed} {keys : InternalOrder C}
@@ -110,12 +100,8 @@ pub room_by : {E C FP F P : Type 0} {B : Boxed} {keys : InternalOrder C}
     → EngineMakesRoom env choices before from result after to
     → tables_by (formats_of choices) after ≡ tables_by (formats_of choices) before
 room_by env choices before from result after to ignores made =
-    let tells = room_tells env choices before from result after to made in
-    λ i. record {
-      format = ignores (options_in before) (options_in after) tells i;
-      cmp = (tells.rest i).cmp;
-      policy = (tells.rest i).filter_policy;
-    }
+    told_by (formats_of choices) ignores before after
+    (room_tells env choices before from result after to made)
 
 -- and so the open tables are those of the store, some of which may be closed
 pub room_tables : {E C FP F P : Type 0} {B : Boxed} {keys : InternalOrder C}
@@ -178,14 +164,6 @@ module _ {E C FP F P : Type 0} {B : Boxed} {keys : InternalOrder C} {key_filters
   mode = state_open env formats store meaning before from old was opened
 
   -- a crash now leaves what is at risk, and so it does where one more batch is
-  spared_first : IsSpared store meaning old
-      (risk_now env formats store meaning before from old was opened) files
-  spared_first = subst (λ p. IsSpared store meaning old (record {
-    history = with_batch old.history p;
-    bound = old.last + count_of p;
-    opening = None;
-  }) files) (none env formats store meaning before from old was opened) was.disk_is.holds.crash
-
   spared_longer : (batch : List Entry) (bound : ℕ) → old.last + 0 ≤ bound
       → IsSpared store meaning old
       (record { history = old.history ++ batch ∷ []; bound = bound; opening = None }) files
@@ -193,59 +171,8 @@ module _ {E C FP F P : Type 0} {B : Boxed} {keys : InternalOrder C} {key_filters
       let risk = risk_now env formats store meaning before from old was opened in
       spared_more store meaning old old risk
       (record { history = old.history ++ batch ∷ []; bound = bound; opening = None }) (omega arith)
-      (λ there is. is) (grows_by risk batch bound most) files spared_first
-
-  -- ---- a call that adds no batch
-
-  module _ (value : OpenStoreValue C) (mid : E)
-      (keeps : KeepsStore order meaning (Stays old) before.store (env.observed from) value
-      (env.observed mid))
-      (rest : SparesRest env.models_disk before.store (env.observed from) value (env.observed mid))
-    where
-      kept_path : value.set.store ≡ store
-      kept_path = rest.store ∙ was.memory_is.path
-
-      kept_last : value.set.last_sequence ≡ old.last
-      kept_last = rest.last ∙ last_is
-
-      -- the history is held in the end
-      kept_holds : HoldsBatches order meaning (Stays old) value (env.observed mid).disk.files
-          old.history old.durable None
-      kept_holds =
-          let path = before.store.set.store in
-          let last = before.store.set.last_sequence in
-          let run = keeps.moments (last + 0) (omega arith) in
-          let there = keeps_holds path (IsStore path order (IsTableOf order meaning)) (Stays old) files
-          (env.observed mid).disk.files old.history last old.durable None
-          (record { now = run.has.now; crash = run.has.crash }) held.holds in
-          subst (λ p. Holds p (IsStore p order (IsTableOf order meaning)) (Stays old)
-          (env.observed mid).disk.files old.history value.set.last_sequence old.durable None)
-          (sym rest.store)
-          (subst (λ l. Holds path (IsStore path order (IsTableOf order meaning)) (Stays old)
-          (env.observed mid).disk.files old.history l old.durable None) (sym rest.last) there)
-
-      -- and what was spared is spared at each moment on the way
-      kept_run : (risk : Risk) → risk.opening ≡ None → old.last ≤ risk.bound
-          → IsSpared store meaning old risk files
-          → Run (IsSpared store meaning old risk) (env.observed from) (env.observed mid)
-      kept_run risk no_opening most spared =
-          Run-mono (λ now kept. spared_keeps store meaning old.format.order_name order
-          (agreeing env formats store meaning before from old was opened).order old risk files now
-          no_opening (store_named store meaning old
-          (agreeing env formats store meaning before from old was opened)
-          (name_is env formats store meaning before from old was opened))
-          (subst (λ p. KeepsHistory p order (IsTableOf order meaning) (Stays old) risk.bound files now)
-          was.memory_is.path kept) spared)
-          (keeps.moments risk.bound (subst (λ n. n ≤ risk.bound) (sym last_is) most))
-
-      kept_spares : (items : List Item) (sync : Bool)
-          → Spares store (MayTouch store old.mode (write items sync)) (env.observed from).disk
-          (env.observed mid).disk
-      kept_spares items sync = spares_data env formats store meaning before from old was opened mid
-          (write items sync) (λ kind is. is)
-          (λ path foreign. rest.files modelled path (λ own. foreign
-          (subst (λ p. IsDataPath p path) was.memory_is.path own)))
-          (λ path differs. ap (λ (l : List ℕ → Bool). l path) (rest.locks modelled))
+      (λ there is. is) (grows_by risk batch bound most) files
+      (spared_first env formats store meaning before from old was opened)
 
   -- what is at risk where this is pending
   abbrev risk_with : Option (List Entry) → Risk
@@ -409,12 +336,15 @@ module _ {E C FP F P : Type 0} {B : Boxed} {keys : InternalOrder C} {key_filters
           store_is = store_is;
           format_is = format_is;
           mode = mode_is;
-          last = kept_last after.store to keeps made.makes.rest ∙ sym last_is;
-          grows = let same_end = ap (λ (h : History). greatest (entries_of h)) history_is in
-              omega (arith, same_end);
-          shows = subst (KeepsShown order meaning before.store files old.history after.store
+          last = kept_last env formats store meaning before from old was opened after.store to
+              keeps.moments made.makes.rest ∙ sym last_is;
+          views = views_kept env formats store meaning before from old was opened after.store
+              (env.observed to).disk.files new snapshots format_is
+              (let same_end = ap (λ (h : History). greatest (entries_of h)) history_is in
+              omega (arith, same_end))
+              (subst (KeepsShown order meaning before.store files old.history after.store
               (env.observed to).disk.files) (sym history_is)
-              (room_shows ignores after to (Err status) made);
+              (room_shows ignores after to (Err status) made));
           snapshots = room_snapshots ignores after to (Err status) made;
           same_snapshots = snapshots;
           tables = room_tables env choices before from (Err status) after to ignores made modelled
@@ -426,17 +356,21 @@ module _ {E C FP F P : Type 0} {B : Boxed} {keys : InternalOrder C} {key_filters
               (env.observed to).disk.files old.history d new.pending) (sym durable_is)
               (subst (λ p. HoldsBatches order meaning (Stays old) after.store
               (env.observed to).disk.files old.history old.durable p) (sym pending_is)
-              (kept_holds after.store to keeps made.makes.rest)));
+              (kept_holds env formats store meaning before from old was opened after.store to
+              keeps.moments made.makes.rest)));
           bytes = room_bytes ignores after to (Err status) made;
           locked = room_locked ignores after to (Err status) made ∙ sym locked_is;
         }) (write items sync) (refused (refusal_of status)) made.makes.cause.later
         (subst (λ m. Step m (setting items sync status to) old (write items sync)
         (refused (refusal_of status)) new) (sym mode) refuses)
         (subst (λ (r : Risk). Run (IsSpared store meaning old r) (env.observed from) (env.observed to))
-        same_risk (kept_run after.store to keeps made.makes.rest
+        same_risk (kept_run env formats store meaning before from old was opened after.store to
+        keeps.moments made.makes.rest
         (risk_now env formats store meaning before from old was opened) refl (omega arith)
-        spared_first))
-        (kept_spares after.store to keeps made.makes.rest items sync) (λ never. absurd never)
+        (spared_first env formats store meaning before from old was opened)))
+        (kept_spares env formats store meaning before from old was opened after.store to
+        keeps.moments made.makes.rest modelled (write items sync) (λ kind is. is) (λ kind is. is))
+        (λ never. absurd never)
       where
         same_risk : risk_now env formats store meaning before from old was opened
             ≡ risk_between new
@@ -489,11 +423,13 @@ module _ {E C FP F P : Type 0} {B : Boxed} {keys : InternalOrder C} {key_filters
     room_held : IsOf order meaning (Stays old) roomy.store here old.history old.durable
     room_held = record {
       written = room_written;
-      holds = kept_holds roomy.store mid (room_keeps ignores roomy mid (Ok tt) made) made.makes.rest;
+      holds = kept_holds env formats store meaning before from old was opened roomy.store mid
+          (room_keeps ignores roomy mid (Ok tt) made).moments made.makes.rest;
     }
 
     room_last : roomy.store.set.last_sequence ≡ old.last
-    room_last = kept_last roomy.store mid (room_keeps ignores roomy mid (Ok tt) made) made.makes.rest
+    room_last = kept_last env formats store meaning before from old was opened roomy.store mid
+        (room_keeps ignores roomy mid (Ok tt) made).moments made.makes.rest
 
     same_batch : its_batch ≡ added_batch old items
     same_batch = ap (λ n. placed (n + 1) items) room_last
@@ -544,7 +480,8 @@ module _ {E C FP F P : Type 0} {B : Boxed} {keys : InternalOrder C} {key_filters
         Log,
         tt,
         subst (λ p. IsFilePath Log p (open_log_path roomy.store))
-            (kept_path roomy.store mid (room_keeps ignores roomy mid (Ok tt) made) made.makes.rest)
+            (kept_path env formats store meaning before from old was opened roomy.store mid
+            (room_keeps ignores roomy mid (Ok tt) made).moments made.makes.rest)
             (log_is_own order meaning roomy.store here room_written),
       )
 
@@ -566,7 +503,8 @@ module _ {E C FP F P : Type 0} {B : Boxed} {keys : InternalOrder C} {key_filters
           → Run (IsSpared store meaning old risk) (env.observed mid) (env.observed to)
           → Run (IsSpared store meaning old risk) (env.observed from) (env.observed to)
       both_run risk no_opening most spared run = Run-trans
-          (kept_run roomy.store mid (room_keeps ignores roomy mid (Ok tt) made) made.makes.rest risk
+          (kept_run env formats store meaning before from old was opened roomy.store mid
+          (room_keeps ignores roomy mid (Ok tt) made).moments made.makes.rest risk
           no_opening most spared) (λ now is. is) run
 
     -- ---- it is written
@@ -643,12 +581,14 @@ module _ {E C FP F P : Type 0} {B : Boxed} {keys : InternalOrder C} {key_filters
             format_is = refl;
             mode = follows_open end_mode value follows writes.usable ∙ sym mode;
             last = end_last;
-            grows = let more = ap greatest (entries_more old.history (added_batch old items))
+            views = views_kept env formats store meaning before from old was opened value
+                (env.observed to).disk.files new (λ in_use. (refl, refl)) refl
+                (let more = ap greatest (entries_more old.history (added_batch old items))
                 ∙ greatest_append (entries_of old.history) (added_batch old items) in
-                omega (arith, more);
-            shows = subst (KeepsShown order meaning before.store files old.history value
+                omega (arith, more))
+                (subst (KeepsShown order meaning before.store files old.history value
                 (env.observed to).disk.files) longer
-                (λ since s. adds.shows since (room_shows ignores roomy mid (Ok tt) made since s));
+                (λ since s. adds.shows since (room_shows ignores roomy mid (Ok tt) made since s)));
             snapshots = room_snapshots ignores roomy mid (Ok tt) made;
             same_snapshots = λ in_use. (refl, refl);
             tables = end_tables (Ok tt) writes sound;
@@ -752,11 +692,13 @@ module _ {E C FP F P : Type 0} {B : Boxed} {keys : InternalOrder C} {key_filters
             format_is = format_is;
             mode = mode_is;
             last = writes.err.1 ∙ room_last ∙ sym last_is;
-            grows = let same_end = ap (λ (h : History). greatest (entries_of h)) history_is in
-                omega (arith, same_end);
-            shows = subst (KeepsShown order meaning before.store files old.history value
+            views = views_kept env formats store meaning before from old was opened value
+                (env.observed to).disk.files new snapshots format_is
+                (let same_end = ap (λ (h : History). greatest (entries_of h)) history_is in
+                omega (arith, same_end))
+                (subst (KeepsShown order meaning before.store files old.history value
                 (env.observed to).disk.files) (sym history_is)
-                (λ since s. leaves.2.shows since (room_shows ignores roomy mid (Ok tt) made since s));
+                (λ since s. leaves.2.shows since (room_shows ignores roomy mid (Ok tt) made since s)));
             snapshots = room_snapshots ignores roomy mid (Ok tt) made;
             same_snapshots = snapshots;
             tables = end_tables (Err status) writes sound;
@@ -799,7 +741,7 @@ module _ {E C FP F P : Type 0} {B : Boxed} {keys : InternalOrder C} {key_filters
             history = with_batch old.history p;
             bound = old.last + count_of p;
             opening = None;
-          }) files) (sym is) spared_first
+          }) files) (sym is) (spared_first env formats store meaning before from old was opened)
           spared_left pending (inr is) = subst (λ p. IsSpared store meaning old (record {
             history = with_batch old.history p;
             bound = old.last + count_of p;

@@ -4,6 +4,8 @@ use Rattle.std.specs.Prelude.{◌≡◌, ◌≤◌, ◌⊎◌, ℕ, Bool, false,
 use Rattle.leveldb_base.specs.History.{Entry, Item}
 use Rattle.leveldb_base.specs.declared.error.Status.{Status}
 use Rattle.leveldb_base.specs.Error.{IsOutOfMemory}
+use Rattle.leveldb_base.specs.KeyTypes.{IsLongKey}
+use Rattle.leveldb_base.specs.declared.error.StatusCode.TheVariants.{InvalidArgument}
 use Rattle.leveldb_env.specs.declared.env.Env.{Ghosts}
 use Rattle.leveldb_env.specs.declared.filter.FilterPolicy.{Ghosts as FilterGhosts}
 use Rattle.leveldb_env.specs.Env.{HasCause}
@@ -15,6 +17,7 @@ use Rattle.leveldb_iter.specs.declared.moves.Step.{Step}
 use Rattle.leveldb_iter.specs.declared.snapshot.Snapshot.{Snapshot as HeldSnapshot}
 use Rattle.leveldb_mem.specs.MemTable.{IsUnion}
 use Rattle.leveldb_store.specs.BuildTable.{TableChoices}
+use Rattle.leveldb_store.specs.Compact.{AreClearOf, deepest_overlapped}
 use Rattle.leveldb_store.specs.FoundLogs.{HasLogNotKept}
 use Rattle.leveldb_store.specs.Read.{GetsFromMemory, GetsFromTables}
 use Rattle.leveldb_store.specs.Room.{FailsFor, IsFull, TellsOnly}
@@ -25,14 +28,16 @@ use Rattle.leveldb_store.specs.WriteBatch.{next_batch}
 use Rattle.leveldb_store.specs.Written.{KeepsGivenTables}
 use Rattle.leveldb_version.specs.Batches.{Each}
 use Rattle.leveldb_version.specs.Format.{Format, IsTableFault, Meaning, Agrees}
-use Rattle.rusty_leveldb.specs.State.{Opening, Request, Snapshot, open_mode, open_store, write, get, get_snapshot, release_snapshot, flush, close, abandon}
+use Rattle.leveldb_version.specs.Overlap.{named_range}
+use Rattle.rusty_leveldb.specs.State.{Opening, Request, Snapshot, State, open_mode, open_store, write, get, get_snapshot, release_snapshot, flush, compact_range, close, abandon}
 use Rattle.rusty_leveldb.specs.Serves.{done_or, found_or, given_engine, snapshot_of, snapshot_or}
-use Rattle.rusty_leveldb.specs.Engine.{IsClosed, IsBroken, IsClosedOrBroken, ReadsAt, RefusedByMode, AnswersAs, Answers, WriteExcused, SyncExcused, CloseExcused, GetExcused, GetFails, SnapshotExcused, ReleaseExcused, WalkExcused, IsStoreName, IsOpening, HasOwnLock, formats_of, holds_lock, options_in, tables_by}
+use Rattle.rusty_leveldb.specs.Engine.{IsClosed, IsBroken, IsClosedOrBroken, ReadsAt, RefusedByMode, AnswersAs, Answers, WriteExcused, SyncExcused, CloseExcused, CompactExcused, GetExcused, GetFails, SnapshotExcused, ReleaseExcused, WalkExcused, IsStoreName, IsOpening, HasOwnLock, formats_of, holds_lock, options_in, tables_by}
 use Rattle.rusty_leveldb.specs.Frame.{IsOwn, IsSyncing, MayTouchOrLog, SameBytes, Spares}
-use Rattle.rusty_leveldb.specs.Machine.{AllDurable, Closes, Gives, Opens, Releases, Writes, risk_of}
-use Rattle.rusty_leveldb.specs.Rows.{FindsValue, FromEachState, FromStatesOf, IsAbandoned, NotClosed, NotFlushed, NotOpened, NotUnlocked, NotWritten, Row, StaysAsItWas, WalksView}
+use Rattle.rusty_leveldb.specs.Machine.{AllDurable, Closes, Gives, Keeps, Opens, Releases, Writes, risk_of}
+use Rattle.rusty_leveldb.specs.Rows.{FindsValue, FromEachState, FromStatesOf, IsAbandoned, NotClosed, NotCompacted, NotFlushed, NotOpened, NotUnlocked, NotWritten, RepresentsAt, Row, StaysAsItWas, WalksView}
 use Rattle.rusty_leveldb.specs.Unopened.{IsLockGivenBack, IsLockHeld, MakesLockAlone, NeverOpens, OpenExcused}
 use Rattle.rusty_leveldb.specs.Boxes.{EngineOf, InternalOrder}
+use Rattle.rusty_leveldb.specs.CompactionLaws.{HasViewsInTables}
 use Rattle.rusty_leveldb.specs.Walks.{walk_of, walked_or}
 
 -- ---- what a call leaves alone, whatever the files are
@@ -201,6 +206,46 @@ module _ {E C FP F P : Type 0} {B : Boxed} {keys : InternalOrder C} {key_filters
     -- an Ok counts no failure of the device; why it fails
     pub cause : HasCause (SyncExcused env (formats_of choices) before from to) (env.failures from)
         (env.failures to) result
+
+  -- A call that compacts the range between two user keys, ends included; an empty key is an open
+  -- end.
+  pub record EngineCompacts (low high : List ℕ) (result : Result (Unit {0}) Status)
+      (after : EngineOf E C FP F B) (to : E) : Type 0 where
+    -- Ok: no answer changes
+    pub ok : OnOk result (Takes (λ _ old new. Keeps old new) after to)
+    -- Err: no answer changes; an open store may be broken
+    pub err : IfErr result (λ e. Takes (NotCompacted e) after to)
+    pub step : Answers keys env (formats_of choices) (Some before) from (compact_range low high)
+        (done_or result) (Some after) to
+    -- over any environment: a closed or broken store refuses it, and nothing changes
+    pub halted : IsClosedOrBroken before.mode → IsRefusedByMode before from result after to
+    -- so does an open one where an end is too long
+    pub misfit : before.mode ≡ open_mode → IsLongKey low ⊎ IsLongKey high
+        → (to ≡ from) × (after ≡ before) × IsErrAnd result (λ e. e.code ≡ InvalidArgument)
+    -- Ok leaves the mode; Err leaves it, too, or a broken store
+    pub mode : OnOk result (after.mode ≡ before.mode)
+    pub failed : OnErr result (KeepsModeOrBreaks before after)
+    -- Ok or Err, the last number stays
+    pub last : after.store.set.last_sequence ≡ before.store.set.last_sequence
+    -- Ok: no entry is in memory, all are in tables
+    pub tabled : OnOk result
+        ((after.store.recent.entries ≡ []) × (after.store.waiting ≡ None))
+    -- so live tables alone show the history, as it is now and at each snapshot that is held
+    pub by_tables : OnOk result ((store : List ℕ) (meaning : Meaning) (state : State)
+        → RepresentsAt keys env (formats_of choices) store meaning (Some after) to state
+        → HasViewsInTables meaning after.store (env.observed to).disk.files state)
+    -- Ok: no file overlaps the range in level 0 and those below it down to the deepest that had such
+    -- a file at the beginning, which is level 1 at least and level 5 at most
+    pub clear : let order = (formats_of choices (options_in before)).order in
+        OnOk result (AreClearOf order (named_range low high) (deepest_overlapped order
+        (named_range low high) before.store.set.full.added) after.store.set.full.added)
+    pub snapshots : after.snapshots ≡ before.snapshots
+    pub options : TellsOnly (options_in before) (options_in after)
+    pub rest : LeavesRest env before from (compact_range low high) result after to
+    pub time : TimeGoesOn env from to
+    -- why it fails
+    pub cause : FailsFor (CompactExcused env choices before from low high after.store)
+        (env.failures from) (env.failures to) result
 
   -- A call that looks up a key, now or at a snapshot.
   pub record EngineGets (at : Option Snapshot) (key : List ℕ)

@@ -99,11 +99,12 @@ TakesMemory (release_snapshot one) = ⊥
 TakesMemory abandon = ⊥
 TakesMemory _ = Unit {0}
 
--- requests that put entries into memory
-abbrev pub FillsMemory : Request → Type 0
-FillsMemory (open_store opening) = Unit {0}
-FillsMemory (write items sync) = Unit {0}
-FillsMemory _ = ⊥
+-- requests that write tables, or fill memory with what is to be in one
+abbrev pub WritesTables : Request → Type 0
+WritesTables (open_store opening) = Unit {0}
+WritesTables (write items sync) = Unit {0}
+WritesTables (compact_range from to) = Unit {0}
+WritesTables _ = ⊥
 
 -- requests that reach the device
 abbrev pub ReachesDevice : Request → Type 0
@@ -133,7 +134,7 @@ CompressorFails (Some format) code = HasCompressorError format code
 
 -- When a cause comes, and which code and text it has; damage is no cause, since the disk is whole.
 -- How much memory the entries take that are too large isn't in the state: the engine's clauses say
--- it (`IsFull`, `FailsToPrepare`).
+-- it (`IsFull`, `FailsToPrepare`, `FailsToCompactRange`), and which numbers of files are left.
 abbrev pub Comes : Setting → State → Request → Refusal → Cause → Type 0
 Comes setting old request refusal out_of_memory =
     TakesMemory request × (refusal.code ≡ OutOfMemory) × (refusal.text ≡ [])
@@ -146,7 +147,7 @@ Comes setting old request refusal bad_operand =
 Comes setting old request refusal store_exists =
     (refusal.code ≡ AlreadyExists) × Exists old request
 Comes setting old request refusal used_up = (refusal.code ≡ NotSupported) × IsUsedUp old request
-Comes setting old request refusal too_large = FillsMemory request × (refusal.code ≡ NotSupported)
+Comes setting old request refusal too_large = WritesTables request × (refusal.code ≡ NotSupported)
 Comes setting old request refusal compressor_failed =
     CompressorFails (block_format old request) refusal.code
 Comes setting old request refusal lacks_compressor =

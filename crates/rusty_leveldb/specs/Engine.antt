@@ -17,6 +17,7 @@ use Rattle.leveldb_mem.specs.MemTable.{FailsToPrepare, Kept, bytes_in}
 use Rattle.leveldb_version.specs.Paths.{lock_path}
 use Rattle.leveldb_version.specs.Contents.{made}
 use Rattle.leveldb_store.specs.BuildTable.{TableChoices}
+use Rattle.leveldb_store.specs.Compact.{FailsToCompactRange}
 use Rattle.leveldb_version.specs.Format.{Format, IsTableFault, LacksCompressor, Meaning, format_of}
 use Rattle.leveldb_version.specs.Levels.{LiveTable}
 use Rattle.leveldb_version.specs.TableCache.{TableOptions, table_options}
@@ -244,6 +245,15 @@ module _ {E C FP F P : Type 0} {B : Boxed} {keys : InternalOrder C} {key_filters
       ⊎ AreEntriesNotTabled choices_in engine.store.waiting e
       ⊎ FailsToPrepare empty_memtable (length items) (bytes_in items) e))
       ⊎ IsFileLost env choices_in.format.order engine.store at choices_in.format e
+
+  -- Why a compaction of a range may fail where the device didn't: the store is closed or broken, an
+  -- end is too long, or the store isn't compacted (`FailsToCompactRange`). `left` is the store after
+  -- the call: its next number tells whether the numbers of files are used up.
+  abbrev pub CompactExcused : List ℕ → List ℕ → OpenStoreValue C → Status → Type 0
+  CompactExcused low high left e = RefusedByMode engine.mode e
+      ⊎ ((e.code ≡ InvalidArgument) × (IsLongKey low ⊎ IsLongKey high))
+      ⊎ FailsToCompactRange keys env (tables_by (formats_of choices) engine) engine.store at
+      engine.tables choices_in left e
 
 module _ {E C FP F : Type 0} {B : Boxed} (env : Ghosts E F) (formats : OptionsOf C FP B → Format)
     (engine : EngineOf E C FP F B) (at : E) where

@@ -66,6 +66,8 @@ IsLine line (command.Release number) = (digits : List ℕ) × IsNumber digits nu
     × (line ≡ codes "release " ++ digits)
 IsLine line (command.Walk at moves) = (view : List ℕ) × IsViewWord view at
     × (line ≡ codes "walk " ++ view ++ words_text move_word moves.items)
+IsLine line (command.Compact from to) =
+    line ≡ codes "compact " ++ hex_word from.items ++ codes " " ++ hex_word to.items
 IsLine line command.Flush = line ≡ codes "flush"
 IsLine line command.Close = line ≡ codes "close"
 
@@ -91,6 +93,7 @@ HasBytes command.Snap = Unit {0}
 HasBytes (command.GetAt number key) = IsBytes key.items
 HasBytes (command.Release number) = Unit {0}
 HasBytes (command.Walk at moves) = All MoveHasBytes moves.items
+HasBytes (command.Compact from to) = IsBytes from.items × IsBytes to.items
 HasBytes command.Flush = Unit {0}
 HasBytes command.Close = Unit {0}
 

@@ -15,6 +15,8 @@ pub mod Walks
 pub mod Rows
 pub mod Iterator
 pub mod IteratorLaws
+pub mod Compact
+pub mod CompactionLaws
 pub mod Shell
 pub mod Lives
 pub mod Language

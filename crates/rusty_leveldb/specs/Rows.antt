@@ -17,7 +17,7 @@ use Rattle.rusty_leveldb.specs.Causes.{Cause, Comes, IsBrokenRefusal, IsClosedRe
 use Rattle.rusty_leveldb.specs.Engine.{Recalls}
 use Rattle.rusty_leveldb.specs.Machine.{Abandons, Breaks, Gets, Keeps, Rejects, Risk, StaysClosed, Walks, added_batch, risk_between, risk_of}
 use Rattle.rusty_leveldb.specs.Serves.{IsSpared, Represents, refusal_of, setting_between}
-use Rattle.rusty_leveldb.specs.State.{Opening, Snapshot, State, broken, closed, open_store, refused}
+use Rattle.rusty_leveldb.specs.State.{Opening, Snapshot, State, broken, closed, open_mode, open_store, refused}
 use Rattle.rusty_leveldb.specs.Walks.{landing_of, move_of}
 
 -- a state before a call and one after it, in the call's setting
@@ -93,6 +93,13 @@ abbrev pub NotFlushed : Status → Row
 NotFlushed e setting old new = RejectsByMode e old new
     ⊎ ((e.code ≡ OutOfMemory) × (Keeps old new ⊎ Breaks old None new))
     ⊎ (HasFailed setting.before setting.after × Breaks old None new)
+
+-- A compaction that fails changes no answer. Out of memory or by the device it may break an open
+-- store.
+abbrev pub NotCompacted : Status → Row
+NotCompacted e setting old new = RejectsByMode e old new
+    ⊎ ((old.mode ≡ open_mode) × (Keeps old new
+    ⊎ (IsMemoryOrDevice setting e × Breaks old None new)))
 
 -- A close that fails breaks a store that was open, out of memory or by the device.
 abbrev pub NotClosed : Status → Row

@@ -14,7 +14,7 @@ use Rattle.rusty_leveldb.specs.declared.shell.commands.Item.TheVariants as item
 use Rattle.rusty_leveldb.specs.declared.shell.commands.Reply.{Reply}
 use Rattle.rusty_leveldb.specs.declared.shell.commands.Reply.TheVariants as reply
 use Rattle.leveldb_version.specs.Format.{Format, Meaning, Agrees}
-use Rattle.rusty_leveldb.specs.State.{State, Opening, Snapshot, Request, open_store, write, get, get_snapshot, release_snapshot, flush, close, abandon, Answer, done, found, walked, snapshot, refused}
+use Rattle.rusty_leveldb.specs.State.{State, Opening, Snapshot, Request, open_store, write, get, get_snapshot, release_snapshot, flush, compact_range, close, abandon, Answer, done, found, walked, snapshot, refused}
 use Rattle.rusty_leveldb.specs.Serves.{Represents, Runs, recalls_nothing, refusal_of, done_or}
 use Rattle.rusty_leveldb.specs.Boxes.{EngineOf, InternalOrder}
 use Rattle.rusty_leveldb.specs.Engine.{scene, Answers, IsOpening, IsStoreName}
@@ -44,6 +44,7 @@ request_of taken (command.GetAt number key) = get (Some (snapshot_named taken nu
 request_of taken (command.Release number) = release_snapshot (snapshot_named taken number)
 request_of taken (command.Walk at moves) =
     walk_of (option_map (snapshot_named taken) at) moves.items
+request_of taken (command.Compact from to) = compact_range from.items to.items
 request_of taken command.Flush = flush
 request_of taken command.Close = close
 

@@ -1,6 +1,7 @@
 //! The store: an engine, and `DB`, which is an engine beside a borrow of its environment.
 
 mod close;
+mod compact;
 mod engine;
 mod iterate;
 mod names;

@@ -1,5 +1,6 @@
 //! The laws of the store's machine, as contracts of functions that do nothing.
 
+ghost use Rattle.rusty_leveldb.specs.CompactionLaws.{AreViewsInTables};
 ghost use Rattle.rusty_leveldb.specs.Iterator.{ScanGivesPairs};
 ghost use Rattle.rusty_leveldb.specs.IteratorLaws.{PrevUndoesNext};
 ghost use Rattle.rusty_leveldb.specs.Laws.{OneReading, NothingStands, CrashBetween, CrashInside, CrashSince, RefusalHasCause, StepFits, CrashFits, CrashInsideFits, LivesFit, DurableStays, SyncedStays, EachAnswerParts, HistoryIsAsked, MoreIsAsked, SyncedIsRead, ViewsStay, HeldStays, SnapshotIsRead, ForwardWalkGivesView, PrevUndoesAdvance, SyncedCanBeFound};
@@ -78,6 +79,13 @@ pub fn snapshots_keep_their_view()
     ensures views { ViewsStay }
     ensures held { HeldStays }
     ensures reads { SnapshotIsRead }
+{}
+
+/// Where no entry is in memory, as after each `compact_range` that returned Ok, live tables alone
+/// show the history: as it is now, and as it was at each snapshot that is held (the field
+/// `by_tables` of `EngineCompacts`).
+pub fn compacted_stores_show_by_tables_alone<C: UserCmp>()
+    ensures { AreViewsInTables C }
 {}
 
 /// A walk that goes forward from no position on, until it is at none again, gives the view: each key

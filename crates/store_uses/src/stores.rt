@@ -29,3 +29,16 @@ fn iterators(rt: HostRuntime) -> Result<()> {
     assert!(rt; it.valid() && !it.advance()?);
     Ok(())
 }
+
+#[test]
+fn compactions(rt: HostRuntime) -> Result<()> {
+    let alloc = rt.alloc();
+    let mut env = MemEnv::new(alloc);
+    let mut db = DB::open(alloc, "db", &mut env, Options::default())?;
+    db.put(b"a", b"1")?;
+    db.delete(b"b")?;
+    db.compact_range(b"a", b"b")?;
+    assert!(rt; db.get(b"a")?.is_some() && db.get(b"b")?.is_none());
+    db.compact_range(b"", b"")?;
+    db.close()
+}

@@ -7,7 +7,7 @@ ghost use Rattle.leveldb_version.specs.VersionEdit.{NewFile};
 ghost use Rattle.leveldb_store.specs.OpenStore.{IsUnbroken};
 ghost use Rattle.leveldb_store.specs.OpenTables.{ClosesObsolete};
 ghost use Rattle.leveldb_store.specs.Room.{IsFull, MakesRoom, RemovesAtLast, TidiesUp, but_removal};
-ghost use Rattle.leveldb_store.specs.RoomSteps.{FailsToTableIfWaiting, IsStepToRoom};
+ghost use Rattle.leveldb_store.specs.RoomSteps.{AddsNone, FailsToTableIfWaiting, IsStepToRoom};
 ghost use Rattle.leveldb_store.specs.SoundCall.{BytesAreAppended, IsSoundCall, TimeGoesOn};
 ghost use Rattle.leveldb_store.specs.Switch.{RemovesObsolete};
 
@@ -96,7 +96,7 @@ impl<E: Env, C: UserCmp + Copy + Drop> OpenStore<E, C> {
 
     // Makes a table of the entries that wait, if some do, and deletes the files that are obsolete
     // then. An Ok has what the removal returned.
-    fn table_if_waiting<FP: FilterPolicy + Copy + Drop>(
+    pub(super) fn table_if_waiting<FP: FilterPolicy + Copy + Drop>(
         &mut self,
         env: &mut E,
         options: &Options<C, FP>,
@@ -114,6 +114,9 @@ impl<E: Env, C: UserCmp + Copy + Drop> OpenStore<E, C> {
         ensures removes { IfOk result (λ removal. self.old.waiting ≢ None
             → RemovesAtLast E.Env self.new removal env.new) }
         ensures numbers { OnOk result (self.new.set.next_file ≤ self.old.set.next_file + 1) }
+        ensures none_new { let format = format_of C.Cmp FP.FilterPolicy
+            ⟦<CompressorList as Compressors>⟧.codings options.now in OnOk (but_removal result)
+            (AddsNone E.Env (C.cmp self.old.cmp) format self.old env.old self.new env.new) }
         ensures none_waits { OnOk (but_removal result) (self.new.waiting ≡ None) }
         ensures waits { OnErr (but_removal result) (self.new.waiting ≢ None) }
         ensures recent { self.new.recent ≡ self.old.recent }

@@ -7,7 +7,8 @@ ghost use Rattle.leveldb_env.specs.Env.{SameLocks};
 ghost use Rattle.leveldb_version.specs.Batches.{Each};
 ghost use Rattle.leveldb_version.specs.Change.{IsVersionAfter};
 ghost use Rattle.leveldb_version.specs.FullEdit.{files_after, files_with};
-ghost use Rattle.leveldb_version.specs.LogEdit.{AppendsEdit};
+ghost use Rattle.leveldb_version.specs.CurrentVersion.{IsCurrent};
+ghost use Rattle.leveldb_version.specs.LogEdit.{AppendsEdit, WritesBytes};
 ghost use Rattle.leveldb_version.specs.Overlap.{file_range, output_level};
 ghost use Rattle.leveldb_version.specs.Store.{IsInternalPair};
 ghost use Rattle.leveldb_version.specs.VersionEdit.{LevelsFit, edit_of, new_file_of};
@@ -16,6 +17,7 @@ ghost use Rattle.leveldb_version.specs.Writing.{table_edit};
 ghost use Rattle.leveldb_store.specs.BuildTable.{MakesTable, choices_of};
 ghost use Rattle.leveldb_version.specs.Format.{Agrees, Meaning, format_of};
 ghost use Rattle.leveldb_store.specs.OpenStore.{AreInLevels, AreNumbersGiven};
+ghost use Rattle.leveldb_store.specs.RoomSteps.{AddsNone};
 ghost use Rattle.leveldb_store.specs.SoundCall.{IsSoundCall};
 ghost use Rattle.leveldb_store.specs.Switch.{TablesWaiting};
 ghost use Rattle.leveldb_store.specs.Written.{KeepsWritten, waiting_entries};
@@ -55,6 +57,9 @@ impl<E: Env, C: UserCmp + Copy + Drop> OpenStore<E, C> {
         ensures sound { IsSoundCall E.Env (C.cmp self.old.cmp) (Agrees (format_of C.Cmp
             FP.FilterPolicy ⟦<CompressorList as Compressors>⟧.codings options.now)) self.old
             env.old result self.new env.new }
+        ensures none_new { let format = format_of C.Cmp FP.FilterPolicy
+            ⟦<CompressorList as Compressors>⟧.codings options.now in OnOk result
+            (AddsNone E.Env (C.cmp self.old.cmp) format self.old env.old self.new env.new) }
     {
         if self.versions.is_broken() {
             return err(self.alloc, StatusCode::IOError, "reopen the store");
@@ -133,16 +138,21 @@ impl<E: Env, C: UserCmp + Copy + Drop> OpenStore<E, C> {
     }
 
     // Logs an edit, and has the version that it leaves from then on. The numbers of the files that
-    // it adds were given, and the levels are apart after it. After an Err the version is as it was.
-    fn log_tables(&mut self, env: &mut E, edit: VersionEdit) -> Result<()>
+    // it adds were given, and the levels are apart after it, where the version has the set's files.
+    // After an Err the version is as it was.
+    pub(super) fn log_tables(&mut self, env: &mut E, edit: VersionEdit) -> Result<()>
         requires usable { self.old.set.manifest ≢ broken }
         requires fits { LevelsFit (edit_of edit) }
         requires given { AreNumbersGiven self.old.set (edit_of edit).added }
-        requires levels { AreInLevels E.models_disk (C.cmp self.old.cmp)
+        requires levels { IsCurrent (C.cmp self.old.cmp) self.old.cmp self.old.set self.old.current
+            → AreInLevels E.models_disk (C.cmp self.old.cmp)
             (files_after (edit_of edit) self.old.set.full.added) }
         ensures logs { (manifest : OpenManifest) → self.old.set.manifest ≡ in_use manifest
             → AppendsEdit E.models_disk manifest self.old.set (edit_of edit) (E.observed env.old)
             (E.failures env.old) result self.new.set (E.observed env.new) (E.failures env.new) }
+        ensures bytes { (manifest : OpenManifest) → self.old.set.manifest ≡ in_use manifest
+            → WritesBytes E.models_disk self.old.set (edit_of edit) (E.observed env.old) result
+            (E.observed env.new) }
         ensures rest { self.new
             ≡ record self.old { set = self.new.set; current = self.new.current } }
         ensures current { OnOk result (IsVersionAfter (C.cmp self.old.cmp) (edit_of edit)

@@ -2,6 +2,7 @@
 ghost use Rattle.std.specs.Prelude.{◌≡◌, IfErr, IfOk, OnOk};
 ghost use Rattle.std.specs.List.Sorted.{IsNonDecreasingBy};
 ghost use Rattle.leveldb_base.specs.Error.{IsOutOfMemory};
+ghost use Rattle.leveldb_version.specs.Version.{AreInVersionOrder, new_files_of};
 ghost use Rattle.leveldb_version.specs.VersionIters.{AreVersionIters, AreWalksOf, each_alone, levels_of_walks};
 
 use super::Version;
@@ -17,6 +18,7 @@ impl<C: UserCmp + Copy + Drop> Version<C> {
     /// first, and then one for each deeper level that has files. This reads nothing.
     pub fn new_iters(&self, alloc: Global) -> Result<Vec<VersionIter<'_, C>>>
         ensures ok { IfOk result (λ iters. AreVersionIters self.now iters.items) }
+        ensures in_order { AreInVersionOrder (C.cmp self.now.cmp) (new_files_of self.now) }
         ensures memory { IfErr result IsOutOfMemory }
     {
         let files = self.files.as_slice();

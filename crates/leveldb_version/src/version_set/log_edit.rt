@@ -1,10 +1,10 @@
 //! Logging an edit: into the manifest in use, or into a new one.
 ghost use Rattle.std.specs.Prelude.{◌≡◌, ◌≢◌, ◌⊎◌, ◌↔◌, ◌<◌, [], All, Some, true, false, IfOk, IfErr, OnOk, IsTrue};
 ghost use Rattle.leveldb_base.specs.Error.{IsOutOfMemory};
-ghost use Rattle.leveldb_env.specs.Env.{ChangesFiles, HasCause, SameLocks};
+ghost use Rattle.leveldb_env.specs.Env.{AreBytes, ChangesFiles, HasCause, SameLocks};
 ghost use Rattle.leveldb_env.specs.WholeFiles.{IsLost};
 ghost use Rattle.leveldb_mem.specs.Log.Writer.{after_frame, frame};
-ghost use Rattle.leveldb_version.specs.LogEdit.{AppendingAndSyncing, AppendsEdit, BeginsManifest, LogEditResult, with_bytes_kept, written_edit};
+ghost use Rattle.leveldb_version.specs.LogEdit.{AppendingAndSyncing, AppendsEdit, BeginsManifest, LogEditResult, WritesBytes, with_bytes_kept, written_edit};
 ghost use Rattle.leveldb_version.specs.VersionEdit.{Edit, LevelsFit, edit_bytes, edit_of};
 ghost use Rattle.leveldb_version.specs.VersionSetValue.{OpenManifest, broken, in_use, unmade};
 
@@ -44,6 +44,10 @@ impl<E: Env> LiveFiles<E> {
             → self.old.manifest ≡ unmade
             → BeginsManifest E.models_disk self.old logged (E.observed env.old)
             (E.failures env.old) result self.new (E.observed env.new) (E.failures env.new) }
+        ensures bytes { (logged : Edit) → edit_of edit ≡ written_edit self.old logged
+            → (manifest : OpenManifest) → self.old.manifest ≡ in_use manifest
+            → WritesBytes E.models_disk self.old logged (E.observed env.old) result
+            (E.observed env.new) }
         ensures locks { SameLocks E.models_disk (E.observed env.old) (E.observed env.new) }
     {
         let text = edit.encode(self.alloc)?;
@@ -137,6 +141,7 @@ fn append_record<E: Env>(env: &mut E, manifest: &mut LogFile<E>, text: &[u8]) ->
     ensures cause { HasCause (IsLost E.models_disk manifest.old.path (E.observed env.old)
         (E.failures env.old) (E.failures env.new))
         (E.failures env.old) (E.failures env.new) result }
+    ensures bytes { AreBytes text.now }
 {
     manifest.append(env, text)?;
     manifest.sync(env)

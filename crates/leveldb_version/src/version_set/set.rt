@@ -5,12 +5,12 @@ ghost use Rattle.leveldb_base.specs.Error.{IsOutOfMemory};
 ghost use Rattle.leveldb_env.specs.Env.{SameLocks};
 ghost use Rattle.leveldb_version.specs.Change.{IsVersionAfter};
 ghost use Rattle.leveldb_version.specs.CurrentVersion.{IsCurrent, new_versions};
-ghost use Rattle.leveldb_version.specs.LogEdit.{LogEditResult};
+ghost use Rattle.leveldb_version.specs.LogEdit.{LogEditResult, WritesBytes};
 ghost use Rattle.leveldb_version.specs.Recover.{RecoverResult};
 ghost use Rattle.leveldb_version.specs.Summary.{summary_text};
 ghost use Rattle.leveldb_version.specs.Version.{charged};
 ghost use Rattle.leveldb_version.specs.VersionEdit.{edit_of, new_file_of};
-ghost use Rattle.leveldb_version.specs.VersionSetValue.{with_number_given, with_number_free, with_numbers_used, AreFileNumbersUsedUp, broken, numbers_in_order};
+ghost use Rattle.leveldb_version.specs.VersionSetValue.{OpenManifest, with_number_given, with_number_free, with_numbers_used, AreFileNumbersUsedUp, broken, in_use, numbers_in_order};
 
 use super::live_files::LiveFiles;
 use super::log_edit::levels_fit;
@@ -105,6 +105,11 @@ impl<E: Env, C: UserCmp + Copy + Drop> VersionSet<E, C> {
     pub fn log_and_apply(&mut self, env: &mut E, edit: VersionEdit) -> Result<()>
         ensures log { LogEditResult E.models_disk self.old.set (edit_of edit) (E.observed env.old)
             (E.failures env.old) result self.new.set (E.observed env.new) (E.failures env.new) }
+        ensures bytes { (manifest : OpenManifest) → self.old.set.manifest ≡ in_use manifest
+            → WritesBytes E.models_disk self.old.set (edit_of edit) (E.observed env.old) result
+            (E.observed env.new) }
+        ensures current { IsCurrent (C.cmp self.old.current.cmp) self.old.current.cmp self.old.set
+            self.old.current }
         ensures locks { SameLocks E.models_disk (E.observed env.old) (E.observed env.new) }
         ensures ok { OnOk result (IsVersionAfter (C.cmp self.old.current.cmp) (edit_of edit)
             self.old.current self.new.current) }

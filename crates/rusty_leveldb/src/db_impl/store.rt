@@ -6,7 +6,7 @@ ghost use Rattle.rusty_leveldb.specs.Serves.{snapshot_of};
 ghost use Rattle.rusty_leveldb.specs.Engine.{opening_of};
 ghost use Rattle.leveldb_store.specs.BuildTable.{choices_of};
 ghost use Rattle.leveldb_version.specs.Format.{format_of};
-ghost use Rattle.rusty_leveldb.specs.Calls.{EngineAbandons, EngineCloses, EngineFlushes, EngineGets};
+ghost use Rattle.rusty_leveldb.specs.Calls.{EngineAbandons, EngineCloses, EngineCompacts, EngineFlushes, EngineGets};
 ghost use Rattle.rusty_leveldb.specs.Calls.{EngineHolds, EngineOpens, EngineReleases, EngineWalks};
 ghost use Rattle.rusty_leveldb.specs.Calls.{EngineWrites, result_map};
 ghost use Rattle.rusty_leveldb.specs.Iterator.{EngineIterates};
@@ -49,9 +49,9 @@ pub struct Store<'e, E: Env, S: Drop> {
 /// | `OutOfMemory` | any call but `release_snapshot` and `abandon`: memory ran out |
 /// | that of the environment | any call but those for snapshots and iterators: a call of the device failed; of `walk` and iterators, moves |
 /// | `InvalidArgument` | any call but `abandon`, of a closed store; a key or a batch of more than 2^30 bytes; a snapshot that isn't held; in `open` a name, an option, a missing store or a comparator that doesn't fit |
-/// | `IOError`, "reopen the store" | `put`, `delete`, `write`, `flush`, `close`: the store broke earlier |
-/// | `NotSupported` | `put`, `delete`, `write`, `open`: entries count for 2 GiB or more, no table is made of them, or numbers of entries or files are used up; `open`, and reads of tables: a compressor isn't set; `get_snapshot`: numbers are used up; `open`: files of more than it reads |
-/// | that of a compressor | `put`, `delete`, `write`, `open`: it failed to encode a block |
+/// | `IOError`, "reopen the store" | `put`, `delete`, `write`, `flush`, `compact_range`, `close`: the store broke earlier |
+/// | `NotSupported` | `put`, `delete`, `write`, `compact_range`, `open`: entries count for 2 GiB or more, no table is made of them, or numbers of entries or files are used up; `open`, `compact_range`, and reads of tables: a compressor isn't set; `get_snapshot`: numbers are used up; `open`: files of more than it reads |
+/// | that of a compressor | `put`, `delete`, `write`, `compact_range`, `open`: it failed to encode a block |
 /// | `LockError`, `AlreadyExists` | `open`: the lock is held; a store is there that must not be |
 /// | `Corruption` | a file of the store is damaged or missing |
 ///
@@ -180,6 +180,26 @@ impl<'e, E: Env, C: UserCmp + Copy, FP: FilterPolicy + Copy> Store<'e, E, Engine
             self.new.env.now }
     {
         self.state.flush(&mut *self.env)
+    }
+
+    /// Makes tables of all entries in memory, and compacts those that overlap the range between two
+    /// keys, ends included, from level 0 down to the deepest that has such a table: from levels 1 to
+    /// 5, or level 1. An empty key is an open end. Entries that no look-up finds any more may go.
+    ///
+    /// Ok: no answer changes (`Keeps`); tables alone have all that is found, now and at each
+    /// snapshot, and no file of these levels overlaps the range.
+    /// Err: no answer changes; out of memory or by the device the store may be broken
+    /// (`NotCompacted`). If it isn't, a part may be done, and the next call goes on from there.
+    /// Crash: the latest batches may be lost, up to those that are durable.
+    pub fn compact_range(&mut self, from: &[u8], to: &[u8]) -> Result<()>
+        ensures same_reference { self.new.env.ghost_name ≡ self.old.env.ghost_name }
+        ensures serves { let choices = choices_of C.Cmp FP.FilterPolicy
+            ⟦<InternalKeyCmp<C> as Cmp>⟧ ⟦<InternalFilterPolicy<FP> as FilterPolicy>⟧
+            ⟦<CompressorList as Compressors>⟧.codings in
+            EngineCompacts E.Env choices self.old.state self.old.env.now from.now to.now result
+            self.new.state self.new.env.now }
+    {
+        self.state.compact_range(&mut *self.env, from, to)
     }
 
     /// Returns the key's value, or none if it has none. A broken store is read, too.

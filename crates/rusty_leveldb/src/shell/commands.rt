@@ -24,6 +24,9 @@ pub enum Command {
     /// Make these moves with an iterator, from no position on: over the store as it is now, or over
     /// the snapshot of this number.
     Walk(Option<usize>, Vec<Move>),
+    /// Make tables of all entries in memory, and compact those that overlap the range between two
+    /// keys, ends included; an empty key is an open end.
+    Compact(Vec<u8>, Vec<u8>),
     /// Sync all that was written.
     Flush,
     /// Sync, and give back the lock; then every command is refused.

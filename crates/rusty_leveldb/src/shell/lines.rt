@@ -34,6 +34,9 @@ pub(super) fn read_line(alloc: Global, line: &[u8]) -> Result<Option<Command>, A
     if let Some(digits) = after(line, b"release ") {
         return Ok(read_release(digits));
     }
+    if let Some(words) = after(line, b"compact ") {
+        return read_compact(alloc, words);
+    }
     match after(line, b"walk ") {
         Some(words) => read_walk(alloc, words),
         None => Ok(None),
@@ -65,6 +68,16 @@ fn read_put(alloc: Global, words: &[u8]) -> Result<Option<Command>, AllocError>
         return Ok(None);
     };
     Ok(Some(Command::Put(pair.0, pair.1)))
+}
+
+// A compaction, by the words after its name.
+fn read_compact(alloc: Global, words: &[u8]) -> Result<Option<Command>, AllocError>
+    ensures { IfOk result (IsLineReading (codes "compact " ++ words.now)) }
+{
+    let Some(pair) = read_pair(alloc, words, b' ')? else {
+        return Ok(None);
+    };
+    Ok(Some(Command::Compact(pair.0, pair.1)))
 }
 
 // A delete, by the word after its name.

@@ -95,6 +95,7 @@ pub(super) fn answer<E: Env, C: UserCmp + Copy, FP: FilterPolicy + Copy>(
             Ok(steps) => Reply::Walk(steps),
             Err(status) => Reply::Refused(status),
         },
+        Command::Compact(from, to) => reply_of(engine.compact_range(env, from, to)),
         Command::Flush => reply_of(engine.flush(env)),
         Command::Close => reply_of(engine.close(env)),
     }

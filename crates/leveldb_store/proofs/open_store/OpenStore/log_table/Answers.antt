@@ -23,7 +23,7 @@ log_tables-requires-clause-given g c =
 pub log_tables-requires-clause-levels : goal.log_tables-requires-clause-levels
 log_tables-requires-clause-levels g c =
     let made : edit_of c.add_file.new.self ≡ table_edit c.self.inside.log.number (new_file_of (c.args.level, c.args.file)) = table_edit_made c.new-edit.result c.set_log_num.new.self c.add_file.new.self c.self.inside.log.number c.args.level c.args.file c.new-edit.ensures c.set_log_num.ensures c.in_ok-add_file.ensures.ok c.in_ok-add_file.ensures.others in
-    subst (λ (edit : Edit). AreInLevels g.E.Env.models_disk (g.C.Cmp.cmp c.args.self.now.cmp) (files_after edit c.args.self.now.set.full.added))
+    λ current. subst (λ (edit : Edit). AreInLevels g.E.Env.models_disk (g.C.Cmp.cmp c.args.self.now.cmp) (files_after edit c.args.self.now.set.full.added))
     (sym made) c.requires.levels
 
 pub returns-clause-logs : goal.returns-clause-logs

@@ -1,10 +1,10 @@
-use Rattle.std.proofs.Common.{◌≡◌, ◌∙◌, ap, subst, sym}
+use Rattle.std.proofs.Common.{◌∙◌, ap, subst, sym}
 use Rattle.std.specs.Prelude.{OnOk}
 use Rattle.leveldb_base.specs.History.{AreUpTo}
 use Rattle.leveldb_version.specs.Change.{IsVersionAfter}
 use Rattle.leveldb_version.specs.LogEdit.{LogEditResult}
 use Rattle.leveldb_version.specs.VersionEdit.{edit_of}
-use Rattle.leveldb_store.proofs.CurrentVersionLemmas.{unlogged_store}
+use Rattle.leveldb_store.proofs.CurrentVersionLemmas.{current_by, unlogged_store}
 use Rattle.leveldb_store.proofs.TableWaitingLemmas.{KeepsManifest, in_use_of, keeps_manifest, logged_given, logged_levels, own_again}
 use Rattle.leveldb_store.proofs.open_store.OpenStore.log_tables.Goals as goal
 
@@ -16,6 +16,7 @@ invariant_of-self g c =
     let logged : LogEditResult g.E.Env.models_disk old (edit_of c.args.edit) (g.E.Env.observed c.args.env.now) (g.E.Env.failures c.args.env.now) c.log_and_apply.result new (g.E.Env.observed c.log_and_apply.new.env) (g.E.Env.failures c.log_and_apply.new.env) =
     c.log_and_apply.ensures.log in
     let appends = logged.used c.requires.fits used.0 used.1 in
+    let levels = rw (← c.self.view_is) at c.requires.levels in
     let kept : KeepsManifest old new = keeps_manifest used.0 used.1 c.log_and_apply.result appends in (
       kept.store ∙ c.self.invariant.0,
       c.self.invariant.1,
@@ -27,7 +28,8 @@ invariant_of-self g c =
       c.self.invariant.7,
       c.log_and_apply.ensures.cmp ∙ c.self.invariant.8,
       logged_given c.log_and_apply.result appends c.self.invariant.9 (rw (← c.self.view_is) at c.requires.given),
-      logged_levels (g.C.Cmp.cmp c.self.inside.cmp) c.log_and_apply.result appends c.self.invariant.10 (rw (← c.self.view_is) at c.requires.levels),
+      logged_levels (g.C.Cmp.cmp c.self.inside.cmp) c.log_and_apply.result appends c.self.invariant.10
+          (levels (current_by g.C.Cmp c.self.invariant.8 c.log_and_apply.ensures.current)),
     )
 
 pub returns-clause-logs : goal.returns-clause-logs
@@ -44,3 +46,6 @@ returns-clause-current g c =
 pub returns-clause-err : goal.returns-clause-err
 returns-clause-err g c =
     unlogged_store _ c.args.self.now c.self.view_is c.log_and_apply.new.self c.log_and_apply.result c.log_and_apply.ensures.err
+
+pub returns-clause-bytes : goal.returns-clause-bytes
+returns-clause-bytes g c = rw (← c.self.view_is) c.log_and_apply.ensures.bytes

@@ -1,5 +1,7 @@
-use Rattle.std.proofs.Common.{◌≡◌, ◌∙◌, Ok, arith, false, refl, sym, true}
+use Rattle.std.proofs.Common.{◌≡◌, Ok, false, refl, true}
 use Rattle.std.proofs.lemmas.Result.{err_from_is_err_and}
+use Rattle.leveldb_version.specs.TableCache.{files_at}
+use Rattle.leveldb_store.proofs.NoNewEntriesLemmas.{adds_none, adds_none_removed, steps_add_none}
 use Rattle.leveldb_store.proofs.OpenTablesLemmas.{closes_after, closes_none, no_removal}
 use Rattle.leveldb_store.proofs.RoomLemmas.{number_tabled, step_in_order, step_of_none, step_of_table, step_of_tidying, step_then, usable_tabled}
 use Rattle.leveldb_store.proofs.open_store.OpenStore.table_if_waiting.Goals as goal
@@ -69,3 +71,22 @@ pub returns-clause-closes : goal.returns-clause-closes
 returns-clause-closes g c =
     let made = c.in_ok-table_waiting.ensures.tables in
     closes_after g.E.Env c.args.self.now.set c.table_waiting.new.self.set made.rest.store made.rest.numbers made.tables c.tidy_up.ensures.closes
+
+-- ---- no entry is new
+
+pub returns-then-not-has_waiting-clause-none_new : goal.returns-then-not-has_waiting-clause-none_new
+returns-then-not-has_waiting-clause-none_new g c = λ modelled meaning agrees w. adds_none (g.C.Cmp.cmp c.args.self.now.cmp) meaning c.args.self.now (files_at g.E.Env c.args.env.now)
+
+pub returns-clause-none_new : goal.returns-clause-none_new
+returns-clause-none_new g c =
+    let old = c.args.self.now in
+    let from = c.args.env.now in
+    let order = g.C.Cmp.cmp in
+    let mid = c.table_waiting.new.self in
+    let at = c.table_waiting.new.env in
+    let to = c.tidy_up.new.env in
+    let made = c.in_ok-table_waiting.ensures in
+    let tabled = step_of_table g.E.Env (order old.cmp) _ old from c.requires.usable
+    (λ none. let never : true ≡ false = c.if-not-has_waiting.ensures.1 none in absurd (cc never)) (Ok tt) mid at made.tables made.keeps made.sound in
+    steps_add_none g.E.Env _ (order old.cmp) old mid mid from at to tabled made.none_new
+    (λ modelled meaning agrees w. adds_none_removed (order old.cmp) meaning mid (files_at g.E.Env at) (files_at g.E.Env to) w (c.tidy_up.ensures.tidies.others modelled))

@@ -1,13 +1,11 @@
-use Rattle.std.proofs.Common.{◌≡◌, ◌∙◌, ◌<◌, ◌^◌, inl, ap, arith, refl, subst, sym}
+use Rattle.std.proofs.Common.{◌∙◌, ◌<◌, ◌^◌, inl, ap, arith, refl, subst}
 use Rattle.std.proofs.lemmas.Result.{err_from_is_err_and}
 use Rattle.leveldb_base.specs.contracts.cmp.internal.InternalKeyCmpCmp.TheImpl.{ghosts as key_cmp}
 use Rattle.leveldb_env.specs.contracts.compressor.CompressorListCompressors.TheImpl.{ghosts as compressors}
 use Rattle.leveldb_env.specs.contracts.filter.internal.InternalFilterPolicyFilterPolicy.TheImpl.{ghosts as key_policy}
-use Rattle.leveldb_version.specs.Paths.{table_path}
 use Rattle.leveldb_store.specs.BuildTable.{choices_of}
 use Rattle.leveldb_store.specs.TableFile.{ChangesOneFile}
-use Rattle.leveldb_store.proofs.NotTabledLemmas.{not_added_causes}
-use Rattle.leveldb_store.proofs.OutputsLemmas.{first_added, first_changes, key_accepted, none_cause, none_changes, outputs_begun, table_begun}
+use Rattle.leveldb_store.proofs.OutputsLemmas.{first_added, first_changes, key_accepted, none_cause, none_changes, not_begun, outputs_begun, table_begun}
 use Rattle.leveldb_store.proofs.TableFileLemmas.{opened_is}
 use Rattle.leveldb_store.proofs.outputs.Outputs.begin.Goals as goal
 
@@ -19,16 +17,17 @@ pub returns-in_err-add-clause-changes : goal.returns-in_err-add-clause-changes
 returns-in_err-add-clause-changes g c =
     let o = c.in_ok-table.ensures in
     let number_is = c.in_ok-number.ensures.number in
-    none_changes g.E.Env c.args.store.now o.does o.locks o.cause o.file (c.deref.ensures ∙ c.in_ok-path.ensures.ok) number_is (omega (arith, number_is, c.in_ok-number.ensures.fits)) (ap (λ v. v.next_file) c.in_ok-number.ensures.ok) c.in_err-add.ensures.err
+    none_changes g.E.Env c.args.store.now o.does o.locks o.cause o.file (c.deref.ensures ∙ c.in_ok-path.ensures.ok) number_is (omega (arith, number_is, c.in_ok-number.ensures.fits)) (ap (λ v. v.set.next_file) c.in_ok-number.ensures.ok) c.in_err-add.ensures.err
 
 pub returns-in_err-add-clause-cause : goal.returns-in_err-add-clause-cause
 returns-in_err-add-clause-cause g c =
     let o = c.in_ok-table.ensures in
     let number_is = c.in_ok-number.ensures.number in
     let failed = err_from_is_err_and c.from_residual-in_err-add.result c.from_residual-in_err-add.ensures.1 in
-    let codings = (compressors g.dyn-2).codings c.args.options.now.compressor_list in
-    rw failed.1 (rw failed.2 (none_cause g.E.Env c.args.store.now o.does o.locks o.cause o.file (c.deref.ensures ∙ c.in_ok-path.ensures.ok) number_is (omega (arith, number_is, c.in_ok-number.ensures.fits)) (ap (λ v. v.next_file) c.in_ok-number.ensures.ok)
-    (λ own. inl (not_added_causes (key_cmp g.row.C g.C.UserCmp g.C.UserCmp-dict g.C.Cmp g.C.Cmp-dict) (key_policy g.row.FP g.FP.FilterPolicy g.FP.FilterPolicy-dict) codings c.in_ok-table.table.core (ap (λ b. b.broken) o.is.1 ∙ c.under-core.ensures.unbroken) _ (c.args.key.now, c.args.value.now) own)) c.in_err-add.ensures.err))
+    let choices = choices_of g.C.Cmp g.FP.FilterPolicy (key_cmp g.row.C g.C.UserCmp g.C.UserCmp-dict g.C.Cmp g.C.Cmp-dict) (key_policy g.row.FP g.FP.FilterPolicy g.FP.FilterPolicy-dict) (compressors g.dyn-2).codings c.args.options.now in
+    let new = rw c.new-policy.ensures at c.under-core.ensures in
+    rw failed.1 (rw failed.2 (none_cause g.E.Env c.args.store.now o.does o.locks o.cause o.file (c.deref.ensures ∙ c.in_ok-path.ensures.ok) number_is (omega (arith, number_is, c.in_ok-number.ensures.fits)) (ap (λ v. v.set.next_file) c.in_ok-number.ensures.ok)
+    (λ own. inl (not_begun choices g.E.Env c.args.store.now (c.args.key.now, c.args.value.now) new o.is.1 own)) c.in_err-add.ensures.err))
 
 -- it is added
 pub returns-clause-begins : goal.returns-clause-begins
@@ -41,8 +40,8 @@ returns-clause-begins g c = λ first tables are cut.
     let new = rw c.new-policy.ensures at c.under-core.ensures in
     let adds = c.in_ok-add.ensures.ok in
     let same = c.add.ensures.same in
-    outputs_begun choices g.E.Env c.args.store.now refl (c.reserve.ensures.items ∙ ap (λ v. v.done) c.self.view_is) are cut number_is (ap (λ v. v.next_file) c.in_ok-number.ensures.ok) fits (same.0 ∙ o.is.0)
-    (subst (λ p. ChangesOneFile g.E.Env p c.args.env.now c.add.new.env) path_is (first_added g.E.Env c.args.store.now o.does o.locks o.cause o.file path_is number_is fits (ap (λ v. v.next_file) c.in_ok-number.ensures.ok) adds.longer))
+    outputs_begun choices g.E.Env c.args.store.now refl (c.reserve.ensures.items ∙ ap (λ v. v.done) c.self.view_is) are cut number_is (ap (λ v. v.set.next_file) c.in_ok-number.ensures.ok) fits (same.0 ∙ o.is.0)
+    (subst (λ p. ChangesOneFile g.E.Env p c.args.env.now c.add.new.env) path_is (first_added g.E.Env c.args.store.now o.does o.locks o.cause o.file path_is number_is fits (ap (λ v. v.set.next_file) c.in_ok-number.ensures.ok) adds.longer))
     (table_begun choices g.E.Env c.args.store.now (c.args.key.now, c.args.value.now) new o.is.1 o.is.0 (o.is.2 ∙ c.in_ok-smallest.ensures.ok) fits (opened_is g.E.Env o.does o.file) (λ modelled. o.file modelled ∙ path_is)
     c.in_ok-smallest.ensures.bytes adds c.add.ensures.choices same.0 same.1)
 
@@ -50,4 +49,4 @@ pub returns-clause-changes : goal.returns-clause-changes
 returns-clause-changes g c =
     let o = c.in_ok-table.ensures in
     let number_is = c.in_ok-number.ensures.number in
-    first_changes g.E.Env c.args.store.now o.does o.locks o.cause o.file (c.deref.ensures ∙ c.in_ok-path.ensures.ok) number_is (omega (arith, number_is, c.in_ok-number.ensures.fits)) (ap (λ v. v.next_file) c.in_ok-number.ensures.ok) c.in_ok-add.ensures.ok.longer
+    first_changes g.E.Env c.args.store.now o.does o.locks o.cause o.file (c.deref.ensures ∙ c.in_ok-path.ensures.ok) number_is (omega (arith, number_is, c.in_ok-number.ensures.fits)) (ap (λ v. v.set.next_file) c.in_ok-number.ensures.ok) c.in_ok-add.ensures.ok.longer

@@ -27,3 +27,12 @@ returns-clause-ok g c =
     (subst (λ old. AreWalksOf old (each_alone (at_level 0 version.files)) alone) c.new-iters.ensures.items
     (subst (λ fs. AreWalksOf c.new-iters.result.items (each_alone fs) alone) (c.part_of_level.ensures ∙ ap (at_level 0) files_are) c.in_ok-push_alone.ensures.ok))
     (subst (λ fs. AreWalksOf alone (levels_of_walks fs) iters) files_are c.in_ok-push_levels.ensures.ok)
+
+pub returns-in_err-push_alone-clause-in_order : goal.returns-in_err-push_alone-clause-in_order
+returns-in_err-push_alone-clause-in_order g c = rw (← c.self.view_is) c.self.invariant.0
+
+pub returns-in_err-push_levels-clause-in_order : goal.returns-in_err-push_levels-clause-in_order
+returns-in_err-push_levels-clause-in_order g c = rw (← c.self.view_is) c.self.invariant.0
+
+pub returns-clause-in_order : goal.returns-clause-in_order
+returns-clause-in_order g c = rw (← c.self.view_is) c.self.invariant.0

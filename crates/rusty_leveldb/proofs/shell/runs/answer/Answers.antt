@@ -3,7 +3,7 @@ use Rattle.std.proofs.Common.{◌∷◌, [], Some, None, Ok, Err, false, map, re
 use Rattle.std.specs.Option.{option_map}
 use Rattle.leveldb_mem.specs.WriteBatch.{item_of}
 use Rattle.rusty_leveldb.specs.declared.shell.commands.Reply.TheVariants.{Refused, Walk}
-use Rattle.rusty_leveldb.specs.State.{write, get, get_snapshot, release_snapshot, flush, close, refused}
+use Rattle.rusty_leveldb.specs.State.{write, get, get_snapshot, release_snapshot, flush, compact_range, close, refused}
 use Rattle.rusty_leveldb.specs.Serves.{done_or, found_or, refusal_of, snapshot_of}
 use Rattle.rusty_leveldb.specs.Shell.{change_of, snapshot_named}
 use Rattle.rusty_leveldb.specs.Views.{steps_or}
@@ -30,6 +30,11 @@ pub returns-in-Get-clause-step : goal.returns-in-Get-clause-step
 returns-in-Get-clause-step g c =
     answered g.E.Env c.args.env.now c.get.new.env c.args.taken.now.items c.args.taken.now.items c.args.command.now (get None c.deref-in-Get.result.now) (found_or c.get.result) c.looked_up.result
     refl (found_gives_none c.get.result) (rw (c.in-Get.is, c.deref-in-Get.ensures.value) refl) (c.looked_up.ensures _) c.get.ensures.step
+
+pub returns-in-Compact-clause-step : goal.returns-in-Compact-clause-step
+returns-in-Compact-clause-step g c =
+    answered g.E.Env c.args.env.now c.compact_range.new.env c.args.taken.now.items c.args.taken.now.items c.args.command.now (compact_range c.deref-in-Compact.result.now c.deref-in-Compact-2.result.now) (done_or c.compact_range.result) c.reply_of-in-Compact.result
+    refl (done_gives_none c.compact_range.result) (rw (c.in-Compact.is, c.deref-in-Compact.ensures.value, c.deref-in-Compact-2.ensures.value) refl) (c.reply_of-in-Compact.ensures _) c.compact_range.ensures.step
 
 pub returns-in-Flush-clause-step : goal.returns-in-Flush-clause-step
 returns-in-Flush-clause-step g c =

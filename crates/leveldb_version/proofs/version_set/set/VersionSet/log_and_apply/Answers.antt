@@ -48,3 +48,13 @@ invariant_of-self-2 g c =
     let next = c.in_ok-next.next in
     subst (λ k. IsCurrent (g.C.Cmp.cmp k) k c.log.new.self next) (sym c.in_ok-next.ensures.ok.same_cmp)
     (current_after c.self.inside.current.cmp (edit_of c.args.edit) c.self.inside.files c.log.new.self c.self.inside.current next c.self.invariant (files_logged usable fits logged) c.in_ok-next.ensures.ok c.in_ok-next.ensures.fit)
+
+-- the record is bytes
+
+pub returns-in_err-log-clause-bytes : goal.returns-in_err-log-clause-bytes
+returns-in_err-log-clause-bytes g c =
+    let p = err_from_is_err_and c.from_residual-in_err-log.result c.from_residual-in_err-log.ensures.1 in
+    rw (← c.self.view_is, p.1) (c.in_err-log.ensures.bytes (edit_of c.args.edit) c.with_numbers-edit.ensures)
+
+pub returns-clause-bytes : goal.returns-clause-bytes
+returns-clause-bytes g c = rw (← c.self.view_is) (c.in_ok-log.ensures.bytes (edit_of c.args.edit) c.with_numbers-edit.ensures)

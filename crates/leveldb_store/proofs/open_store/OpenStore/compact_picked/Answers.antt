@@ -1,0 +1,31 @@
+use Rattle.std.proofs.Common.{◌≡◌, ◌∙◌, Ok, ap, refl, subst, sym}
+use Rattle.std.proofs.lemmas.Result.{err_from_is_err_and}
+use Rattle.leveldb_store.proofs.CompactPickedLemmas.{compacted_once, compacted_tidied}
+use Rattle.leveldb_store.proofs.CompactedLemmas.{compacts_then, nothing_compacted}
+use Rattle.leveldb_store.specs.OpenStore.{OpenStoreValue}
+use Rattle.leveldb_store.specs.Room.{TidiesUp}
+use Rattle.leveldb_store.proofs.open_store.OpenStore.compact_picked.Goals as goal
+
+pub returns-in_err-compact-clause-compacts : goal.returns-in_err-compact-clause-compacts
+returns-in_err-compact-clause-compacts g c =
+    let p = err_from_is_err_and c.from_residual.result c.from_residual.ensures.1 in
+    rw (p.1, p.2) (compacted_once c.requires.usable c.in_err-compact.ensures.compacts)
+
+pub returns-clause-compacts : goal.returns-clause-compacts
+returns-clause-compacts g c =
+    let old = c.args.self.now in
+    let mid = c.compact.new.self in
+    let at = c.compact.new.env in
+    let to = c.tidy_up.new.env in
+    let one = c.in_ok-compact.ensures.compacts in
+    let tidied = c.tidy_up.ensures in
+    let same = ap g.C.Cmp.cmp (ap (λ (v : OpenStoreValue g.row.C.Denot). v.cmp) one.memory) ∙ sym c.requires.order in
+    compacts_then (compacted_once c.requires.usable one)
+    (compacted_tidied _ g.E.Env _ _ _ mid one.usable at to c.compact.new.tables c.tidy_up.new.tables
+    (subst (λ cmp. TidiesUp g.E.Env cmp mid at to) same tidied.tidies) tidied.closes tidied.time tidied.bytes)
+
+pub returns-in_default-clause-compacts : goal.returns-in_default-clause-compacts
+returns-in_default-clause-compacts g c = record {
+  keeps = nothing_compacted _ g.E.Env _ c.args.self.now c.args.env.now c.args.tables.now _ _ c.requires.usable;
+  memory = refl;
+}

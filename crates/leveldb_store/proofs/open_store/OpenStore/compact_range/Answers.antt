@@ -1,0 +1,86 @@
+use Rattle.std.proofs.Common.{◌≡◌, ◌∙◌, List, Ok, ap, arith, inl, refl, sym, ℕ}
+use Rattle.std.proofs.lemmas.Result.{err_from_is_err_and}
+use Rattle.leveldb_base.specs.CmpLaws.{user_part-internal_key}
+use Rattle.leveldb_base.specs.KeyTypes.{user_part}
+use Rattle.leveldb_base.specs.declared.key_types.ValueType.TheVariants.{TypeValue}
+use Rattle.leveldb_version.specs.Overlap.{named_range}
+use Rattle.leveldb_store.proofs.CompactLevelLemmas.{clear_alike, clear_more}
+use Rattle.leveldb_store.proofs.CompactRangeLemmas.{memory_compacted, range_then}
+use Rattle.leveldb_store.proofs.CompactedLemmas.{failed_at_once}
+use Rattle.leveldb_store.specs.OpenStore.{OpenStoreValue}
+use Rattle.leveldb_store.proofs.open_store.OpenStore.compact_range.Goals as goal
+
+-- ---- before the levels
+
+pub returns-in_err-begin-clause-compacts : goal.returns-in_err-begin-clause-compacts
+returns-in_err-begin-clause-compacts g c =
+    let p = err_from_is_err_and c.from_residual.result c.from_residual.ensures.1 in
+    rw (p.1, p.2)
+    (record {
+      keeps = failed_at_once _ g.E.Env _ c.args.self.now c.args.env.now c.args.tables.now _ _ _ (inl (inl c.in_err-begin.ensures.cause));
+      tabled = tt;
+      clear = tt;
+    })
+
+pub returns-in_err-end-clause-compacts : goal.returns-in_err-end-clause-compacts
+returns-in_err-end-clause-compacts g c =
+    let p = err_from_is_err_and c.from_residual-in_err-end.result c.from_residual-in_err-end.ensures.1 in
+    rw (p.1, p.2)
+    (record {
+      keeps = failed_at_once _ g.E.Env _ c.args.self.now c.args.env.now c.args.tables.now _ _ _ (inl (inl c.in_err-end.ensures.cause));
+      tabled = tt;
+      clear = tt;
+    })
+
+pub returns-in_err-table_memory-clause-compacts : goal.returns-in_err-table_memory-clause-compacts
+returns-in_err-table_memory-clause-compacts g c =
+    let p = err_from_is_err_and c.from_residual-in_err-table_memory.result c.from_residual-in_err-table_memory.ensures.1 in
+    let failed = c.in_err-table_memory.ensures in
+    rw (p.1, p.2)
+    (record {
+      keeps = memory_compacted _ g.E.Env _ c.args.self.now c.args.env.now c.args.tables.now _ refl _ (sym c.requires.order) _ c.table_memory.new.self c.table_memory.new.env c.table_memory.new.tables failed.step failed.none_new failed.closes;
+      tabled = tt;
+      clear = tt;
+    })
+
+pub loop-level-init : goal.loop-level-init
+loop-level-init g c =
+    let done = c.in_ok-table_memory.ensures in
+    record {
+      keeps = memory_compacted _ g.E.Env _ c.args.self.now c.args.env.now c.args.tables.now _ refl _ (sym c.requires.order) (Ok tt) c.table_memory.new.self c.table_memory.new.env c.table_memory.new.tables done.step done.none_new done.closes;
+      tabled = done.tabled;
+      clear = λ level less. absurd (omega (arith, less));
+      log = done.log;
+    }
+
+-- ---- one level after another
+
+pub returns-in_err-compact_level-clause-compacts : goal.returns-in_err-compact_level-clause-compacts
+returns-in_err-compact_level-clause-compacts g c =
+    let p = err_from_is_err_and c.from_residual-in_err-compact_level.result c.from_residual-in_err-compact_level.ensures.1 in
+    rw (p.1, p.2)
+    (record {
+      keeps = range_then _ g.E.Env _ c.args.self.now c.args.env.now c.args.tables.now _ refl _ c.loop-level.invariant.keeps c.in_err-compact_level.ensures.compacts;
+      tabled = tt;
+      clear = tt;
+    })
+
+pub loop-level-preserved : goal.loop-level-preserved
+loop-level-preserved g c =
+    let before = c.loop-level.invariant in
+    let done = c.in_ok-compact_level.ensures in
+    let level = c.loop-level.level in
+    let from = c.args.from.now in
+    let to = c.args.to.now in
+    let same = ap g.C.Cmp.cmp before.keeps.rest.cmp ∙ sym c.requires.order in
+    let begins = ap user_part (c.internal_key.ensures ∙ c.in_ok-begin.ensures.ok) ∙ user_part-internal_key from 0 TypeValue in
+    let ends = ap user_part (c.internal_key-2.ensures ∙ c.in_ok-end.ensures.ok) ∙ user_part-internal_key to 0 TypeValue in
+    record {
+      keeps = range_then _ g.E.Env _ c.args.self.now c.args.env.now c.args.tables.now _ refl _ before.keeps done.compacts;
+      tabled = (
+        ap (λ (v : OpenStoreValue g.row.C.Denot). v.recent.entries) done.compacts.memory ∙ before.tabled.0,
+        ap (λ (v : OpenStoreValue g.row.C.Denot). v.waiting) done.compacts.memory ∙ before.tabled.1,
+      );
+      clear = clear_more (g.C.Cmp.cmp c.args.options.now.cmp) (named_range from to) level c.loop-level.self.set.full.added c.compact_level.new.self.set.full.added before.clear (clear_alike level c.compact_level.new.self.set.full.added same begins ends done.clear) done.above;
+      log = done.log ∙ before.log;
+    }

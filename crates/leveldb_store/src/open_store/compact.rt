@@ -1,0 +1,115 @@
+//! One compaction of an open store: other files take the place of those that it takes, and its edit
+//! is logged.
+ghost use Rattle.std.specs.Prelude.{◌≡◌, ◌++◌, Bool, IfErr, IfSome, None, Ok, OnErr, OnOk, is_some, map};
+ghost use Rattle.leveldb_base.specs.Error.{IsOutOfMemory};
+ghost use Rattle.leveldb_version.specs.Format.{format_of};
+ghost use Rattle.leveldb_version.specs.Picking.{IsCompactionOf};
+ghost use Rattle.leveldb_version.specs.TableCache.{table_options};
+ghost use Rattle.leveldb_store.specs.BuildTable.{choices_of};
+ghost use Rattle.leveldb_store.specs.Compact.{CompactsStore, CompactsTables, EndsByRemoval, LogsCompaction};
+ghost use Rattle.leveldb_store.specs.OpenStore.{IsUnbroken};
+
+use super::OpenStore;
+use leveldb_base::cmp::{Cmp, InternalKeyCmp, UserCmp};
+use leveldb_base::error::Result;
+use leveldb_base::types::{FileMetaData, SequenceNumber};
+use leveldb_env::compressor::{CompressorList, Compressors};
+use leveldb_env::env::Env;
+use leveldb_env::filter::{FilterPolicy, InternalFilterPolicy};
+use leveldb_env::infolog::Logger;
+use leveldb_env::options::Options;
+use leveldb_version::compaction::Compaction;
+use leveldb_version::table_cache::TableCache;
+use leveldb_version::version_edit::VersionEdit;
+
+impl<E: Env, C: UserCmp + Copy + Drop> OpenStore<E, C> {
+    // Does a compaction of the current version, if there is one, and deletes the files that are
+    // obsolete then.
+    pub(super) fn compact_picked<FP: FilterPolicy + Copy + Drop>(
+        &mut self,
+        env: &mut E,
+        options: &Options<C, FP>,
+        tables: &mut TableCache<E, C, FP>,
+        smallest: SequenceNumber,
+        log: &mut Option<Logger>,
+        picked: Option<Compaction<C>>,
+    ) -> Result<()>
+        requires usable { IsUnbroken self.old }
+        requires order { C.cmp options.now.cmp ≡ C.cmp self.old.cmp }
+        requires none_waits { self.old.waiting ≡ None }
+        requires chosen { IfSome picked (λ it. IsCompactionOf (C.cmp self.old.cmp) self.old.current
+            it.manual options.now.max_file_size it) }
+        ensures compacts { let choices = choices_of C.Cmp FP.FilterPolicy
+            ⟦<InternalKeyCmp<C> as Cmp>⟧ ⟦<InternalFilterPolicy<FP> as FilterPolicy>⟧
+            ⟦<CompressorList as Compressors>⟧.codings options.now in
+            CompactsTables ⟦<InternalKeyCmp<C> as Cmp>⟧ E.Env
+            (table_options choices.format options.now) self.old env.old tables.old choices smallest
+            result self.new env.new tables.new }
+        ensures logged { OnOk result (IfSome picked (λ it.
+            LogsCompaction (C.cmp self.old.cmp) it self.old self.new)) }
+        ensures removes { OnOk result (IfSome picked (λ it.
+            EndsByRemoval E.Env self.new env.new)) }
+        ensures none { picked ≡ None → (result ≡ Ok tt) × (self.new ≡ self.old)
+            × (env.new ≡ env.old) × (tables.new ≡ tables.old) }
+        ensures err { OnErr result (self.new.set.full ≡ self.old.set.full) }
+        ensures log { is_some log.new ≡ is_some log.old }
+    {
+        let Some(compaction) = picked else {
+            return Ok(());
+        };
+        self.compact(env, options, tables, smallest, compaction)?;
+        // What fails of that is a line for `log`.
+        let _ = self.tidy_up(env, tables, log);
+        Ok(())
+    }
+
+    // Does a compaction of the current version: its edit is logged once the tables are synced that
+    // take the place of those that it takes. Entries that are shadowed at `smallest`, the smallest
+    // number at which the store is read, may go, and deletions up to it that no deeper level needs.
+    // No memtable waits.
+    //
+    // After an Err the tables are those that they were, and the next call tries again, unless the
+    // store broke.
+    fn compact<FP: FilterPolicy + Copy + Drop>(
+        &mut self,
+        env: &mut E,
+        options: &Options<C, FP>,
+        tables: &mut TableCache<E, C, FP>,
+        smallest: SequenceNumber,
+        compaction: Compaction<C>,
+    ) -> Result<()>
+        requires usable { IsUnbroken self.old }
+        requires order { C.cmp options.now.cmp ≡ C.cmp self.old.cmp }
+        requires none_waits { self.old.waiting ≡ None }
+        requires chosen { IsCompactionOf (C.cmp self.old.cmp) self.old.current compaction.manual
+            options.now.max_file_size compaction }
+        ensures compacts { let choices = choices_of C.Cmp FP.FilterPolicy
+            ⟦<InternalKeyCmp<C> as Cmp>⟧ ⟦<InternalFilterPolicy<FP> as FilterPolicy>⟧
+            ⟦<CompressorList as Compressors>⟧.codings options.now in
+            CompactsStore ⟦<InternalKeyCmp<C> as Cmp>⟧ E.Env
+            (table_options choices.format options.now) self.old env.old tables.old choices smallest
+            compaction result self.new env.new tables.new }
+    {
+        let level = compaction.level() + 1;
+        let made = self.replacements(env, options, tables, smallest, &compaction)?;
+        let mut compaction = compaction;
+        compaction.add_input_deletions()?;
+        let mut edit = compaction.into_edit();
+        edit.set_log_num(self.log.number);
+        add_files(&mut edit, level, made)?;
+        self.log_tables(env, edit)
+    }
+}
+
+// Adds files of a level to an edit.
+fn add_files(edit: &mut VersionEdit, level: usize, files: Vec<FileMetaData>) -> Result<()>
+    ensures ok { OnOk result (edit.new.new_files.items
+        ≡ edit.old.new_files.items ++ map (λ file. (level, file)) files.items) }
+    ensures others { edit.new ≡ record edit.old { new_files = edit.new.new_files } }
+    ensures memory { IfErr result IsOutOfMemory }
+{
+    for file in files {
+        edit.add_file(level, file)?;
+    }
+    Ok(())
+}

@@ -1,0 +1,17 @@
+use Rattle.std.proofs.Common.{ℕ, Option, subst, codes}
+use Rattle.std.specs.Prelude.{Vec}
+use Rattle.std.specs.declared.alloc.Global.{Global}
+use Rattle.rusty_leveldb.specs.Spelling.{IsPairReading}
+use Rattle.rusty_leveldb.proofs.Lines.{no_compact, pair_text}
+use Rattle.rusty_leveldb.proofs.shell.lines.read_compact.Goals as goal
+
+pub returns-in_default : goal.returns-in_default
+returns-in_default c =
+    let P : Option (Vec ℕ Global × Vec ℕ Global) → Type 0 = λ o. IsPairReading 32 c.args.words.now o in
+    no_compact c.args.words.now (subst P c.in_default.is c.in_ok-pair.ensures)
+
+pub returns : goal.returns
+returns c =
+    let P : Option (Vec ℕ Global × Vec ℕ Global) → Type 0 = λ o. IsPairReading 32 c.args.words.now o in
+    let is = subst P c.in-Some.is c.in_ok-pair.ensures in
+    ((is.0, is.1), pair_text (codes "compact ") c.args.words.now c.in-Some.pair.0.items c.in-Some.pair.1.items 32 is.2)

@@ -1,0 +1,41 @@
+-- What a compaction of its store leaves of an engine.
+use Rattle.std.specs.Prelude.{◌≡◌, ℕ, List, Result}
+use Rattle.leveldb_base.specs.declared.error.Status.{Status}
+use Rattle.leveldb_env.specs.declared.env.Env.{Ghosts}
+use Rattle.leveldb_env.specs.declared.filter.FilterPolicy.{Ghosts as FilterGhosts}
+use Rattle.leveldb_env.specs.Options.{Boxed, OptionsOf}
+use Rattle.leveldb_iter.specs.Snapshot.{IsSmallestHeld}
+use Rattle.leveldb_store.specs.BuildTable.{TableChoices}
+use Rattle.leveldb_store.specs.Compact.{CompactsRange}
+use Rattle.leveldb_version.specs.Overlap.{named_range}
+use Rattle.rusty_leveldb.specs.Boxes.{EngineOf, InternalOrder}
+use Rattle.rusty_leveldb.specs.Engine.{formats_of, options_in, tables_by}
+use Rattle.rusty_leveldb.specs.EngineValue.{FollowsStore}
+
+-- nothing of an engine changes but its store, the open tables, the mode, and the sink of the
+-- options' log
+abbrev pub ChangesStore : {E C FP F : Type 0} {B : Boxed} → EngineOf E C FP F B
+    → EngineOf E C FP F B → Type 0
+ChangesStore before after = after ≡ record before {
+  store = after.store;
+  options = record (options_in before) { log = after.options.log };
+  tables = after.tables;
+  mode = after.mode;
+}
+
+-- The store of an engine is compacted over a range, down to the smallest number at which the engine
+-- is read.
+pub record EngineCompactsStore {E C FP F P : Type 0} {B : Boxed} {keys : InternalOrder C}
+    {key_filters : FilterGhosts P} (env : Ghosts E F)
+    (choices : OptionsOf C FP B → TableChoices keys key_filters) (before : EngineOf E C FP F B)
+    (from : E) (low high : List ℕ) (result : Result (Unit {0}) Status)
+    (after : EngineOf E C FP F B) (to : E) : Type 0 where
+  pub smallest : ℕ
+  pub is_smallest : IsSmallestHeld before.snapshots.held before.store.set.last_sequence smallest
+  pub compacts : CompactsRange keys env (tables_by (formats_of choices) before) before.store from
+      before.tables (choices (options_in before)) smallest (named_range low high) result after.store
+      to after.tables
+  -- nothing else of the engine changes but the sink of the options' log, and its mode
+  pub rest : ChangesStore before after
+  -- it is broken where the store is
+  pub mode : FollowsStore after.mode after.store
