@@ -9,6 +9,10 @@ mod build_table;
 #[cfg(test)]
 mod compactions;
 #[cfg(test)]
+mod compactions_asked;
+#[cfg(test)]
+mod compactions_in_writes;
+#[cfg(test)]
 mod compactions_of_many;
 #[cfg(test)]
 mod damage;

@@ -91,4 +91,6 @@ mod ReplacedFilesLemmas
 mod CompactPickedLemmas
 mod CompactLevelLemmas
 mod CompactRangeLemmas
+pub mod LoggedEditsLemmas
+pub mod AskedCompactionLemmas
 mod TabledEntriesLemmas

@@ -1,6 +1,6 @@
 -- Compactions of an open store: what one of them leaves, what those of a range leave, and why they
 -- fail.
-use Rattle.std.specs.Prelude.{◌≢◌, ◌≡◌, ◌≤◌, ◌<◌, ◌⊎◌, ◌↔◌, ◌+◌, ◌++◌, ◌^◌, ◌∷◌, [], false, if◌then◌else◌, ℕ, List, All, Contains, None, Some, Result, IfOk, OnErr, OnOk, IsTrue, fold, Bool}
+use Rattle.std.specs.Prelude.{◌≢◌, ◌≡◌, ◌≤◌, ◌<◌, ◌⊎◌, ◌↔◌, ◌+◌, ◌++◌, ◌^◌, ◌∷◌, [], false, if◌then◌else◌, ℕ, List, All, Contains, Option, None, Some, Result, IfOk, OnErr, OnOk, IsTrue, fold, Bool}
 use Rattle.std.specs.declared.cmp.Ordering.{Ordering}
 use Rattle.std.specs.declared.cmp.Ordering.TheVariants.{Less}
 use Rattle.leveldb_base.specs.Entries.{entry_of_pair}
@@ -25,7 +25,7 @@ use Rattle.leveldb_version.specs.LogEdit.{set_appended}
 use Rattle.leveldb_version.specs.Opening.{FitsEdit}
 use Rattle.leveldb_version.specs.Overlap.{UserRange, is_overlapped}
 use Rattle.leveldb_version.specs.Paths.{table_path}
-use Rattle.leveldb_version.specs.Picking.{CompactionValue}
+use Rattle.leveldb_version.specs.Picking.{CompactionValue, IsAskedFor}
 use Rattle.leveldb_version.specs.Summary.{files_of_level}
 use Rattle.leveldb_version.specs.TableCache.{TableOptions, files_at}
 use Rattle.leveldb_version.specs.Version.{new_files_of}
@@ -34,6 +34,7 @@ use Rattle.leveldb_version.specs.VersionSet.{level_file}
 use Rattle.leveldb_version.specs.VersionSetValue.{AreFileNumbersUsedUp, OpenManifest, VersionSetValue, broken, in_use}
 use Rattle.leveldb_version.specs.declared.table_cache.TableCache.{TableCache}
 use Rattle.leveldb_store.specs.BuildTable.{IsNotTabled, TableChoices}
+use Rattle.leveldb_store.specs.LoggedEdits.{LogsByScore}
 use Rattle.leveldb_store.specs.OpenStore.{AreInLevels, AreNumbersGiven, IsUnbroken, OpenStoreValue}
 use Rattle.leveldb_store.specs.OpenTables.{AreOpenTablesOf}
 use Rattle.leveldb_store.specs.Opening.{GivesNumbers, TakesBackNew}
@@ -108,6 +109,25 @@ pub record LogsCompaction {C : Type 0} (cmp : List ℕ → List ℕ → Ordering
   pub replaces : ReplacesFiles cmp old.log.number it edit
   pub set : new.set ≡ set_appended manifest given edit
   pub current : IsVersionAfter cmp edit old.current new.current
+
+-- the edit of a compaction was logged, if there is one, and else nothing changed
+abbrev pub LogsPicked : {C : Type 0} → (List ℕ → List ℕ → Ordering) → Option (CompactionValue C)
+    → OpenStoreValue C → OpenStoreValue C → Type 0
+LogsPicked cmp None old new = new ≡ old
+LogsPicked cmp (Some it) old new = LogsCompaction cmp it old new
+
+-- What the compaction for which a store's version asks leaves, by a level's score or else by reads.
+pub record CompactsIfAsked {C : Type 0} (cmp : List ℕ → List ℕ → Ordering) (max_file_size : ℕ)
+    (old : OpenStoreValue C) (result : Result (Unit {0}) Status) (new : OpenStoreValue C)
+    : Type 0 where
+  -- Ok: that one was logged, or none is asked for
+  pub logged : OnOk result ((picked : Option (CompactionValue C))
+      × IsAskedFor cmp old.set.full.pointers old.current max_file_size picked
+      × LogsPicked cmp picked old new)
+  -- and so a file is taken from the level whose score asks for it
+  pub by_score : OnOk result (LogsByScore cmp old.set new.set)
+  -- Err: the files are those that they were
+  pub err : OnErr result (new.set.full ≡ old.set.full)
 
 -- ---- one compaction
 

@@ -23,5 +23,6 @@ pub mod OpeningState
 pub mod Listing
 pub mod OpeningSteps
 pub mod SoundCall
+pub mod LoggedEdits
 pub mod RoomSteps
 pub mod Compact

@@ -203,11 +203,11 @@ kept_through chosen taken narrow wide same keeps order file c =
 -- ---- moves
 
 -- a compaction that takes one file moves it exactly if little overlaps it two levels down
-pub moves_if_small : (cmp : List ℕ → List ℕ → Ordering) (file_size level : ℕ) (is_asked : Bool) (files inputs : List NewFile) (file : NewFile) (small : Bool) → is_asked ≡ false
+pub moves_if_small : (cmp : List ℕ → List ℕ → Ordering) (file_size level : ℕ) (manual : Bool) (files inputs : List NewFile) (file : NewFile) (small : Bool) → manual ≡ false
     → inputs ≡ file ∷ [] → file.level ≡ level
     → small ≡ nat_lt (total_size (overlapping cmp (level + 2) (closed_range (user_part file.smallest) (user_part file.largest)) files)) (10 * file_size)
-    → (small ≡ true) ↔ MayMove cmp file_size level is_asked files inputs
-moves_if_small cmp file_size level is_asked files inputs file small unasked alone at is = (
+    → (small ≡ true) ↔ MayMove cmp file_size level manual files inputs
+moves_if_small cmp file_size level manual files inputs file small unasked alone at is = (
   (λ yes. record {
     unasked = unasked;
     file = file;

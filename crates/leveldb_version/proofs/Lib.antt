@@ -117,3 +117,4 @@ pub mod CompactionCallLemmas
 mod BaseLevelLemmas
 mod SamplingLemmas
 pub mod AmongLemmas
+mod CutLemmas

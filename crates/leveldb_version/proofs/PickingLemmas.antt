@@ -9,7 +9,7 @@ use Rattle.std.proofs.lemmas.List.Elements.{filter_map-append}
 use Rattle.std.proofs.lemmas.Option.{slice_get-map}
 use Rattle.std.specs.List.{cons_option, filter, filter_map, last_or, list_any}
 use Rattle.std.specs.Option.{option_copied, option_map, option_map_or, option_or}
-use Rattle.std.specs.Ordering.{is_gt, is_lt}
+use Rattle.std.specs.Ordering.{is_lt}
 use Rattle.std.specs.declared.cmp.Ordering.{Ordering}
 use Rattle.std.specs.declared.cmp.Ordering.TheVariants.{Less}
 use Rattle.leveldb_base.proofs.EntriesLemmas.{map_in}
@@ -28,7 +28,7 @@ use Rattle.leveldb_version.specs.Inputs.{AreOrdered, AreWithin, IsCountPast}
 use Rattle.leveldb_version.specs.Overlap.{AreInputs, Covers, UserRange, is_above, is_below, is_overlapped, overlapping, overlaps}
 use Rattle.leveldb_version.specs.Scores.{level_by_score, level_limit, level_load}
 use Rattle.leveldb_version.specs.Summary.{files_of_level, total_size}
-use Rattle.leveldb_version.specs.Picking.{CompactionValue, IsAskedFor, IsCompactionOf, IsOfRange, asking_file, file_by_reads}
+use Rattle.leveldb_version.specs.Picking.{CompactionValue, IsCompactionOf, IsOfFile, IsOfRange, file_by_reads}
 use Rattle.leveldb_version.specs.Version.{VersionValue, at_level, borrowed_files, new_files_of}
 use Rattle.leveldb_version.specs.VersionEdit.{LevelFile, NewFile, Pointer, new_file_of}
 use Rattle.leveldb_version.specs.VersionSet.{key_for, pointer_at}
@@ -249,39 +249,30 @@ if_some_more (Some a) p more = more a p
 
 -- ---- compactions that are picked
 
--- the compaction of the file that asks is the one that is asked for
-pub asked_for : {C E : Type 0} (cmp : List ℕ → List ℕ → Ordering) (pointers : List Pointer) (version : VersionValue C) (size : ℕ) (asking : NewFile) (chosen : List (Bor (ℕ × FileMetaData)))
-    (result : Result (Option (CompactionValue C)) E) → asking_file cmp pointers version ≡ Some asking → (AreOrdered cmp (new_files_of version) → Contains (borrowed_files chosen) asking)
-    → IfOk result (λ picked. IfSome picked (IsCompactionOf cmp version false size)) → IfOk result (λ picked. IfSome picked (λ it. it.level ≡ asking.level))
+-- the compaction that begins with a file is the one of that file
+pub of_file : {C E : Type 0} (cmp : List ℕ → List ℕ → Ordering) (version : VersionValue C) (size : ℕ) (first : NewFile) (chosen : List (Bor (ℕ × FileMetaData)))
+    (result : Result (Option (CompactionValue C)) E) → (AreOrdered cmp (new_files_of version) → Contains (borrowed_files chosen) first)
+    → IfOk result (λ picked. IfSome picked (IsCompactionOf cmp version false size)) → IfOk result (λ picked. IfSome picked (λ it. it.level ≡ first.level))
     → (AreOrdered cmp (new_files_of version) → IfOk result (λ picked. IfSome picked (λ it. (file : NewFile) → Contains (borrowed_files chosen) file → Contains (new_files_of it.inputs) file)))
-    → IfOk result (λ picked. (picked ≡ None) ↔ (chosen ≡ [])) → IfOk result (IsAskedFor cmp pointers version size)
-asked_for cmp pointers version size asking chosen (Err e) is has each level keeps none = tt
-asked_for cmp pointers version size asking chosen (Ok None) is has each level keeps none = record {
+    → IfOk result (λ picked. (picked ≡ None) ↔ (chosen ≡ [])) → IfOk result (IsOfFile cmp version (Some first) size)
+of_file cmp version size first chosen (Err e) has each level keeps none = tt
+of_file cmp version size first chosen (Ok None) has each level keeps none = record {
   each = tt;
-  some = λ ordered file asks. absurd (in_none asking (subst (λ (fs : List (Bor (ℕ × FileMetaData))). Contains (borrowed_files fs) asking) (none.0 refl) (has ordered)));
-  none = λ asks. refl;
+  some = λ ordered file is. absurd (in_none first (subst (λ (fs : List (Bor (ℕ × FileMetaData))). Contains (borrowed_files fs) first) (none.0 refl) (has ordered)));
+  none = λ is. refl;
 }
-asked_for cmp pointers version size asking chosen (Ok (Some it)) is has each level keeps none = record {
+of_file cmp version size first chosen (Ok (Some it)) has each level keeps none = record {
   each = each;
-  some = λ ordered file asks.
-      let same : asking ≡ file = same_some (sym is ∙ asks) in (
+  some = λ ordered file is.
+      let same : first ≡ file = same_some is in (
         level ∙ ap (λ (f : NewFile). f.level) same,
-        subst (Contains (new_files_of it.inputs)) same (keeps ordered asking (has ordered)),
+        subst (Contains (new_files_of it.inputs)) same (keeps ordered first (has ordered)),
       );
-  none = λ asks. absurd (let never : Some asking ≡ None = sym is ∙ asks in cc);
+  none = λ is. absurd (let never : Some first ≡ None = is in cc);
 }
   where
     same_some : {a b : NewFile} → Some a ≡ Some b → a ≡ b
     same_some e = cc
-
--- nothing is picked where no file asks
-pub none_asked_for : {C : Type 0} (cmp : List ℕ → List ℕ → Ordering) (pointers : List Pointer) (version : VersionValue C) (size : ℕ) → asking_file cmp pointers version ≡ None
-    → IsAskedFor cmp pointers version size None
-none_asked_for cmp pointers version size is = record {
-  each = tt;
-  some = λ ordered file asks. absurd (let never : None ≡ Some file = sym is ∙ asks in cc);
-  none = λ asks. refl;
-}
 
 -- ---- compactions of ranges
 

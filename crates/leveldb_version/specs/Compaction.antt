@@ -85,12 +85,12 @@ module _ (cmp : List ℕ → List ℕ → Ordering) where
     -- each file is taken once, where each is there once
     pub once : AreOnce files → AreOnce inputs
 
-  -- The one file that a compaction of a level takes may be moved to the next level as it is: nobody
-  -- asked for the compaction, and the files two levels down that it overlaps have less than ten file
-  -- sizes together.
-  pub record MayMove (file_size level : ℕ) (is_asked : Bool) (files inputs : List NewFile)
+  -- The one file that a compaction of a level takes may be moved to the next level as it is: the
+  -- compaction isn't manual, which is one of a range that was asked for, and the files two levels
+  -- down that it overlaps have less than ten file sizes together.
+  pub record MayMove (file_size level : ℕ) (manual : Bool) (files inputs : List NewFile)
       : Type 0 where
-    pub unasked : is_asked ≡ false
+    pub unasked : manual ≡ false
     pub file : NewFile
     pub alone : inputs ≡ file ∷ []
     pub at : file.level ≡ level
@@ -116,8 +116,9 @@ module _ (cmp : List ℕ → List ℕ → Ordering) where
 
   -- ---- the tables that it makes
 
-  -- Tables that a compaction makes for a level: their files are of that level, each with a number of
-  -- its own, and have the ranges of their keys, and no user key is in two of them.
+  -- Tables that a compaction makes for a level: their files are of that level and have the ranges of
+  -- their keys, no two of them share a number, and no user key is in two of them. That no other table
+  -- of the level has such a number is said of the tables that are live after it (`HasTables`).
   pub record AreOutputs (level : ℕ) (outputs : List LiveTable) : Type 0 where
     pub levels : (table : LiveTable) → Contains outputs table → table.file.level ≡ level
     pub bounded : AreBounded outputs
@@ -127,8 +128,7 @@ module _ (cmp : List ℕ → List ℕ → Ordering) where
         → a.file.number ≢ b.file.number → AreDisjoint cmp a.file b.file
 
   -- A compaction of a level makes outputs for the next one of its inputs, which are live tables,
-  -- and drops no more than may go. (That no other live table has an output's number is said where
-  -- they are files.)
+  -- and drops no more than may go.
   pub record Compacts (smallest level : ℕ) (before inputs outputs after : List LiveTable)
       : Type 0 where
     pub may : MayCompact (files_of_tables before) level (files_of_tables inputs)
@@ -141,17 +141,17 @@ module _ (cmp : List ℕ → List ℕ → Ordering) where
   -- its inputs are merged, so that all that may go has gone, or the one input is moved that may be
   abbrev pub MergesOrMoves : ℕ → ℕ → ℕ → Bool → List LiveTable → List LiveTable → List LiveTable
       → Type 0
-  MergesOrMoves smallest level file_size is_asked before inputs outputs =
+  MergesOrMoves smallest level file_size manual before inputs outputs =
       HaveGone smallest (IsBaseLevelFor (level + 1) (files_of_tables before))
       (table_entries inputs) (table_entries outputs)
-      ⊎ (MayMove file_size level is_asked (files_of_tables before) (files_of_tables inputs)
+      ⊎ (MayMove file_size level manual (files_of_tables before) (files_of_tables inputs)
       × IsMoved inputs outputs)
 
-  -- a compaction in full, asked for by a user or not
-  pub record IsCompaction (smallest level file_size : ℕ) (is_asked : Bool)
+  -- a compaction in full, manual or not
+  pub record IsCompaction (smallest level file_size : ℕ) (manual : Bool)
       (before inputs outputs after : List LiveTable) : Type 0 where
     pub compacts : Compacts smallest level before inputs outputs after
-    pub merges_or_moves : MergesOrMoves smallest level file_size is_asked before inputs outputs
+    pub merges_or_moves : MergesOrMoves smallest level file_size manual before inputs outputs
 
   -- ---- what is known of outputs by their files alone
 

@@ -54,11 +54,11 @@ pub record SetsPointer (cmp : List ℕ → List ℕ → Ordering) (level : ℕ) 
   pub greatest : (input : NewFile) → Contains inputs input → input.level ≡ level
       → internal_cmp cmp key input.largest ≢ Less
 
--- a compaction in full, asked for by a user or not, with the edit that is logged of it
+-- a compaction in full, manual or not, with the edit that is logged of it
 pub record IsCompactionBy (cmp : List ℕ → List ℕ → Ordering) (smallest level file_size : ℕ)
-    (is_asked : Bool) (log : ℕ) (before inputs outputs after : List LiveTable) (edit : Edit)
+    (manual : Bool) (log : ℕ) (before inputs outputs after : List LiveTable) (edit : Edit)
     : Type 0 where
-  pub compaction : IsCompaction cmp smallest level file_size is_asked before inputs outputs after
+  pub compaction : IsCompaction cmp smallest level file_size manual before inputs outputs after
   pub edit_is : IsCompactionEdit log inputs outputs edit
   pub pointer : SetsPointer cmp level (files_of_tables inputs) edit
 

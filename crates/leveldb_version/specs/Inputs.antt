@@ -1,10 +1,11 @@
 -- Which files of a level are chosen for a compaction, and the files that it takes.
-use Rattle.std.specs.Prelude.{◌≡◌, ◌≢◌, ◌++◌, ◌+◌, ◌<◌, ◌≤◌, ◌⊎◌, ℕ, List, Contains, length, sum_by, take}
+use Rattle.std.specs.Prelude.{◌≡◌, ◌≢◌, ◌++◌, ◌+◌, ◌*◌, ◌<◌, ◌≤◌, ◌⊎◌, ℕ, List, Contains, length, sum_by, take}
 use Rattle.std.specs.declared.cmp.Ordering.{Ordering}
 use Rattle.std.specs.declared.cmp.Ordering.TheVariants.{Less}
 use Rattle.leveldb_base.specs.KeyTypes.{internal_cmp, user_part}
 use Rattle.leveldb_version.specs.Choosing.{AreClosed, AreEnds}
 use Rattle.leveldb_version.specs.Compaction.{AreOnce, MayCompact}
+use Rattle.leveldb_version.specs.Summary.{total_size}
 use Rattle.leveldb_version.specs.Version.{borrowed_files}
 use Rattle.leveldb_version.specs.VersionEdit.{NewFile}
 use Rattle.leveldb_version.specs.declared.compaction.inputs.Inputs.{Inputs}
@@ -17,6 +18,13 @@ input_files inputs = borrowed_files inputs.of_level.items ++ borrowed_files inpu
 abbrev pub KeepsFiles : Inputs → Inputs → Type 0
 KeepsFiles narrow wide = (file : NewFile) → Contains (borrowed_files narrow.of_level.items) file
     → Contains (borrowed_files wide.of_level.items) file
+
+-- Inputs that have grown take more files of the level than those before, and as many of the next,
+-- and have fewer bytes than 25 files may.
+pub record HaveGrown (file_size : ℕ) (narrow wide : Inputs) : Type 0 where
+  pub more : length narrow.of_level.items < length wide.of_level.items
+  pub same : length wide.of_next.items ≡ length narrow.of_next.items
+  pub light : total_size (input_files wide) < 25 * file_size
 
 -- So many of the files are those up to the one with which they have more bytes than this, or all.
 pub record IsCountPast (limit : ℕ) (files : List NewFile) (count : ℕ) : Type 0 where

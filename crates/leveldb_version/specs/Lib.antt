@@ -9,6 +9,7 @@ pub mod VersionSetValue
 pub mod Version
 pub mod Change
 pub mod CurrentVersion
+pub mod Cut
 pub mod Contents
 pub mod Paths
 pub mod Holds

@@ -7,6 +7,7 @@ use Rattle.std.specs.declared.cmp.Ordering.{Ordering}
 use Rattle.leveldb_base.specs.KeyTypes.{internal_cmp, user_part}
 use Rattle.leveldb_version.specs.Compaction.{MayCompact}
 use Rattle.leveldb_version.specs.CompactionEdit.{SetsPointer}
+use Rattle.leveldb_version.specs.Cut.{CutValue}
 use Rattle.leveldb_version.specs.Inputs.{AreOrdered}
 use Rattle.leveldb_version.specs.Overlap.{UserRange, is_overlapped, overlapping}
 use Rattle.leveldb_version.specs.Scores.{level_by_score}
@@ -18,7 +19,8 @@ use Rattle.leveldb_version.specs.VersionSet.{level_file, pointer_at}
 -- ---- a compaction
 
 -- The version whose files it takes, its level, whether a range was asked for, how large a file may
--- be, the files that it takes, as a version of their own, and the edit so far.
+-- be, the files that it takes, as a version of their own, the edit so far, and how far the keys of
+-- `should_stop_before` have come.
 pub record CompactionValue (C : Type 0) : Type 0 where
   pub version : VersionValue C
   pub level : ℕ
@@ -26,6 +28,7 @@ pub record CompactionValue (C : Type 0) : Type 0 where
   pub max_file_size : ℕ
   pub inputs : VersionValue C
   pub edit : Edit
+  pub cut : CutValue
 
 -- an edit that sets pointers, and changes nothing else
 abbrev pub OnlyPoints : Edit → Type 0
@@ -85,14 +88,23 @@ module _ (cmp : List ℕ → List ℕ → Ordering) where
     pub pointer : SetsPointer cmp it.level (new_files_of it.inputs) it.edit
     pub only : OnlyPoints it.edit
 
-  -- the compaction for which a version asks: it takes the file that asks, and is of its level
-  pub record IsAskedFor {C : Type 0} (pointers : List Pointer) (version : VersionValue C)
+  -- the compaction of a file's level that takes the file; none where there is no file
+  pub record IsOfFile {C : Type 0} (version : VersionValue C) (first : Option NewFile)
       (max_file_size : ℕ) (picked : Option (CompactionValue C)) : Type 0 where
     pub each : IfSome picked (IsCompactionOf version false max_file_size)
-    pub some : AreOrdered cmp (new_files_of version) → (file : NewFile)
-        → asking_file pointers version ≡ Some file
+    pub some : AreOrdered cmp (new_files_of version) → (file : NewFile) → first ≡ Some file
         → IsSomeAnd picked (λ it. (it.level ≡ file.level) × Contains (new_files_of it.inputs) file)
-    pub none : asking_file pointers version ≡ None → picked ≡ None
+    pub none : first ≡ None → picked ≡ None
+
+  -- the compaction for which a version asks: that of the file that asks
+  abbrev pub IsAskedFor : {C : Type 0} → List Pointer → VersionValue C → ℕ
+      → Option (CompactionValue C) → Type 0
+  IsAskedFor pointers version = IsOfFile version (asking_file pointers version)
+
+  -- the compaction for which reads ask, whatever the score: that of the file that they have chosen
+  abbrev pub IsAskedByReads : {C : Type 0} → VersionValue C → ℕ → Option (CompactionValue C)
+      → Type 0
+  IsAskedByReads version = IsOfFile version (file_by_reads version)
 
   -- the compaction of a range of a level: there is one where a file of the level overlaps the range
   pub record IsOfRange {C : Type 0} (version : VersionValue C) (level : ℕ) (range : UserRange)

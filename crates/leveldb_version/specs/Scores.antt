@@ -3,7 +3,7 @@ use Rattle.std.specs.Prelude.{◌≡◌, ◌≤◌, ◌<◌, ◌*◌, ◌^◌, �
 use Rattle.leveldb_version.specs.Summary.{files_of_level, total_size}
 use Rattle.leveldb_version.specs.VersionEdit.{NewFile}
 
--- what a level has: level 0 files, each other level bytes
+-- what a level has: level 0 files, each other level bytes, whose sum ends at 2^64 - 1
 abbrev pub level_load : List NewFile → ℕ → ℕ
 level_load files zero = length (files_of_level 0 files)
 level_load files (suc level) = total_size (files_of_level (suc level) files)

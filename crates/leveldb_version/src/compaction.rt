@@ -6,6 +6,7 @@ ghost use Rattle.leveldb_base.specs.KeyTypes.{user_part};
 ghost use Rattle.leveldb_version.specs.Compaction.{MayMove, closed_range, is_base_level_for};
 ghost use Rattle.leveldb_version.specs.CompactionEdit.{SetsPointer};
 ghost use Rattle.leveldb_version.specs.Contradictions.{IsAmongInputs, is_among_inputs};
+ghost use Rattle.leveldb_version.specs.Cut.{PassesFiles};
 ghost use Rattle.leveldb_version.specs.Inputs.{MayTake, input_files};
 ghost use Rattle.leveldb_version.specs.Overlap.{overlapping};
 ghost use Rattle.leveldb_version.specs.Picking.{DeletesFiles, IsCompactionOf, OnlyPoints};
@@ -67,6 +68,7 @@ impl<C: UserCmp + Copy + Drop> Model for Compaction<C> {
       max_file_size = it.max_file_size;
       inputs = it.inputs;
       edit = edit_of it.edit;
+      cut = it.cut;
     } };
 
     ghost use Rattle.std.specs.Prelude.{◌≡◌};
@@ -249,11 +251,14 @@ impl<C: UserCmp + Copy + Drop> Compaction<C> {
         (size as u128) < product(10, self.max_file_size)
     }
 
-    /// Whether an output is to end before this key, as it overlaps more bytes two levels down than
-    /// ten files may have, which no clause says. The keys come in order, each once, those that are
-    /// dropped, too.
+    /// Whether an output is to end before this key, as it has passed more bytes two levels down than
+    /// ten files may have. The keys come in order, each once, those that are dropped, too.
     pub fn should_stop_before(&mut self, key: InternalKey<'_>) -> bool
-        ensures { self.new ≡ self.old }
+        ensures passes { let it = self.old in
+            PassesFiles (C.cmp it.version.cmp)
+            (files_of_level (it.level + 2) (new_files_of it.version)) it.max_file_size key.now
+            it.cut result self.new.cut }
+        ensures rest { self.new ≡ record self.old { cut = self.new.cut } }
     {
         let mut cut = self.cut;
         let stops = cut.stops_before(self, key);
@@ -261,16 +266,22 @@ impl<C: UserCmp + Copy + Drop> Compaction<C> {
         stops
     }
 
-    // How many bytes two levels down an output may overlap.
-    fn overlap_limit(&self) -> usize {
-        self.max_file_size.saturating_mul(10)
+    fn max_file_size(&self) -> usize
+        ensures { result ≡ self.now.max_file_size }
+    {
+        self.max_file_size
     }
 
-    fn files_two_down(&self) -> &[(usize, FileMetaData)] {
+    fn files_two_down(&self) -> &[(usize, FileMetaData)]
+        ensures { map new_file_of result.now
+            ≡ files_of_level (self.now.level + 2) (new_files_of self.now.version) }
+    {
         self.version.part(self.level + 2)
     }
 
-    fn ucmp(&self) -> &C {
+    fn ucmp(&self) -> &C
+        ensures { result.now ≡ self.now.version.cmp }
+    {
         self.version.ucmp()
     }
 

@@ -146,6 +146,7 @@ module _ {E C FP F P : Type 0} {B : Boxed} {keys : InternalOrder C} {key_filters
           halted = λ halted. by_mode;
           written = tt;
           waits = tt;
+          logs = tt;
           failed = (inr refl, (refl, λ room. (refl, refl)));
           breaks = λ room. inr refl;
           snapshots = refl;

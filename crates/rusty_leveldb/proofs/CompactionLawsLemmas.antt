@@ -1,5 +1,5 @@
 -- A store that has no entry in memory has its views in tables.
-use Rattle.std.proofs.Common.{◌≤◌, ◌++◌, ℕ, List, [], Option, None, Some, ap, subst, arith}
+use Rattle.std.proofs.Common.{◌≤◌, ◌++◌, ℕ, List, Option, None, Some, ap, subst, arith}
 use Rattle.leveldb_base.specs.History.{Entry, SameView, entries_of}
 use Rattle.leveldb_env.specs.Env.{Files}
 use Rattle.leveldb_version.specs.Format.{Meaning}

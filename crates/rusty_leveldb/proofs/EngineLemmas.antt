@@ -211,22 +211,43 @@ module _ {E C FP F : Type 0} {B : Boxed} {keys : InternalOrder C} (env : Ghosts 
   SameSnapshots new = (new.mode ≡ machine.closed → ⊥)
       → (new.held ≡ old.held) × (new.given ≡ old.given)
 
-  -- a call that keeps what is shown, and takes no entry from the history, keeps the views
+  -- a call that keeps what a store shows, and takes no entry from the history, keeps the views
+  pub views_then : (mid : OpenStoreValue C) (here : Files) → ShowsViews meaning mid here old
+      → (value : OpenStoreValue C) (files : Files) (new : State) → SameSnapshots new
+      → new.format ≡ old.format
+      → greatest (entries_of old.history) ≤ greatest (entries_of new.history)
+      → KeepsShown order meaning mid here old.history value files new.history
+      → (new.mode ≡ machine.closed → ⊥) → ShowsViews meaning value files new
+  views_then mid here views value files new snapshots format_is grows shows used = record {
+    since = views.since;
+    shows = subst (λ (f : Format). Shows f.order meaning value files new.history views.since)
+        (sym format_is) (shows views.since views.shows);
+    now = let least = views.now in omega (arith, least, grows);
+    held = λ one there. views.held one
+        (subst (λ held. Contains held one) (snapshots used).0 there);
+  }
+
+  -- so where the store is the one before
   pub views_kept : (value : OpenStoreValue C) (files : Files) (new : State) → SameSnapshots new
       → new.format ≡ old.format
       → greatest (entries_of old.history) ≤ greatest (entries_of new.history)
       → KeepsShown order meaning before.store (env.observed from).disk.files old.history value files
       new.history
       → (new.mode ≡ machine.closed → ⊥) → ShowsViews meaning value files new
-  views_kept value files new snapshots format_is grows shows used =
-      let views = was.memory_is.shows not_closed in record {
-        since = views.since;
-        shows = subst (λ (f : Format). Shows f.order meaning value files new.history views.since)
-            (sym format_is) (shows views.since views.shows);
-        now = let least = views.now in omega (arith, least, grows);
-        held = λ one there. views.held one
-            (subst (λ held. Contains held one) (snapshots used).0 there);
-      }
+  views_kept value files new snapshots format_is grows shows used = views_then before.store
+      (env.observed from).disk.files (was.memory_is.shows not_closed) value files new snapshots
+      format_is grows shows used
+
+  -- or a store that shows them already, and the history stays
+  pub views_still : (value : OpenStoreValue C) (files : Files) → ShowsViews meaning value files old
+      → (new : State) → SameSnapshots new → new.format ≡ old.format → new.history ≡ old.history
+      → (new.mode ≡ machine.closed → ⊥) → ShowsViews meaning value files new
+  views_still value files views new snapshots format_is history_is used = views_then value files views
+      value files new snapshots format_is
+      (let same_end = ap (λ (h : History). greatest (entries_of h)) history_is in
+      omega (arith, same_end))
+      (subst (KeepsShown order meaning value files old.history value files) (sym history_is)
+      (λ since s. s)) used
 
   -- What the engine and the environment are in the end, for this state of the machine. It has the
   -- store and the format of the state before, and its snapshots.

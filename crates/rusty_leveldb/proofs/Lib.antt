@@ -39,6 +39,8 @@ pub mod ReadingLemmas
 pub mod WalkLemmas
 pub mod WalkingLemmas
 pub mod KeptLemmas
+mod HeldViewsLemmas
+mod RoomInLemmas
 pub mod WritingLemmas
 pub mod CompactingLemmas
 pub mod RestLemmas

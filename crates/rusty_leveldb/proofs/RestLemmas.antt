@@ -29,13 +29,13 @@ use Rattle.leveldb_store.specs.Written.{IsData, KeepsGivenTables, SparesRest}
 use Rattle.rusty_leveldb.specs.Boxes.{EngineOf, InternalOrder}
 use Rattle.rusty_leveldb.specs.Calls.{IsLockLeft, LeavesRest, SparesBut, held_after}
 use Rattle.rusty_leveldb.specs.Engine.{holds_lock, options_in}
+use Rattle.rusty_leveldb.specs.Room.{EngineMakesRoom}
 use Rattle.rusty_leveldb.specs.Frame.{IsSyncing, MayTouchOrLog, SameBytes, Spares, Touches}
 use Rattle.rusty_leveldb.specs.State as machine
 use Rattle.rusty_leveldb.specs.State.{Request, Snapshot, abandon, close, flush, get, open_mode, write}
 use Rattle.rusty_leveldb.proofs.ClosingLemmas.{freed, freed_other}
 use Rattle.rusty_leveldb.proofs.Others.{bytes_same, bytes_synced, spares_same, spares_still}
 use Rattle.rusty_leveldb.proofs.SyncLemmas.{lock_is_no_data, log_is_data}
-use Rattle.rusty_leveldb.proofs.WritingLemmas.{EngineMakesRoom}
 
 -- the path of a log, whatever its number, isn't the lock's
 lock_is_no_log : (store : List ℕ) (n : ℕ) → lock_path store ≡ log_path store n → ⊥
@@ -340,7 +340,7 @@ module _ {E C FP F : Type 0} {B : Boxed} (env : Ghosts E F)
           → LeavesRest env {T = Unit {0}} before from (write items sync) (Err status) after to
       rest_roomless after to status made = rest_kept (write items sync) (Err status)
           (λ kind is. is) (λ kind is. is) (λ held. refl) (λ syncs. syncs) after to
-          (ap (λ (e : EngineOf E C FP F B). e.lock) made.rest) made.makes.rest
+          (ap (λ (e : EngineOf E C FP F B). e.lock) made.rest) made.makes.keeps.rest
 
       -- it was, and then the batch was written or not
       module _ (roomy : EngineOf E C FP F B) (mid : E)
@@ -354,29 +354,29 @@ module _ {E C FP F : Type 0} {B : Boxed} (env : Ghosts E F)
         batch_locks : IsTrue env.models_disk → (path : List ℕ)
             → (env.observed to).disk.locked path ≡ (env.observed from).disk.locked path
         batch_locks modelled path = ap (λ (l : List ℕ → Bool). l path)
-            (writes.locks modelled ∙ made.makes.rest.locks modelled)
+            (writes.locks modelled ∙ made.makes.keeps.rest.locks modelled)
 
         pub rest_written : LeavesRest env before from (write items sync) result
             (record roomy { store = value; mode = mode }) to
         rest_written = record {
           place = (
             ap (λ (e : EngineOf E C FP F B). e.lock) made.rest,
-            ap (λ (v : OpenStoreValue C). v.set.store) writes.rest ∙ made.makes.rest.store,
+            ap (λ (v : OpenStoreValue C). v.set.store) writes.rest ∙ made.makes.keeps.rest.store,
           );
           others = λ modelled own. open_spares (write items sync) (open_log_path value)
               roomy.store.log.number to
-              (batch_log ∙ ap (λ s. log_path s roomy.store.log.number) made.makes.rest.store)
+              (batch_log ∙ ap (λ s. log_path s roomy.store.log.number) made.makes.keeps.rest.store)
               (λ kind is. is)
               (λ path foreign. writes.others modelled path
               (bytes_eq-apart (open_log_path roomy.store) path
               (λ e. foreign (inr (tt, sym e ∙ sym batch_log))))
-              ∙ made.makes.rest.files modelled path (λ may. foreign (inl may)))
+              ∙ made.makes.keeps.rest.files modelled path (λ may. foreign (inl may)))
               (λ path differs. batch_locks modelled path);
           lock = λ modelled. lock_stays (write items sync) result (holds_lock env before from)
               (holds_lock env before to) (batch_locks modelled before.lock) refl;
-          tables = λ modelled. given_then before.store.set roomy.store.set made.makes.rest.store
-              made.makes.rest.numbers (env.observed from).disk.files (env.observed mid).disk.files
-              (env.observed to).disk.files (made.makes.rest.tables modelled)
+          tables = λ modelled. given_then before.store.set roomy.store.set made.makes.keeps.rest.store
+              made.makes.keeps.rest.numbers (env.observed from).disk.files (env.observed mid).disk.files
+              (env.observed to).disk.files (made.makes.keeps.rest.tables modelled)
               (given_same roomy.store.set (env.observed mid).disk.files
               (env.observed to).disk.files (λ number fits given. tables_same roomy.store.set.store
               roomy.store.log.number (env.observed mid).disk.files (env.observed to).disk.files

@@ -16,7 +16,7 @@ use Rattle.rusty_leveldb.specs.Engine.{Answers, AnswersAs}
 use Rattle.rusty_leveldb.specs.Machine.{AllDurable, Breaks, Closes, Gives, Keeps, KeepsOrBreaks, LeavesRefused, Opens, Rejects, Releases, Risk, Step, Writes, added_batch, risk_between, risk_of}
 use Rattle.rusty_leveldb.specs.Rows.{FindsValue, FromEachState, FromStatesOf, IsAbandoned, IsMemoryOrDevice, NotClosed, NotCompacted, NotFlushed, NotOpened, NotUnlocked, NotWritten, RejectsByMode, Row, StaysAsItWas, WalksView}
 use Rattle.rusty_leveldb.specs.Serves.{IsSpared, done_or, found_or, refusal_of, setting_between, snapshot_of, snapshot_or}
-use Rattle.rusty_leveldb.specs.State.{Answer, Mode, Opening, open_mode, open_store, broken, closed, Request, Snapshot, State, abandon, close, compact_range, done, flush, found, get, get_snapshot, refused, release_snapshot, snapshot, walk, walked, write}
+use Rattle.rusty_leveldb.specs.State.{Answer, Mode, Opening, open_mode, open_store, broken, closed, Request, Snapshot, State, abandon, close, compact_range, done, flush, found, get, get_snapshot, refused, release_snapshot, snapshot, walked, write}
 use Rattle.rusty_leveldb.specs.Walks.{landing_of, walk_of, walked_or}
 
 -- ---- from a step to a row

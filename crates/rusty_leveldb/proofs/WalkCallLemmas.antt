@@ -1,6 +1,6 @@
 -- What a call does that makes moves of a walk, put together.
 use Rattle.std.specs.Prelude.{IfErr, OnErr, Result}
-use Rattle.std.proofs.Common.{◌≡◌, ◌≤◌, inl, inr, ℕ, Bool, List, [], refl, sym, ap, subst, arith, Option, Ok, Err}
+use Rattle.std.proofs.Common.{◌≡◌, inl, inr, ℕ, Bool, List, [], refl, sym, ap, subst, arith, Option, Ok, Err}
 use Rattle.leveldb_base.specs.Error.{IsOutOfMemory}
 use Rattle.leveldb_base.specs.declared.error.Status.{Status}
 use Rattle.leveldb_base.specs.declared.error.StatusCode.TheVariants.{InvalidArgument}

@@ -14,14 +14,17 @@ use Rattle.leveldb_mem.specs.WriteBatch.{Batch, IsTooLong, batch_bytes, batch_of
 use Rattle.leveldb_store.specs.BuildTable.{TableChoices}
 use Rattle.leveldb_version.specs.Format.{Format}
 use Rattle.leveldb_store.specs.OpenStore.{IsUnbroken, OpenStoreValue}
-use Rattle.leveldb_store.specs.Room.{FailsFor, FailsToMakeRoom, HasFailed, IsFull, TellsOnly}
+use Rattle.leveldb_store.specs.Compact.{FailsToCompactRange}
+use Rattle.leveldb_store.specs.Room.{FailsFor, HasFailed, IsFull, TellsOnly}
+use Rattle.leveldb_store.specs.Written.{IsWritten}
 use Rattle.leveldb_store.specs.SoundCall.{IsSoundCall, any_meaning}
 use Rattle.leveldb_store.specs.WriteBatch.{FailsToWrite, WritesBatch}
 use Rattle.rusty_leveldb.specs.Boxes.{EngineOf, InternalOrder}
 use Rattle.rusty_leveldb.specs.EngineValue.{FollowsStore}
+use Rattle.rusty_leveldb.specs.Room.{EngineMakesRoom, LogsRoom}
 use Rattle.rusty_leveldb.specs.Calls.{EngineWrites, IsMemtableFull, KeepsMemory, KeepsModeOrBreaks, OneWaitsAtMost, WritesIntoRoom}
 use Rattle.rusty_leveldb.specs.Causes.{AreUsedUp}
-use Rattle.rusty_leveldb.specs.Engine.{empty_memtable, Answers, IsBroken, WriteExcused, options_in, formats_of}
+use Rattle.rusty_leveldb.specs.Engine.{empty_memtable, Answers, IsBroken, WriteExcused, options_in, formats_of, tables_by}
 use Rattle.rusty_leveldb.specs.Serves.{done_or}
 use Rattle.rusty_leveldb.specs.State as machine
 use Rattle.rusty_leveldb.specs.State.{write}
@@ -31,7 +34,7 @@ use Rattle.rusty_leveldb.proofs.CallsLemmas.{not_halted}
 use Rattle.rusty_leveldb.proofs.RestLemmas.{rest_roomless, rest_still, rest_written}
 use Rattle.rusty_leveldb.proofs.RowLemmas.{write_row}
 use Rattle.rusty_leveldb.proofs.SyncLemmas.{log_is_there}
-use Rattle.rusty_leveldb.proofs.WritingLemmas.{EngineMakesRoom, batch_tells, failed_later, room_fails, room_tells, write_done, write_fails}
+use Rattle.rusty_leveldb.proofs.WritingLemmas.{batch_tells, failed_later, room_fails, room_tells, write_done, write_fails}
 
 -- ---- a memtable that is full
 
@@ -98,6 +101,7 @@ module _ {E C FP F P : Type 0} {B : Boxed} {keys : InternalOrder C} {key_filters
         halted = λ halted. absurd (not_halted before.mode opened halted);
         written = tt;
         waits = tt;
+        logs = tt;
         failed = (inr refl, (refl, λ room. (refl, refl)));
         breaks = λ room. inr refl;
         snapshots = refl;
@@ -134,10 +138,11 @@ module _ {E C FP F P : Type 0} {B : Boxed} {keys : InternalOrder C} {key_filters
           halted = λ halted. absurd (not_halted before.mode opened halted);
           written = tt;
           waits = tt;
+          logs = tt;
           failed = (
             becomes after made.mode,
             (
-              made.makes.rest.last,
+              made.makes.keeps.rest.last,
               λ room.
                   let same = (made.makes.not_full room).0 in (
                     ap (λ (v : OpenStoreValue C). v.recent.entries) same,
@@ -149,8 +154,8 @@ module _ {E C FP F P : Type 0} {B : Boxed} {keys : InternalOrder C} {key_filters
           snapshots = ap (λ (e : EngineOf E C FP F B). e.snapshots) made.rest;
           options = room_tells env choices before from (Err status) after to made;
           rest = rest_roomless env before from opened choices items sync after to status made;
-          time = made.sound.time;
-          cause = record { later = made.makes.cause.later; cause = excused made.makes.cause.cause };
+          time = made.makes.keeps.sound.time;
+          cause = record { later = made.makes.keeps.cause.later; cause = excused made.makes.keeps.cause.cause };
         }
       where
         step : Answers keys env formats (Some before) from (write items sync)
@@ -165,17 +170,12 @@ module _ {E C FP F P : Type 0} {B : Boxed} {keys : InternalOrder C} {key_filters
             absurd (made.makes.not_full room).2)
             (full_or_not before.options.write_buffer_size before.store.recent)
 
-        excused : FailsToMakeRoom env (formats (options_in before)).order before.store from
-            (choices (options_in before)) status ⊎ HasFailed (env.failures from) (env.failures to)
-            → WriteExcused env choices before from items status
+        excused : FailsToCompactRange keys env (tables_by formats before) before.store from
+            before.tables (choices (options_in before)) after.store status
             ⊎ HasFailed (env.failures from) (env.failures to)
-        excused (inl (inl memory)) = inl (inr (inr (inl memory)))
-        excused (inl (inr (inl few))) = inl (inr (inr (inr (inr (inr (inl (full, inl few)))))))
-        excused (inl (inr (inr (inl recent)))) =
-            inl (inr (inr (inr (inr (inr (inl (full, inr (inl recent))))))))
-        excused (inl (inr (inr (inr (inl waiting))))) =
-            inl (inr (inr (inr (inr (inr (inl (full, inr (inr (inl waiting)))))))))
-        excused (inl (inr (inr (inr (inr lost))))) = inl (inr (inr (inr (inr (inr (inr lost))))))
+            → WriteExcused env choices before from items after.store status
+            ⊎ HasFailed (env.failures from) (env.failures to)
+        excused (inl why) = inl (inr (inr (inr (inr (inr (inl (full, inl why)))))))
         excused (inr failed) = inr failed
 
     module _ (roomy : EngineOf E C FP F B) (mid : E)
@@ -196,7 +196,7 @@ module _ {E C FP F P : Type 0} {B : Boxed} {keys : InternalOrder C} {key_filters
             (λ (full : IsMemtableFull before). inr (
               full,
               subst (λ entries. IsUnion entries batch value.recent.entries)
-                  (made.makes.none_waits full).0 gains,
+                  (made.makes.empties full).0 gains,
             ))
             (λ (room : IsMemtableFull before → ⊥). inl (
               room,
@@ -212,7 +212,7 @@ module _ {E C FP F P : Type 0} {B : Boxed} {keys : InternalOrder C} {key_filters
 
           gains : IsUnion roomy.store.recent.entries batch value.recent.entries
           gains = subst (λ n. IsUnion roomy.store.recent.entries (placed (n + 1) items)
-              value.recent.entries) made.makes.rest.last writes.gains
+              value.recent.entries) made.makes.keeps.rest.last writes.gains
       batch_written (Err status) writes = tt
 
       -- and none waits, but for one that waited before
@@ -222,11 +222,25 @@ module _ {E C FP F P : Type 0} {B : Boxed} {keys : InternalOrder C} {key_filters
       batch_waits (Ok nothing) writes =
           let waits = ap (λ (v : OpenStoreValue C). v.waiting) writes.rest in ⊎_elim
           (λ (full : IsFull before.options.write_buffer_size before.store.recent).
-          inl (waits ∙ (made.makes.none_waits full).1))
+          inl (waits ∙ (made.makes.empties full).2))
           (λ (room : IsFull before.options.write_buffer_size before.store.recent → ⊥).
           inr (room, waits ∙ ap (λ (v : OpenStoreValue C). v.waiting) (made.makes.not_full room).0))
           (full_or_not before.options.write_buffer_size before.store.recent)
       batch_waits (Err status) writes = tt
+
+      -- and what was logged is what room in the memtable logged
+      batch_logs : (result : Result (Unit {0}) Status)
+          → WritesBatch env (formats (options_in roomy)).order roomy.store mid items sync result value
+          to → OnOk result (IsMemtableFull before
+          → LogsRoom (formats (options_in before)).order before.store.set
+          (record value.set { last_sequence = before.store.set.last_sequence }))
+      batch_logs (Ok nothing) writes = λ full.
+          let same = ap (λ (v : OpenStoreValue C).
+          record v.set { last_sequence = before.store.set.last_sequence }) writes.rest
+          ∙ ap (λ n. record roomy.store.set { last_sequence = n }) (sym made.makes.keeps.rest.last) in
+          subst (LogsRoom (formats (options_in before)).order before.store.set) (sym same)
+          (made.makes.logs full)
+      batch_logs (Err status) writes = tt
 
       -- or it isn't written, and no answer changes
       batch_failed : (result : Result (Unit {0}) Status)
@@ -236,7 +250,7 @@ module _ {E C FP F P : Type 0} {B : Boxed} {keys : InternalOrder C} {key_filters
       batch_failed (Err status) writes = (
         becomes ended follows,
         (
-          writes.err.1 ∙ made.makes.rest.last,
+          writes.err.1 ∙ made.makes.keeps.rest.last,
           λ room. let same = (made.makes.not_full room).0 in (
             writes.err.0 ∙ ap (λ (v : OpenStoreValue C). v.recent.entries) same,
             ap (λ (v : OpenStoreValue C). v.waiting) writes.rest
@@ -260,8 +274,8 @@ module _ {E C FP F P : Type 0} {B : Boxed} {keys : InternalOrder C} {key_filters
           → FailsToPrepare roomy.store.recent (length items) (bytes_in items) status
           → FailsToPrepare empty_memtable (length items) (bytes_in items) status
       in_empty full (inl large) =
-          let none = ap memory_of_entries (made.makes.none_waits full).0 in
-          let places = made.makes.places full in
+          let none = ap memory_of_entries (made.makes.empties full).0 in
+          let places = (made.makes.empties full).1 in
           let most = large.1 in
           inl (large.0, omega (arith, none, places, most))
       in_empty full (inr memory) = inr memory
@@ -269,46 +283,66 @@ module _ {E C FP F P : Type 0} {B : Boxed} {keys : InternalOrder C} {key_filters
       -- why the batch isn't written
       batch_excused : (status : Status)
           → FailsToWrite env (formats (options_in before)).order roomy.store mid items to status
-          → WriteExcused env choices before from items status
+          → WriteExcused env choices before from items value status
       batch_excused status (inl (inl used, still)) = inr (inr (inr (inl (
         used.code,
-        subst (λ n. AreUsedUp n (length items)) made.makes.rest.last used.past,
+        subst (λ n. AreUsedUp n (length items)) made.makes.keeps.rest.last used.past,
       ))))
       batch_excused status (inl (inr fails, still)) = ⊎_elim
           (λ (full : IsFull before.options.write_buffer_size before.store.recent).
-          inr (inr (inr (inr (inr (inl (full, inr (inr (inr (in_empty full fails))))))))))
+          inr (inr (inr (inr (inr (inl (full, inr (in_empty full fails))))))))
           (λ (room : IsFull before.options.write_buffer_size before.store.recent → ⊥).
           inr (inr (inr (inr (inl (subst (λ (v : OpenStoreValue C).
           FailsToPrepare v.recent (length items) (bytes_in items) status)
           (made.makes.not_full room).0 fails))))))
           (full_or_not before.options.write_buffer_size before.store.recent)
       batch_excused status (inr (inl (inl memory))) = inr (inr (inl memory))
-      batch_excused status (inr (inl (inr missing))) = inr (inr (inr (inr (inr (inr (
-        missing.0.code,
-        λ modelled meaning agrees written.
-            let kept = made.makes.keeps modelled meaning agrees (λ it. true) written in
-            log_is_there (formats (options_in before)).order meaning roomy.store
-            (env.observed mid).disk.files
-            (kept.written made.makes.usable) (missing.1 modelled),
-      ))))))
+      batch_excused status (inr (inl (inr missing))) = ⊎_elim
+          (λ (full : IsFull before.options.write_buffer_size before.store.recent).
+          inr (inr (inr (inr (inr (inl (
+            full,
+            inl (inl (inr (inr (inr (record {
+              fault = inl missing.0.code;
+              lacks = λ meaning live has.
+                  let kept = made.makes.keeps.keeps has.has_open meaning has.agrees (λ it. true)
+                  has.written in
+                  absurd (log_is_there (formats (options_in before)).order meaning roomy.store
+                  (env.observed mid).disk.files (kept.written made.makes.keeps.usable)
+                  (missing.1 has.has_open.modelled));
+            }))))),
+          )))))))
+          (λ (room : IsFull before.options.write_buffer_size before.store.recent → ⊥).
+          let still = made.makes.not_full room in
+          inr (inr (inr (inr (inr (inr (
+            missing.0.code,
+            λ modelled meaning agrees written.
+                log_is_there (formats (options_in before)).order meaning roomy.store
+                (env.observed mid).disk.files
+                (subst (λ (v : OpenStoreValue C). IsWritten (formats (options_in before)).order
+                meaning v (env.observed mid).disk.files) (sym still.0)
+                (subst (λ (e : E). IsWritten (formats (options_in before)).order meaning
+                before.store (env.observed e).disk.files) (sym still.1) written))
+                (missing.1 modelled),
+          )))))))
+          (full_or_not before.options.write_buffer_size before.store.recent)
       batch_excused status (inr (inr broke)) = absurd (let never : true ≡ false = sym broke.0
-          ∙ made.makes.usable.log in cc)
+          ∙ made.makes.keeps.usable.log in cc)
 
       batch_cause : (result : Result (Unit {0}) Status)
           → WritesBatch env (formats (options_in before)).order roomy.store mid items sync result value
-          to → FailsFor (WriteExcused env choices before from items) (env.failures from)
+          to → FailsFor (WriteExcused env choices before from items value) (env.failures from)
           (env.failures to) result
       batch_cause (Ok nothing) writes = record {
-        later = omega (arith, made.makes.cause.later, writes.cause.later);
+        later = omega (arith, made.makes.keeps.cause.later, writes.cause.later);
         cause = tt;
       }
       batch_cause (Err status) writes = record {
-        later = omega (arith, made.makes.cause.later, writes.cause.later);
+        later = omega (arith, made.makes.keeps.cause.later, writes.cause.later);
         cause = ⊎_elim
             (λ (why : FailsToWrite env (formats (options_in before)).order roomy.store mid items to
             status). inl (batch_excused status why))
             (λ counted. inr (failed_later (env.failures from) (env.failures mid) (env.failures to)
-            made.makes.cause.later writes.cause.later (⊎_elim
+            made.makes.keeps.cause.later writes.cause.later (⊎_elim
             (λ (more : env.failures to ≡ env.failures mid + 1). inl (omega (arith, more)))
             (λ full. inr full.0) counted))) writes.cause.cause;
       }
@@ -352,6 +386,7 @@ module _ {E C FP F P : Type 0} {B : Boxed} {keys : InternalOrder C} {key_filters
             halted = λ halted. absurd (not_halted before.mode opened halted);
             written = batch_written result writes_in;
             waits = batch_waits result writes_in;
+            logs = batch_logs result writes_in;
             failed = batch_failed result writes_in;
             breaks = batch_breaks result writes_in;
             snapshots = ap (λ (e : EngineOf E C FP F B). e.snapshots) made.rest;
@@ -360,7 +395,7 @@ module _ {E C FP F P : Type 0} {B : Boxed} {keys : InternalOrder C} {key_filters
             rest = rest_written env before from opened choices items sync roomy mid made value mode
                 to result writes_in;
             time = λ modelled.
-                let first = made.sound.time modelled in
+                let first = made.makes.keeps.sound.time modelled in
                 let second = sound.time modelled in omega (arith, first, second);
             cause = batch_cause result writes;
           }

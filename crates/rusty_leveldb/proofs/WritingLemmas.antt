@@ -1,9 +1,9 @@
 -- The step of the machine in which a batch is written: first room is made in the memtable, then the
 -- batch is appended to the log.
-use Rattle.std.specs.Prelude.{Result, is_some, map}
+use Rattle.std.specs.Prelude.{Result}
 use Rattle.std.proofs.Common.{◌≡◌, ◌≤◌, ◌<◌, ◌+◌, ◌-◌, ◌^◌, ◌⊎◌, ◌∙◌, ⊎_elim, inl, inr, ℕ, zero, suc, Bool, List, [], ◌∷◌, ◌++◌, length, max, refl, sym, ap, subst, arith, Option, Some, None, Ok, Err, IsTrue}
 use Rattle.std.specs.declared.cmp.Ordering.{Ordering}
-use Rattle.leveldb_base.specs.Error.{IsOutOfMemory, text_of}
+use Rattle.leveldb_base.specs.Error.{IsOutOfMemory}
 use Rattle.leveldb_base.specs.History.{Entry, History, Item, count_of, entries_of, greatest, placed, with_batch}
 use Rattle.leveldb_base.specs.KeyTypes.{greatest_sequence}
 use Rattle.leveldb_base.specs.declared.error.Status.{Status}
@@ -17,31 +17,32 @@ use Rattle.leveldb_mem.specs.WriteBatch.{batch_bytes, max_length}
 use Rattle.leveldb_version.proofs.NumbersLemmas.{entries_more, greatest_append}
 use Rattle.leveldb_version.specs.Paths.{IsFilePath, lock_path}
 use Rattle.leveldb_version.specs.StoreSteps.{AppendedAreBytes}
-use Rattle.leveldb_base.specs.Entries.{internal_pair}
-use Rattle.leveldb_mem.specs.MemTable.{Kept}
-use Rattle.leveldb_store.proofs.NotTabledLemmas.{not_tabled_causes}
 use Rattle.leveldb_store.specs.BuildTable.{TableChoices}
-use Rattle.leveldb_version.specs.Format.{Agrees, Format, HasCompressorError, Meaning}
+use Rattle.leveldb_version.specs.Format.{Format, Meaning}
 use Rattle.leveldb_version.specs.TableCache.{TableOptions, table_options}
-use Rattle.leveldb_store.proofs.OpenTablesLemmas.{open_after_batch, open_after_call}
+use Rattle.leveldb_store.proofs.OpenTablesLemmas.{open_after_batch}
 use Rattle.leveldb_store.specs.OpenStore.{IsUnbroken, OpenStoreValue}
-use Rattle.leveldb_store.specs.OpenTables.{AreOpenTablesOf, ClosesObsolete}
-use Rattle.leveldb_store.specs.Room.{AreEntriesNotTabled, FailsToMakeRoom, HasFailed, MakesRoom, TellsOnly}
+use Rattle.leveldb_store.specs.OpenTables.{AreOpenTablesOf}
+use Rattle.leveldb_store.specs.Room.{HasFailed, TellsOnly}
 use Rattle.leveldb_store.specs.SoundCall.{IsSoundCall, any_meaning}
 use Rattle.leveldb_store.specs.Write.{open_log_path}
 use Rattle.leveldb_store.specs.WriteBatch.{AddsBatch, FailsToWrite, HoldsBatches, IsOf, LeavesHistory, WritesBatch, next_batch}
-use Rattle.leveldb_store.specs.Written.{IsDataPath, IsWritten, KeepsShown, KeepsStore, KeepsWritten}
+use Rattle.leveldb_store.specs.Read.{HasOpenTables}
+use Rattle.leveldb_store.specs.Compact.{FailsToCompactRange}
+use Rattle.leveldb_store.specs.Written.{IsDataPath, IsWritten, KeepsShown}
+use Rattle.leveldb_store.specs.WrittenFrom.{KeepsStoreFrom, KeepsWrittenFrom}
 use Rattle.rusty_leveldb.specs.Boxes.{EngineOf, InternalOrder}
-use Rattle.rusty_leveldb.specs.Compact.{ChangesStore}
+use Rattle.rusty_leveldb.specs.Room.{EngineMakesRoom}
 use Rattle.rusty_leveldb.specs.EngineValue.{FollowsStore}
-use Rattle.rusty_leveldb.specs.Causes.{Cause, Comes, Fits, Setting, compressor_failed, device_failed, out_of_memory, too_large, used_up}
-use Rattle.rusty_leveldb.specs.Engine.{HasOwnTables, Recalls, options_in, scene, formats_of, tables_by}
+use Rattle.rusty_leveldb.specs.Causes.{Cause, Comes, Fits, Setting, device_failed, out_of_memory, too_large, used_up}
+use Rattle.rusty_leveldb.specs.Engine.{HasOwnTables, Recalls, ShowsViews, options_in, scene, formats_of, tables_by}
 use Rattle.rusty_leveldb.specs.Frame.{MayTouch, Spares}
 use Rattle.rusty_leveldb.specs.Machine.{Breaks, Refuses, Risk, Step, Writes, added_batch, risk_between}
 use Rattle.rusty_leveldb.specs.Serves.{Goes, IsSpared, Represents, refusal_of, setting_between}
 use Rattle.rusty_leveldb.specs.State as machine
 use Rattle.rusty_leveldb.specs.State.{State, done, open_mode, refused, write}
-use Rattle.rusty_leveldb.proofs.EngineLemmas.{SameSnapshots, Stays, agreeing, follows_open, goes, is_of, machine_spares, none, not_closed, same_format, state_open, views_kept}
+use Rattle.rusty_leveldb.proofs.EngineLemmas.{SameSnapshots, Stays, follows_open, goes, is_of, machine_spares, none, not_closed, same_format, state_open, views_still, views_then}
+use Rattle.rusty_leveldb.proofs.HeldViewsLemmas.{MakesTables, agrees_by, by_device, by_memory, has_open, tables_cause, views_held, written_by}
 use Rattle.rusty_leveldb.proofs.KeptLemmas.{kept_holds, kept_last, kept_path, kept_run, kept_spares, spared_first, store_tells, told_by}
 use Rattle.rusty_leveldb.proofs.Moments.{grows_by, spared_more}
 use Rattle.rusty_leveldb.proofs.ReadsLemmas.{may_stay}
@@ -65,22 +66,6 @@ failed_later from mid to first second (inr full) = ⊎_elim
     (λ (less : from < mid). inl (omega (arith, less, second)))
     (same_or_below from mid first)
 
-module _ {E C FP F P : Type 0} {B : Boxed} {keys : InternalOrder C} {key_filters : FilterGhosts P}
-    (env : Ghosts E F) (choices : OptionsOf C FP B → TableChoices keys key_filters) where
-  -- an engine makes room in its memtable, by its options
-  pub record EngineMakesRoom (before : EngineOf E C FP F B) (from : E)
-      (result : Result (Unit {0}) Status) (after : EngineOf E C FP F B) (to : E) : Type 0 where
-    pub makes : MakesRoom env (choices (options_in before)).format.order before.store from
-        (choices (options_in before)) before.options.write_buffer_size result after.store to
-    pub sound : IsSoundCall env (choices (options_in before)).format.order
-        (Agrees (choices (options_in before)).format) before.store from result after.store to
-    pub closes : ClosesObsolete env before.store.set from before.tables to after.tables
-    -- nothing else of the engine changes but the sink of the options' log, and its mode
-    pub rest : ChangesStore before after
-    pub sink : is_some after.options.log ≡ is_some before.options.log
-    -- it is broken where the store is
-    pub mode : FollowsStore after.mode after.store
-
 -- what making room leaves of the options
 pub room_tells : {E C FP F P : Type 0} {B : Boxed} {keys : InternalOrder C}
     {key_filters : FilterGhosts P} (env : Ghosts E F)
@@ -89,7 +74,7 @@ pub room_tells : {E C FP F P : Type 0} {B : Boxed} {keys : InternalOrder C}
     → EngineMakesRoom env choices before from result after to
     → TellsOnly (options_in before) (options_in after)
 room_tells env choices before from result after to made =
-    store_tells before after made.rest made.makes.rest.cmp made.sink
+    store_tells before after made.rest made.makes.keeps.rest.cmp made.sink
 
 -- what tables are opened with stays
 pub room_by : {E C FP F P : Type 0} {B : Boxed} {keys : InternalOrder C}
@@ -103,21 +88,20 @@ room_by env choices before from result after to ignores made =
     told_by (formats_of choices) ignores before after
     (room_tells env choices before from result after to made)
 
--- and so the open tables are those of the store, some of which may be closed
+-- and so the open tables are those of the store
 pub room_tables : {E C FP F P : Type 0} {B : Boxed} {keys : InternalOrder C}
     {key_filters : FilterGhosts P} (env : Ghosts E F)
     (choices : OptionsOf C FP B → TableChoices keys key_filters) (before : EngineOf E C FP F B)
     (from : E) (result : Result (Unit {0}) Status) (after : EngineOf E C FP F B) (to : E)
     → ((a b : OptionsOf C FP B) → TellsOnly a b → formats_of choices b ≡ formats_of choices a)
-    → EngineMakesRoom env choices before from result after to → IsTrue env.models_disk
-    → HasOwnTables keys env (formats_of choices) before (env.observed from).disk.files
+    → EngineMakesRoom env choices before from result after to
+    → HasOpenTables keys env (tables_by (formats_of choices) before) before.store from before.tables
     → HasOwnTables keys env (formats_of choices) after (env.observed to).disk.files
-room_tables {E} {C} {FP} {F} {B = B} {keys = keys} env choices before from result after to ignores made modelled
-    own = subst (λ (by : TableOptions C FP). AreOpenTablesOf keys env by after.store.set
+room_tables {E} {C} {FP} {F} {B = B} {keys = keys} env choices before from result after to ignores made
+    has = subst (λ (by : TableOptions C FP). AreOpenTablesOf keys env by after.store.set
     (env.observed to).disk.files after.tables)
     (sym (room_by env choices before from result after to ignores made))
-    (open_after_call env (tables_by (formats_of choices) before) before.store after.store from to
-    made.makes.rest before.tables after.tables made.closes.closes modelled own)
+    (made.makes.keeps.still_open has)
 
 -- and the batch that is written then
 pub batch_tells : {E C FP F P : Type 0} {B : Boxed} {keys : InternalOrder C}
@@ -154,8 +138,8 @@ module _ {E C FP F P : Type 0} {B : Boxed} {keys : InternalOrder C} {key_filters
   held : IsOf order meaning (Stays old) before.store files old.history old.durable
   held = is_of env formats store meaning before from old was opened
 
-  held_tables : HasOwnTables keys env formats before files
-  held_tables = was.memory_is.tables (not_closed env formats store meaning before from old was opened)
+  tables_open : HasOpenTables keys env (tables_by formats before) before.store from before.tables
+  tables_open = has_open env choices store meaning before from old was opened modelled
 
   last_is : before.store.set.last_sequence ≡ old.last
   last_is = was.memory_is.last (not_closed env formats store meaning before from old was opened)
@@ -196,42 +180,26 @@ module _ {E C FP F P : Type 0} {B : Boxed} {keys : InternalOrder C} {key_filters
     abbrev HasCause : Type 0
     HasCause = (cause : Cause) × Comes setting old (write items sync) (refusal_of status) cause
 
-    by_memory : IsOutOfMemory status
+    makes_tables : MakesTables old (write items sync)
+    makes_tables = record { memory = tt; device = tt; writes = tt; reads = tt; format = refl }
+
+    without_memory : IsOutOfMemory status
         → Comes setting old (write items sync) (refusal_of status) out_of_memory
-    by_memory memory = (tt, memory.0, ap text_of memory.1)
+    without_memory = by_memory env choices store meaning before from old was opened modelled
+        (write items sync) makes_tables to status
 
-    by_device : HasFailed (env.failures from) (env.failures to)
+    as_device_failed : HasFailed (env.failures from) (env.failures to)
         → Comes setting old (write items sync) (refusal_of status) device_failed
-    by_device failed = (tt, failed)
-
-    -- no table is built of entries
-    untabled : (kept : Option Kept) → AreEntriesNotTabled (choices (options_in before)) kept status
-        → HasCause
-    untabled None never = absurd never
-    untabled (Some kept) not = ⊎_elim (λ memory. (out_of_memory, by_memory memory))
-        (λ other. ⊎_elim (λ code. (too_large, (tt, code)))
-        (λ fails. (
-          compressor_failed,
-          subst (λ (f : Format). HasCompressorError f status.code)
-              (same_format env formats store meaning before from old was opened) fails,
-        )) other)
-        (not_tabled_causes (choices (options_in before)) (map internal_pair kept.entries) status not)
+    as_device_failed = by_device env choices store meaning before from old was opened modelled
+        (write items sync) makes_tables to status
 
     -- why no room is made
-    room_cause : FailsToMakeRoom env (formats (options_in before)).order before.store from
-        (choices (options_in before)) status ⊎ HasFailed (env.failures from) (env.failures to)
+    room_cause : (left : OpenStoreValue C)
+        → FailsToCompactRange keys env (tables_by formats before) before.store from before.tables
+        (choices (options_in before)) left status ⊎ HasFailed (env.failures from) (env.failures to)
         → HasCause
-    room_cause (inl (inl memory)) = (out_of_memory, by_memory memory)
-    room_cause (inl (inr (inl few))) = (too_large, (tt, few.code))
-    room_cause (inl (inr (inr (inl recent)))) = untabled (Some before.store.recent) recent
-    room_cause (inl (inr (inr (inr (inl waiting))))) = untabled before.store.waiting waiting
-    room_cause (inl (inr (inr (inr (inr lost))))) =
-        let f = same_format env formats store meaning before from old was opened in
-        absurd (lost.1 modelled meaning
-        (subst (λ (g : Format). Agrees g meaning) (sym f)
-        (agreeing env formats store meaning before from old was opened))
-        (subst (λ (g : Format). IsWritten g.order meaning before.store files) (sym f) held.written))
-    room_cause (inr failed) = (device_failed, by_device failed)
+    room_cause = tables_cause env choices store meaning before from old was opened modelled
+        (write items sync) makes_tables to status
 
     -- refused, with nothing changed
     refuses_still : HasCause → Refuses setting old (write items sync) (refusal_of status) old
@@ -260,12 +228,12 @@ module _ {E C FP F P : Type 0} {B : Boxed} {keys : InternalOrder C} {key_filters
         → Refuses setting old (write items sync) (refusal_of status) (broke pending)
     refuses_broken pending which (inl memory) = record {
       cause = out_of_memory;
-      comes = by_memory memory;
+      comes = without_memory memory;
       leaves = inr (tt, breaks pending which);
     }
     refuses_broken pending which (inr failed) = record {
       cause = device_failed;
-      comes = by_device failed;
+      comes = as_device_failed failed;
       leaves = inr (tt, breaks pending which);
     }
 
@@ -274,14 +242,13 @@ module _ {E C FP F P : Type 0} {B : Boxed} {keys : InternalOrder C} {key_filters
   module _ (ignores : (a b : OptionsOf C FP B) → TellsOnly a b → formats b ≡ formats a)
       (roomy : EngineOf E C FP F B) (mid : E) (result : Result (Unit {0}) Status)
       (made : EngineMakesRoom env choices before from result roomy mid) where
-    room_keeps : KeepsStore order meaning (Stays old) before.store (env.observed from) roomy.store
-        (env.observed mid)
-    room_keeps =
-        let f = same_format env formats store meaning before from old was opened in
-        (subst (λ (g : Format). KeepsWritten g.order meaning before.store (env.observed from)
-        roomy.store (env.observed mid)) f
-        (made.makes.keeps modelled meaning (subst (λ (g : Format). Agrees g meaning) (sym f)
-        (agreeing env formats store meaning before from old was opened))))
+    room_keeps : KeepsStoreFrom order meaning made.smallest (Stays old) before.store
+        (env.observed from) roomy.store (env.observed mid)
+    room_keeps = (subst (λ (g : Format). KeepsWrittenFrom g.order meaning made.smallest before.store
+        (env.observed from) roomy.store (env.observed mid))
+        (same_format env formats store meaning before from old was opened)
+        (made.makes.keeps.keeps tables_open meaning
+        (agrees_by env choices store meaning before from old was opened modelled)))
         (may_stay None old.store) held.written
 
     room_options : formats (options_in roomy) ≡ formats (options_in before)
@@ -289,15 +256,15 @@ module _ {E C FP F P : Type 0} {B : Boxed} {keys : InternalOrder C} {key_filters
         (room_tells env choices before from result roomy mid made)
 
     room_bytes : AppendedAreBytes (env.observed mid).disk.files
-    room_bytes = made.sound.bytes modelled was.disk_is.bytes
+    room_bytes = made.makes.keeps.sound.bytes modelled was.disk_is.bytes
 
     room_locked : (env.observed mid).disk.locked (lock_path store) ≡ old.locked
     room_locked = ap (λ (l : List ℕ → Bool). l (lock_path store))
-        (made.makes.rest.locks modelled) ∙ was.disk_is.locked
+        (made.makes.keeps.rest.locks modelled) ∙ was.disk_is.locked
 
-    room_shows : KeepsShown order meaning before.store files old.history roomy.store
-        (env.observed mid).disk.files old.history
-    room_shows = room_keeps.shows old.history
+    room_views : ShowsViews meaning roomy.store (env.observed mid).disk.files old
+    room_views = views_held env choices store meaning before from old was opened modelled
+        made.smallest made.is_smallest roomy.store (env.observed mid).disk.files room_keeps.shows
 
     room_snapshots : roomy.snapshots ≡ before.snapshots
     room_snapshots = ap (λ (e : EngineOf E C FP F B). e.snapshots) made.rest
@@ -307,17 +274,16 @@ module _ {E C FP F P : Type 0} {B : Boxed} {keys : InternalOrder C} {key_filters
       (after : EngineOf E C FP F B) (to : E) (items : List Item) (sync : Bool)
       (status : Status)
       (made : EngineMakesRoom env choices before from (Err status) after to) where
-    keeps : KeepsStore order meaning (Stays old) before.store (env.observed from) after.store
-        (env.observed to)
+    keeps : KeepsStoreFrom order meaning made.smallest (Stays old) before.store (env.observed from)
+        after.store (env.observed to)
     keeps = room_keeps ignores after to (Err status) made
 
     breaks_by : IsUnbroken after.store ⊎ IsOutOfMemory status
         ⊎ HasFailed (env.failures from) (env.failures to)
-    breaks_by =
-        let f = same_format env formats store meaning before from old was opened in
-        made.sound.breaks modelled meaning (subst (λ (g : Format). Agrees g meaning) (sym f)
-        (agreeing env formats store meaning before from old was opened))
-        (subst (λ (g : Format). IsWritten g.order meaning before.store files) (sym f) held.written)
+    breaks_by = made.makes.keeps.sound.breaks modelled meaning (
+      tables_open,
+      agrees_by env choices store meaning before from old was opened modelled,
+    ) (written_by env choices store meaning before from old was opened modelled)
 
     went : (new : State) → SameSnapshots env formats store meaning before from old was opened new
         → after.mode ≡ new.mode → new.store ≡ old.store
@@ -332,23 +298,18 @@ module _ {E C FP F P : Type 0} {B : Boxed} {keys : InternalOrder C} {key_filters
         goes env formats store meaning before from old was opened after to new (record {
           lock = ap (λ (e : EngineOf E C FP F B). e.lock) made.rest;
           options = room_options ignores after to (Err status) made;
-          path = made.makes.rest.store;
+          path = made.makes.keeps.rest.store;
           store_is = store_is;
           format_is = format_is;
           mode = mode_is;
           last = kept_last env formats store meaning before from old was opened after.store to
-              keeps.moments made.makes.rest ∙ sym last_is;
-          views = views_kept env formats store meaning before from old was opened after.store
-              (env.observed to).disk.files new snapshots format_is
-              (let same_end = ap (λ (h : History). greatest (entries_of h)) history_is in
-              omega (arith, same_end))
-              (subst (KeepsShown order meaning before.store files old.history after.store
-              (env.observed to).disk.files) (sym history_is)
-              (room_shows ignores after to (Err status) made));
+              keeps.moments made.makes.keeps.rest ∙ sym last_is;
+          views = views_still env formats store meaning before from old was opened after.store
+              (env.observed to).disk.files (room_views ignores after to (Err status) made) new
+              snapshots format_is history_is;
           snapshots = room_snapshots ignores after to (Err status) made;
           same_snapshots = snapshots;
-          tables = room_tables env choices before from (Err status) after to ignores made modelled
-              held_tables;
+          tables = room_tables env choices before from (Err status) after to ignores made tables_open;
           writes = λ is. keeps.written (unbroken is);
           holds = subst (λ h. HoldsBatches order meaning (Stays old) after.store
               (env.observed to).disk.files h new.durable new.pending) (sym history_is)
@@ -357,19 +318,19 @@ module _ {E C FP F P : Type 0} {B : Boxed} {keys : InternalOrder C} {key_filters
               (subst (λ p. HoldsBatches order meaning (Stays old) after.store
               (env.observed to).disk.files old.history old.durable p) (sym pending_is)
               (kept_holds env formats store meaning before from old was opened after.store to
-              keeps.moments made.makes.rest)));
+              keeps.moments made.makes.keeps.rest)));
           bytes = room_bytes ignores after to (Err status) made;
           locked = room_locked ignores after to (Err status) made ∙ sym locked_is;
-        }) (write items sync) (refused (refusal_of status)) made.makes.cause.later
+        }) (write items sync) (refused (refusal_of status)) made.makes.keeps.cause.later
         (subst (λ m. Step m (setting items sync status to) old (write items sync)
         (refused (refusal_of status)) new) (sym mode) refuses)
         (subst (λ (r : Risk). Run (IsSpared store meaning old r) (env.observed from) (env.observed to))
         same_risk (kept_run env formats store meaning before from old was opened after.store to
-        keeps.moments made.makes.rest
+        keeps.moments made.makes.keeps.rest
         (risk_now env formats store meaning before from old was opened) refl (omega arith)
         (spared_first env formats store meaning before from old was opened)))
         (kept_spares env formats store meaning before from old was opened after.store to
-        keeps.moments made.makes.rest modelled (write items sync) (λ kind is. is) (λ kind is. is))
+        keeps.moments made.makes.keeps.rest modelled (write items sync) (λ kind is. is) (λ kind is. is))
         (λ never. absurd never)
       where
         same_risk : risk_now env formats store meaning before from old was opened
@@ -387,7 +348,8 @@ module _ {E C FP F P : Type 0} {B : Boxed} {keys : InternalOrder C} {key_filters
         (λ (sound : (after.mode ≡ machine.open_mode) × IsUnbroken after.store).
         went old (λ in_use. (refl, refl)) (sound.0 ∙ sym mode) refl refl refl refl refl
         (none env formats store meaning before from old was opened) refl (λ is. sound.1)
-        (refuses_still items sync status to (room_cause items sync status to made.makes.cause.cause)))
+        (refuses_still items sync status to
+        (room_cause items sync status to after.store made.makes.keeps.cause.cause)))
         (λ (is : (after.mode ≡ machine.broken) × (IsUnbroken after.store → ⊥)).
         went (broke None) (λ in_use. (refl, refl)) is.0 refl refl refl refl refl refl refl
         (λ opens. absurd (let never : machine.broken ≡ open_mode = opens in cc))
@@ -415,7 +377,7 @@ module _ {E C FP F P : Type 0} {B : Boxed} {keys : InternalOrder C} {key_filters
     its_batch = next_batch roomy.store items
 
     room_unbroken : IsUnbroken roomy.store
-    room_unbroken = made.makes.usable
+    room_unbroken = made.makes.keeps.usable
 
     room_written : IsWritten order meaning roomy.store here
     room_written = (room_keeps ignores roomy mid (Ok tt) made).written room_unbroken
@@ -424,12 +386,12 @@ module _ {E C FP F P : Type 0} {B : Boxed} {keys : InternalOrder C} {key_filters
     room_held = record {
       written = room_written;
       holds = kept_holds env formats store meaning before from old was opened roomy.store mid
-          (room_keeps ignores roomy mid (Ok tt) made).moments made.makes.rest;
+          (room_keeps ignores roomy mid (Ok tt) made).moments made.makes.keeps.rest;
     }
 
     room_last : roomy.store.set.last_sequence ≡ old.last
     room_last = kept_last env formats store meaning before from old was opened roomy.store mid
-        (room_keeps ignores roomy mid (Ok tt) made).moments made.makes.rest
+        (room_keeps ignores roomy mid (Ok tt) made).moments made.makes.keeps.rest
 
     same_batch : its_batch ≡ added_batch old items
     same_batch = ap (λ n. placed (n + 1) items) room_last
@@ -447,7 +409,7 @@ module _ {E C FP F P : Type 0} {B : Boxed} {keys : InternalOrder C} {key_filters
         (sound : IsSoundCall {T = Unit {0}} env (formats (options_in before)).order any_meaning
         roomy.store mid result value to) where
       end_path : value.set.store ≡ before.store.set.store
-      end_path = ap (λ (v : OpenStoreValue C). v.set.store) writes.rest ∙ made.makes.rest.store
+      end_path = ap (λ (v : OpenStoreValue C). v.set.store) writes.rest ∙ made.makes.keeps.rest.store
 
       end_options : formats (options_in after) ≡ formats (options_in before)
       end_options = ignores (options_in before) (options_in after)
@@ -463,7 +425,7 @@ module _ {E C FP F P : Type 0} {B : Boxed} {keys : InternalOrder C} {key_filters
           roomy.tables) (sym (ap (λ (v : OpenStoreValue C). v.cmp) writes.rest))
           (open_after_batch env (by roomy.store.cmp) (formats (options_in before)).order roomy.store
           value mid to items sync result writes modelled roomy.tables
-          (room_tables env choices before from (Ok tt) roomy mid ignores made modelled held_tables))
+          (room_tables env choices before from (Ok tt) roomy mid ignores made tables_open))
 
       end_bytes : AppendedAreBytes (env.observed to).disk.files
       end_bytes = sound.bytes modelled (room_bytes ignores roomy mid (Ok tt) made)
@@ -473,7 +435,7 @@ module _ {E C FP F P : Type 0} {B : Boxed} {keys : InternalOrder C} {key_filters
           ∙ room_locked ignores roomy mid (Ok tt) made
 
       end_later : env.failures from ≤ env.failures to
-      end_later = omega (arith, made.makes.cause.later, writes.cause.later)
+      end_later = omega (arith, made.makes.keeps.cause.later, writes.cause.later)
 
       log_data : IsDataPath store (open_log_path roomy.store)
       log_data = (
@@ -481,7 +443,7 @@ module _ {E C FP F P : Type 0} {B : Boxed} {keys : InternalOrder C} {key_filters
         tt,
         subst (λ p. IsFilePath Log p (open_log_path roomy.store))
             (kept_path env formats store meaning before from old was opened roomy.store mid
-            (room_keeps ignores roomy mid (Ok tt) made).moments made.makes.rest)
+            (room_keeps ignores roomy mid (Ok tt) made).moments made.makes.keeps.rest)
             (log_is_own order meaning roomy.store here room_written),
       )
 
@@ -492,10 +454,10 @@ module _ {E C FP F P : Type 0} {B : Boxed} {keys : InternalOrder C} {key_filters
           (λ path foreign.
           writes.others modelled path (bytes_eq-apart (open_log_path roomy.store) path
           (λ e. foreign (subst (IsDataPath store) e log_data)))
-          ∙ made.makes.rest.files modelled path (λ own. foreign
+          ∙ made.makes.keeps.rest.files modelled path (λ own. foreign
           (subst (λ p. IsDataPath p path) was.memory_is.path own)))
           (λ path differs. ap (λ (l : List ℕ → Bool). l path)
-          (writes.locks modelled ∙ made.makes.rest.locks modelled))
+          (writes.locks modelled ∙ made.makes.keeps.rest.locks modelled))
 
       -- the moments of both
       both_run : (risk : Risk) → risk.opening ≡ None → old.last ≤ risk.bound
@@ -504,7 +466,7 @@ module _ {E C FP F P : Type 0} {B : Boxed} {keys : InternalOrder C} {key_filters
           → Run (IsSpared store meaning old risk) (env.observed from) (env.observed to)
       both_run risk no_opening most spared run = Run-trans
           (kept_run env formats store meaning before from old was opened roomy.store mid
-          (room_keeps ignores roomy mid (Ok tt) made).moments made.makes.rest risk
+          (room_keeps ignores roomy mid (Ok tt) made).moments made.makes.keeps.rest risk
           no_opening most spared) (λ now is. is) run
 
     -- ---- it is written
@@ -581,14 +543,14 @@ module _ {E C FP F P : Type 0} {B : Boxed} {keys : InternalOrder C} {key_filters
             format_is = refl;
             mode = follows_open end_mode value follows writes.usable ∙ sym mode;
             last = end_last;
-            views = views_kept env formats store meaning before from old was opened value
-                (env.observed to).disk.files new (λ in_use. (refl, refl)) refl
+            views = views_then env formats store meaning before from old was opened roomy.store here
+                (room_views ignores roomy mid (Ok tt) made) value (env.observed to).disk.files new
+                (λ in_use. (refl, refl)) refl
                 (let more = ap greatest (entries_more old.history (added_batch old items))
                 ∙ greatest_append (entries_of old.history) (added_batch old items) in
                 omega (arith, more))
-                (subst (KeepsShown order meaning before.store files old.history value
-                (env.observed to).disk.files) longer
-                (λ since s. adds.shows since (room_shows ignores roomy mid (Ok tt) made since s)));
+                (subst (KeepsShown order meaning roomy.store here old.history value
+                (env.observed to).disk.files) longer adds.shows);
             snapshots = room_snapshots ignores roomy mid (Ok tt) made;
             same_snapshots = λ in_use. (refl, refl);
             tables = end_tables (Ok tt) writes sound;
@@ -639,7 +601,7 @@ module _ {E C FP F P : Type 0} {B : Boxed} {keys : InternalOrder C} {key_filters
       failed : HasFailed (env.failures mid) (env.failures to)
           → HasFailed (env.failures from) (env.failures to)
       failed one = failed_later (env.failures from) (env.failures mid) (env.failures to)
-          made.makes.cause.later writes.cause.later one
+          made.makes.keeps.cause.later writes.cause.later one
 
       breaks_by_batch : IsUnbroken value ⊎ IsOutOfMemory status
           ⊎ HasFailed (env.failures from) (env.failures to)
@@ -660,17 +622,17 @@ module _ {E C FP F P : Type 0} {B : Boxed} {keys : InternalOrder C} {key_filters
       )
       batch_cause (inl (inl (inr (inl large), same))) = (too_large, (tt, large.0))
       batch_cause (inl (inl (inr (inr memory), same))) =
-          (out_of_memory, by_memory items sync status to memory)
+          (out_of_memory, without_memory items sync status to memory)
       batch_cause (inl (inr (inl (inl memory)))) =
-          (out_of_memory, by_memory items sync status to memory)
+          (out_of_memory, without_memory items sync status to memory)
       batch_cause (inl (inr (inl (inr missing)))) =
           absurd (log_is_there order meaning roomy.store here room_written (missing.1 modelled))
       batch_cause (inl (inr (inr broke_before))) =
           absurd (let never : Bool.true ≡ Bool.false = sym broke_before.0 ∙ room_unbroken.log in cc)
       batch_cause (inr (inl more)) =
-          (device_failed, by_device items sync status to (failed (inl (omega arith))))
+          (device_failed, as_device_failed items sync status to (failed (inl (omega arith))))
       batch_cause (inr (inr full)) =
-          (device_failed, by_device items sync status to (failed (inr full.0)))
+          (device_failed, as_device_failed items sync status to (failed (inr full.0)))
 
       unwritten : (new : State)
           → SameSnapshots env formats store meaning before from old was opened new
@@ -692,13 +654,13 @@ module _ {E C FP F P : Type 0} {B : Boxed} {keys : InternalOrder C} {key_filters
             format_is = format_is;
             mode = mode_is;
             last = writes.err.1 ∙ room_last ∙ sym last_is;
-            views = views_kept env formats store meaning before from old was opened value
-                (env.observed to).disk.files new snapshots format_is
+            views = views_then env formats store meaning before from old was opened roomy.store here
+                (room_views ignores roomy mid (Ok tt) made) value (env.observed to).disk.files new
+                snapshots format_is
                 (let same_end = ap (λ (h : History). greatest (entries_of h)) history_is in
                 omega (arith, same_end))
-                (subst (KeepsShown order meaning before.store files old.history value
-                (env.observed to).disk.files) (sym history_is)
-                (λ since s. leaves.2.shows since (room_shows ignores roomy mid (Ok tt) made since s)));
+                (subst (KeepsShown order meaning roomy.store here old.history value
+                (env.observed to).disk.files) (sym history_is) leaves.2.shows);
             snapshots = room_snapshots ignores roomy mid (Ok tt) made;
             same_snapshots = snapshots;
             tables = end_tables (Err status) writes sound;
@@ -719,7 +681,7 @@ module _ {E C FP F P : Type 0} {B : Boxed} {keys : InternalOrder C} {key_filters
           (env.observed to)) same_risk
           (both_run (Err status) writes sound (risk_with leaves.0) refl (omega arith) (spared_left leaves.0 which)
           (machine_spares env formats store meaning before from old was opened roomy.store
-          made.makes.rest.store old.history old.last leaves.0 (env.observed mid) (env.observed to)
+          made.makes.keeps.rest.store old.history old.last leaves.0 (env.observed mid) (env.observed to)
           room_last leaves.2.moments)))
           (end_spares (Err status) writes sound) (λ never. absurd never)
         where

@@ -34,6 +34,7 @@ use Rattle.rusty_leveldb.specs.Serves.{done_or, found_or, given_engine, snapshot
 use Rattle.rusty_leveldb.specs.Engine.{IsClosed, IsBroken, IsClosedOrBroken, ReadsAt, RefusedByMode, AnswersAs, Answers, WriteExcused, SyncExcused, CloseExcused, CompactExcused, GetExcused, GetFails, SnapshotExcused, ReleaseExcused, WalkExcused, IsStoreName, IsOpening, HasOwnLock, formats_of, holds_lock, options_in, tables_by}
 use Rattle.rusty_leveldb.specs.Frame.{IsOwn, IsSyncing, MayTouchOrLog, SameBytes, Spares}
 use Rattle.rusty_leveldb.specs.Machine.{AllDurable, Closes, Gives, Keeps, Opens, Releases, Writes, risk_of}
+use Rattle.rusty_leveldb.specs.Room.{LogsRoom}
 use Rattle.rusty_leveldb.specs.Rows.{FindsValue, FromEachState, FromStatesOf, IsAbandoned, NotClosed, NotCompacted, NotFlushed, NotOpened, NotUnlocked, NotWritten, RepresentsAt, Row, StaysAsItWas, WalksView}
 use Rattle.rusty_leveldb.specs.Unopened.{IsLockGivenBack, IsLockHeld, MakesLockAlone, NeverOpens, OpenExcused}
 use Rattle.rusty_leveldb.specs.Boxes.{EngineOf, InternalOrder}
@@ -169,6 +170,11 @@ module _ {E C FP F P : Type 0} {B : Boxed} {keys : InternalOrder C} {key_filters
     -- Ok leaves the mode, and the batch is in the memtable, which had room
     pub written : OnOk result ((after.mode ≡ before.mode) × WritesIntoRoom before items after)
     pub waits : OnOk result (OneWaitsAtMost before after)
+    -- Ok, where the memtable was full: tables of memtables were logged, and a compaction after them
+    -- where a level's score asks for it
+    pub logs : OnOk result (IsMemtableFull before
+        → LogsRoom (formats_of choices (options_in before)).order before.store.set
+        (record after.store.set { last_sequence = before.store.set.last_sequence }))
     -- Err leaves what memory shows, and the mode, or a broken store
     pub failed : OnErr result (KeepsModeOrBreaks before after × KeepsMemory before after)
     -- where the memtable wasn't full, an Err came before any call of the device, or broke the store
@@ -180,8 +186,8 @@ module _ {E C FP F P : Type 0} {B : Boxed} {keys : InternalOrder C} {key_filters
     pub rest : LeavesRest env before from (write items sync) result after to
     pub time : TimeGoesOn env from to
     -- why it fails
-    pub cause : FailsFor (WriteExcused env choices before from items) (env.failures from)
-        (env.failures to) result
+    pub cause : FailsFor (WriteExcused env choices before from items after.store)
+        (env.failures from) (env.failures to) result
 
   -- A call that makes durable all that was written.
   pub record EngineFlushes (result : Result (Unit {0}) Status) (after : EngineOf E C FP F B)
@@ -234,8 +240,8 @@ module _ {E C FP F P : Type 0} {B : Boxed} {keys : InternalOrder C} {key_filters
     pub by_tables : OnOk result ((store : List ℕ) (meaning : Meaning) (state : State)
         → RepresentsAt keys env (formats_of choices) store meaning (Some after) to state
         → HasViewsInTables meaning after.store (env.observed to).disk.files state)
-    -- Ok: no file overlaps the range in level 0 and those below it down to the deepest that had such
-    -- a file at the beginning, which is level 1 at least and level 5 at most
+    -- Ok: no file overlaps the range in level 0 and those below it down to the deepest that had
+    -- such a file at the beginning, which is level 1 at least and level 5 at most
     pub clear : let order = (formats_of choices (options_in before)).order in
         OnOk result (AreClearOf order (named_range low high) (deepest_overlapped order
         (named_range low high) before.store.set.full.added) after.store.set.full.added)

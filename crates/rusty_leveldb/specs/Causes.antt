@@ -112,8 +112,9 @@ ReachesDevice get_snapshot = ⊥
 ReachesDevice (release_snapshot one) = ⊥
 ReachesDevice _ = Unit {0}
 
--- requests that read blocks of tables, of whatever openings
+-- requests that read blocks of tables, of whatever openings: a write may have to compact some
 abbrev pub ReadsTables : Request → Type 0
+ReadsTables (write items sync) = Unit {0}
 ReadsTables (get at key) = Unit {0}
 ReadsTables (walk at moves) = Unit {0}
 ReadsTables (compact_range from to) = Unit {0}

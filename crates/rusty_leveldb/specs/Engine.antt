@@ -24,8 +24,7 @@ use Rattle.leveldb_version.specs.TableCache.{TableOptions, table_options}
 use Rattle.leveldb_store.specs.OpenStore.{OpenStoreValue}
 use Rattle.leveldb_store.specs.OpenTables.{AreOpenTablesOf}
 use Rattle.leveldb_store.specs.Read.{HasTablesToRead}
-use Rattle.leveldb_store.specs.Room.{AreEntriesNotTabled, FailsFor, IsFileLost, IsFull}
-use Rattle.leveldb_store.specs.Switch.{AreFileNumbersTooFew}
+use Rattle.leveldb_store.specs.Room.{FailsFor, IsFileLost, IsFull}
 use Rattle.leveldb_store.specs.Write.{IsLogLost}
 use Rattle.leveldb_store.specs.Written.{IsWritten, Shows}
 use Rattle.rusty_leveldb.specs.State as machine
@@ -230,25 +229,25 @@ module _ {E C FP F P : Type 0} {B : Boxed} {keys : InternalOrder C} {key_filters
 
   -- Why a write may fail where the device didn't: the store is closed or broken, the batch is too
   -- long, memory ran out, no numbers of entries are left, or the entries are too many in memory.
-  -- And where the memtable is full: the numbers of files are too few for two tables and a log; no
-  -- table is built of its entries, or of those that wait; or the batch is too large for an empty
-  -- one. Or a file is lost.
-  abbrev pub WriteExcused : List Item → Status → Type 0
-  WriteExcused items e = RefusedByMode engine.mode e
+  -- And where the memtable is full: no tables are made of what is in memory, or tables aren't merged
+  -- in the compaction for which the store asks then (`FailsToCompactRange`); or the batch is too
+  -- large for an empty memtable. Or a file is lost. `left` is the store after the call: its next
+  -- number tells whether the numbers of files are used up.
+  abbrev pub WriteExcused : List Item → OpenStoreValue C → Status → Type 0
+  WriteExcused items left e = RefusedByMode engine.mode e
       ⊎ ((e.code ≡ InvalidArgument) × IsLongBatch items)
       ⊎ IsOutOfMemory e
       ⊎ ((e.code ≡ NotSupported) × AreUsedUp engine.store.set.last_sequence (length items))
       ⊎ FailsToPrepare engine.store.recent (length items) (bytes_in items) e
       ⊎ (IsFull engine.options.write_buffer_size engine.store.recent
-      × (AreFileNumbersTooFew engine.store.set.next_file 3 e
-      ⊎ AreEntriesNotTabled choices_in (Some engine.store.recent) e
-      ⊎ AreEntriesNotTabled choices_in engine.store.waiting e
+      × (FailsToCompactRange keys env (tables_by (formats_of choices) engine) engine.store at
+      engine.tables choices_in left e
       ⊎ FailsToPrepare empty_memtable (length items) (bytes_in items) e))
       ⊎ IsFileLost env choices_in.format.order engine.store at choices_in.format e
 
   -- Why a compaction of a range may fail where the device didn't: the store is closed or broken, an
-  -- end is too long, or the store isn't compacted (`FailsToCompactRange`). `left` is the store after
-  -- the call: its next number tells whether the numbers of files are used up.
+  -- end is too long, or the store isn't compacted (`FailsToCompactRange`). `left` is the store
+  -- after the call: its next number tells whether the numbers of files are used up.
   abbrev pub CompactExcused : List ℕ → List ℕ → OpenStoreValue C → Status → Type 0
   CompactExcused low high left e = RefusedByMode engine.mode e
       ⊎ ((e.code ≡ InvalidArgument) × (IsLongKey low ⊎ IsLongKey high))

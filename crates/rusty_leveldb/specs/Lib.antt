@@ -9,13 +9,14 @@ pub mod Serves
 pub mod Laws
 pub mod Engine
 pub mod Unopened
-pub mod Calls
 pub mod Views
 pub mod Walks
 pub mod Rows
 pub mod Iterator
 pub mod IteratorLaws
 pub mod Compact
+pub mod Room
+pub mod Calls
 pub mod CompactionLaws
 pub mod Shell
 pub mod Lives

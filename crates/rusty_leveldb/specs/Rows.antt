@@ -5,7 +5,6 @@ use Rattle.leveldb_base.specs.History.{Item}
 use Rattle.leveldb_base.specs.declared.error.Status.{Status}
 use Rattle.leveldb_base.specs.declared.error.StatusCode.TheVariants.{OutOfMemory}
 use Rattle.leveldb_env.specs.declared.env.Env.{Ghosts}
-use Rattle.leveldb_env.specs.declared.filter.FilterPolicy.{Ghosts as FilterGhosts}
 use Rattle.leveldb_env.specs.Env as calls
 use Rattle.leveldb_env.specs.Options.{Boxed, OptionsOf}
 use Rattle.leveldb_iter.specs.declared.moves.Move.{Move}
@@ -15,7 +14,7 @@ use Rattle.leveldb_version.specs.Format.{Format, Meaning}
 use Rattle.rusty_leveldb.specs.Boxes.{EngineOf, InternalOrder}
 use Rattle.rusty_leveldb.specs.Causes.{Cause, Comes, IsBrokenRefusal, IsClosedRefusal, Setting}
 use Rattle.rusty_leveldb.specs.Engine.{Recalls}
-use Rattle.rusty_leveldb.specs.Machine.{Abandons, Breaks, Gets, Keeps, Rejects, Risk, StaysClosed, Walks, added_batch, risk_between, risk_of}
+use Rattle.rusty_leveldb.specs.Machine.{Abandons, Breaks, Gets, Keeps, Rejects, Risk, StaysClosed, Walks, added_batch, risk_between}
 use Rattle.rusty_leveldb.specs.Serves.{IsSpared, Represents, refusal_of, setting_between}
 use Rattle.rusty_leveldb.specs.State.{Opening, Snapshot, State, broken, closed, open_mode, open_store, refused}
 use Rattle.rusty_leveldb.specs.Walks.{landing_of, move_of}

@@ -1,12 +1,12 @@
 //! One compaction of an open store: other files take the place of those that it takes, and its edit
 //! is logged.
-ghost use Rattle.std.specs.Prelude.{◌≡◌, ◌++◌, Bool, IfErr, IfSome, None, Ok, OnErr, OnOk, is_some, map};
+ghost use Rattle.std.specs.Prelude.{◌≡◌, ◌++◌, Bool, IfErr, IfSome, None, Ok, Option, OnErr, OnOk, is_some, map};
 ghost use Rattle.leveldb_base.specs.Error.{IsOutOfMemory};
 ghost use Rattle.leveldb_version.specs.Format.{format_of};
-ghost use Rattle.leveldb_version.specs.Picking.{IsCompactionOf};
+ghost use Rattle.leveldb_version.specs.Picking.{CompactionValue, IsAskedByReads, IsCompactionOf};
 ghost use Rattle.leveldb_version.specs.TableCache.{table_options};
 ghost use Rattle.leveldb_store.specs.BuildTable.{choices_of};
-ghost use Rattle.leveldb_store.specs.Compact.{CompactsStore, CompactsTables, EndsByRemoval, LogsCompaction};
+ghost use Rattle.leveldb_store.specs.Compact.{CompactsIfAsked, CompactsStore, CompactsTables, EndsByRemoval, LogsCompaction, LogsPicked};
 ghost use Rattle.leveldb_store.specs.OpenStore.{IsUnbroken};
 
 use super::OpenStore;
@@ -23,6 +23,66 @@ use leveldb_version::table_cache::TableCache;
 use leveldb_version::version_edit::VersionEdit;
 
 impl<E: Env, C: UserCmp + Copy + Drop> OpenStore<E, C> {
+    /// Does the compaction for which the current version asks, by the score of a level or else by
+    /// reads, if it asks for one, and deletes the files that are obsolete then. Entries that are
+    /// shadowed at `smallest`, the smallest number at which the store is read, may go, and deletions
+    /// up to it that no deeper level needs. No memtable waits.
+    ///
+    /// After an Err the tables are those that they were, and the next call tries again, unless the
+    /// store broke.
+    pub fn compact_if_asked<FP: FilterPolicy + Copy + Drop>(
+        &mut self,
+        env: &mut E,
+        options: &Options<C, FP>,
+        tables: &mut TableCache<E, C, FP>,
+        smallest: SequenceNumber,
+        log: &mut Option<Logger>,
+    ) -> Result<()>
+        requires usable { IsUnbroken self.old }
+        requires order { C.cmp options.now.cmp ≡ C.cmp self.old.cmp }
+        requires none_waits { self.old.waiting ≡ None }
+        ensures compacts { let choices = choices_of C.Cmp FP.FilterPolicy
+            ⟦<InternalKeyCmp<C> as Cmp>⟧ ⟦<InternalFilterPolicy<FP> as FilterPolicy>⟧
+            ⟦<CompressorList as Compressors>⟧.codings options.now in
+            CompactsTables ⟦<InternalKeyCmp<C> as Cmp>⟧ E.Env
+            (table_options choices.format options.now) self.old env.old tables.old choices smallest
+            result self.new env.new tables.new }
+        ensures asked { CompactsIfAsked (C.cmp self.old.cmp) options.now.max_file_size self.old
+            result self.new }
+        ensures log { is_some log.new ≡ is_some log.old }
+    {
+        let picked = self.versions.pick_compaction(options)?;
+        self.compact_picked(env, options, tables, smallest, log, picked)
+    }
+
+    // Does the compaction for which reads ask, if they ask for one, and deletes the files that are
+    // obsolete then, as `compact_if_asked`.
+    pub(super) fn compact_by_reads<FP: FilterPolicy + Copy + Drop>(
+        &mut self,
+        env: &mut E,
+        options: &Options<C, FP>,
+        tables: &mut TableCache<E, C, FP>,
+        smallest: SequenceNumber,
+        log: &mut Option<Logger>,
+    ) -> Result<()>
+        requires usable { IsUnbroken self.old }
+        requires order { C.cmp options.now.cmp ≡ C.cmp self.old.cmp }
+        requires none_waits { self.old.waiting ≡ None }
+        ensures compacts { let choices = choices_of C.Cmp FP.FilterPolicy
+            ⟦<InternalKeyCmp<C> as Cmp>⟧ ⟦<InternalFilterPolicy<FP> as FilterPolicy>⟧
+            ⟦<CompressorList as Compressors>⟧.codings options.now in
+            CompactsTables ⟦<InternalKeyCmp<C> as Cmp>⟧ E.Env
+            (table_options choices.format options.now) self.old env.old tables.old choices smallest
+            result self.new env.new tables.new }
+        ensures asked { OnOk result ((picked : Option (CompactionValue C))
+            × IsAskedByReads (C.cmp self.old.cmp) self.old.current options.now.max_file_size picked
+            × LogsPicked (C.cmp self.old.cmp) picked self.old self.new) }
+        ensures log { is_some log.new ≡ is_some log.old }
+    {
+        let picked = self.versions.compaction_by_reads(options)?;
+        self.compact_picked(env, options, tables, smallest, log, picked)
+    }
+
     // Does a compaction of the current version, if there is one, and deletes the files that are
     // obsolete then.
     pub(super) fn compact_picked<FP: FilterPolicy + Copy + Drop>(

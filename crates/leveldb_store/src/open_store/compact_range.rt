@@ -28,12 +28,13 @@ use leveldb_version::compaction::Compaction;
 use leveldb_version::table_cache::TableCache;
 
 impl<E: Env, C: UserCmp + Copy + Drop> OpenStore<E, C> {
-    /// Makes tables of all that is in memory, and compacts the tables of level 0 down to the deepest
-    /// of levels 1 to 5 of which a file overlapped the range between two user keys, ends included,
-    /// when the call began, or to level 1: then no file of these levels overlaps it. An empty key is
-    /// an open end. Entries that are shadowed at `smallest`, the smallest number at which the store
-    /// is read, may go, and deletions up to it that no deeper level needs. Obsolete files are deleted
-    /// after each edit, and their tables closed; what fails of that is a line for `log`.
+    /// Makes tables of all that is in memory, does the compaction for which reads ask, if they ask
+    /// for one, and compacts the tables of level 0 down to the deepest of levels 1 to 5 of which a
+    /// file overlapped the range between two user keys, ends included, when the call began, or to
+    /// level 1: then no file of these levels overlaps it. An empty key is an open end. Entries that
+    /// are shadowed at `smallest`, the smallest number at which the store is read, may go, and
+    /// deletions up to it that no deeper level needs. Obsolete files are deleted after each edit, and
+    /// their tables closed; what fails of that is a line for `log`.
     ///
     /// After an Err some of this may be done; of a store that is written no entry that is read is
     /// lost. The next call goes on from there, unless the store broke.
@@ -61,6 +62,7 @@ impl<E: Env, C: UserCmp + Copy + Drop> OpenStore<E, C> {
         let end = LookupKey::new(self.alloc, to, 0)?;
         let deepest = self.deepest_overlapped(from, to);
         self.table_memory(env, options, tables, log)?;
+        self.compact_by_reads(env, options, tables, smallest, log)?;
         let range = (begin.internal_key(), end.internal_key());
         for level in 0..deepest + 1 {
             self.compact_level(env, options, tables, smallest, log, level, range)?;

@@ -7,7 +7,7 @@ ghost use Rattle.leveldb_version.specs.Search.{LooksUpNewest};
 ghost use Rattle.leveldb_version.specs.TableCache.{table_options};
 ghost use Rattle.leveldb_store.specs.OpenStore.{AreInLevels, AreNumbersGiven};
 ghost use Rattle.leveldb_version.specs.CurrentVersion.{IsCurrent};
-ghost use Rattle.leveldb_store.specs.Read.{FindsInMemory, LooksUpKey, sought_key};
+ghost use Rattle.leveldb_store.specs.Read.{FindsInMemory, LooksUpKey, sought_key, with_charge};
 
 use super::OpenStore;
 use bytes::Bytes;
@@ -47,8 +47,16 @@ impl<E: Env, C: UserCmp + Copy + Drop> OpenStore<E, C> {
             return copied(self.alloc, found);
         }
         let (found, stats) = self.newest_in_tables(env, options, tables, sequence, key)?;
-        self.versions.update_stats(stats);
+        self.charge(stats);
         Ok(found.into_value())
+    }
+
+    /// Charges a file of the version with a seek, as a look-up does that goes through its table to
+    /// another.
+    pub fn charge(&mut self, stats: GetStats)
+        ensures { self.new ≡ with_charge self.old stats.file }
+    {
+        self.versions.update_stats(stats);
     }
 
     // What the memtables have of the key at a number.

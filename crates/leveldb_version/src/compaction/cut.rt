@@ -1,9 +1,19 @@
 //! Where a compaction's outputs are cut, so that none overlaps too much of the level after its own.
+ghost use Rattle.std.specs.Prelude.{◌≡◌, ◌+◌, map, take_while};
+ghost use Rattle.std.specs.List.{prefix_len};
+ghost use Rattle.std.specs.Ordering.{is_gt};
+ghost use Rattle.leveldb_base.specs.KeyTypes.{internal_cmp};
+ghost use Rattle.leveldb_version.specs.Cut.{PassesFiles, no_key, size_with};
+ghost use Rattle.leveldb_version.specs.Summary.{files_of_level};
+ghost use Rattle.leveldb_version.specs.Version.{new_files_of};
+ghost use Rattle.leveldb_version.specs.VersionEdit.{new_file_of};
 
 use super::Compaction;
+use crate::version::{product, total_size};
 use leveldb_base::cmp::UserCmp;
 use leveldb_base::key_types::{InternalKey, cmp_internal_key};
 use leveldb_base::types::FileMetaData;
+use std::marker::Model;
 
 /// How far the keys of an output have come over the files two levels below a compaction's.
 #[derive(Clone, Copy)]
@@ -17,9 +27,29 @@ pub struct OutputCut {
     begun: bool,
 }
 
+impl Model for OutputCut {
+    ghost use Rattle.leveldb_version.specs.Cut.{CutValue};
+
+    ghost Value = { CutValue };
+
+    ghost view = { λ it. record {
+      passed = it.passed;
+      overlapped = it.overlapped;
+      begun = it.begun;
+    } };
+
+    ghost inverse = { λ it. record {
+      passed = it.passed;
+      overlapped = it.overlapped;
+      begun = it.begun;
+    } };
+}
+
 impl OutputCut {
     /// Before the first key.
-    pub fn new() -> OutputCut {
+    pub fn new() -> OutputCut
+        ensures { result ≡ no_key }
+    {
         OutputCut {
             passed: 0,
             overlapped: 0,
@@ -33,39 +63,84 @@ impl OutputCut {
         &mut self,
         compaction: &Compaction<C>,
         key: InternalKey<'_>,
-    ) -> bool {
+    ) -> bool
+        ensures { let it = compaction.now in
+            PassesFiles (C.cmp it.version.cmp)
+            (files_of_level (it.level + 2) (new_files_of it.version)) it.max_file_size key.now
+            self.old result self.new }
+    {
         self.passes(
             compaction.ucmp(),
             compaction.files_two_down(),
-            compaction.overlap_limit(),
+            compaction.max_file_size(),
             key,
         )
     }
 
-    // Passes the files that end before the key. Returns whether they have more bytes than this, and
-    // begins anew if so.
+    // Passes the files that end before the key. Returns whether the output has passed more bytes with
+    // it than ten files may have; then the next one has passed none.
     fn passes<C: UserCmp>(
         &mut self,
         ucmp: &C,
         files: &[(usize, FileMetaData)],
-        limit: usize,
+        max_file_size: usize,
         key: InternalKey<'_>,
-    ) -> bool {
-        let passed = self.passed.min(files.len());
-        for file in &files[passed..] {
-            if !cmp_internal_key(ucmp, key, &file.1.largest).is_gt() {
-                break;
-            }
-            if self.begun {
-                self.overlapped = self.overlapped.saturating_add(file.1.size);
-            }
-            self.passed = self.passed.saturating_add(1);
-        }
+    ) -> bool
+        ensures { PassesFiles (C.cmp ucmp.now) (map new_file_of files.now) max_file_size key.now self.old
+            result self.new }
+    {
+        let left = &files[self.passed.min(files.len())..];
+        let passed = files_before(ucmp, left, key);
+        let size = self.size_with(passed);
+        let stops = size as u128 > product(10, max_file_size);
+        self.passed = self.passed.saturating_add(passed.len());
+        self.overlapped = if stops { 0 } else { size };
         self.begun = true;
-        let stops = self.overlapped > limit;
-        if stops {
-            self.overlapped = 0;
-        }
         stops
     }
+
+    // How many bytes the open output has passed with these files.
+    fn size_with(&self, files: &[(usize, FileMetaData)]) -> usize
+        ensures { result ≡ size_with self.now (map new_file_of files.now) }
+    {
+        if self.begun {
+            self.overlapped.saturating_add(total_size(files))
+        } else {
+            self.overlapped
+        }
+    }
+}
+
+// The files from the first one on that end before a key.
+fn files_before<'v, C: UserCmp>(
+    ucmp: &C,
+    files: &'v [(usize, FileMetaData)],
+    key: InternalKey<'_>,
+) -> &'v [(usize, FileMetaData)]
+    ensures { map new_file_of result.now
+        ≡ take_while (λ file. is_gt (internal_cmp (C.cmp ucmp.now) key.now file.largest))
+        (map new_file_of files.now) }
+{
+    let count = count_before(ucmp, files, key);
+    &files[..count]
+}
+
+// How many files from the first one on end before a key.
+fn count_before<C: UserCmp>(
+    ucmp: &C,
+    files: &[(usize, FileMetaData)],
+    key: InternalKey<'_>,
+) -> usize
+    ensures { result
+        ≡ prefix_len (λ file. is_gt (internal_cmp (C.cmp ucmp.now) key.now file.largest))
+        (map new_file_of files.now) }
+{
+    let mut count = 0;
+    for file in files {
+        if !cmp_internal_key(ucmp, key, &file.1.largest).is_gt() {
+            return count;
+        }
+        count += 1;
+    }
+    count
 }

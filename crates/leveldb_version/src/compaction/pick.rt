@@ -1,12 +1,13 @@
 //! Which compaction is asked for: by a version's score, by reads, or by a range.
-ghost use Rattle.std.specs.Prelude.{◌≡◌, ◌<◌, ◌↔◌, ◌==◌, [], true, Contains, IfErr, IfOk, IfSome, None, find, map};
+ghost use Rattle.std.specs.Prelude.{◌≡◌, ◌<◌, ◌↔◌, ◌⊎◌, ◌==◌, [], true, Contains, IfErr, IfOk, IfSome, IsTrue, None, find, map};
 ghost use Rattle.std.specs.Option.{option_copied, option_map};
 ghost use Rattle.std.specs.Ordering.{is_gt};
 ghost use Rattle.leveldb_base.specs.Error.{IsOutOfMemory};
 ghost use Rattle.leveldb_base.specs.KeyTypes.{internal_cmp, user_part};
-ghost use Rattle.leveldb_version.specs.Inputs.{AreChosen, AreOrdered, AreWithin, IsCountPast, KeepsFiles, MayTake, input_files};
+ghost use Rattle.leveldb_version.specs.Inputs.{AreChosen, AreOrdered, AreWithin, HaveGrown, IsCountPast, KeepsFiles, MayTake, input_files};
 ghost use Rattle.leveldb_version.specs.Overlap.{named_range};
-ghost use Rattle.leveldb_version.specs.Picking.{IsAskedFor, IsCompactionOf, IsOfRange, asking_file, file_after, file_by_reads, needs_compaction, used_pointer};
+ghost use Rattle.leveldb_version.specs.Picking.{IsAskedByReads, IsAskedFor, IsCompactionOf, IsOfFile, IsOfRange, asking_file, file_after, file_by_reads, needs_compaction, used_pointer};
+ghost use Rattle.leveldb_version.specs.Summary.{total_size};
 ghost use Rattle.leveldb_version.specs.Version.{at_level, borrowed_files, new_files_of};
 ghost use Rattle.leveldb_version.specs.VersionEdit.{NewFile, new_file_of, pointer_of};
 ghost use Rattle.leveldb_version.specs.VersionSet.{pointer_at};
@@ -39,11 +40,21 @@ pub fn pick_compaction<C: UserCmp + Copy + Drop>(
         version.now max_file_size) }
     ensures memory { IfErr result IsOutOfMemory }
 {
-    let Some(file) = asking_file(version, pointers) else {
-        return Ok(None);
-    };
-    let chosen = chosen_with(alloc, version, file)?;
-    compaction_of(alloc, version, file.0, false, max_file_size, chosen)
+    let file = asking_file(version, pointers);
+    compaction_with(alloc, version, file, max_file_size)
+}
+
+/// The compaction for which reads ask, whatever the version's score.
+pub fn compaction_by_reads<C: UserCmp + Copy + Drop>(
+    alloc: Global,
+    version: &Version<C>,
+    max_file_size: usize,
+) -> Result<Option<Compaction<C>>>
+    ensures ok { IfOk result (IsAskedByReads (C.cmp version.now.cmp) version.now max_file_size) }
+    ensures memory { IfErr result IsOutOfMemory }
+{
+    let file = file_by_reads(version);
+    compaction_with(alloc, version, file, max_file_size)
 }
 
 /// The compaction of the files of a level that overlap the range between two keys, if there are some:
@@ -179,6 +190,26 @@ fn last_pointer(pointers: &[CompactionPointer], level: usize) -> Option<&[u8]>
     last
 }
 
+// The compaction of a file's level that takes the file; none where there is no file.
+fn compaction_with<'v, C: UserCmp + Copy + Drop>(
+    alloc: Global,
+    version: &'v Version<C>,
+    file: Option<&'v (usize, FileMetaData)>,
+    max_file_size: usize,
+) -> Result<Option<Compaction<C>>>
+    requires there { IfSome file (λ file.
+        Contains (at_level file.now.0 version.now.files) file.now × (file.now.0 < 6)) }
+    ensures ok { IfOk result (IsOfFile (C.cmp version.now.cmp) version.now
+        (option_map new_file_of (option_copied file.entry)) max_file_size) }
+    ensures memory { IfErr result IsOutOfMemory }
+{
+    let Some(file) = file else {
+        return Ok(None);
+    };
+    let chosen = chosen_with(alloc, version, file)?;
+    compaction_of(alloc, version, file.0, false, max_file_size, chosen)
+}
+
 // The files with which a compaction of a file's level begins: the file, and in level 0 those that
 // overlap it and one another.
 fn chosen_with<'v, C: UserCmp>(
@@ -250,8 +281,8 @@ fn compaction_of<'v, C: UserCmp + Copy + Drop>(
     Ok(Some(compaction))
 }
 
-// Inputs with more files of the level, where they take no more files of the next and have fewer
-// bytes than 25 files may; else the same.
+// Inputs with more files of the level, where they take as many of the next and have fewer bytes than
+// 25 files may; else the same.
 fn grown<'v, C: UserCmp>(
     alloc: Global,
     version: &'v Version<C>,
@@ -265,6 +296,8 @@ fn grown<'v, C: UserCmp>(
         (MayTake (C.cmp version.now.cmp) (new_files_of version.now) level) }
     ensures keeps { AreOrdered (C.cmp version.now.cmp) (new_files_of version.now)
         → IfOk result (KeepsFiles narrow.entry) }
+    ensures better { IfOk result (λ inputs.
+        (inputs ≡ narrow.entry) ⊎ HaveGrown max_file_size narrow.entry inputs) }
     ensures memory { IfErr result IsOutOfMemory }
 {
     if narrow.of_next.is_empty() {
@@ -319,7 +352,9 @@ fn ends_of_both<'v, C: UserCmp>(
 }
 
 // Whether wider inputs are taken.
-fn is_better(narrow: &Inputs<'_>, wide: &Inputs<'_>, max_file_size: usize) -> bool {
+fn is_better(narrow: &Inputs<'_>, wide: &Inputs<'_>, max_file_size: usize) -> bool
+    ensures { IsTrue result ↔ HaveGrown max_file_size narrow.now wide.now }
+{
     let size = size_of(wide.of_level.as_slice()).saturating_add(size_of(wide.of_next.as_slice()));
     wide.of_level.len() > narrow.of_level.len()
         && wide.of_next.len() == narrow.of_next.len()
@@ -327,7 +362,9 @@ fn is_better(narrow: &Inputs<'_>, wide: &Inputs<'_>, max_file_size: usize) -> bo
 }
 
 // How many bytes the files have together, up to 2^64 - 1.
-fn size_of(files: &[&(usize, FileMetaData)]) -> usize {
+fn size_of(files: &[&(usize, FileMetaData)]) -> usize
+    ensures { result ≡ total_size (borrowed_files files.now) }
+{
     let mut size: usize = 0;
     for file in files {
         size = size.saturating_add(file.1.size);

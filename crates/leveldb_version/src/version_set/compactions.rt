@@ -2,9 +2,10 @@
 ghost use Rattle.std.specs.Prelude.{◌≡◌, ◌<◌, IfErr, IfOk};
 ghost use Rattle.leveldb_base.specs.Error.{IsOutOfMemory};
 ghost use Rattle.leveldb_base.specs.KeyTypes.{user_part};
+ghost use Rattle.leveldb_version.specs.CurrentVersion.{IsCurrent};
 ghost use Rattle.leveldb_version.specs.InputMerge.{MergesTablesOf};
 ghost use Rattle.leveldb_version.specs.Overlap.{named_range};
-ghost use Rattle.leveldb_version.specs.Picking.{IsAskedFor, IsOfRange, needs_compaction};
+ghost use Rattle.leveldb_version.specs.Picking.{IsAskedByReads, IsAskedFor, IsOfRange, needs_compaction};
 
 use super::live_files::LiveFiles;
 use super::set::VersionSet;
@@ -34,11 +35,14 @@ impl<E: Env, C: UserCmp + Copy + Drop> VersionSet<E, C> {
     }
 
     /// The compaction for which the current version asks: by its score, of the files after the
-    /// level's compaction pointer, or else by reads. It has copies of what it needs of the set.
+    /// level's compaction pointer, or else by reads. It has copies of what it needs of the set, whose
+    /// files the version has.
     // LevelDB: VersionSet::PickCompaction
     pub fn pick_compaction<FP>(&self, options: &Options<C, FP>) -> Result<Option<Compaction<C>>>
         ensures ok { IfOk result (IsAskedFor (C.cmp self.now.current.cmp)
             self.now.set.full.pointers self.now.current options.now.max_file_size) }
+        ensures current { IsCurrent (C.cmp self.now.current.cmp) self.now.current.cmp self.now.set
+            self.now.current }
         ensures memory { IfErr result IsOutOfMemory }
     {
         let pointers = self.files.full.compaction_ptrs.as_slice();
@@ -48,6 +52,16 @@ impl<E: Env, C: UserCmp + Copy + Drop> VersionSet<E, C> {
             pointers,
             options.max_file_size,
         )
+    }
+
+    /// The compaction for which reads ask, whatever the current version's score. It has copies of
+    /// what it needs of the set.
+    pub fn compaction_by_reads<FP>(&self, options: &Options<C, FP>) -> Result<Option<Compaction<C>>>
+        ensures ok { IfOk result (IsAskedByReads (C.cmp self.now.current.cmp) self.now.current
+            options.now.max_file_size) }
+        ensures memory { IfErr result IsOutOfMemory }
+    {
+        pick::compaction_by_reads(self.files.alloc, &self.current, options.max_file_size)
     }
 
     /// The compaction of the files of a level that overlap the range between two keys, if there are

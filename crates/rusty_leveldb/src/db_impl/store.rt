@@ -50,7 +50,7 @@ pub struct Store<'e, E: Env, S: Drop> {
 /// | that of the environment | any call but those for snapshots and iterators: a call of the device failed; of `walk` and iterators, moves |
 /// | `InvalidArgument` | any call but `abandon`, of a closed store; a key or a batch of more than 2^30 bytes; a snapshot that isn't held; in `open` a name, an option, a missing store or a comparator that doesn't fit |
 /// | `IOError`, "reopen the store" | `put`, `delete`, `write`, `flush`, `compact_range`, `close`: the store broke earlier |
-/// | `NotSupported` | `put`, `delete`, `write`, `compact_range`, `open`: entries count for 2 GiB or more, no table is made of them, or numbers of entries or files are used up; `open`, `compact_range`, and reads of tables: a compressor isn't set; `get_snapshot`: numbers are used up; `open`: files of more than it reads |
+/// | `NotSupported` | `put`, `delete`, `write`, `compact_range`, `open`: entries count for 2 GiB or more, no table is made of them, or numbers of entries or files are used up; `open`, reads of tables, and `put`, `delete`, `write`, `compact_range`, which may have to merge some: a compressor isn't set; `get_snapshot`: numbers are used up; `open`: files of more than it reads |
 /// | that of a compressor | `put`, `delete`, `write`, `compact_range`, `open`: it failed to encode a block |
 /// | `LockError`, `AlreadyExists` | `open`: the lock is held; a store is there that must not be |
 /// | `Corruption` | a file of the store is damaged or missing |
@@ -147,7 +147,8 @@ impl<'e, E: Env, C: UserCmp + Copy, FP: FilterPolicy + Copy> Store<'e, E, Engine
     }
 
     /// Makes the batch's changes together, in their order and after all others. A memtable that is
-    /// full becomes a table first.
+    /// full becomes a table first, and then one compaction is done where a level's score or reads ask
+    /// for it. If that fails, so does the write; made again it goes through, unless the store broke.
     ///
     /// Ok: the history ends with the batch (`Writes`); with `sync` all of it is durable.
     /// Err: no answer changes; out of memory or by the device the store may be broken, as it is by

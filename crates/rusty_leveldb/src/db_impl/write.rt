@@ -1,23 +1,25 @@
 //! Writing to a store: batches, and syncs of its log.
-ghost use Rattle.std.specs.Prelude.{◌≡◌, ◌∷◌, [], Some, None, false, IfOk, is_some};
+ghost use Rattle.std.specs.Prelude.{◌≡◌, ◌∷◌, [], Some, None, false, is_some};
 ghost use Rattle.leveldb_mem.specs.WriteBatch.{item_of};
 ghost use Rattle.rusty_leveldb.specs.State.{open_mode};
 ghost use Rattle.leveldb_store.specs.BuildTable.{choices_of};
-ghost use Rattle.leveldb_version.specs.Format.{Agrees, format_of};
-ghost use Rattle.leveldb_store.specs.OpenTables.{ClosesObsolete};
-ghost use Rattle.leveldb_store.specs.Room.{IsFull, MakesRoom, RemovesAtLast, but_removal};
-ghost use Rattle.leveldb_store.specs.SoundCall.{IsSoundCall};
-ghost use Rattle.rusty_leveldb.specs.Engine.{options_in};
-ghost use Rattle.rusty_leveldb.specs.EngineValue.{FollowsStore};
+ghost use Rattle.leveldb_version.specs.TableCache.{table_options};
+ghost use Rattle.leveldb_store.specs.OpenStore.{IsUnbroken};
 ghost use Rattle.rusty_leveldb.specs.Calls.{EngineFlushes, EngineWrites};
+ghost use Rattle.rusty_leveldb.specs.Room.{EngineMakesRoom, StoreMakesRoom};
 
 use super::engine::{Engine, mode_by};
 use leveldb_base::cmp::{Cmp, InternalKeyCmp, UserCmp};
 use leveldb_base::error::Result;
+use leveldb_base::types::SequenceNumber;
 use leveldb_env::compressor::{CompressorList, Compressors};
 use leveldb_env::env::Env;
 use leveldb_env::filter::{FilterPolicy, InternalFilterPolicy};
+use leveldb_env::infolog::Logger;
+use leveldb_env::options::Options;
 use leveldb_mem::write_batch::WriteBatch;
+use leveldb_store::open_store::OpenStore;
+use leveldb_version::table_cache::TableCache;
 
 impl<E: Env, C: UserCmp + Copy, FP: FilterPolicy + Copy> Engine<E, C, FP> {
     /// Sets the key to this value, without a sync. `DB::put` says what each result means.
@@ -49,8 +51,9 @@ impl<E: Env, C: UserCmp + Copy, FP: FilterPolicy + Copy> Engine<E, C, FP> {
     }
 
     /// Makes the batch's changes together, after all others; with `sync` they are durable once this
-    /// is Ok. A memtable that is full becomes a table first. An append or a sync of the log that
-    /// fails breaks the engine. `DB::write` says what each result means.
+    /// is Ok. A memtable that is full becomes a table first, and the compaction is done for which the
+    /// store asks then. An append or a sync of the log that fails breaks the engine. `DB::write` says
+    /// what each result means.
     pub fn write(&mut self, env: &mut E, batch: WriteBatch, sync: bool) -> Result<()>
         ensures { let choices = choices_of C.Cmp FP.FilterPolicy
             ⟦<InternalKeyCmp<C> as Cmp>⟧ ⟦<InternalFilterPolicy<FP> as FilterPolicy>⟧
@@ -58,43 +61,33 @@ impl<E: Env, C: UserCmp + Copy, FP: FilterPolicy + Copy> Engine<E, C, FP> {
             EngineWrites E.Env choices self.old env.old batch.items sync result self.new env.new }
     {
         self.check_open()?;
-        let _ = self.make_room(env)?;
+        self.make_room(env)?;
         let written = self.store.write_batch(env, batch, sync);
         self.mode = mode_by(&self.store);
         written
     }
 
-    // Makes room in the memtable of an engine that is open, where it is full. If that breaks the
-    // store, the engine is broken. An Ok has what the removal of obsolete files returned.
-    fn make_room(&mut self, env: &mut E) -> Result<Result<()>>
+    // Makes room in the memtable of an engine that is open, where it is full, and does the compaction
+    // then for which its store asks. Entries that are shadowed at the smallest number at which the
+    // engine is read may go. If that breaks the store, the engine is broken.
+    fn make_room(&mut self, env: &mut E) -> Result<()>
         requires { self.old.mode ≡ open_mode }
-        ensures makes { MakesRoom E.Env (C.cmp self.old.store.cmp) self.old.store env.old
-            (choices_of C.Cmp FP.FilterPolicy ⟦<InternalKeyCmp<C> as Cmp>⟧
-            ⟦<InternalFilterPolicy<FP> as FilterPolicy>⟧ ⟦<CompressorList as Compressors>⟧.codings
-            (options_in self.old)) self.old.options.write_buffer_size (but_removal result)
-            self.new.store env.new }
-        ensures removes { IfOk result (λ removal.
-            IsFull self.old.options.write_buffer_size self.old.store.recent
-            → RemovesAtLast E.Env self.new.store removal env.new) }
-        ensures sound { IsSoundCall E.Env (C.cmp self.old.store.cmp) (Agrees (format_of C.Cmp
-            FP.FilterPolicy ⟦<CompressorList as Compressors>⟧.codings (options_in self.old)))
-            self.old.store env.old (but_removal result) self.new.store env.new }
-        ensures closes { ClosesObsolete E.Env self.old.store.set env.old self.old.tables env.new
-            self.new.tables }
-        ensures rest { self.new ≡ record self.old {
-          store = self.new.store;
-          options = record (options_in self.old) { log = self.new.options.log };
-          tables = self.new.tables;
-          mode = self.new.mode;
-        } }
-        ensures sink { is_some self.new.options.log ≡ is_some self.old.options.log }
-        ensures mode { FollowsStore self.new.mode self.new.store }
+        ensures { let choices = choices_of C.Cmp FP.FilterPolicy
+            ⟦<InternalKeyCmp<C> as Cmp>⟧ ⟦<InternalFilterPolicy<FP> as FilterPolicy>⟧
+            ⟦<CompressorList as Compressors>⟧.codings in
+            EngineMakesRoom E.Env choices self.old env.old result self.new env.new }
     {
         self.options.cmp = self.store.cmp();
+        let smallest = self.snapshots.smallest_held(self.store.last_sequence());
         let mut log = self.options.log.take();
-        let made = self
-            .store
-            .make_room(env, &self.options, &mut self.tables, &mut log);
+        let made = room_in(
+            &mut self.store,
+            env,
+            &self.options,
+            &mut self.tables,
+            smallest,
+            &mut log,
+        );
         self.options.log = log;
         self.mode = mode_by(&self.store);
         made
@@ -112,4 +105,31 @@ impl<E: Env, C: UserCmp + Copy, FP: FilterPolicy + Copy> Engine<E, C, FP> {
         self.mode = mode_by(&self.store);
         synced
     }
+}
+
+// Makes room in the memtable of a store, where it is full, and does the compaction then for which the
+// store asks. What the removal of obsolete files fails of is a line for `log`.
+fn room_in<E: Env, C: UserCmp + Copy + Drop, FP: FilterPolicy + Copy + Drop>(
+    store: &mut OpenStore<E, C>,
+    env: &mut E,
+    options: &Options<C, FP>,
+    tables: &mut TableCache<E, C, FP>,
+    smallest: SequenceNumber,
+    log: &mut Option<Logger>,
+) -> Result<()>
+    requires usable { IsUnbroken store.old }
+    requires order { C.cmp options.now.cmp ≡ C.cmp store.old.cmp }
+    ensures makes { let choices = choices_of C.Cmp FP.FilterPolicy
+        ⟦<InternalKeyCmp<C> as Cmp>⟧ ⟦<InternalFilterPolicy<FP> as FilterPolicy>⟧
+        ⟦<CompressorList as Compressors>⟧.codings options.now in
+        StoreMakesRoom ⟦<InternalKeyCmp<C> as Cmp>⟧ E.Env
+        (table_options choices.format options.now) store.old env.old tables.old choices
+        options.now.write_buffer_size smallest result store.new env.new tables.new }
+    ensures log { is_some log.new ≡ is_some log.old }
+{
+    if !store.is_full(options.write_buffer_size) {
+        return Ok(());
+    }
+    let _ = store.make_room(env, options, tables, log)?;
+    store.compact_if_asked(env, options, tables, smallest, log)
 }

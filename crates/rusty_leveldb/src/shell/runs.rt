@@ -11,7 +11,7 @@ ghost use Rattle.leveldb_store.specs.Room.{FailsFor};
 ghost use Rattle.leveldb_store.specs.SoundCall.{TimeGoesOn};
 ghost use Rattle.rusty_leveldb.specs.Serves.{done_or, found_or, snapshot_of};
 ghost use Rattle.rusty_leveldb.specs.State as machine;
-ghost use Rattle.rusty_leveldb.specs.Shell.{HasRun, AnswersCommand, IsReplyOf, change_of};
+ghost use Rattle.rusty_leveldb.specs.Shell.{HasRun, AnswersCommand, CompactsIfAsked, IsReplyOf, change_of};
 
 use super::commands::{Command, Item, Reply};
 use super::views::{get_at, release, take, walk};
@@ -77,6 +77,10 @@ pub(super) fn answer<E: Env, C: UserCmp + Copy, FP: FilterPolicy + Copy>(
         AnswersCommand ⟦<InternalKeyCmp<C> as Cmp>⟧ E.Env formats engine.old env.old
         (map snapshot_of taken.old.items) command.now result engine.new env.new
         (map snapshot_of taken.new.items) }
+    ensures compacts { let choices = choices_of C.Cmp FP.FilterPolicy
+        ⟦<InternalKeyCmp<C> as Cmp>⟧ ⟦<InternalFilterPolicy<FP> as FilterPolicy>⟧
+        ⟦<CompressorList as Compressors>⟧.codings in
+        CompactsIfAsked E.Env choices engine.old env.old command.now result engine.new env.new }
     ensures later { E.failures env.old ≤ E.failures env.new }
     ensures time { TimeGoesOn E.Env env.old env.new }
 {

@@ -43,14 +43,42 @@ returns-in_err-table_memory-clause-compacts g c =
       clear = tt;
     })
 
+pub compact_by_reads-requires : goal.compact_by_reads-requires
+compact_by_reads-requires g c =
+    let done = c.in_ok-table_memory.ensures in
+    record {
+      usable = done.step.usable;
+      order = c.requires.order ∙ sym (ap g.C.Cmp.cmp done.step.rest.cmp);
+      none_waits = done.tabled.1;
+    }
+
+pub returns-in_err-compact_by_reads-clause-compacts : goal.returns-in_err-compact_by_reads-clause-compacts
+returns-in_err-compact_by_reads-clause-compacts g c =
+    let p = err_from_is_err_and c.from_residual-in_err-compact_by_reads.result c.from_residual-in_err-compact_by_reads.ensures.1 in
+    let done = c.in_ok-table_memory.ensures in
+    rw (p.1, p.2)
+    (record {
+      keeps = range_then _ g.E.Env _ c.args.self.now c.args.env.now c.args.tables.now _ refl _
+          (memory_compacted _ g.E.Env _ c.args.self.now c.args.env.now c.args.tables.now _ refl _ (sym c.requires.order) (Ok tt) c.table_memory.new.self c.table_memory.new.env c.table_memory.new.tables done.step done.none_new done.closes)
+          c.in_err-compact_by_reads.ensures.compacts;
+      tabled = tt;
+      clear = tt;
+    })
+
 pub loop-level-init : goal.loop-level-init
 loop-level-init g c =
     let done = c.in_ok-table_memory.ensures in
+    let read = c.in_ok-compact_by_reads.ensures in
     record {
-      keeps = memory_compacted _ g.E.Env _ c.args.self.now c.args.env.now c.args.tables.now _ refl _ (sym c.requires.order) (Ok tt) c.table_memory.new.self c.table_memory.new.env c.table_memory.new.tables done.step done.none_new done.closes;
-      tabled = done.tabled;
+      keeps = range_then _ g.E.Env _ c.args.self.now c.args.env.now c.args.tables.now _ refl _
+          (memory_compacted _ g.E.Env _ c.args.self.now c.args.env.now c.args.tables.now _ refl _ (sym c.requires.order) (Ok tt) c.table_memory.new.self c.table_memory.new.env c.table_memory.new.tables done.step done.none_new done.closes)
+          read.compacts;
+      tabled = (
+        ap (λ (v : OpenStoreValue g.row.C.Denot). v.recent.entries) read.compacts.memory ∙ done.tabled.0,
+        ap (λ (v : OpenStoreValue g.row.C.Denot). v.waiting) read.compacts.memory ∙ done.tabled.1,
+      );
       clear = λ level less. absurd (omega (arith, less));
-      log = done.log;
+      log = read.log ∙ done.log;
     }
 
 -- ---- one level after another

@@ -1,6 +1,10 @@
 use Rattle.std.proofs.Common.{◌≡◌, ◌∙◌, None, Ok, Some, ap, false, inl, refl, sym, true}
 use Rattle.std.proofs.lemmas.Result.{IfOk-weaker, err_from_is_err_and}
+use Rattle.leveldb_version.specs.TableCache.{files_at}
+use Rattle.leveldb_store.proofs.LoggedEditsLemmas.{no_tables, two_tables}
+use Rattle.leveldb_store.proofs.NoNewEntriesLemmas.{adds_none, adds_none_in_order, steps_add_none, switch_adds_none}
 use Rattle.leveldb_store.proofs.OpenTablesLemmas.{closes_after, closes_none, closes_then, no_removal}
+use Rattle.leveldb_store.proofs.ReplayFilesLemmas.{GivesNumbers-refl}
 use Rattle.leveldb_store.proofs.RoomLemmas.{fails_first, no_room_made, room_tried, step_for, step_switched, step_tabled, usable_switched}
 use Rattle.leveldb_store.specs.Room.{but_removal}
 use Rattle.leveldb_store.proofs.open_store.OpenStore.make_room.Goals as goal
@@ -117,3 +121,38 @@ returns-clause-closes g c =
     let done = c.in_ok-switch_log.ensures.switches in
     closes_then g.E.Env c.args.self.now.set c.table_if_waiting.new.self.set first.step.rest.store first.step.rest.numbers first.live first.closes
     (closes_after g.E.Env c.table_if_waiting.new.self.set c.switch_log.new.self.set done.rest.store done.rest.numbers done.tables c.table_if_waiting-2.ensures.closes)
+
+-- ---- what is logged
+
+pub returns-then-not-is_full-clause-tables : goal.returns-then-not-is_full-clause-tables
+returns-then-not-is_full-clause-tables g c = no_tables 2 (GivesNumbers-refl c.args.self.now.set)
+
+pub returns-clause-tables : goal.returns-clause-tables
+returns-clause-tables g c =
+    IfOk-weaker c.table_if_waiting-2.result _ _ (λ removal tables. two_tables c.in_ok-table_if_waiting.ensures.tables c.in_ok-switch_log.ensures.switches.set tables)
+    c.table_if_waiting-2.ensures.tables
+
+-- ---- no entry is new
+
+pub returns-then-not-is_full-clause-none_new : goal.returns-then-not-is_full-clause-none_new
+returns-then-not-is_full-clause-none_new g c = λ modelled meaning agrees w. adds_none (g.C.Cmp.cmp c.args.self.now.cmp) meaning c.args.self.now (files_at g.E.Env c.args.env.now)
+
+pub returns-clause-none_new : goal.returns-clause-none_new
+returns-clause-none_new g c =
+    let order = g.C.Cmp.cmp in
+    let old = c.args.self.now in
+    let from = c.args.env.now in
+    let mid = c.table_if_waiting.new.self in
+    let at = c.table_if_waiting.new.env in
+    let switched = c.switch_log.new.self in
+    let begun = c.switch_log.new.env in
+    let new = c.table_if_waiting-2.new.self in
+    let to = c.table_if_waiting-2.new.env in
+    let first = c.in_ok-table_if_waiting.ensures in
+    let done = c.in_ok-switch_log.ensures in
+    let second = step_switched g.E.Env order _ old mid from at first.step first.numbers (Ok tt) switched begun done.switches done.keeps done.sound in
+    IfOk-weaker (but_removal c.table_if_waiting-2.result) _ _
+    (λ unit last. steps_add_none g.E.Env _ (order old.cmp) old switched new from begun to second
+    (steps_add_none g.E.Env _ (order old.cmp) old mid switched from at begun first.step first.none_new (switch_adds_none g.E.Env _ (order old.cmp) mid at switched begun done.switches))
+    (adds_none_in_order g.E.Env _ order switched begun new to second.rest.cmp last))
+    c.table_if_waiting-2.ensures.none_new

@@ -1,8 +1,10 @@
 use Rattle.std.proofs.Common.{◌≡◌, Ok, false, refl, true}
 use Rattle.std.proofs.lemmas.Result.{err_from_is_err_and}
 use Rattle.leveldb_version.specs.TableCache.{files_at}
+use Rattle.leveldb_store.proofs.LoggedEditsLemmas.{no_tables, one_table}
 use Rattle.leveldb_store.proofs.NoNewEntriesLemmas.{adds_none, adds_none_removed, steps_add_none}
 use Rattle.leveldb_store.proofs.OpenTablesLemmas.{closes_after, closes_none, no_removal}
+use Rattle.leveldb_store.proofs.ReplayFilesLemmas.{GivesNumbers-refl}
 use Rattle.leveldb_store.proofs.RoomLemmas.{number_tabled, step_in_order, step_of_none, step_of_table, step_of_tidying, step_then, usable_tabled}
 use Rattle.leveldb_store.proofs.open_store.OpenStore.table_if_waiting.Goals as goal
 
@@ -90,3 +92,11 @@ returns-clause-none_new g c =
     (λ none. let never : true ≡ false = c.if-not-has_waiting.ensures.1 none in absurd (cc never)) (Ok tt) mid at made.tables made.keeps made.sound in
     steps_add_none g.E.Env _ (order old.cmp) old mid mid from at to tabled made.none_new
     (λ modelled meaning agrees w. adds_none_removed (order old.cmp) meaning mid (files_at g.E.Env at) (files_at g.E.Env to) w (c.tidy_up.ensures.tidies.others modelled))
+
+-- ---- what is logged
+
+pub returns-then-not-has_waiting-clause-tables : goal.returns-then-not-has_waiting-clause-tables
+returns-then-not-has_waiting-clause-tables g c = no_tables 1 (GivesNumbers-refl c.args.self.now.set)
+
+pub returns-clause-tables : goal.returns-clause-tables
+returns-clause-tables g c = one_table c.in_ok-table_waiting.ensures.tables.logged

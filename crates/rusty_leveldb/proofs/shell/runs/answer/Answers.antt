@@ -77,3 +77,46 @@ pub returns-in-Err-walk-clause-step : goal.returns-in-Err-walk-clause-step
 returns-in-Err-walk-clause-step g c =
     answered g.E.Env c.args.env.now c.walk.new.env c.args.taken.now.items c.args.taken.now.items c.args.command.now (walk_of (option_map (snapshot_named (map snapshot_of c.deref-in-Walk.result.now)) c.in-Walk.at) c.deref-in-Walk-2.result.now) (steps_or (Err c.in-Err-walk.status)) (Refused c.in-Err-walk.status)
     refl refl (rw (c.in-Walk.is, c.deref-in-Walk.ensures.value, c.deref-in-Walk-2.ensures.value) refl) refl c.in-Err-walk.ensures.step
+
+pub returns-in-Put-clause-compacts : goal.returns-in-Put-clause-compacts
+returns-in-Put-clause-compacts g c = rw c.in-Put.is tt
+
+pub returns-in-Delete-clause-compacts : goal.returns-in-Delete-clause-compacts
+returns-in-Delete-clause-compacts g c = rw c.in-Delete.is tt
+
+pub returns-in-Write-clause-compacts : goal.returns-in-Write-clause-compacts
+returns-in-Write-clause-compacts g c = rw c.in-Write.is tt
+
+pub returns-in-Get-clause-compacts : goal.returns-in-Get-clause-compacts
+returns-in-Get-clause-compacts g c = rw c.in-Get.is tt
+
+pub returns-in-Compact-clause-compacts : goal.returns-in-Compact-clause-compacts
+returns-in-Compact-clause-compacts g c = rw c.in-Compact.is (
+  c.compact_range.result,
+  c.reply_of-in-Compact.ensures [],
+  (rw (c.deref-in-Compact.ensures.value, c.deref-in-Compact-2.ensures.value) at c.compact_range.ensures),
+)
+
+pub returns-in-Flush-clause-compacts : goal.returns-in-Flush-clause-compacts
+returns-in-Flush-clause-compacts g c = rw c.in-Flush.is tt
+
+pub returns-in-Close-clause-compacts : goal.returns-in-Close-clause-compacts
+returns-in-Close-clause-compacts g c = rw c.in-Close.is tt
+
+pub returns-in-GetAt-clause-compacts : goal.returns-in-GetAt-clause-compacts
+returns-in-GetAt-clause-compacts g c = rw c.in-GetAt.is tt
+
+pub returns-in-Release-clause-compacts : goal.returns-in-Release-clause-compacts
+returns-in-Release-clause-compacts g c = rw c.in-Release.is tt
+
+pub returns-in-Ok-clause-compacts : goal.returns-in-Ok-clause-compacts
+returns-in-Ok-clause-compacts g c = rw c.in-Snap.is tt
+
+pub returns-in-Err-clause-compacts : goal.returns-in-Err-clause-compacts
+returns-in-Err-clause-compacts g c = rw c.in-Snap.is tt
+
+pub returns-in-Ok-walk-clause-compacts : goal.returns-in-Ok-walk-clause-compacts
+returns-in-Ok-walk-clause-compacts g c = rw c.in-Walk.is tt
+
+pub returns-in-Err-walk-clause-compacts : goal.returns-in-Err-walk-clause-compacts
+returns-in-Err-walk-clause-compacts g c = rw c.in-Walk.is tt

@@ -1,10 +1,15 @@
 -- The store makes room by the engine's options, in the order of the store.
+use Rattle.std.specs.Prelude.{is_some}
+use Rattle.std.proofs.Common.{◌∙◌, ap, refl}
 use Rattle.rusty_leveldb.proofs.db_impl.write.Engine+E+C+FP.make_room.Goals as goal
 
-pub returns-clause-makes : goal.returns-clause-makes
-returns-clause-makes g c =
-    rw (← c.self.view_is) (rw c.cmp-self-inside.ensures at c.make_room-made.ensures.makes)
-
-pub returns-clause-sound : goal.returns-clause-sound
-returns-clause-sound g c =
-    rw (← c.self.view_is) (rw c.cmp-self-inside.ensures at c.make_room-made.ensures.sound)
+pub returns : goal.returns
+returns g c =
+    rw (← c.self.view_is) (record {
+      smallest = c.smallest_held-smallest.result;
+      is_smallest = (rw c.last_sequence.ensures at c.smallest_held-smallest.ensures);
+      makes = (rw c.cmp-self-inside.ensures at c.room_in-made.ensures.makes);
+      rest = (rw c.cmp-self-inside.ensures refl);
+      sink = c.room_in-made.ensures.log ∙ ap is_some c.take-log.ensures.value;
+      mode = c.mode_by-self-inside.ensures;
+    })

@@ -8,7 +8,7 @@ use Rattle.leveldb_store.specs.BuildTable.{choices_of}
 use Rattle.leveldb_version.specs.Format.{format_of}
 use Rattle.rusty_leveldb.proofs.WriteCallLemmas.{batch_serves, room_fails_serves}
 use Rattle.rusty_leveldb.proofs.EngineLemmas.{follows_unbroken}
-use Rattle.rusty_leveldb.proofs.WritingLemmas.{EngineMakesRoom}
+use Rattle.rusty_leveldb.specs.Room.{EngineMakesRoom}
 use Rattle.rusty_leveldb.proofs.CallsLemmas.{halted_writes}
 use Rattle.rusty_leveldb.proofs.db_impl.write.Engine+E+C+FP.write.Goals as goal
 
@@ -25,14 +25,8 @@ returns-in_err-make_room g c =
     rw (p.1, p.2) (room_fails_serves g.E.Env _ c.args.self.now c.args.env.now
     c.in_ok-check_open.ensures.ok c.args.batch.items c.args.sync
     (λ a b is. ap (format_of g.C.Cmp g.FP.FilterPolicy (compressors g.dyn-2).codings) is.rest)
-    c.make_room.new.self c.make_room.new.env c.in_err-make_room.field-0.0 (record {
-      makes = c.in_err-make_room.ensures.makes;
-      sound = c.in_err-make_room.ensures.sound;
-      closes = c.in_err-make_room.ensures.closes;
-      rest = c.in_err-make_room.ensures.rest;
-      sink = c.in_err-make_room.ensures.sink;
-      mode = c.in_err-make_room.ensures.mode;
-    }))
+    c.make_room.new.self c.make_room.new.env c.in_err-make_room.field-0.0
+    c.in_err-make_room.ensures)
 
 pub returns : goal.returns
 returns g c =
@@ -44,14 +38,7 @@ returns g c =
     c.in_ok-check_open.ensures.ok c.args.batch.items c.args.sync
     (λ a b is. ap (format_of g.C.Cmp g.FP.FilterPolicy (compressors g.dyn-2).codings) is.rest)
     _ c.make_room.new.env (subst (λ e. EngineMakesRoom g.E.Env choices c.args.self.now
-    c.args.env.now (Ok tt) e c.make_room.new.env) (sym c.self.view_is) (record {
-      makes = c.in_ok-make_room.ensures.makes;
-      sound = c.in_ok-make_room.ensures.sound;
-      closes = c.in_ok-make_room.ensures.closes;
-      rest = c.in_ok-make_room.ensures.rest;
-      sink = c.in_ok-make_room.ensures.sink;
-      mode = c.in_ok-make_room.ensures.mode;
-    })) c.write_batch-written.new.self _ c.mode_by-self-inside.ensures
+    c.args.env.now (Ok tt) e c.make_room.new.env) (sym c.self.view_is) c.in_ok-make_room.ensures) c.write_batch-written.new.self _ c.mode_by-self-inside.ensures
     c.write_batch-written.new.env c.write_batch-written.result c.write_batch-written.ensures.short
     c.write_batch-written.ensures.writes c.write_batch-written.ensures.sound
 

@@ -1,0 +1,30 @@
+-- There is room, none is made, or it is made and the store compacts what it asks for.
+use Rattle.std.proofs.Common.{◌≡◌, ◌∙◌, ap, false, refl, sym, true}
+use Rattle.std.proofs.lemmas.Result.{err_from_is_err_and}
+use Rattle.rusty_leveldb.proofs.RoomInLemmas.{room_compacted, room_not_made, room_there}
+use Rattle.rusty_leveldb.proofs.db_impl.write.room_in.Goals as goal
+
+pub returns-then-not-is_full-clause-makes : goal.returns-then-not-is_full-clause-makes
+returns-then-not-is_full-clause-makes g c = room_there _ g.E.Env _ c.args.store.now
+    c.args.env.now c.args.tables.now _ refl _ _
+    (λ full. absurd (let never : false ≡ true = c.if-not-is_full.ensures.1 full in cc))
+    c.requires.usable
+
+pub returns-in_err-make_room-clause-makes : goal.returns-in_err-make_room-clause-makes
+returns-in_err-make_room-clause-makes g c =
+    let p = err_from_is_err_and c.from_residual.result c.from_residual.ensures.1 in
+    let failed = c.in_err-make_room.ensures in
+    rw (p.1, p.2) (room_not_made _ g.E.Env _ c.args.store.now c.args.env.now c.args.tables.now _
+    refl _ _ (sym c.requires.order) _ c.make_room.new.self c.make_room.new.env
+    c.make_room.new.tables failed.makes failed.sound failed.closes)
+
+pub returns-clause-makes : goal.returns-clause-makes
+returns-clause-makes g c =
+    let made = c.in_ok-make_room.ensures in
+    room_compacted _ g.E.Env _ c.args.store.now c.args.env.now c.args.tables.now _ refl _ _
+    (sym c.requires.order) (c.if-not-is_full.ensures.0 refl) c.make_room.new.self
+    c.make_room.new.env c.make_room.new.tables made.makes made.sound made.closes made.none_new
+    made.tables c.compact_if_asked.result c.compact_if_asked.new.self c.compact_if_asked.new.env
+    c.compact_if_asked.new.tables c.compact_if_asked.ensures.compacts
+    (ap g.C.Cmp.cmp made.makes.rest.cmp ∙ sym c.requires.order)
+    c.compact_if_asked.ensures.asked.by_score

@@ -1,0 +1,66 @@
+-- What room in an engine's memtable leaves: a memtable that is full becomes a table, and then the
+-- compaction is done for which the store asks.
+use Rattle.std.specs.Prelude.{◌≡◌, ℕ, List, [], None, Result, OnErr, OnOk, is_some}
+use Rattle.std.specs.declared.cmp.Ordering.{Ordering}
+use Rattle.leveldb_base.specs.declared.cmp.Cmp.{Ghosts as CmpGhosts}
+use Rattle.leveldb_base.specs.declared.cmp.internal.InternalKeyCmp.{InternalKeyCmp}
+use Rattle.leveldb_base.specs.declared.error.Status.{Status}
+use Rattle.leveldb_env.specs.declared.env.Env.{Ghosts}
+use Rattle.leveldb_env.specs.declared.filter.FilterPolicy.{Ghosts as FilterGhosts}
+use Rattle.leveldb_env.specs.Options.{Boxed, OptionsOf}
+use Rattle.leveldb_iter.specs.Snapshot.{IsSmallestHeld}
+use Rattle.leveldb_version.specs.TableCache.{TableOptions}
+use Rattle.leveldb_version.specs.VersionSetValue.{VersionSetValue}
+use Rattle.leveldb_version.specs.declared.table_cache.TableCache.{TableCache}
+use Rattle.leveldb_store.specs.BuildTable.{TableChoices}
+use Rattle.leveldb_store.specs.Compact.{FailsToCompactRange, KeepsCompacted}
+use Rattle.leveldb_store.specs.LoggedEdits.{LogsByScore, LogsTables}
+use Rattle.leveldb_store.specs.OpenStore.{OpenStoreValue}
+use Rattle.leveldb_store.specs.Room.{IsFull}
+use Rattle.rusty_leveldb.specs.Boxes.{EngineOf, InternalOrder}
+use Rattle.rusty_leveldb.specs.Compact.{ChangesStore}
+use Rattle.rusty_leveldb.specs.Engine.{formats_of, options_in, tables_by}
+use Rattle.rusty_leveldb.specs.EngineValue.{FollowsStore}
+
+-- What was logged: tables of memtables, which take no file away, and then at most one edit of a
+-- compaction. Where the score of a level asks for a compaction in the files that those leave, there is
+-- one, which takes a file from this level and adds none to it.
+pub record LogsRoom (cmp : List ℕ → List ℕ → Ordering) (old new : VersionSetValue) : Type 0 where
+  pub tabled : VersionSetValue
+  pub tables : LogsTables 2 old tabled
+  pub by_score : LogsByScore cmp tabled new
+
+-- Room is made in the memtable of a store that isn't broken, and where it was full the compaction is
+-- done for which the store asks then, down to the smallest number at which it is read.
+pub record StoreMakesRoom {E F C FP D P : Type 0} (order : CmpGhosts (InternalKeyCmp C))
+    (env : Ghosts E F) (by : TableOptions C FP) (old : OpenStoreValue C) (from : E)
+    (tables : TableCache E C FP F) {keys : CmpGhosts D} {filters : FilterGhosts P}
+    (choices : TableChoices keys filters) (limit smallest : ℕ) (result : Result (Unit {0}) Status)
+    (new : OpenStoreValue C) (to : E) (now : TableCache E C FP F) : Type 0 where
+  -- It fails for what a compaction of a range fails for: no tables are made of what is in memory, or
+  -- tables aren't merged.
+  pub keeps : KeepsCompacted order env by old from tables smallest
+      (FailsToCompactRange order env by old from tables choices) result new to now
+  -- where it isn't full, nothing is done
+  pub not_full : (IsFull limit old.recent → ⊥) → (new ≡ old) × (to ≡ from) × OnErr result ⊥
+  -- and one that was full is empty then, no place is taken in it, and none waits
+  pub empties : OnOk result (IsFull limit old.recent
+      → (new.recent.entries ≡ []) × (new.recent.places ≡ 0) × (new.waiting ≡ None))
+  pub logs : OnOk result (IsFull limit old.recent → LogsRoom by.format.order old.set new.set)
+
+-- The store of an engine makes room so, by the engine's options.
+pub record EngineMakesRoom {E C FP F P : Type 0} {B : Boxed} {keys : InternalOrder C}
+    {key_filters : FilterGhosts P} (env : Ghosts E F)
+    (choices : OptionsOf C FP B → TableChoices keys key_filters) (before : EngineOf E C FP F B)
+    (from : E) (result : Result (Unit {0}) Status) (after : EngineOf E C FP F B) (to : E)
+    : Type 0 where
+  pub smallest : ℕ
+  pub is_smallest : IsSmallestHeld before.snapshots.held before.store.set.last_sequence smallest
+  pub makes : StoreMakesRoom keys env (tables_by (formats_of choices) before) before.store from
+      before.tables (choices (options_in before)) before.options.write_buffer_size smallest result
+      after.store to after.tables
+  -- nothing else of the engine changes but the sink of the options' log, and its mode
+  pub rest : ChangesStore before after
+  pub sink : is_some after.options.log ≡ is_some before.options.log
+  -- it is broken where the store is
+  pub mode : FollowsStore after.mode after.store
