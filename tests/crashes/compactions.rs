@@ -318,7 +318,7 @@ fn random_runs(rt: HostRuntime) -> Result<()> {
 
 #[test]
 fn random_crashes(rt: HostRuntime) -> Result<()> {
-    for seed in 0..6 {
+    for seed in 0..4 {
         let kind = if seed % 4 < 2 {
             Tails::Nothing
         } else {
@@ -338,7 +338,7 @@ fn random_crashes(rt: HostRuntime) -> Result<()> {
 
 #[test]
 fn random_failures(rt: HostRuntime) -> Result<()> {
-    for seed in 6..12 {
+    for seed in 4..7 {
         let trial = Trial::Failures(seed % 4 < 2);
         try_any(&rt, rt.alloc(), seed, setting_of(seed), 10, trial)?;
     }

@@ -23,6 +23,7 @@ pub enum Row {
     ReadReverse,
     SeekRandom,
     Open,
+    Compact,
     Crc32c,
     LogWrite,
     LogRead,
@@ -59,7 +60,7 @@ pub struct Job {
 
 impl Row {
     /// All rows, in the order in which they run where no rows are named.
-    pub const ALL: [Row; 27] = [
+    pub const ALL: [Row; 28] = [
         Row::FillSeq,
         Row::FillSync,
         Row::FillRandom,
@@ -70,6 +71,7 @@ impl Row {
         Row::ReadReverse,
         Row::SeekRandom,
         Row::Open,
+        Row::Compact,
         Row::Crc32c,
         Row::LogWrite,
         Row::LogRead,
@@ -102,6 +104,7 @@ impl Row {
             Row::ReadReverse => "readreverse",
             Row::SeekRandom => "seekrandom",
             Row::Open => "open",
+            Row::Compact => "compact",
             Row::Crc32c => "crc32c",
             Row::LogWrite => "logwrite",
             Row::LogRead => "logread",
@@ -177,6 +180,7 @@ fn run_once<K: Clock, D: Disks>(
         Row::ReadReverse => iter_rows::read_backward(alloc, clock, disks, job),
         Row::SeekRandom => iter_rows::seek_at_random(alloc, clock, disks, job),
         Row::Open => store_rows::open_again(alloc, clock, disks, job),
+        Row::Compact => store_rows::compact(alloc, clock, disks, job),
         Row::Crc32c => sum_rows::crc32c(alloc, clock, job),
         Row::LogWrite => log_rows::write(alloc, clock, job),
         Row::LogRead => log_rows::read(alloc, clock, job),

@@ -228,3 +228,60 @@ pub fn open_again<K: Clock, D: Disks>(alloc: Global, clock: &K, disks: &D, job: 
     }
     timer.stop(Tally::new(false).outcome(ops))
 }
+
+// Puts the keys of the next numbers in one opening of the store of this name. What an earlier opening
+// left in a log becomes a table of level 0, and what this one puts stays in a log.
+fn put_part<E: Env>(
+    alloc: Global,
+    env: &mut E,
+    name: &str,
+    values: &Values,
+    numbers: &mut Numbers,
+    count: u64,
+    tally: &mut Tally,
+) -> Result<()> {
+    let mut options = Options::default();
+    options.reuse_logs = false;
+    let mut db = DB::open(alloc, name, env, options)?;
+    for _ in 0..count {
+        let number = numbers.next_number();
+        let key = key_of(number);
+        let value = values.value_of(number);
+        db.put(&key, value)?;
+        tally.see(&key);
+        tally.see(value);
+    }
+    db.close()
+}
+
+/// Compacts a store over all of its keys, once. They came at random, a quarter of them in each of four
+/// openings: where a quarter fits into a memtable, three tables of level 0 overlap, and the last
+/// quarter is in memory.
+pub fn compact<K: Clock, D: Disks>(alloc: Global, clock: &K, disks: &D, job: Job) -> Result<Run>
+    ensures { IfOk result (λ run. run.outcome.ops ≡ 1) }
+{
+    let num = job.scale.num;
+    let mut env = disks.empty()?;
+    let values = Values::new(alloc, job.scale.value_size)?;
+    let mut numbers = Numbers::random(num);
+    let mut tally = Tally::new(job.checked);
+    for part in 0..4u64 {
+        let count = (num + part) / 4;
+        let name = disks.store();
+        put_part(
+            alloc,
+            &mut env,
+            name,
+            &values,
+            &mut numbers,
+            count,
+            &mut tally,
+        )?;
+    }
+    let mut db = DB::open(alloc, disks.store(), &mut env, Options::default())?;
+    let timer = Timer::start(clock)?;
+    db.compact_range(b"", b"")?;
+    let run = timer.stop(tally.outcome(1))?;
+    db.close()?;
+    Ok(run)
+}
