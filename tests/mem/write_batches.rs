@@ -43,6 +43,20 @@ fn five_changes_are_read(rt: HostRuntime) -> Result<()> {
     Ok(())
 }
 
+/// A put that finds no memory leaves the batch's bytes as they were.
+#[test]
+fn refused_put(rt: HostRuntime) -> Result<()> {
+    let mut batch = five_changes(rt.alloc())?;
+    let before = Vec::from_slice(rt.alloc(), batch.contents())?;
+    let put = batch.put(b"key", &[7; 200]);
+    if put.is_err() {
+        assert!(rt; batch.encode(0) == before);
+        return put;
+    }
+    assert!(rt; batch.contents().len() == 256);
+    Ok(())
+}
+
 /// A cut text, a length with a second encoding, a count that isn't that of the entries, a kind that
 /// isn't there, a byte after the entries, and a cut header.
 const MALFORMED: [&[u8]; 6] = [

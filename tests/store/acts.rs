@@ -10,7 +10,7 @@ use leveldb_env::options::Options;
 use rusty_leveldb::db_impl::Engine;
 use std::alloc::Global;
 use std::process::Abort;
-use support::failed_with;
+use support::{ShortReads, failed_with};
 
 /// What a store is opened with that differs from the defaults.
 #[derive(Clone, Copy)]
@@ -74,7 +74,12 @@ pub enum Act {
 }
 
 /// Whether an opening fails with this code, and gives back the lock.
-pub fn fails(alloc: Global, env: &mut MemEnv, setting: Setting, code: StatusCode) -> Result<bool> {
+pub fn fails<E: Env>(
+    alloc: Global,
+    env: &mut E,
+    setting: Setting,
+    code: StatusCode,
+) -> Result<bool> {
     let opened = Engine::open(alloc, STORE, env, options_of(setting));
     let is_right = failed_with(opened, code)?;
     env.lock("db/LOCK")?;
@@ -83,17 +88,17 @@ pub fn fails(alloc: Global, env: &mut MemEnv, setting: Setting, code: StatusCode
 }
 
 /// Whether an opening of this disk fails as damage does, and leaves all files as they are.
-pub fn is_damaged(alloc: Global, env: &mut MemEnv) -> Result<bool> {
+pub fn is_damaged<E: Env>(alloc: Global, env: &mut E) -> Result<bool> {
     let before = files_of(alloc, env)?;
     let is_right = fails(alloc, env, Setting::Defaults, StatusCode::Corruption)?;
     Ok(is_right && has_files(alloc, env, before.as_str())?)
 }
 
-fn ends_with(alloc: Global, env: &mut MemEnv, name: &str, end: &[u8]) -> Result<bool> {
+fn ends_with<E: Env>(alloc: Global, env: &mut E, name: &str, end: &[u8]) -> Result<bool> {
     Ok(file_bytes(alloc, env, name)?.ends_with(end))
 }
 
-fn change(alloc: Global, env: &mut MemEnv, act: &Act) -> Result<()> {
+fn change<E: Env>(alloc: Global, env: &mut E, act: &Act) -> Result<()> {
     match act {
         Act::Open(setting) => reopen(alloc, env, options_of(*setting)),
         Act::Put(setting, pairs) => put_all(alloc, env, options_of(*setting), pairs),
@@ -107,7 +112,7 @@ fn change(alloc: Global, env: &mut MemEnv, act: &Act) -> Result<()> {
 }
 
 /// Does what is to be done, and returns whether what is asked is so.
-fn is_right(alloc: Global, env: &mut MemEnv, act: &Act) -> Result<bool> {
+fn is_right<E: Env>(alloc: Global, env: &mut E, act: &Act) -> Result<bool> {
     match act {
         Act::Fails(setting, code) => fails(alloc, env, *setting, *code),
         Act::IsDamaged => is_damaged(alloc, env),
@@ -122,18 +127,27 @@ fn is_right(alloc: Global, env: &mut MemEnv, act: &Act) -> Result<bool> {
 }
 
 /// Does and asks all this, one after another, of a disk that is empty at first.
-fn play(rt: &impl Abort, alloc: Global, what: &str, acts: &[Act]) -> Result<()> {
-    let mut env = MemEnv::new(alloc);
+fn play<E: Env>(
+    rt: &impl Abort,
+    alloc: Global,
+    env: &mut E,
+    what: &str,
+    acts: &[Act],
+) -> Result<()> {
     for (at, act) in acts.iter().enumerate() {
-        assert!(rt; is_right(alloc, &mut env, act)?, "{what}, row {at}");
+        assert!(rt; is_right(alloc, env, act)?, "{what}, row {at}");
     }
     Ok(())
 }
 
-/// Plays each of these, which have names.
+/// Plays each of these, which have names: over memory, and where a read gives 1 to 9 bytes.
 pub fn play_each(rt: &impl Abort, alloc: Global, all: &[(&str, &[Act])]) -> Result<()> {
     for (what, acts) in all {
-        play(rt, alloc, what, acts)?;
+        play(rt, alloc, &mut MemEnv::new(alloc), what, acts)?;
+        let mut short = ShortReads {
+            env: MemEnv::new(alloc),
+        };
+        play(rt, alloc, &mut short, what, acts)?;
     }
     Ok(())
 }

@@ -1,6 +1,7 @@
 //! Compactions of a range: what is found before and after, now and at snapshots, which files are left, and what a failure leaves.
 use crate::stores::{
-    DefaultEngine, DefaultOptions, STORE, damage_file, files_of, has_files, opened,
+    DefaultEngine, DefaultOptions, STORE, count_tables, damage_file, files_of, has_files, one_byte,
+    opened,
 };
 use leveldb_base::cmp::DefaultCmp;
 use leveldb_base::error::{Result, StatusCode};
@@ -92,13 +93,7 @@ impl Trial {
             None => self.engine.get(&mut self.env, key)?,
             Some(index) => self.engine.get_at(&mut self.env, self.taken[index], key)?,
         };
-        Ok(match found {
-            None => b'-',
-            Some(value) => match value.as_slice() {
-                [byte] => *byte,
-                _ => b'?',
-            },
-        })
+        Ok(one_byte(found))
     }
 
     fn finds(&mut self, at: Option<usize>, keys: &str, wanted: &str) -> Result<bool> {
@@ -407,11 +402,7 @@ fn have_value(trial: &mut Trial, value: u8) -> Result<bool> {
 
 /// How many tables are in the store's folder, and how many entries the store's files have.
 fn tables_and_entries(trial: &mut Trial) -> Result<(usize, usize)> {
-    let names = trial.env.children(trial.alloc, STORE)?;
-    let tables = names
-        .iter()
-        .filter(|name| name.as_str().ends_with(".ldb"))
-        .count();
+    let tables = count_tables(trial.alloc, &mut trial.env)?;
     let contents = read_store(trial.alloc, &mut trial.env, &DefaultCmp, STORE)?;
     Ok((tables, contents.map_or(0, |it| it.entries.len())))
 }

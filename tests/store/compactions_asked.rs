@@ -1,5 +1,5 @@
 //! Compactions for which a version asks, by its score or by reads, after each switch of the log: which tables are left, and what is found.
-use crate::stores::{DefaultOptions, STORE};
+use crate::stores::{DefaultOptions, STORE, count_tables, one_byte};
 use leveldb_base::cmp::DefaultCmp;
 use leveldb_base::error::Result;
 use leveldb_env::env::Env;
@@ -73,13 +73,7 @@ impl Trial {
             sequence,
             key,
         )?;
-        Ok(match found {
-            None => b'-',
-            Some(value) => match value.as_slice() {
-                [byte] => *byte,
-                _ => b'?',
-            },
-        })
+        Ok(one_byte(found))
     }
 
     fn byte_of(&mut self, key: &[u8]) -> Result<u8> {
@@ -87,13 +81,7 @@ impl Trial {
     }
 
     fn count_tables(&mut self) -> Result<usize> {
-        let names = self.env.children(self.alloc, STORE)?;
-        Ok(
-            names
-                .iter()
-                .filter(|name| name.as_str().ends_with(".ldb"))
-                .count(),
-        )
+        count_tables(self.alloc, &mut self.env)
     }
 
     fn has_levels(&mut self, wanted: &str) -> Result<bool> {

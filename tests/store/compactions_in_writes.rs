@@ -1,5 +1,5 @@
 //! Compactions that a write does once its memtable became a table: those for which the score of a level asks, or else reads.
-use crate::stores::{DefaultEngine, STORE, buffered, damage_file, opened};
+use crate::stores::{DefaultEngine, STORE, buffered, count_tables, damage_file, one_byte, opened};
 use leveldb_base::cmp::DefaultCmp;
 use leveldb_base::error::{Result, StatusCode};
 use leveldb_env::env::Env;
@@ -35,23 +35,11 @@ impl Trial {
             None => self.engine.get(&mut self.env, b"a")?,
             Some(snapshot) => self.engine.get_at(&mut self.env, snapshot, b"a")?,
         };
-        Ok(match found {
-            None => b'-',
-            Some(value) => match value.as_slice() {
-                [byte] => *byte,
-                _ => b'?',
-            },
-        })
+        Ok(one_byte(found))
     }
 
     fn count_tables(&mut self) -> Result<usize> {
-        let names = self.env.children(self.alloc, STORE)?;
-        Ok(
-            names
-                .iter()
-                .filter(|name| name.as_str().ends_with(".ldb"))
-                .count(),
-        )
+        count_tables(self.alloc, &mut self.env)
     }
 
     /// Whether the files are a store by its definition.

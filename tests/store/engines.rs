@@ -1,4 +1,5 @@
 //! Stores in memory: each call once, devices that fail, and crashes.
+use crate::stores::one_byte;
 use leveldb_base::cmp::DefaultCmp;
 use leveldb_base::error::{Result, StatusCode};
 use leveldb_env::env::Env;
@@ -18,13 +19,7 @@ type Opened<'a, E> = DB<'a, E, DefaultCmp, BloomPolicy>;
 
 /// The one byte of the key's value, `-` for none, `?` for another value.
 fn byte_at<E: Env>(db: &mut Opened<'_, E>, key: &[u8]) -> Result<u8> {
-    Ok(match db.get(key)? {
-        None => b'-',
-        Some(value) => match value.as_slice() {
-            [byte] => *byte,
-            _ => b'?',
-        },
-    })
+    Ok(one_byte(db.get(key)?))
 }
 
 /// The bytes of the keys a, b, c and d.

@@ -11,6 +11,8 @@ mod compactions;
 #[cfg(test)]
 mod compactions_asked;
 #[cfg(test)]
+mod compactions_in_openings;
+#[cfg(test)]
 mod compactions_in_writes;
 #[cfg(test)]
 mod compactions_of_many;
@@ -27,6 +29,8 @@ mod merged_inputs;
 #[cfg(test)]
 mod merging;
 #[cfg(test)]
+mod no_requests;
+#[cfg(test)]
 mod open_tables;
 #[cfg(test)]
 mod openings;
@@ -37,11 +41,15 @@ mod real_folders;
 #[cfg(test)]
 mod refusals;
 #[cfg(test)]
+mod replays;
+#[cfg(test)]
 mod rooms;
 #[cfg(test)]
 mod samples;
 #[cfg(test)]
 mod sinks;
+#[cfg(test)]
+mod slow_samples;
 #[cfg(test)]
 mod snapshot_calls;
 #[cfg(test)]

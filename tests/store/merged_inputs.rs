@@ -175,6 +175,23 @@ fn keeps_inputs(alloc: Global, env: &mut RecordEnv, inputs: &Inputs, next: u64) 
     Ok(count == inputs.entries.len())
 }
 
+/// These inputs merged into small tables, where the smallest held number is 40.
+fn merge_small(
+    alloc: Global,
+    env: &mut RecordEnv,
+    versions: &mut VersionSet<RecordEnv, DefaultCmp>,
+    inputs: &Inputs,
+) -> Result<Vec<FileMetaData>> {
+    merge(
+        alloc,
+        env,
+        versions,
+        &small(150),
+        40,
+        inputs.files.as_slice(),
+    )
+}
+
 /// A crash at each moment of a merge leaves the inputs whole, whatever it keeps of what wasn't synced.
 #[test]
 fn each_crash_leaves_the_inputs(rt: HostRuntime) -> Result<()> {
@@ -183,14 +200,7 @@ fn each_crash_leaves_the_inputs(rt: HostRuntime) -> Result<()> {
     let mut versions = VersionSet::new(alloc, "db", &DefaultCmp)?;
     let inputs = write_inputs(alloc, &mut env, &mut versions, &mut Random(6))?;
     let before = env.moment();
-    let files = merge(
-        alloc,
-        &mut env,
-        &mut versions,
-        &small(150),
-        40,
-        inputs.files.as_slice(),
-    )?;
+    let files = merge_small(alloc, &mut env, &mut versions, &inputs)?;
     assert!(rt; files.len() > 2 && env.moment() > before + 40);
     let next = versions.next_file_num();
     for moment in before..=env.moment() {
@@ -227,14 +237,7 @@ fn each_failure_leaves_the_inputs(rt: HostRuntime) -> Result<()> {
             let mut versions = VersionSet::new(alloc, "db", &DefaultCmp)?;
             let inputs = write_inputs(alloc, &mut env, &mut versions, &mut Random(6))?;
             env.fail(nth, done);
-            let merged = merge(
-                alloc,
-                &mut env,
-                &mut versions,
-                &small(150),
-                40,
-                inputs.files.as_slice(),
-            );
+            let merged = merge_small(alloc, &mut env, &mut versions, &inputs);
             if merged.is_ok() {
                 assert!(rt; failed > 60);
                 return Ok(());
@@ -270,14 +273,7 @@ fn damaged_inputs_are_refused(rt: HostRuntime) -> Result<()> {
         } else {
             damage_file(alloc, &mut env, &path, 3)?;
         }
-        let merged = merge(
-            alloc,
-            &mut env,
-            &mut versions,
-            &small(150),
-            40,
-            inputs.files.as_slice(),
-        );
+        let merged = merge_small(alloc, &mut env, &mut versions, &inputs);
         assert!(rt;
             failed_with(merged, StatusCode::Corruption)?,
             "gone: {gone}"

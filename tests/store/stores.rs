@@ -1,4 +1,5 @@
 //! What several tests do with a store's files: their names and sizes, what they hold, and logs and manifests that are made by hand.
+use bytes::Bytes;
 use leveldb_base::cmp::DefaultCmp;
 use leveldb_base::error::Result;
 use leveldb_base::types::SequenceNumber;
@@ -152,6 +153,28 @@ pub fn holds<E: Env>(alloc: Global, env: &mut E, wanted: &str) -> Result<bool> {
     Ok(contents_of(alloc, env)?.as_str() == wanted)
 }
 
+/// The one byte of a value that was looked up, `-` for none, `?` for another value.
+pub fn one_byte(found: Option<Bytes>) -> u8 {
+    match found {
+        None => b'-',
+        Some(value) => match value.as_slice() {
+            [byte] => *byte,
+            _ => b'?',
+        },
+    }
+}
+
+/// How many tables are in the store's folder.
+pub fn count_tables<E: Env>(alloc: Global, env: &mut E) -> Result<usize> {
+    let names = env.children(alloc, STORE)?;
+    Ok(
+        names
+            .iter()
+            .filter(|name| name.as_str().ends_with(".ldb"))
+            .count(),
+    )
+}
+
 /// The bytes of a file of the store.
 pub fn file_bytes<E: Env>(alloc: Global, env: &mut E, name: &str) -> Result<Vec<u8>> {
     let path = format!(in alloc; "{STORE}/{name}")?;
@@ -167,7 +190,7 @@ pub fn put_file<E: Env>(alloc: Global, env: &mut E, name: &str, bytes: &[u8]) ->
 }
 
 /// Cuts a file of the store to so many bytes.
-pub fn cut_file(alloc: Global, env: &mut MemEnv, name: &str, size: usize) -> Result<()> {
+pub fn cut_file<E: Env>(alloc: Global, env: &mut E, name: &str, size: usize) -> Result<()> {
     let mut bytes = file_bytes(alloc, env, name)?;
     bytes.truncate(size);
     put_file(alloc, env, name, bytes.as_slice())
@@ -183,7 +206,7 @@ pub fn damage_file<E: Env>(alloc: Global, env: &mut E, name: &str, at: usize) ->
 pub type Row = (SequenceNumber, &'static str);
 
 /// Makes a log of these rows, each in a batch of its own: 24 bytes for a key of one byte.
-pub fn put_log(alloc: Global, env: &mut MemEnv, name: &str, rows: &[Row]) -> Result<()> {
+pub fn put_log<E: Env>(alloc: Global, env: &mut E, name: &str, rows: &[Row]) -> Result<()> {
     let mut writer = LogWriter::new(alloc, Vec::new(alloc));
     for (sequence, key) in rows {
         let mut batch = WriteBatch::new(alloc)?;

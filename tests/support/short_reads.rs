@@ -4,15 +4,16 @@ use leveldb_base::error::Result;
 use leveldb_env::env::Env;
 use std::alloc::Global;
 
-/// Gives 1 to 9 bytes a read, by its place, and is another environment otherwise.
+/// Gives 1 to 9 bytes a read, by its place or by how many are asked for, and is another environment
+/// otherwise.
 #[derive(Drop)]
 pub struct ShortReads<E> {
     pub env: E,
 }
 
-// At most so many bytes are given at a place.
-fn most(place: usize, target: &[u8]) -> usize {
-    (1 + place % 9).min(target.len())
+// At most so many bytes are given, by this number.
+fn most(number: usize, target: &[u8]) -> usize {
+    (1 + number % 9).min(target.len())
 }
 
 impl<E: Env> Env for ShortReads<E> {
@@ -55,7 +56,8 @@ impl<E: Env> Env for ShortReads<E> {
     }
 
     fn read(&mut self, file: &mut E::File, target: &mut [u8]) -> Result<usize> {
-        self.env.read(file, target)
+        let most = most(target.len(), target);
+        self.env.read(file, &mut target[..most])
     }
 
     fn read_at(&mut self, file: &E::File, place: usize, target: &mut [u8]) -> Result<usize> {

@@ -13,6 +13,8 @@ mod gets;
 #[cfg(test)]
 mod logs;
 #[cfg(test)]
+mod manifests;
+#[cfg(test)]
 mod random_choices;
 #[cfg(test)]
 mod recovers;

@@ -14,7 +14,7 @@ use std::process::Abort;
 use support::failed_with;
 
 /// An edit that a store can begin with: log 0, next file 2, last sequence number 0.
-const BEGINNING: &[u8] = b"\x01\x1aleveldb.BytewiseComparator\x02\x00\x03\x02\x04\x00";
+pub const BEGINNING: &[u8] = b"\x01\x1aleveldb.BytewiseComparator\x02\x00\x03\x02\x04\x00";
 
 /// Edits after `BEGINNING`, and how a set that meets them fails.
 const REFUSED: [(&[u8], StatusCode); 8] = [
@@ -69,9 +69,9 @@ const LACKING: [&[u8]; 4] = [
 
 /// What a set has: the number of the next file, the manifest's, the log's, and the last sequence
 /// number.
-type Numbers = (FileNum, FileNum, FileNum, SequenceNumber);
+pub type Numbers = (FileNum, FileNum, FileNum, SequenceNumber);
 
-fn numbers_of<E: Env>(set: &VersionSet<E, DefaultCmp>) -> Numbers {
+pub fn numbers_of<E: Env>(set: &VersionSet<E, DefaultCmp>) -> Numbers {
     (
         set.next_file_num(),
         set.manifest_num(),
@@ -87,7 +87,7 @@ fn put<E: Env>(env: &mut E, name: &str, bytes: &[u8]) -> Result<()> {
 }
 
 /// Makes a store of manifest 1.
-fn put_store<E: Env>(env: &mut E, manifest: &[u8]) -> Result<()> {
+pub fn put_store<E: Env>(env: &mut E, manifest: &[u8]) -> Result<()> {
     put(env, "db/MANIFEST-000001", manifest)?;
     put(env, "db/CURRENT", b"MANIFEST-000001\n")
 }

@@ -5,8 +5,8 @@ ghost use Rattle.leveldb_base.specs.Error.{IsOutOfMemory};
 ghost use Rattle.leveldb_base.specs.Types.{Pair};
 ghost use Rattle.leveldb_iter.specs.Walk.{KeyOrder};
 
-use crate::entry::{Seen, entry_at, keep};
-use crate::walk::Walk;
+use crate::entry::{Seen, entry_at, keep, with_entry};
+use crate::walk::{CountsBytes, Walk};
 use crate::walk_iter::WalkIter;
 use leveldb_base::error::{Result, Status};
 use leveldb_base::key_types::{ValueType, split_sequence, tag_bytes};
@@ -29,6 +29,8 @@ pub struct DbIterCore<M> {
     // in reverse the pair that it is at; forward a key to skip
     saved_key: Vec<u8>,
     saved_value: Vec<u8>,
+    // how many bytes the entries have that its moves have looked at
+    bytes_read: u64,
     ghost small: { sequence < 2 ^ 56 },
 }
 
@@ -61,6 +63,7 @@ impl<M> DbIterCore<M> {
             at: None,
             saved_key: Vec::new(alloc),
             saved_value: Vec::new(alloc),
+            bytes_read: 0,
         }
     }
 }
@@ -90,9 +93,10 @@ impl<M> DbIterCore<M> {
         ensures cause { IfErr result (IsUnread (M.here self.old.walk)) }
     {
         let alloc = *self.saved_key.allocator();
-        let Some((kind, sequence, user, _)) = entry_at::<E, T, M>(alloc, &self.walk)? else {
+        let Some((kind, sequence, user, value)) = entry_at::<E, T, M>(alloc, &self.walk)? else {
             return Ok(Seen::End);
         };
+        self.bytes_read = with_entry(self.bytes_read, user, value);
         if sequence > self.sequence || (skipping && user == self.saved_key.as_slice()) {
             return Ok(Seen::Passed(skipping));
         }
@@ -238,6 +242,7 @@ impl<M> DbIterCore<M> {
         let Some((kind, sequence, user, value)) = entry_at::<E, T, M>(alloc, &self.walk)? else {
             return Ok(None);
         };
+        self.bytes_read = with_entry(self.bytes_read, user, value);
         if sequence > self.sequence {
             return Ok(Some(taken));
         }
@@ -392,6 +397,14 @@ impl<M> DbIterCore<M> {
     {
         self.at = None;
         self.walk.seek_to_last(env, tables)
+    }
+}
+
+impl<M> CountsBytes for DbIterCore<M> {
+    ghost counted = { λ it. it.bytes_read };
+
+    fn bytes_read(&self) -> u64 {
+        self.bytes_read
     }
 }
 

@@ -1,5 +1,5 @@
 //! The entry that a walk over internal keys is at.
-ghost use Rattle.std.specs.Prelude.{◌≡◌, IfOk, IfErr};
+ghost use Rattle.std.specs.Prelude.{◌≡◌, ◌+◌, ◌-◌, ◌^◌, IfOk, IfErr, length, min};
 ghost use Rattle.leveldb_base.specs.Error.{IsOutOfMemory};
 ghost use Rattle.leveldb_iter.specs.DbIterSteps.{IsEntryRead, IsUntagged};
 
@@ -39,6 +39,18 @@ pub(crate) fn entry_at<E, T, M: Walk<E, T>>(
     }
     let (kind, sequence, user) = parse_internal_key(key);
     Ok(Some((kind, sequence, user, value)))
+}
+
+// A count of bytes once those of an entry are counted too: its key, with the tag, and its value. At
+// its greatest it stays.
+#[inline]
+pub(crate) fn with_entry(count: u64, user: UserKey<'_>, value: &[u8]) -> u64
+    ensures { result ≡ min (count + length user.now + 8 + length value.now) (2 ^ 64 - 1) }
+{
+    count
+        .saturating_add(user.len() as u64)
+        .saturating_add(TAG_LEN as u64)
+        .saturating_add(value.len() as u64)
 }
 
 // Replaces the bytes.

@@ -73,3 +73,14 @@ pub trait Walk<E, T> {
     // what holds of these
     ghost laws: { WalkLaws over is_at here fails keeps };
 }
+
+/// What counts the bytes that it reads.
+pub trait CountsBytes {
+    // how many it has read, as far as 64 bits count
+    ghost counted: { Self → ℕ };
+
+    /// How many bytes the entries had that it has read since it was made, keys with their tags, and
+    /// values. At its greatest the count stays.
+    fn bytes_read(&self) -> u64
+        ensures { result ≡ counted self.now };
+}

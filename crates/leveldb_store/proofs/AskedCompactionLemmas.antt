@@ -1,6 +1,6 @@
 -- The compaction for which an open store asks, and what its edit takes from the level whose score
 -- asks for it.
-use Rattle.std.proofs.Common.{◌≡◌, ◌≢◌, ◌∙◌, ◌<◌, ◌≤◌, ◌*◌, ◌+◌, ◌^◌, ◌-◌, ◌==◌, zero, suc, ℕ, Bool, true, false, cond, List, [], ◌∷◌, Option, None, Some, Result, Ok, Err, ap, arith, min, refl, subst, sym}
+use Rattle.std.proofs.Common.{◌≡◌, ◌≢◌, ◌∙◌, ◌⊎◌, ◌<◌, ◌≤◌, ◌*◌, ◌+◌, ◌^◌, ◌-◌, ◌==◌, zero, suc, ℕ, Bool, true, false, cond, List, [], ◌∷◌, Option, None, Some, Result, Ok, Err, ap, arith, inl, inr, min, refl, subst, sym}
 use Rattle.std.specs.Prelude.{Contains, IfSome, IsPermutation, OnErr, OnOk, find}
 use Rattle.std.specs.Option.{option_map_or, option_or}
 use Rattle.std.specs.Ordering.{is_gt}
@@ -201,6 +201,16 @@ pub picked_may_be : {C : Type 0} (cmp : List ℕ → List ℕ → Ordering) (ver
     → IfSome picked (λ it. IsCompactionOf cmp version it.manual size it)
 picked_may_be cmp version size None each = tt
 picked_may_be cmp version size (Some it) each = compaction_as_manual each
+
+-- the call ends so where one is picked, and else nothing changes
+pub picked_ends : {C : Type 0} {old new : OpenStoreValue C} (Ends : Type 0)
+    (picked : Option (CompactionValue C)) (result : Result (Unit {0}) Status)
+    → OnOk result (IfSome picked (λ it. Ends)) → (picked ≡ None → new ≡ old)
+    → OnOk result ((new ≡ old) ⊎ Ends)
+picked_ends Ends None (Ok done) ends none = inl (none refl)
+picked_ends Ends (Some it) (Ok done) ends none = inr ends
+picked_ends Ends None (Err status) ends none = tt
+picked_ends Ends (Some it) (Err status) ends none = tt
 
 -- ---- of a store that is written
 

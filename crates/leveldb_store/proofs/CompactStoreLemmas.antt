@@ -53,6 +53,7 @@ use Rattle.leveldb_store.specs.OpenStore.{HasOwnManifest, IsUnbroken, OpenStoreV
 use Rattle.leveldb_store.specs.OpenTables.{AreOpenTablesOf}
 use Rattle.leveldb_store.specs.Read.{HasOpenTables}
 use Rattle.leveldb_store.specs.Room.{HasFailed}
+use Rattle.leveldb_store.specs.Switch.{IsManifestLost}
 use Rattle.leveldb_store.specs.Written.{HasLiveTables, IsData, IsDataPath, IsWritten, KeepsWritten, SparesRest, memory_of}
 
 -- a path that isn't one of a store's data is another one
@@ -145,6 +146,7 @@ module _ {E F C FP D P X : Type 0} (order : CmpGhosts (InternalKeyCmp C)) {keys 
       still_open = m.still_open;
       sound = sound_unbroken env cmp (Agrees by.format) old from status mid at goes_on_made
           (λ unbroken. record { manifest = unbroken.manifest; log = unbroken.log });
+      breaks = λ unbroken. inl (record { manifest = unbroken.manifest; log = unbroken.log });
       cause = record { later = m.changes.later; cause = why };
     }
 
@@ -327,22 +329,26 @@ module _ {E F C FP D P X : Type 0} (order : CmpGhosts (InternalKeyCmp C)) {keys 
         missing.2 ∙ same_count,
       )
 
-      why : FailsToCompact order env by old from tables choices (record mid { set = set }) to status
+      broke_for : IsManifestLost env old from to status
           ⊎ HasFailed (env.failures from) (env.failures to)
-      why = ⊎_elim
+      broke_for = ⊎_elim
           (λ (less : env.failures from < env.failures at).
           inr (inl (omega (arith, less, l_err.cause.later))))
           (λ (most : env.failures at ≤ env.failures from). ⊎_elim
-          (λ lost. inl (inr (inl (
+          (λ lost. inl (inl (
             manifest,
             used,
             lost_before (omega (arith, most, m.changes.later)) lost,
-          ))))
+          )))
           (λ counted. inr (failed_later (env.failures from) (env.failures at) (env.failures to)
           m.changes.later l_err.cause.later
           (failed_once (env.failures at) (env.failures to) counted)))
           l_err.cause.cause)
           (cases_lt (env.failures from) (env.failures at))
+
+      why : FailsToCompact order env by old from tables choices (record mid { set = set }) to status
+          ⊎ HasFailed (env.failures from) (env.failures to)
+      why = ⊎_elim (λ lost. inl (inr lost)) (λ counted. inr counted) broke_for
 
       pub compacts_unlogged : Compacts (Err status) (record mid { set = set }) to
       compacts_unlogged = record {
@@ -386,6 +392,7 @@ module _ {E F C FP D P X : Type 0} (order : CmpGhosts (InternalKeyCmp C)) {keys 
           bytes = (goes_on_logged (Err status) logs writes).1;
           breaks = λ modelled meaning means w. inr (breaks_for modelled meaning w);
         };
+        breaks = λ unbroken. inr broke_for;
         cause = record { later = omega (arith, m.changes.later, l_err.cause.later); cause = why };
       }
 
@@ -484,5 +491,6 @@ module _ {E F C FP D P X : Type 0} (order : CmpGhosts (InternalKeyCmp C)) {keys 
             (omega (arith, part_is (λ s. s.next_file)));
         sound = sound_ok env cmp (Agrees by.format) old from tt new to
             (goes_on_logged (Ok tt) logs writes);
+        breaks = λ unbroken. tt;
         cause = record { later = omega (arith, m.changes.later, l_ok.cause.later); cause = tt };
       }

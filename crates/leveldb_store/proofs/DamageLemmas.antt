@@ -28,7 +28,7 @@ use Rattle.leveldb_store.specs.Written.{IsWritten, KeepsWritten}
 module _ {E F C : Type 0} (env : Ghosts E F) (cmp : List ℕ → List ℕ → Ordering)
     (value : OpenStoreValue C) (from mid to : E) (keeps : KeepsDisk env from mid) where
   -- a store that is written is so still where nothing was done but reads
-  still_written : IsTrue env.models_disk → (meaning : Meaning)
+  pub still_written : IsTrue env.models_disk → (meaning : Meaning)
       → KeepsWritten cmp meaning value (env.observed from) value (env.observed mid)
   still_written modelled meaning allowed w = removal_keeps cmp meaning
       (λ store. IsTrue (allowed store)) value (env.observed from) (env.observed mid)

@@ -31,6 +31,7 @@ module _ {C : Type 0} (value : OpenStoreValue C) (keeps : Bool) where
     unbroken = unbroken_keeping o.unbroken;
     room = o.room;
     tables = o.tables;
+    manifest = o.manifest;
     keeps = o.keeps;
     opens = λ modelled meaning agrees contents sound.
         let it = o.opens modelled meaning agrees contents sound in

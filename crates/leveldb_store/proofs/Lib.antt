@@ -42,6 +42,7 @@ pub mod RoomLemmas
 pub mod WrittenFromLemmas
 mod LogDamageLemmas
 mod DamageLemmas
+mod WholeLogLemmas
 pub mod KeptFilesLemmas
 mod ReadLemmas
 pub mod LookUpLemmas
@@ -50,7 +51,9 @@ pub mod ViewHistoryLemmas
 pub mod GivenNumbersLemmas
 mod ReplayFilesLemmas
 mod ReplayLogLemmas
-mod ReplayTextLemmas
+mod LogSourceLemmas
+mod LogReplayLemmas
+mod ReadBatchLemmas
 mod ReplayStoreLemmas
 pub mod HistoryLemmas
 mod SyncBatchLemmas
@@ -73,7 +76,7 @@ mod OpeningMadeLemmas
 mod OpeningNumbersLemmas
 mod OpeningSameLemmas
 mod OpeningRecoveredLemmas
-mod OpeningFrontLemmas
+pub mod OpeningFrontLemmas
 mod FoundNumbersLemmas
 mod OpeningRecoverLemmas
 mod OpeningOpenLemmas
@@ -93,4 +96,5 @@ mod CompactLevelLemmas
 mod CompactRangeLemmas
 pub mod LoggedEditsLemmas
 pub mod AskedCompactionLemmas
+mod EndsOpeningLemmas
 mod TabledEntriesLemmas

@@ -241,7 +241,7 @@ lost_later text end within whole loses =
     (loses.later.0, omega (arith, least, count, loses.later.1), loses.later.2)
 
 -- at the end of the bytes no fragment begins
-no_end_past : (text : List ℕ) (at : ℕ) → length text ≤ at → StartsWithEnd (at % block) (drop at text) → ⊥
+pub no_end_past : (text : List ℕ) (at : ℕ) → length text ≤ at → StartsWithEnd (at % block) (drop at text) → ⊥
 no_end_past text at past it =
     let none = ap length (drop_all at text past) in
     let all = ap length it.bytes_are ∙ length-append it.front it.more in

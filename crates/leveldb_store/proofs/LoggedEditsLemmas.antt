@@ -8,7 +8,7 @@ use Rattle.leveldb_version.specs.VersionEdit.{Edit}
 use Rattle.leveldb_version.specs.VersionSetValue.{VersionSetValue, with_number_given}
 use Rattle.leveldb_version.specs.Writing.{table_edit}
 use Rattle.leveldb_store.proofs.ReplayFilesLemmas.{GivesNumbers-refl, GivesNumbers-trans}
-use Rattle.leveldb_store.specs.LoggedEdits.{IsTableEdit, LogsEdits, LogsTables}
+use Rattle.leveldb_store.specs.LoggedEdits.{IsTableEdit, LogsEdits, LogsTableEdits}
 use Rattle.leveldb_store.specs.Opening.{GivesNumbers}
 use Rattle.leveldb_store.specs.Switch.{LogsTable}
 
@@ -39,7 +39,7 @@ given_once set = record { set = refl; rises = omega arith }
 
 -- none is logged where numbers are given alone
 pub no_tables : {old new : VersionSetValue} (count : ℕ) → GivesNumbers old new
-    → LogsTables count old new
+    → LogsTableEdits count old new
 no_tables count gives = record {
   edits = [];
   each = All-nil IsTableEdit;
@@ -47,8 +47,8 @@ no_tables count gives = record {
   logs = gives;
 }
 
-pub tables_then : {old mid new : VersionSetValue} (first second : ℕ) → LogsTables first old mid
-    → LogsTables second mid new → LogsTables (first + second) old new
+pub tables_then : {old mid new : VersionSetValue} (first second : ℕ) → LogsTableEdits first old mid
+    → LogsTableEdits second mid new → LogsTableEdits (first + second) old new
 tables_then {old} {mid} {new} first second these those = record {
   edits = these.edits ++ those.edits;
   each = All-append IsTableEdit these.edits those.edits these.each those.each;
@@ -58,7 +58,7 @@ tables_then {old} {mid} {new} first second these those = record {
 
 -- the edit of one
 pub one_table : {cmp : List ℕ → List ℕ → Ordering} {old : VersionSetValue} {log : ℕ}
-    {new : VersionSetValue} → LogsTable cmp old log new → LogsTables 1 old new
+    {new : VersionSetValue} → LogsTable cmp old log new → LogsTableEdits 1 old new
 one_table {old = old} {log = log} {new = new} logs = record {
   edits = table_edit log logs.file ∷ [];
   each = All-cons IsTableEdit (table_edit log logs.file) [] (log, logs.file, refl) (All-nil IsTableEdit);
@@ -75,8 +75,8 @@ one_table {old = old} {log = log} {new = new} logs = record {
 }
 
 -- two, with a log's number between them
-pub two_tables : {old mid switched new : VersionSetValue} → LogsTables 1 old mid
-    → switched ≡ with_number_given mid → LogsTables 1 switched new → LogsTables 2 old new
+pub two_tables : {old mid switched new : VersionSetValue} → LogsTableEdits 1 old mid
+    → switched ≡ with_number_given mid → LogsTableEdits 1 switched new → LogsTableEdits 2 old new
 two_tables {mid = mid} first given second =
     tables_then 1 1 first
     (tables_then 0 1 (no_tables 0 (subst (GivesNumbers mid) (sym given) (given_once mid))) second)

@@ -141,6 +141,7 @@ module _ {E F D FP : Type 0} (env : Ghosts E F) {order : CmpGhosts D} {filters :
     unbroken = tt;
     room = tt;
     tables = tt;
+    manifest = tt;
     keeps = keeps;
     opens = λ modelled meaning agrees contents was. tt;
     others = spares;
@@ -474,6 +475,7 @@ module _ {E F D FP : Type 0} (env : Ghosts E F) {order : CmpGhosts D} {filters :
             pub is_in_use : set4.manifest ≡ in_use used
             pub last : set4.last_sequence ≡ set3.last_sequence
             pub own : IsTrue env.models_disk → IsFilePath Descriptor store used.path
+            pub there : IsTrue env.models_disk → (env.observed e3).disk.files used.path ≢ None
             pub given : AreNumbersGiven set4 set4.full.added
             pub levels : AreInLevels env.models_disk format.order set4.full.added
             pub tables : IsTrue env.models_disk → All (HasFile (env.observed e3).disk.files) set4.full.added
@@ -487,6 +489,7 @@ module _ {E F D FP : Type 0} (env : Ghosts E F) {order : CmpGhosts D} {filters :
                 is_in_use = it.is_in_use;
                 last = it.last;
                 own = λ modelled. subst (λ s. IsFilePath Descriptor s it.manifest.path) path3 (it.own (own3 modelled) fits3);
+                there = λ modelled. it.there modelled fits3 (there3 modelled);
                 given = it.given live3 made3;
                 levels = it.levels format.order levels3;
                 tables = λ modelled. All-weaker (HasFile (env.observed e2).disk.files) (HasFile (env.observed e3).disk.files)
@@ -509,6 +512,7 @@ module _ {E F D FP : Type 0} (env : Ghosts E F) {order : CmpGhosts D} {filters :
                 is_in_use = ap (λ (s : VersionSetValue). s.manifest) same.0 ∙ same3.manifest ∙ on.1;
                 last = ap (λ (s : VersionSetValue). s.last_sequence) same.0;
                 own = λ modelled. subst (λ s. IsFilePath Descriptor s on.0.path) may.path (may.own modelled on.0 on.1);
+                there = λ modelled. subst (λ e. (env.observed e).disk.files on.0.path ≢ None) (sym same.1) (there3 modelled on.0 (same3.manifest ∙ on.1));
                 given = subst (λ (s : VersionSetValue). AreNumbersGiven s s.full.added) (sym same.0) live3;
                 levels = subst (λ (s : VersionSetValue). AreInLevels env.models_disk format.order s.full.added) (sym same.0) levels3;
                 tables = λ modelled. subst (λ e. All (HasFile (env.observed e).disk.files) set4.full.added) (sym same.1)
@@ -580,6 +584,9 @@ module _ {E F D FP : Type 0} (env : Ghosts E F) {order : CmpGhosts D} {filters :
               tables = λ modelled. subst (λ (s : VersionSetValue). AreTablesThere store (env.observed e3).disk.files s.full.added) (sym is.set_is)
                   (All-weaker (HasFile (env.observed e3).disk.files) (λ (file : NewFile). IsSome ((env.observed e3).disk.files (table_path store file.number)))
                   (λ file has. has.1) set4.full.added (is_ended.tables modelled));
+              manifest = λ modelled one used.
+                  let same = one_in_use one is_ended.used (sym used ∙ ap (λ (s : VersionSetValue). s.manifest) is.set_is ∙ is_ended.is_in_use) in
+                  subst (λ (m : OpenManifest). (env.observed e3).disk.files m.path ≢ None) (sym same) (is_ended.there modelled);
               keeps = all_keep (Ok done) set4 e3 logged locks;
               opens = opened_by wanted refl logged;
               others = all_spare (Ok done) set4 e3 logged locks;

@@ -1,5 +1,6 @@
 -- The end of an opening: the edit that has tables in place of logs is logged, or none is, and the
 -- store is open.
+use Rattle.std.specs.Option.{option_map}
 use Rattle.std.specs.Prelude.{◌≢◌, All, Contains, IsTrue}
 use Rattle.std.proofs.Common.{◌≡◌, ◌∙◌, ◌⊎◌, inl, inr, ◌≤◌, ◌<◌, ◌^◌, ◌%◌, ℕ, Bool, true, false, List, [], ◌∷◌, ◌++◌, length, None, Option, Some, Ok, Result, ap, arith, refl, subst, sym}
 use Rattle.std.proofs.lemmas.List.Elements.{All-cons, All-contains_itself, All-nil, All-weaker}
@@ -15,8 +16,8 @@ use Rattle.leveldb_base.specs.declared.error.Status.{Status}
 use Rattle.leveldb_base.specs.declared.types.FileMetaData.{FileMetaData}
 use Rattle.leveldb_base.specs.declared.types.FileType.{FileType}
 use Rattle.leveldb_base.specs.declared.types.FileType.TheVariants.{Current, Descriptor, Log, Table, Temp}
-use Rattle.leveldb_env.proofs.EnvLemmas.{Run-call, Run-mono, SameBut-created, SameBut-emptied, begun}
-use Rattle.leveldb_env.specs.Env.{BeforeOrAfter, Files, Run, SameBut, in_folder}
+use Rattle.leveldb_env.proofs.EnvLemmas.{Run-call, Run-mono, SameBut-created, SameBut-emptied, at_other, at_same, begun}
+use Rattle.leveldb_env.specs.Env.{BeforeOrAfter, Files, Run, SameBut, deleted, extended, file_kept, in_folder, kept_file, longer_file, with_file}
 use Rattle.leveldb_env.specs.declared.env.Env.{Ghosts}
 use Rattle.leveldb_mem.specs.Log.{log_block_size}
 use Rattle.leveldb_mem.specs.Log.Writer.{after_frame, frame, new_writer}
@@ -38,7 +39,7 @@ use Rattle.leveldb_version.specs.Writing.{IsWrittenBy}
 use Rattle.leveldb_version.specs.Format.{IsTableOf, Meaning}
 use Rattle.leveldb_store.specs.OpenStore.{AreInLevels, AreNumbersGiven, HasOwnManifest, OpenStoreValue}
 use Rattle.leveldb_store.specs.OpeningSteps.{LogsTables, files_to_write, made_files, number_to_write}
-use Rattle.leveldb_store.specs.OpensStore.{IsOpenedAs, IsOwnPath, SameBesideOwn}
+use Rattle.leveldb_store.specs.OpensStore.{IsManifestThere, IsOpenedAs, IsOwnPath, SameBesideOwn}
 use Rattle.leveldb_store.specs.Write.{open_log_path}
 use Rattle.leveldb_store.specs.Written.{memory_of, waiting_entries}
 use Rattle.leveldb_store.specs.declared.opening.replay.UsedLog.{UsedLog}
@@ -65,6 +66,37 @@ made_levels_fit log built = record {
   added = All-weaker (Contains (made_files built)) (λ (file : NewFile). file.level < 7)
       (made_level built) (made_files built) (All-contains_itself (made_files built));
 }
+
+-- ---- the manifest is there
+
+-- a new one is
+manifest_made : (store : List ℕ) (n : ℕ) → n < 2 ^ 64 → (bytes : List ℕ) (files : Files)
+    → with_manifest store n bytes files (manifest_path store n) ≡ Some (kept_file bytes)
+manifest_made store n fits bytes files =
+    let is : IsFilePath Descriptor store (manifest_path store n) =
+    (file_name Descriptor n, n, made_name Descriptor n fits, refl) in
+    let whole : Files = with_file (manifest_path store n) (Some (kept_file bytes)) files in
+    at_other (current_path store) _ (deleted (temp_path store n) whole) (manifest_path store n)
+    (types_apart store (current_path store) (manifest_path store n) Current Descriptor
+    (file_name Current 0, 0, made_name Current 0 refl, refl) is (λ e. cc))
+    ∙ at_other (temp_path store n) None whole (manifest_path store n)
+    (types_apart store (temp_path store n) (manifest_path store n) Temp Descriptor
+    (file_name Temp n, n, made_name Temp n fits, refl) is (λ e. cc))
+    ∙ at_same (manifest_path store n) (Some (kept_file bytes)) files
+
+none_mapped : {A B : Type 0} (f : A → B) (file : Option A) → option_map f file ≡ None → file ≡ None
+none_mapped f None gone = refl
+none_mapped f (Some file) gone = let never : Some (f file) ≡ None = gone in absurd (cc never)
+
+-- one that is missing after an append and a sync was missing before
+none_before : (path bytes : List ℕ) (files : Files) → with_bytes_kept path bytes files path ≡ None
+    → files path ≡ None
+none_before path bytes files gone =
+    let longer = extended path bytes files in
+    none_mapped (longer_file bytes) (files path)
+    (sym (at_same path (option_map (longer_file bytes) (files path)) files)
+    ∙ none_mapped file_kept (longer path)
+    (sym (at_same path (option_map file_kept (longer path)) longer) ∙ gone))
 
 -- ---- the value
 
@@ -395,6 +427,10 @@ module _ {E F : Type 0} (env : Ghosts E F) (built : List FileMetaData) (set : Ve
     pub last : new.last_sequence ≡ set.last_sequence
     pub own : HasOwnManifest set → set.manifest_number < 2 ^ 64
         → IsFilePath Descriptor set.store manifest.path
+    -- it is there, if the one that was in use was
+    pub there : IsTrue env.models_disk → set.manifest_number < 2 ^ 64
+        → IsManifestThere (env.observed from).disk.files set
+        → (env.observed to).disk.files manifest.path ≢ None
     -- the number of each live file was given, if it was of each before and of each that is added
     pub given : AreNumbersGiven set set.full.added → AreNumbersGiven set (made_files built)
         → AreNumbersGiven new new.full.added
@@ -465,6 +501,11 @@ module _ {E F : Type 0} (env : Ghosts E F) (built : List FileMetaData) (set : Ve
               made_name Descriptor set.manifest_number fits,
               refl,
             );
+            there = λ modelled fits there gone.
+                let never : Some _ ≡ None = sym (manifest_made set.store set.manifest_number fits
+                (manifest_bytes (new_records set tables)) (env.observed from).disk.files)
+                ∙ sym (ap (λ (f : Files). f (manifest_path set.store set.manifest_number))
+                ((l.does modelled).ok modelled)) ∙ gone in cc;
             given = given_after new (ap (λ (v : VersionSetValue). v.full) l.ok)
                 (ap (λ (v : VersionSetValue). v.next_file) l.ok);
             levels = levels_after new (ap (λ (v : VersionSetValue). v.full) l.ok);
@@ -496,6 +537,10 @@ module _ {E F : Type 0} (env : Ghosts E F) (built : List FileMetaData) (set : Ve
             is_in_use = ap (λ (v : VersionSetValue). v.manifest) l.ok;
             last = ap (λ (v : VersionSetValue). v.last_sequence) l.ok;
             own = λ own fits. own manifest is;
+            there = λ modelled fits there gone. there manifest is
+                (none_before manifest.path (frame manifest.writer (edit_record set tables))
+                (env.observed from).disk.files
+                (sym (ap (λ (f : Files). f manifest.path) ((l.does modelled).ok modelled)) ∙ gone));
             given = given_after new (ap (λ (v : VersionSetValue). v.full) l.ok)
                 (ap (λ (v : VersionSetValue). v.next_file) l.ok);
             levels = levels_after new (ap (λ (v : VersionSetValue). v.full) l.ok);

@@ -30,6 +30,7 @@ module _ {E F C : Type 0} (env : Ghosts E F) (format : Format) (store : List ℕ
     unbroken = tt;
     room = tt;
     tables = tt;
+    manifest = tt;
     keeps = recovers.keeps;
     opens = λ modelled meaning agrees contents sound. tt;
     stays = recovers.stays;
@@ -115,6 +116,7 @@ module _ {E F D FP : Type 0} (env : Ghosts E F) {keys : CmpGhosts D} {filters : 
         unbroken = begins.unbroken;
         room = begins.room;
         tables = begins.tables;
+        manifest = begins.manifest;
         keeps = all_keep (Ok value) begins;
         opens = λ modelled meaning agrees contents sound. opened_as meaning contents value (env.observed to).disk.files
             (begins.opens modelled meaning agrees (with_comparator format.order_name contents) (was_recovered modelled meaning agrees contents sound));
@@ -127,6 +129,7 @@ module _ {E F D FP : Type 0} (env : Ghosts E F) {keys : CmpGhosts D} {filters : 
         unbroken = tt;
         room = tt;
         tables = tt;
+        manifest = tt;
         keeps = all_keep (Err status) begins;
         opens = λ modelled meaning agrees contents sound. tt;
         stays = λ modelled which. absurd (recovers.stays modelled which).0;

@@ -26,14 +26,13 @@ use Rattle.leveldb_env.specs.declared.env.Env.{Ghosts}
 use Rattle.leveldb_env.specs.declared.filter.FilterPolicy.{Ghosts as FilterGhosts}
 use Rattle.leveldb_mem.proofs.EntryLemmas.{all_fit, none_fit, placed_from}
 use Rattle.leveldb_mem.specs.MemTable.{FailsToPrepare, GrowsByAll, IsUnion, MemTableState, bytes_in, entry_key, memory_of_entries}
-use Rattle.leveldb_mem.specs.WriteBatch.{Batch, IsBatch}
-use Rattle.leveldb_mem.specs.WriteBatchLaws.{BatchOf-one}
+use Rattle.leveldb_mem.specs.WriteBatch.{Batch}
 use Rattle.leveldb_version.proofs.LogsLemmas.{all_append, order_append}
 use Rattle.leveldb_version.proofs.ManagedLemmas.{same_bytes, table_on}
 use Rattle.leveldb_version.proofs.NumbersLemmas.{greatest_append, up_to_greatest}
 use Rattle.leveldb_version.proofs.OneStoreLemmas.{flat_in}
 use Rattle.leveldb_version.proofs.StoreTablesLemmas.{held_tables_by_more}
-use Rattle.leveldb_version.specs.Batches.{Each, IsRecordOf, all_entries, batch_entries}
+use Rattle.leveldb_version.specs.Batches.{Each, all_entries, batch_entries}
 use Rattle.leveldb_version.specs.Levels.{LiveTable, table_entries}
 use Rattle.leveldb_version.specs.Opening.{IsMadeBefore}
 use Rattle.leveldb_version.specs.Paths.{table_path}
@@ -45,7 +44,7 @@ use Rattle.leveldb_store.specs.BuildTable.{IsNotTabled, MakesTable, TableChoices
 use Rattle.leveldb_version.specs.Format.{Agrees, Format, IsTableOf, Meaning}
 use Rattle.leveldb_store.specs.FoundLogs.{AreLastEntries, FailsToKeep, FailsToTable}
 use Rattle.leveldb_store.specs.Opening.{IsMadeTable, SameButTables}
-use Rattle.leveldb_store.specs.ReplayLog.{TakesBatch, FailsAtRecord, FailsToTableRest, Follows, HasReplayed, IsNoNextBatch, IsNotFull, MakesRestTable, MakesTablesOnly, TablesRest, TakesRecord, table_files}
+use Rattle.leveldb_store.specs.ReplayLog.{TakesBatch, FailsAtBatch, FailsToTableRest, Follows, HasReplayed, IsNotFull, MakesRestTable, MakesTablesOnly, TablesRest, TakesNextBatch, table_files}
 use Rattle.leveldb_store.specs.Room.{AreFull}
 use Rattle.leveldb_store.specs.declared.opening.replay_log.ReplayedLog.{ReplayedLog}
 use Rattle.leveldb_store.specs.OpenStore.{AreNumbersGiven}
@@ -659,26 +658,15 @@ pub none_of_length : {X : Type 0} (xs : List X) → length xs ≤ 0 → xs ≡ [
 none_of_length [] none = refl
 none_of_length (x ∷ xs) none = absurd (omega (arith, none))
 
--- a record that is no batch, or one that doesn't follow, isn't the next
-pub no_next_batch : (last : ℕ) (text : List ℕ) → (IsBatch text → ⊥) → IsNoNextBatch last text
-no_next_batch last text never batch is follows = never (batch, is)
-
-pub no_following_batch : (last : ℕ) (text : List ℕ) (batch : Batch) → IsRecordOf text batch
-    → (Follows last batch → ⊥) → IsNoNextBatch last text
-no_following_batch last text batch is never other other_is follows =
-    let same = BatchOf-one text other.first batch.first other.items batch.items other_is is in
-    let here : other ≡ batch = λ i. record { first = same.0 i; items = same.1 i } in
-    never (subst (Follows last) here follows)
-
 module _ {E F D FP C : Type 0} (env : Ghosts E F) {order : CmpGhosts D} {filters : FilterGhosts FP}
-    (choices : TableChoices order filters) (limit : ℕ) (text : List ℕ) (old : ReplayedLog C)
+    (choices : TableChoices order filters) (limit : ℕ) (batch : Batch) (old : ReplayedLog C)
     (set : VersionSetValue) where
   -- before a table is made
-  pub TakesRecord-refused : (at : E) (status : Status)
-      → IsOutOfMemory status ⊎ (FailsAtRecord env choices text old set at status
-      ⊎ ((status.code ≡ Corruption) × IsNoNextBatch old.last text)) → (new : ReplayedLog C)
-      → TakesRecord env choices limit text old set at (Err status) new set at
-  TakesRecord-refused at status why new = record {
+  pub TakesNextBatch-refused : (at : E) (status : Status)
+      → IsOutOfMemory status ⊎ (FailsAtBatch env choices batch old set at status
+      ⊎ ((status.code ≡ Corruption) × (Follows old.last batch → ⊥))) → (new : ReplayedLog C)
+      → TakesNextBatch env choices limit batch old set at (Err status) new set at
+  TakesNextBatch-refused at status why new = record {
     spares = MakesTablesOnly-none env set at;
     ok = tt;
     room = tt;
@@ -694,28 +682,22 @@ module _ {E F D FP C : Type 0} (env : Ghosts E F) {order : CmpGhosts D} {filters
   }
 
   -- a batch is too large for the memtable
-  pub fails_to_add : (at : E) (status : Status) (batch : Batch) → IsRecordOf text batch
+  pub fails_to_add : (at : E) (status : Status)
       → FailsToPrepare old.rest.kept (length batch.items) (bytes_in batch.items) status
-      → IsOutOfMemory status ⊎ (FailsAtRecord env choices text old set at status
-      ⊎ ((status.code ≡ Corruption) × IsNoNextBatch old.last text))
-  fails_to_add at status batch is (inl large) = inr (inl (λ first last batches was. (
-    batch,
-    is,
-    inr (fails_with choices batches old.rest.kept.entries was.in_memory old.rest.kept.places batch
-        status was.places large),
-  )))
-  fails_to_add at status batch is (inr memory) = inl memory
+      → IsOutOfMemory status ⊎ (FailsAtBatch env choices batch old set at status
+      ⊎ ((status.code ≡ Corruption) × (Follows old.last batch → ⊥)))
+  fails_to_add at status (inl large) = inr (inl (λ first last batches was.
+      inr (fails_with choices batches old.rest.kept.entries was.in_memory old.rest.kept.places batch
+      status was.places large)))
+  fails_to_add at status (inr memory) = inl memory
 
-  module _ (batch : Batch) (is : IsRecordOf text batch) (follows : Follows old.last batch)
-      (mid : ReplayedLog C) (adds : TakesBatch old batch mid) where
+  module _ (follows : Follows old.last batch) (mid : ReplayedLog C) (adds : TakesBatch old batch mid) where
     -- no table is made
-    pub TakesRecord-added : (at : E) → IsNotFull limit mid
-        → TakesRecord env choices limit text old set at (Ok tt) mid set at
-    TakesRecord-added at room = record {
+    pub TakesNextBatch-added : (at : E) → IsNotFull limit mid
+        → TakesNextBatch env choices limit batch old set at (Ok tt) mid set at
+    TakesNextBatch-added at room = record {
       spares = MakesTablesOnly-none env set at;
       ok = λ first last batches was. (
-        batch,
-        is,
         HasReplayed-added env choices.format was batch follows adds,
         inl (ap (λ (log : ReplayedLog C). log.tables.items) adds.rest),
       );
@@ -729,26 +711,21 @@ module _ {E F D FP C : Type 0} (env : Ghosts E F) {order : CmpGhosts D} {filters
     -- none can be made
     fails_to_make : mid.rest.kept.entries ≢ [] → (at : E) (status : Status)
         → FailsToTableRest env choices mid set status
-        → FailsAtRecord env choices text old set at status
+        → FailsAtBatch env choices batch old set at status
     fails_to_make some at status why = λ first last batches was.
-        let added = HasReplayed-added env choices.format was batch follows adds in (
-          batch,
-          is,
-          fails_of_rest choices (batches ++ batch ∷ []) mid.rest.kept.entries added.in_memory
-              first.next_file set.next_file added.few some status why,
-        )
+        let added = HasReplayed-added env choices.format was batch follows adds in
+        fails_of_rest choices (batches ++ batch ∷ []) mid.rest.kept.entries added.in_memory
+        first.next_file set.next_file added.few some status why
 
     -- one is made, or an error comes of it
-    pub TakesRecord-tabled : mid.rest.kept.entries ≢ []
+    pub TakesNextBatch-tabled : mid.rest.kept.entries ≢ []
         → limit ≤ memory_of_entries mid.rest.kept.entries → {from to : E} {new : ReplayedLog C}
         {now : VersionSetValue} (result : Result (Unit {0}) Status)
         → MakesRestTable env choices mid set from result new now to
-        → TakesRecord env choices limit text old set from result new now to
-    TakesRecord-tabled some full {new = new} (Ok done) makes = record {
+        → TakesNextBatch env choices limit batch old set from result new now to
+    TakesNextBatch-tabled some full {new = new} (Ok done) makes = record {
       spares = makes.spares;
       ok = λ first last batches was. (
-        batch,
-        is,
         HasReplayed-tabled env choices.format
             (HasReplayed-added env choices.format was batch follows adds) some makes.spares makes.ok,
         inr (full_of_last limit (batches ++ batch ∷ []) mid.rest.kept.entries
@@ -767,7 +744,7 @@ module _ {E F D FP C : Type 0} (env : Ghosts E F) {order : CmpGhosts D} {filters
         cause = tt;
       };
     }
-    TakesRecord-tabled some full {from = from} (Err status) makes = record {
+    TakesNextBatch-tabled some full {from = from} (Err status) makes = record {
       spares = makes.spares;
       ok = tt;
       room = tt;

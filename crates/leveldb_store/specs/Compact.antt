@@ -41,7 +41,7 @@ use Rattle.leveldb_store.specs.Opening.{GivesNumbers, TakesBackNew}
 use Rattle.leveldb_store.specs.Outputs.{ChangesNewTables}
 use Rattle.leveldb_store.specs.Read.{HasOpenTables, in_memory}
 use Rattle.leveldb_store.specs.Room.{AreEntriesNotTabled, FailsFor, RemovesAtLast}
-use Rattle.leveldb_store.specs.SoundCall.{IsSoundCall}
+use Rattle.leveldb_store.specs.SoundCall.{BreaksForCause, IsSoundCall}
 use Rattle.leveldb_store.specs.Switch.{AreFileNumbersTooFew, IsManifestLost}
 use Rattle.leveldb_store.specs.Written.{HasLiveTables, IsWritten, SparesRest}
 use Rattle.leveldb_store.specs.WrittenFrom.{AddsNoEntry, KeepsWrittenFrom}
@@ -181,9 +181,9 @@ module _ {E F C FP : Type 0} (order : CmpGhosts (InternalKeyCmp C)) (env : Ghost
         ⊎ AreFileNumbersUsedUp new.set.next_file status
         ⊎ AreInputsNotTabled status ⊎ AreInputsLost status
 
-    -- What making files that take the place of those of a compaction leaves of an open store, in
-    -- which no memtable waits. `files` are they, of the next level; `smallest` is the smallest
-    -- number at which the store is read.
+    -- What making files that take the place of those of a compaction leaves of an open store.
+    -- `files` are they, of the next level; `smallest` is the smallest number at which the store is
+    -- read.
     pub record MakesReplacements {X : Type 0} (smallest : ℕ) (it : CompactionValue C)
         (files : X → List NewFile) (result : Result X Status) (new : OpenStoreValue C) (to : E)
         (now : TableCache E C FP F) : Type 0 where
@@ -246,6 +246,7 @@ module _ {E F C FP : Type 0} (order : CmpGhosts (InternalKeyCmp C)) (env : Ghost
       pub rest : SparesRest env.models_disk old (env.observed from) new (env.observed to)
       pub still_open : KeepsOpenTables new to now
       pub sound : IsSoundCall env by.format.order (Agrees by.format) old from result new to
+      pub breaks : BreaksForCause env old from result new to
       pub cause : FailsFor (FailsToCompact new to) (env.failures from) (env.failures to) result
 
 -- ---- a range

@@ -5,6 +5,7 @@ pub mod Passing
 pub mod Merging
 pub mod MergeInputs
 pub mod FoundLogs
+pub mod LogReplay
 pub mod OpenStore
 pub mod OpenTables
 pub mod Write
@@ -26,3 +27,4 @@ pub mod SoundCall
 pub mod LoggedEdits
 pub mod RoomSteps
 pub mod Compact
+pub mod EndsOpening

@@ -22,7 +22,7 @@ abbrev pub IsTableEdit : Edit → Type 0
 IsTableEdit edit = (log : ℕ) × (file : NewFile) × (edit ≡ table_edit log file)
 
 -- tables of memtables were logged, no more of them than this
-pub record LogsTables (count : ℕ) (old new : VersionSetValue) : Type 0 where
+pub record LogsTableEdits (count : ℕ) (old new : VersionSetValue) : Type 0 where
   pub edits : List Edit
   pub each : All IsTableEdit edits
   pub at_most : length edits ≤ count

@@ -38,7 +38,7 @@ use Rattle.leveldb_store.specs.Listing.{AreNamesIn}
 use Rattle.leveldb_store.specs.OpenStore.{AreInLevels, AreNumbersGiven, HasOwnManifest, IsUnbroken, OpenStoreValue}
 use Rattle.leveldb_store.specs.Opening.{AreMadeTables, GivesNumbers, SameButTables}
 use Rattle.leveldb_store.specs.OpeningState.{HasComparator, IsRecoveredWith, with_comparator}
-use Rattle.leveldb_store.specs.OpensStore.{AreTablesThere, HasHugeManifest, HasOtherComparator, HasSharedUserKey, IsBareFolder, IsDamaged, IsForbidden, IsForbiddenAs, IsNumberFound, IsOpenedAs, IsSound, IsTableOrLog, KeepsFound, LacksCurrent, LacksUsableEdits, LeavesFewNumbers, SameBesideOwn, WhyNotOpenable}
+use Rattle.leveldb_store.specs.OpensStore.{AreTablesThere, HasHugeManifest, HasOtherComparator, HasSharedUserKey, IsBareFolder, IsDamaged, IsForbidden, IsForbiddenAs, IsManifestThere, IsNumberFound, IsOpenedAs, IsSound, IsTableOrLog, KeepsFound, LacksCurrent, LacksUsableEdits, LeavesFewNumbers, SameBesideOwn, WhyNotOpenable}
 use Rattle.leveldb_store.specs.FoundLogs.{HasLogNotKept, LacksNumbersFor, LogBeginsWith, LogsBeginWith}
 use Rattle.leveldb_store.specs.ReplayLog.{FailsAtLog, HasCauseOr, IsUnusable, MakesTablesOnly, table_files}
 use Rattle.leveldb_store.specs.Room.{IsFull}
@@ -606,6 +606,8 @@ module _ {E F D FP : Type 0} (env : Ghosts E F) {order : CmpGhosts D} {filters :
     pub room : IfOk result (λ value. IsFull limit value.recent → ⊥)
     pub tables : IfOk result (λ value. IsTrue env.models_disk
         → AreTablesThere store (env.observed to).disk.files value.set.full.added)
+    pub manifest : IfOk result (λ value. IsTrue env.models_disk
+        → IsManifestThere (env.observed to).disk.files value.set)
     pub keeps : IsTrue env.models_disk → (meaning : Meaning) → Agrees choices.format meaning
         → (contents : Contents)
         → WasRecovered env choices.format store set logs from meaning contents

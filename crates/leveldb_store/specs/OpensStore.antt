@@ -24,6 +24,7 @@ use Rattle.leveldb_version.specs.Store.{HasEdits, IsStore}
 use Rattle.leveldb_version.specs.StoreSteps.{AppendedAreBytes, KeepsHistory}
 use Rattle.leveldb_version.specs.VersionEdit.{Edit, NewFile}
 use Rattle.leveldb_version.specs.VersionSet.{FileSet, live_after}
+use Rattle.leveldb_version.specs.VersionSetValue.{OpenManifest, VersionSetValue, in_use}
 use Rattle.leveldb_store.specs.BuildTable.{TableChoices}
 use Rattle.leveldb_store.specs.FoundLogs.{HasLogNotKept, LogsBeginWith}
 use Rattle.leveldb_version.specs.Format.{Agrees, Format, IsTableOf, Meaning}
@@ -83,6 +84,11 @@ module _ (cmp : List ℕ → List ℕ → Ordering) (meaning : Meaning) (store :
 abbrev pub AreTablesThere : List ℕ → Files → List NewFile → Type 0
 AreTablesThere store files =
     All (λ (file : NewFile). IsSome (files (table_path store file.number)))
+
+-- the manifest that a set has in use is there
+abbrev pub IsManifestThere : Files → VersionSetValue → Type 0
+IsManifestThere files set = (manifest : OpenManifest) → set.manifest ≡ in_use manifest
+    → files manifest.path ≢ None
 
 -- ---- files that are no store
 
@@ -226,6 +232,9 @@ module _ {E F : Type 0} (env : Ghosts E F) (store : List ℕ) (format : Format)
     -- each live table is there, whatever the files were
     pub tables : IfOk result (λ value. IsTrue env.models_disk
         → AreTablesThere store (env.observed to).disk.files value.set.full.added)
+    -- and so is the manifest
+    pub manifest : IfOk result (λ value. IsTrue env.models_disk
+        → IsManifestThere (env.observed to).disk.files value.set)
     -- of files that are sound it keeps each history, and opens the store that they are or a new one
     pub keeps : IsTrue env.models_disk → (meaning : Meaning) → Agrees format meaning
         → (contents : Contents)

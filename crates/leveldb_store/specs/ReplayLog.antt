@@ -1,5 +1,5 @@
 -- What each step of a replay of a log makes of memory and of the store's files, and why it fails.
-use Rattle.std.specs.Prelude.{◌≡◌, ◌≤◌, ◌<◌, ◌+◌, ◌^◌, ◌⊎◌, ◌≢◌, ℕ, List, [], ◌∷◌, ◌++◌, Contains, false, OnOk, IfOk, IsTrue, Result, if◌then◌else◌, length, map, max}
+use Rattle.std.specs.Prelude.{◌≡◌, ◌≤◌, ◌<◌, ◌+◌, ◌^◌, ◌⊎◌, ◌≢◌, ℕ, List, [], ◌∷◌, ◌++◌, Contains, false, OnOk, IfOk, IsTrue, Result, length, map, max}
 use Rattle.std.specs.declared.cmp.Ordering.{Ordering}
 use Rattle.leveldb_base.specs.Entries.{internal_pair}
 use Rattle.leveldb_base.specs.Error.{IsOutOfMemory}
@@ -12,10 +12,10 @@ use Rattle.leveldb_env.specs.Env.{Files, HasCause, Run, SameLocks}
 use Rattle.leveldb_env.specs.WholeFiles.{IsLost}
 use Rattle.leveldb_env.specs.declared.env.Env.{Ghosts}
 use Rattle.leveldb_env.specs.declared.filter.FilterPolicy.{Ghosts as FilterGhosts}
-use Rattle.leveldb_mem.specs.Log.{IsLogFile, bad, clean}
+use Rattle.leveldb_mem.specs.Log.{bad}
 use Rattle.leveldb_mem.specs.MemTable.{GrowsByAll, IsUnion, memory_of_entries}
 use Rattle.leveldb_mem.specs.WriteBatch.{Batch}
-use Rattle.leveldb_version.specs.Batches.{AreInOrder, Each, IsRecordOf, all_entries, batch_entries}
+use Rattle.leveldb_version.specs.Batches.{AreInOrder, all_entries, batch_entries}
 use Rattle.leveldb_version.specs.Levels.{LiveTable, table_entries}
 use Rattle.leveldb_version.specs.Paths.{log_path}
 use Rattle.leveldb_version.specs.Store.{HasLog, ReplayedLog as StoreLog, SameEntries}
@@ -23,7 +23,7 @@ use Rattle.leveldb_version.specs.VersionEdit.{NewFile, new_file_of}
 use Rattle.leveldb_version.specs.VersionSetValue.{AreFileNumbersUsedUp, VersionSetValue, with_number_given}
 use Rattle.leveldb_store.specs.BuildTable.{IsNotTabled, TableChoices}
 use Rattle.leveldb_version.specs.Format.{Agrees, Format, Meaning}
-use Rattle.leveldb_store.specs.FoundLogs.{AreLastEntries, BeginsWithBatches, FailsToTable, LogBeginsWith}
+use Rattle.leveldb_store.specs.FoundLogs.{AreLastEntries, FailsToTable, LogBeginsWith}
 use Rattle.leveldb_store.specs.OpenStore.{AreNumbersGiven}
 use Rattle.leveldb_store.specs.Opening.{AreMadeTables, GivesNumbers, IsMadeTable, KeepsRecovered, LogInMemory, ReplaysLog, SameButTables}
 use Rattle.leveldb_store.specs.Room.{AreFull}
@@ -135,17 +135,7 @@ module _ {E F : Type 0} (env : Ghosts E F) where
 
 -- ---- why a log isn't replayed
 
--- a record isn't a batch that follows
-abbrev pub IsNoNextBatch : ℕ → List ℕ → Type 0
-IsNoNextBatch last text = (batch : Batch) → IsRecordOf text batch → Follows last batch → ⊥
-
--- bytes aren't a log of batches in order above a number, up to its first bad end
-abbrev pub IsDamagedText : ℕ → List ℕ → Type 0
-IsDamagedText last text = (log : StoreLog) (records : List (List ℕ))
-    → IsLogFile text records log.end → Each IsRecordOf records log.batches
-    → AreInOrder last log.batches → ⊥
-
--- so it is with the file of a log
+-- the file of a log isn't one of batches in order above a number, up to its first bad end
 abbrev pub IsDamagedLog : List ℕ → Files → ℕ → ℕ → Type 0
 IsDamagedLog store files number last = (log : StoreLog) → log.number ≡ number
     → HasLog store files log → AreInOrder last log.batches → ⊥
@@ -204,72 +194,39 @@ module _ {E F D FP : Type 0} (env : Ghosts E F) {order : CmpGhosts D} {filters :
       → IsDamagedLog set.store (env.observed from).disk.files number last)))
       × (env.failures to ≡ env.failures from))
 
-  -- After what was replayed before, the batch of this record is replayed too. A table comes of it
-  -- only if the entries fill a memtable of this limit.
-  abbrev pub ReplaysBatch : {C : Type 0} → ℕ → List ℕ → ReplayedLog C → VersionSetValue → E
+  -- After what was replayed before, this batch is replayed too. A table comes of it only if the
+  -- entries fill a memtable of this limit.
+  abbrev pub ReplaysBatch : {C : Type 0} → ℕ → Batch → ReplayedLog C → VersionSetValue → E
       → ReplayedLog C → VersionSetValue → E → Type 0
-  ReplaysBatch limit text old set from new now to =
+  ReplaysBatch limit batch old set from new now to =
       (first : VersionSetValue) (last : ℕ) (batches : List Batch)
       → HasReplayed env choices.format first last batches old set from
-      → (batch : Batch) × IsRecordOf text batch
-      × HasReplayed env choices.format first last (batches ++ batch ∷ []) new now to
+      → HasReplayed env choices.format first last (batches ++ batch ∷ []) new now to
       × ((new.tables.items ≡ old.tables.items)
       ⊎ AreFull limit (all_entries (batches ++ batch ∷ [])))
 
-  -- after what was replayed before, the batch of this record doesn't come to memory and to tables
-  abbrev pub FailsAtRecord : {C : Type 0} → List ℕ → ReplayedLog C → VersionSetValue → E → Status
+  -- after what was replayed before, this batch doesn't come to memory and to tables
+  abbrev pub FailsAtBatch : {C : Type 0} → Batch → ReplayedLog C → VersionSetValue → E → Status
       → Type 0
-  FailsAtRecord text old set from status =
+  FailsAtBatch batch old set from status =
       (first : VersionSetValue) (last : ℕ) (batches : List Batch)
       → HasReplayed env choices.format first last batches old set from
-      → (batch : Batch) × IsRecordOf text batch
-      × FailsToTable choices first.next_file (batches ++ batch ∷ []) status
-
-  -- why bytes aren't replayed as a log: they begin with batches that don't come to memory and to
-  -- tables, or are damaged
-  abbrev pub FailsAtText : VersionSetValue → ℕ → List ℕ → Status → Type 0
-  FailsAtText set last text status =
-      ((batches : List Batch) × BeginsWithBatches text batches
-      × FailsToTable choices set.next_file batches status)
-      ⊎ ((status.code ≡ Corruption) × IsDamagedText last text)
+      → FailsToTable choices first.next_file (batches ++ batch ∷ []) status
 
   module _ (limit : ℕ) where
-    -- what taking a record returns and leaves
-    pub record TakesRecord {C : Type 0} (text : List ℕ) (old : ReplayedLog C)
+    -- what taking the next batch returns and leaves
+    pub record TakesNextBatch {C : Type 0} (batch : Batch) (old : ReplayedLog C)
         (set : VersionSetValue) (from : E) (result : Result (Unit {0}) Status)
         (new : ReplayedLog C) (now : VersionSetValue) (to : E) : Type 0 where
       pub spares : MakesTablesOnly env set from now to
-      pub ok : OnOk result (ReplaysBatch limit text old set from new now to)
+      pub ok : OnOk result (ReplaysBatch limit batch old set from new now to)
       pub room : OnOk result (IsNotFull limit new)
       pub cmp : OnOk result (new.rest.cmp ≡ old.rest.cmp)
       pub size : OnOk result (new.size ≡ old.size)
       pub bad : OnOk result (new.is_clean ≡ old.is_clean)
-      pub cause : HasCauseOr (λ status. FailsAtRecord text old set from status
-          ⊎ ((status.code ≡ Corruption) × IsNoNextBatch old.last text))
+      pub cause : HasCauseOr (λ status. FailsAtBatch batch old set from status
+          ⊎ ((status.code ≡ Corruption) × (Follows old.last batch → ⊥)))
           (env.failures from) (env.failures to) result
-
-    -- these bytes were replayed as a log, up to its first bad end
-    pub record HasReplayedText {C : Type 0} (set : VersionSetValue) (last : ℕ) (text : List ℕ)
-        (log : ReplayedLog C) (now : VersionSetValue) (to : E) : Type 0 where
-      pub records : List (List ℕ)
-      pub read : IsLogFile text records (if log.is_clean then clean else bad)
-      pub batches : List Batch
-      pub each : Each IsRecordOf records batches
-      pub begins : BeginsWithBatches text batches
-      pub replayed : HasReplayed env choices.format set last batches log now to
-      pub room : IsNotFull limit log
-      -- a table comes of it only if its entries fill a memtable
-      pub filled : (log.tables.items ≡ []) ⊎ AreFull limit (all_entries batches)
-      pub size : log.size ≡ length text
-
-    -- what replaying bytes as a log returns and leaves
-    pub record ReplaysText {C : Type 0} (set : VersionSetValue) (last : ℕ) (text : List ℕ)
-        (from : E) (result : Result (ReplayedLog C) Status) (now : VersionSetValue) (to : E)
-        : Type 0 where
-      pub spares : MakesTablesOnly env set from now to
-      pub ok : IfOk result (λ log. HasReplayedText set last text log now to)
-      pub cause : HasCauseOr (FailsAtText set last text) (env.failures from) (env.failures to)
-          result
 
     -- what replaying the log of a number returns and leaves
     pub record ReplaysFile {C : Type 0} (set : VersionSetValue) (last number : ℕ) (from : E)

@@ -9,6 +9,7 @@ use Rattle.leveldb_version.specs.StoreSteps.{AppendedAreBytes}
 use Rattle.leveldb_version.specs.Format.{Meaning}
 use Rattle.leveldb_store.specs.OpenStore.{IsUnbroken, OpenStoreValue}
 use Rattle.leveldb_store.specs.Room.{HasFailed}
+use Rattle.leveldb_store.specs.Switch.{IsManifestLost}
 use Rattle.leveldb_store.specs.Written.{IsWritten}
 
 module _ {E F : Type 0} (env : Ghosts E F) (from to : E) where
@@ -37,3 +38,11 @@ pub record IsSoundCall {E F C T : Type 0} (env : Ghosts E F) (cmp : List ℕ →
       → IsWritten cmp meaning old (env.observed from).disk.files
       → IfErr result (λ status. IsUnbroken new ⊎ IsOutOfMemory status
       ⊎ HasFailed (env.failures from) (env.failures to))
+
+-- Whatever the files are, a call that fails breaks a store that isn't broken only if the manifest is
+-- lost, memory was out as an edit was appended to it, or the device failed.
+abbrev pub BreaksForCause : {E F C T : Type 0} → Ghosts E F → OpenStoreValue C → E
+    → Result T Status → OpenStoreValue C → E → Type 0
+BreaksForCause env old from result new to = IsUnbroken old
+    → IfErr result (λ status. IsUnbroken new ⊎ IsManifestLost env old from to status
+    ⊎ HasFailed (env.failures from) (env.failures to))

@@ -4,6 +4,7 @@
 
 pub mod build;
 pub mod damage;
+pub(crate) mod log_replay;
 pub mod merge_inputs;
 pub mod merge_tables;
 pub mod open_store;

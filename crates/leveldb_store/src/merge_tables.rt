@@ -64,8 +64,8 @@ impl<E: Env, C: UserCmp + Copy + Drop, FP: FilterPolicy + Copy + Drop> Merging<E
             (L.is_base plan.now.levels.now) (L.is_among plan.now.levels.now) in
             (first : ℕ) (read : List Pair) → HasMerged merge E.Env first read
             versions.old.set.next_file env.old self.old.passing self.old.outputs
-            → TakesPair merge E.Env first read (key.now, value.now) versions.old.set.next_file env.old
-            result versions.new.set.next_file env.new self.new.passing self.new.outputs }
+            → TakesPair merge E.Env first read (key.now, value.now) versions.old.set.next_file
+            env.old result versions.new.set.next_file env.new self.new.passing self.new.outputs }
         ensures numbers { MayGiveNumber versions.old.set versions.new.set }
         ensures version { versions.new.current ≡ versions.old.current }
     {

@@ -5,6 +5,7 @@ ghost use Rattle.leveldb_store.specs.OpenStore.{IsUnbroken};
 mod compact;
 mod compact_range;
 mod damage;
+mod end_opening;
 mod merge_files;
 mod obsolete;
 mod read;

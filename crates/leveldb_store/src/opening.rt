@@ -1,5 +1,5 @@
 //! Opening a store over its manifest, its tables and its logs.
-ghost use Rattle.std.specs.Prelude.{◌≡◌, IfOk};
+ghost use Rattle.std.specs.Prelude.{◌≡◌, IfOk, None};
 ghost use Rattle.leveldb_env.specs.Env.{HasCause};
 ghost use Rattle.leveldb_store.specs.BuildTable.{choices_of};
 ghost use Rattle.leveldb_version.specs.Format.{format_of};
@@ -33,7 +33,7 @@ impl<E: Env, C: UserCmp + Copy + Drop> OpenStore<E, C> {
     /// Opens the store under this path, whose lock the caller holds. A missing one is made, or
     /// `InvalidArgument` if the options say so; one that is there is `AlreadyExists` if they say
     /// so. What its logs have comes to memory, or to tables where a log isn't used on.
-    /// Returns `Corruption` where the files are no store. Obsolete files are left to `tidy_up`.
+    /// Returns `Corruption` where the files are no store. Obsolete files are left to `end_opening`.
     pub fn open<FP: FilterPolicy + Copy + Drop>(
         alloc: Global,
         env: &mut E,
@@ -51,6 +51,7 @@ impl<E: Env, C: UserCmp + Copy + Drop> OpenStore<E, C> {
             result }
         ensures bytes { BytesAreAppended E.Env env.old env.new }
         ensures cmp { IfOk result (λ value. value.cmp ≡ options.now.cmp) }
+        ensures none_waits { IfOk result (λ value. value.waiting ≡ None) }
     {
         let set = recover(alloc, env, name, options)?;
         begin_writing(alloc, env, name, options, set)

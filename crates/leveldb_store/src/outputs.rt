@@ -205,8 +205,8 @@ impl<E: Env, C: UserCmp + Copy + Drop, FP: FilterPolicy + Copy + Drop> Outputs<E
             (first : ℕ) (tables : List (List Pair)) → AreTables choices E.Env store.now first
             versions.old.set.next_file env.old self.old.done tables
             → AreCutBefore ((key.now, value.now) ∷ []) tables
-            → OnOk result (HaveOutputs choices E.Env store.now first versions.new.set.next_file env.new
-            self.new tables ((key.now, value.now) ∷ [])) }
+            → OnOk result (HaveOutputs choices E.Env store.now first versions.new.set.next_file
+            env.new self.new tables ((key.now, value.now) ∷ [])) }
         ensures changes { ChangesNewTables E.Env store.now versions.old.set.next_file
             versions.new.set.next_file env.old env.new }
         ensures cause { let choices = choices_of C.Cmp FP.FilterPolicy

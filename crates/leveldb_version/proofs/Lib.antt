@@ -3,6 +3,7 @@ pub mod FieldsLemmas
 pub mod CurrentLemmas
 pub mod VersionSetLemmas
 pub mod FullEditLemmas
+mod FilesInOrderLemmas
 pub mod SummaryLemmas
 pub mod VersionLemmas
 pub mod ChangeLemmas
@@ -53,6 +54,7 @@ pub mod SameStoreLemmas
 pub mod BytesLemmas
 pub mod RenameOpensLemmas
 pub mod ReplayLemmas
+mod ReplayFileLemmas
 pub mod RecoverLemmas
 pub mod RecoveredLemmas
 pub mod UsableLemmas

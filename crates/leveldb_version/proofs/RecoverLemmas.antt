@@ -1,30 +1,27 @@
 -- How a version set is recovered, a step at a time.
-use Rattle.std.specs.Prelude.{◌↔◌, ◌%◌, ◌^◌, IfSome, IsErrAnd, IsSome, IsSomeAnd, IsTrue, OnOk, OnErr, Result, Ok, Err, if◌then◌else◌, max, string_bytes}
-use Rattle.std.proofs.Common.{◌≡◌, ◌⊎◌, inl, inr, ⊎_elim, ℕ, ◌≤◌, ◌<◌, ◌+◌, Bool, true, false, List, [], ◌∷◌, ◌++◌, length, Option, None, Some, Vec, refl, sym, ◌∙◌, ap, subst, arith}
-use Rattle.std.specs.Global.{Global}
+use Rattle.std.specs.Prelude.{◌↔◌, ◌^◌, IfSome, IsErrAnd, IsSome, IsSomeAnd, IsTrue, Result, Ok, Err, if◌then◌else◌, max, string_bytes}
+use Rattle.std.proofs.Common.{◌≡◌, ◌⊎◌, inl, inr, ⊎_elim, ℕ, ◌≤◌, ◌<◌, ◌+◌, Bool, true, false, List, length, Option, None, Some, refl, sym, ◌∙◌, ap, subst, arith}
 use Rattle.std.specs.Option.{unwrap_or}
-use Rattle.leveldb_version.proofs.ReplayLemmas.{texts}
 use Rattle.std.specs.declared.cmp.Ordering.{Ordering}
 use Rattle.leveldb_base.specs.Error.{IsOutOfMemory}
 use Rattle.leveldb_base.specs.declared.error.Status.{Status}
 use Rattle.leveldb_base.specs.declared.error.StatusCode.TheVariants.{NotFound, NotSupported}
-use Rattle.leveldb_env.specs.Env.{BeforeOrAfter, ChangesFiles, File, Files, FilesUnchanged, HasCause, IsMissing, Observed, Run, SameLocks, bytes_of, created, in_folder, or_empty, synced, with_file}
+use Rattle.leveldb_env.specs.Env.{BeforeOrAfter, ChangesFiles, File, Files, HasCause, IsMissing, Observed, bytes_of, created, in_folder, or_empty, synced, with_file}
 use Rattle.leveldb_env.specs.WholeFiles.{IsFoundOr, IsLost, IsMissingFile}
-use Rattle.leveldb_env.proofs.EnvLemmas.{Run-mono, Within-mono, Within-trans, call, with_file-itself}
+use Rattle.leveldb_env.proofs.EnvLemmas.{Within-mono, Within-trans, with_file-itself}
 use Rattle.leveldb_env.proofs.WholeFilesLemmas.{found_cause}
-use Rattle.leveldb_mem.specs.Log.{End, IsLogFile, bad, clean, log_block_size}
+use Rattle.leveldb_mem.specs.Log.{End, IsLogFile, bad, clean}
 use Rattle.leveldb_mem.specs.Log.Files.{HasReadCause, IsHuge}
-use Rattle.leveldb_mem.specs.Log.Writer.{new_writer}
 use Rattle.leveldb_version.specs.Current.{IsCurrentText}
 use Rattle.leveldb_version.specs.CurrentFile.{IsCurrentUnread}
 use Rattle.leveldb_version.specs.Paths.{current_path}
-use Rattle.leveldb_version.specs.Recover.{HasRecordOfNoEdit, IsNamed, IsRead, IsReusable, IsUsable, LeavesFiles, ReadManifest, RecoverResult, Recovers, WhyUnrecovered, WhyUnusable, lost, next_number_after, no_edit, set_going_on, set_starting_anew, too_long, unread, unusable, used_up}
-use Rattle.leveldb_version.specs.RecoverSteps.{IsLogUnread, IsManifestAt, IsManifestRead, IsManifestUnread, IsPlan, IsSizedLog, set_settled}
-use Rattle.leveldb_version.specs.Replay.{AreReplayed, IsReplayOf, OneEncodesNoEdit}
+use Rattle.leveldb_version.specs.Recover.{HasRecordOfNoEdit, IsNamed, IsRead, IsUsable, ReadManifest, WhyUnrecovered, WhyUnusable, lost, no_edit, too_long, unread, unusable, used_up}
+use Rattle.leveldb_version.specs.RecoverSteps.{IsFileUnread, IsManifestAt, IsManifestRead, IsManifestUnread, IsPlan, IsSizedLog, IsSizedReplay}
+use Rattle.leveldb_version.specs.Replay.{AreReplayed, IsNoLogOfEdits, HasReplayCause, IsNoManifest, IsReplayOf, IsReplayOfFile}
 use Rattle.leveldb_version.specs.Usable.{next_number_of}
 use Rattle.leveldb_version.specs.VersionEdit.{Edit}
 use Rattle.leveldb_version.specs.VersionSet.{live_after}
-use Rattle.leveldb_version.specs.VersionSetValue.{OpenManifest, VersionSetValue, in_use, unmade}
+use Rattle.leveldb_version.specs.VersionSetValue.{VersionSetValue}
 use Rattle.leveldb_version.specs.declared.version_set.recover.Plan.{Plan}
 use Rattle.leveldb_version.specs.declared.version_set.replay.Replayed.{Replayed}
 
@@ -46,25 +43,68 @@ cause_uncounted status same why = record { later = omega (arith, same); ok = tt;
 
 -- ---- reading a log and its size
 
-nothing_counted : {T : Type 0} (models_disk : Bool) (path : List ℕ) (old : Observed) (f0 f1 : ℕ) (answer : Result T Status) (got : T) → answer ≡ Ok got → HasReadCause models_disk path old f0 f1 answer → f1 ≡ f0
+nothing_counted : {T : Type 0} (models_disk : Bool) (path : List ℕ) (old : Observed) (f0 f1 : ℕ) (answer : Result T Status) (got : T) → answer ≡ Ok got → HasReplayCause models_disk path old f0 f1 answer → f1 ≡ f0
 nothing_counted {T} models_disk path old f0 f1 answer got is cause =
-    let P : Result T Status → Type 0 = λ r. HasReadCause models_disk path old f0 f1 r in
+    let P : Result T Status → Type 0 = λ r. HasReplayCause models_disk path old f0 f1 r in
     ⊎_elim
+    (λ (read : HasReadCause models_disk path old f0 f1 (Ok got)). ⊎_elim
     (λ (h : HasCause (IsMissing models_disk path old) f0 f1 (Ok got)). h.ok)
     (λ (h : IsErrAnd (Ok got) (IsHuge models_disk (old.disk.files path)) × (f1 ≡ f0)). h.1)
+    read)
+    (λ (h : IsErrAnd (Ok got) (IsNoManifest models_disk (old.disk.files path)) × (f1 ≡ f0)). h.1)
     (subst P is cause)
 
-pub size_unread : {T U V : Type 0} (models_disk : Bool) (path : List ℕ) (old mid : Observed) (f0 f1 f2 : ℕ) (logged : Result T Status) (got : T) (answer : Result V Status) (status : Status)
-    → logged ≡ Ok got → HasReadCause models_disk path old f0 f1 logged → (IsTrue models_disk → mid.disk.files ≡ old.disk.files)
-    → IsFoundOr path answer (Err status) → HasCause (IsMissing models_disk path mid) f1 f2 answer → HasCause {T = U} (IsLogUnread models_disk path old f0 f2) f0 f2 (Err status)
-size_unread {V = V} models_disk path old mid f0 f1 f2 logged got answer status is read still found size =
-    let same = nothing_counted models_disk path old f0 f1 logged got is read in
+-- an error of the replay where its file is found
+pub replay_refused : {T U : Type 0} (models_disk : Bool) (path : List ℕ) (old : Observed) (f0 f1 : ℕ) (answer : Result T Status) (status : Status)
+    → IsFoundOr path answer (Err status) → HasReplayCause models_disk path old f0 f1 answer → HasCause {T = U} (IsFileUnread models_disk path old f0 f1) f0 f1 (Err status)
+replay_refused {T} models_disk path old f0 f1 answer status found cause =
+    ⊎_elim
+    (λ (read : HasReadCause models_disk path old f0 f1 answer). ⊎_elim
+    (λ (h : HasCause (IsMissing models_disk path old) f0 f1 answer).
+    cause_of_error {T = T} status (λ lost. inl lost)
+    (λ why. ⊎_elim (λ lost. inl lost) (λ other. inr other.0) why)
+    (found_cause path answer (Err status) (λ none. none) found h))
+    (λ (h : IsErrAnd answer (IsHuge models_disk (old.disk.files path)) × (f1 ≡ f0)).
+    cause_uncounted status h.1 (inr (h.1, inl (as_it_was answer (IsHuge models_disk (old.disk.files path)) found h.0 (λ e huge gone. absurd (cc (sym huge.0 ∙ gone)))))))
+    read)
+    (λ (h : IsErrAnd answer (IsNoManifest models_disk (old.disk.files path)) × (f1 ≡ f0)).
+    cause_uncounted status h.1 (inr (h.1, inr (as_it_was answer (IsNoManifest models_disk (old.disk.files path)) found h.0 (λ e none gone. absurd (cc (sym none.0 ∙ gone)))))))
+    cause
+  where
+    -- an error that isn't `NotFound` stays
+    as_it_was : (answer : Result T Status) (P : Status → Type 0) → IsFoundOr path answer (Err status) → IsErrAnd answer P → ((e : Status) → P e → e.code ≡ NotFound → ⊥) → P status
+    as_it_was (Ok value) P found err other = absurd err
+    as_it_was (Err e) P (inl same) err other = let kept : e ≡ status = cc (same.1) in subst P kept err
+    as_it_was (Err e) P (inr gone) err other = absurd (other e err gone.0)
+
+pub size_unread : {T U V : Type 0} (models_disk : Bool) (path : List ℕ) (old mid : Observed) (f0 f1 f2 : ℕ) (replayed : Result T Status) (got : T) (answer : Result V Status) (status : Status)
+    → replayed ≡ Ok got → HasReplayCause models_disk path old f0 f1 replayed → (IsTrue models_disk → mid.disk.files ≡ old.disk.files)
+    → IsFoundOr path answer (Err status) → HasCause (IsMissing models_disk path mid) f1 f2 answer → HasCause {T = U} (IsFileUnread models_disk path old f0 f2) f0 f2 (Err status)
+size_unread {V = V} models_disk path old mid f0 f1 f2 replayed got answer status is read still found size =
+    let same = nothing_counted models_disk path old f0 f1 replayed got is read in
     let Kept : Type 0 = IsTrue models_disk → old.disk.files path ≡ None in
     let gone : (IsTrue models_disk → mid.disk.files path ≡ None) → Kept = λ none modelled. sym (ap (λ (f : Files). f path) (still modelled)) ∙ none modelled in
     let here : HasCause {T = V} (λ e. IsOutOfMemory e ⊎ (IsMissingFile path e × Kept × (f2 ≡ f1))) f1 f2 (Err status) = found_cause path answer (Err status) gone found size in
     let P : ℕ → Type 0 = λ n. HasCause {T = V} (λ e. IsOutOfMemory e ⊎ (IsMissingFile path e × Kept × (f2 ≡ n))) n f2 (Err status) in
     let there : HasCause {T = V} (IsLost models_disk path old f0 f2) f0 f2 (Err status) = subst P same here in
-    cause_of_error status (λ lost. inl lost) (λ why. ⊎_elim (λ lost. inl lost) (λ huge. inr huge.0) why) there
+    cause_of_error status (λ lost. inl lost) (λ why. ⊎_elim (λ lost. inl lost) (λ other. inr other.0) why) there
+
+-- the manifest was replayed, and then its size asked for
+pub sized_replay : (models_disk : Bool) (path : List ℕ) (old mid : Observed) (left : Replayed) (end : End) (size : ℕ)
+    → IsReplayOfFile models_disk (old.disk.files path) left end → (IsTrue models_disk → mid.disk.files ≡ old.disk.files)
+    → (IsTrue models_disk → IfSome (mid.disk.files path) (λ file. size ≡ length (bytes_of file)))
+    → IsSizedReplay models_disk (old.disk.files path) left end size
+sized_replay models_disk path old mid left end size replay still sized = record {
+  records = replay.records;
+  replayed = replay.replayed;
+  log = λ modelled.
+      let P : Files → Type 0 = λ f. IfSome (f path) (λ file. size ≡ length (bytes_of file)) in
+      both (old.disk.files path) (replay.log modelled) (subst P (still modelled) (sized modelled));
+}
+  where
+    both : (file : Option File) → IsSomeAnd file (λ it. IsLogFile (bytes_of it) replay.records end) → IfSome file (λ it. size ≡ length (bytes_of it)) → IsSizedLog file replay.records end size
+    both None log length_is = log
+    both (Some file) log length_is = (log, sym length_is)
 
 -- ---- reading the manifest
 
@@ -83,25 +123,34 @@ module _ (models_disk : Bool) (store : List ℕ) (old : Observed) where
   current_refused f0 f1 status cause = cause_of_error status (λ current. inl current)
       (λ why. ⊎_elim (λ memory. inl (inl (inl memory))) (λ e. inr e) (memory_or_uncounted models_disk store old f0 f1 status why)) cause
 
-  log_then : (path : List ℕ) (mid : Observed) (f0 f2 : ℕ) (e : Status) → (IsTrue models_disk → mid.disk.files ≡ old.disk.files) → IsLogUnread models_disk path mid f0 f2 e → IsLogUnread models_disk path old f0 f2 e
+  log_then : (path : List ℕ) (mid : Observed) (f0 f2 : ℕ) (e : Status) → (IsTrue models_disk → mid.disk.files ≡ old.disk.files) → IsFileUnread models_disk path mid f0 f2 e → IsFileUnread models_disk path old f0 f2 e
   log_then path mid f0 f2 e still (inl (inl memory)) = inl (inl memory)
   log_then path mid f0 f2 e still (inl (inr gone)) = inl (inr (gone.0, λ modelled. sym (ap (λ (f : Files). f path) (still modelled)) ∙ gone.1 modelled, gone.2))
-  log_then path mid f0 f2 e still (inr huge) = inr (
-    huge.0,
-    (
-      huge.1.0,
+  log_then path mid f0 f2 e still (inr (same, inl huge)) = inr (
+    same,
+    inl (
+      huge.0,
       λ modelled.
           let P : Files → Type 0 = λ f. IsSomeAnd (f path) (λ file. 2 ^ 64 ≤ length (bytes_of file)) in
-          subst P (still modelled) (huge.1.1 modelled),
+          subst P (still modelled) (huge.1 modelled),
+    ),
+  )
+  log_then path mid f0 f2 e still (inr (same, inr none)) = inr (
+    same,
+    inr (
+      none.0,
+      λ modelled.
+          let P : Files → Type 0 = λ f. IsSomeAnd (f path) (λ file. IsNoLogOfEdits (bytes_of file)) in
+          subst P (still modelled) (none.1 modelled),
     ),
   )
 
   pub named_unread : {T U : Type 0} (path name : List ℕ) (n : ℕ) (mid : Observed) (f0 f1 f2 : ℕ) (status : Status) → path ≡ in_folder store name
       → (IsTrue models_disk → IsNamed store old.disk.files name n) → (IsTrue models_disk → mid.disk.files ≡ old.disk.files) → f1 ≡ f0
-      → HasCause {T = T} (IsLogUnread models_disk path mid f1 f2) f1 f2 (Err status) → HasCause {T = U} (IsManifestUnread models_disk store old f0 f2) f0 f2 (Err status)
+      → HasCause {T = T} (IsFileUnread models_disk path mid f1 f2) f1 f2 (Err status) → HasCause {T = U} (IsManifestUnread models_disk store old f0 f2) f0 f2 (Err status)
   named_unread {T} path name n mid f0 f1 f2 status path_is named still same cause =
-      let P : List ℕ → Type 0 = λ p. HasCause {T = T} (IsLogUnread models_disk p mid f1 f2) f1 f2 (Err status) in
-      let Q : ℕ → Type 0 = λ f. HasCause {T = T} (IsLogUnread models_disk (in_folder store name) mid f f2) f f2 (Err status) in
+      let P : List ℕ → Type 0 = λ p. HasCause {T = T} (IsFileUnread models_disk p mid f1 f2) f1 f2 (Err status) in
+      let Q : ℕ → Type 0 = λ f. HasCause {T = T} (IsFileUnread models_disk (in_folder store name) mid f f2) f f2 (Err status) in
       let here : Q f0 = subst Q same (subst P path_is cause) in
       cause_of_error status
       (λ why. inr (name, n, named, log_then (in_folder store name) mid f0 f2 status still why))
@@ -153,22 +202,6 @@ module _ (models_disk : Bool) (old : VersionSetValue) (files : Files) (path : Li
         size = log.2.1;
       }
 
-  has_no_edit : (status : Status) → OneEncodesNoEdit records status → IsTrue models_disk → IsNamed old.store files read.at.name number × HasRecordOfNoEdit old.store files read.at.name
-  has_no_edit status one modelled =
-      let log = some_and (λ (file : File). IsLogFile (bytes_of file) records end × (length (bytes_of file) ≡ size)) (files path) (read.read modelled) in (
-        read.at.named modelled,
-        record {
-          manifest = log.0;
-          there = ap files (sym read.at.path_is) ∙ log.1;
-          records = records;
-          end = end;
-          read = log.2.0;
-          bytes = one.bytes;
-          is_record = one.is_record;
-          no_edit = one.no_edit.none;
-        },
-      )
-
 -- the number of the next file, by edits and by what they left
 next_same : (old_next number : ℕ) (edits : List Edit) (left : Replayed) → IsReplayOf edits left
     → next_number_of old_next number left
@@ -182,12 +215,6 @@ end_is_clean false e = absurd (cc)
 clean_end : (is_clean : Bool) → IsTrue is_clean → (if is_clean then clean else bad) ≡ clean
 clean_end true e = refl
 clean_end false e = absurd (cc)
-
--- why records aren't replayed, of a slice and of the vector that it borrows
-pub why_of_replay : (slice vecs : List (Vec ℕ Global)) (status : Status) → slice ≡ vecs → IsOutOfMemory status ⊎ OneEncodesNoEdit (texts slice) status → IsOutOfMemory status ⊎ OneEncodesNoEdit (texts vecs) status
-why_of_replay slice vecs status same why =
-    let P : List (Vec ℕ Global) → Type 0 = λ them. IsOutOfMemory status ⊎ OneEncodesNoEdit (texts them) status in
-    subst P same why
 
 -- ---- the plan
 
@@ -209,7 +236,22 @@ module _ (models_disk : Bool) (cmp : List ℕ → List ℕ → Ordering) (compar
   why_unread : (failed now_failed : ℕ) (e : Status) → IsManifestUnread models_disk old.store before failed now_failed e → Why failed now_failed e
   why_unread failed now_failed e (inl current) = unread current
   why_unread failed now_failed e (inr (name, n, named, inl gone)) = lost name n named gone
-  why_unread failed now_failed e (inr (name, n, named, inr huge)) = too_long name n huge.0 named huge.1
+  why_unread failed now_failed e (inr (name, n, named, inr (same, inl huge))) = too_long name n same named huge
+  why_unread failed now_failed e (inr (name, n, named, inr (same, inr none))) = no_edit name n same none.0 (λ modelled. (named modelled, has_no_edit (in_folder old.store name) name refl (none.1 modelled)))
+    where
+      has_no_edit : (path : List ℕ) (name : List ℕ) → path ≡ in_folder old.store name → IsSomeAnd (before.disk.files path) (λ file. IsNoLogOfEdits (bytes_of file)) → HasRecordOfNoEdit old.store before.disk.files name
+      has_no_edit path name at has =
+          let log = some_and (λ (file : File). IsNoLogOfEdits (bytes_of file)) (before.disk.files path) has in
+          record {
+            manifest = log.0;
+            there = ap before.disk.files (sym at) ∙ log.1;
+            records = log.2.records;
+            end = log.2.end;
+            read = log.2.read;
+            bytes = log.2.bytes;
+            is_record = log.2.is_record;
+            no_edit = log.2.no_edit;
+          }
 
   pub plan_unread : {T U : Type 0} (store : List ℕ) (f0 f1 : ℕ) (status : Status) → store ≡ old.store → HasCause {T = T} (IsManifestUnread models_disk store before f0 f1) f0 f1 (Err status)
       → HasCause {T = U} (Why f0 f1) f0 f1 (Err status)
@@ -220,12 +262,6 @@ module _ (models_disk : Bool) (cmp : List ℕ → List ℕ → Ordering) (compar
 
   module _ (path : List ℕ) (number : ℕ) (records : List (List ℕ)) (end : End) (size : ℕ) (read : IsManifestRead models_disk old.store before.disk.files path number records end size)
       (f0 f1 : ℕ) (same : f1 ≡ f0) where
-    pub plan_unreplayed : {U : Type 0} (status : Status) → IsOutOfMemory status ⊎ OneEncodesNoEdit records status → HasCause {T = U} (Why f0 f1) f0 f1 (Err status)
-    plan_unreplayed status why = cause_uncounted status same (⊎_elim
-        (λ (memory : IsOutOfMemory status). unread (inl (inl memory)))
-        (λ (one : OneEncodesNoEdit records status). no_edit read.at.name number same one.no_edit.code (has_no_edit models_disk old before.disk.files path number records end size read status one))
-        why)
-
     module _ (left : Replayed) (replayed : AreReplayed records left) where
       pub plan_unusable : {U : Type 0} (status : Status) → ((edits : List Edit) → IsReplayOf edits left → WhyUnusable cmp comparator edits status) → HasCause {T = U} (Why f0 f1) f0 f1 (Err status)
       plan_unusable status why = cause_uncounted status same (unusable (manifest_of models_disk old before.disk.files path number records end size read left replayed) same

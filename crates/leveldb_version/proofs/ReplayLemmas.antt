@@ -1,11 +1,8 @@
 -- What the records of a manifest leave, one after another.
-use Rattle.std.specs.Prelude.{◌≢◌, ◌↔◌, Contains, IfSome, IsTrue, fold}
-use Rattle.std.proofs.Common.{◌≡◌, ◌⊎◌, inl, inr, ⊎_elim, ℕ, ◌≤◌, ◌<◌, ◌+◌, Bool, true, false, List, [], ◌∷◌, ◌++◌, length, map, take, drop, get_or, Option, None, Some, Vec, refl, sym, ◌∙◌, ap, subst, append_assoc}
-use Rattle.std.specs.Global.{Global}
+use Rattle.std.specs.Prelude.{◌↔◌, Contains, IfSome}
+use Rattle.std.proofs.Common.{◌≡◌, ◌⊎◌, inl, inr, ⊎_elim, ℕ, ◌≤◌, List, [], ◌∷◌, ◌++◌, Option, None, Some, refl, sym, ◌∙◌, ap, subst}
 use Rattle.std.specs.Option.{option_or}
-use Rattle.std.proofs.lemmas.List.{map_more, map-append, take-append-drop}
 use Rattle.std.proofs.lemmas.List.Sums.{fold-append}
-use Rattle.leveldb_base.proofs.HistoryLemmas.{in_none, in_front, in_rest, in_cases}
 use Rattle.std.proofs.lemmas.List.Elements.{Contains-append_left, Contains-push, Contains-push_cases}
 use Rattle.leveldb_base.specs.Error.{IsOutOfMemory}
 use Rattle.leveldb_base.specs.declared.error.Status.{Status}
@@ -14,9 +11,8 @@ use Rattle.leveldb_base.specs.KeyTypes.{greatest_sequence}
 use Rattle.leveldb_version.specs.Batches.{Each}
 use Rattle.leveldb_version.specs.FullEdit.{full_after}
 use Rattle.leveldb_version.specs.Store.{LastNumbersFit}
-use Rattle.leveldb_version.specs.VersionEdit.{Edit, IsEdit, edit_of, empty_edit}
-use Rattle.leveldb_version.specs.VersionSet.{live_after}
-use Rattle.leveldb_version.specs.Replay.{AreReplayed, EncodesNoEdit, IsReplayOf, IsOneMore, LastNumberFits, OneEncodesNoEdit}
+use Rattle.leveldb_version.specs.VersionEdit.{Edit, IsEdit, NewFile, empty_edit}
+use Rattle.leveldb_version.specs.Replay.{AreLeft, AreReplayedTo, EncodesNoEdit, IsOneMore, LastNumberFits, TakesEdit, with_files}
 use Rattle.leveldb_version.specs.declared.version_set.replay.Replayed.{Replayed}
 use Rattle.leveldb_version.proofs.VersionSetLemmas.{applies_in_order}
 
@@ -27,24 +23,6 @@ Each-push R [] [] x y each r = (r, tt)
 Each-push R [] (b ∷ ys) x y each r = absurd each
 Each-push R (a ∷ xs) [] x y each r = absurd each
 Each-push R (a ∷ xs) (b ∷ ys) x y each r = (each.0, Each-push R xs ys x y each.1 r)
-
--- what each vector has
-abbrev pub texts : List (Vec ℕ Global) → List (List ℕ)
-texts vecs = map (λ v. v.items) vecs
-
-pub texts_more : (vecs : List (Vec ℕ Global)) (i : ℕ) (vec : Vec ℕ Global) (text : List ℕ) → i < length vecs → vec ≡ get_or vecs i vec → text ≡ vec.items
-    → texts (take (i + 1) vecs) ≡ texts (take i vecs) ++ text ∷ []
-texts_more vecs i vec text inside is same =
-    map_more (λ (v : Vec ℕ Global). v.items) vecs i vec inside ∙ ap (λ t. texts (take i vecs) ++ t ∷ []) (ap (λ (v : Vec ℕ Global). v.items) (sym is) ∙ sym same)
-
--- the text at this place is one of all
-pub text_is_one : (vecs : List (Vec ℕ Global)) (i : ℕ) (vec : Vec ℕ Global) (text : List ℕ) → i < length vecs → vec ≡ get_or vecs i vec → text ≡ vec.items
-    → Contains (texts vecs) text
-text_is_one vecs i vec text inside is same =
-    let front : Contains (texts (take (i + 1) vecs)) text = subst (λ ts. Contains ts text) (sym (texts_more vecs i vec text inside is same)) (Contains-push (texts (take i vecs)) text) in
-    let split : texts vecs ≡ texts (take (i + 1) vecs) ++ texts (drop (i + 1) vecs) =
-    ap texts (sym (take-append-drop (i + 1) vecs)) ∙ map-append (λ (v : Vec ℕ Global). v.items) (take (i + 1) vecs) (drop (i + 1) vecs) in
-    subst (λ ts. Contains ts text) (sym split) (Contains-append_left (texts (take (i + 1) vecs)) (texts (drop (i + 1) vecs)) text front)
 
 -- ---- last sequence numbers
 
@@ -72,8 +50,9 @@ numbers_fit_more edits edit = (
 
 -- ---- one edit more
 
-pub left_by_one_more : (edits : List Edit) (edit : Edit) (old new : Replayed) → IsReplayOf edits old → IsOneMore edit old new → IsReplayOf (edits ++ edit ∷ []) new
-left_by_one_more edits edit old new left more =
+pub left_by_one_more : (edits : List Edit) (edit old_full : Edit) (old : Replayed) (new_full : Edit) (new : Replayed) → AreLeft edits old_full old → IsOneMore edit old_full old new_full new
+    → AreLeft (edits ++ edit ∷ []) new_full new
+left_by_one_more edits edit old_full old new_full new left more =
     let applied = applies_in_order edits edit in
     let fit = numbers_fit_more edits edit in
     record {
@@ -88,23 +67,16 @@ left_by_one_more edits edit old new left more =
       );
     }
 
-pub replayed_one_more : (records : List (List ℕ)) (bytes : List ℕ) (old new : Replayed) → AreReplayed records old → (edit : Edit) × IsEdit bytes edit × IsOneMore edit old new
-    → AreReplayed (records ++ bytes ∷ []) new
-replayed_one_more records bytes old new were more = record {
-  edits = were.edits ++ more.0 ∷ [];
-  each = Each-push IsEdit records were.edits bytes more.0 were.each more.1;
-  left = left_by_one_more were.edits more.0 old new were.left more.2;
+pub replayed_one_more : (records : List (List ℕ)) (bytes : List ℕ) (old : Replayed) (old_files : List NewFile) (new : Replayed) (new_files : List NewFile)
+    → AreReplayedTo records (with_files old.full old_files) old → TakesEdit bytes old old_files new new_files
+    → AreReplayedTo (records ++ bytes ∷ []) (with_files new.full new_files) new
+replayed_one_more records bytes old old_files new new_files were takes = record {
+  edits = were.edits ++ takes.edit ∷ [];
+  each = Each-push IsEdit records were.edits bytes takes.edit were.each takes.is_edit;
+  left = left_by_one_more were.edits takes.edit (with_files old.full old_files) old (with_files new.full new_files) new were.left takes.more;
 }
 
 -- bytes that aren't decoded encode no edit, or memory was out
 pub no_edit_decoded : (bytes : List ℕ) (status : Status) → (status.code ≡ Corruption → (edit : Edit) → IsEdit bytes edit → ⊥) → (status.code ≡ Corruption) ⊎ IsOutOfMemory status
     → IsOutOfMemory status ⊎ EncodesNoEdit bytes status
 no_edit_decoded bytes status none why = ⊎_elim (λ (code : status.code ≡ Corruption). inr (record { code = code; none = none code })) (λ (memory : IsOutOfMemory status). inl memory) why
-
--- a record that encodes no edit is one of all
-pub one_encodes_none : (vecs : List (Vec ℕ Global)) (i : ℕ) (vec : Vec ℕ Global) (text : List ℕ) (status : Status) → i < length vecs → vec ≡ get_or vecs i vec → text ≡ vec.items
-    → IsOutOfMemory status ⊎ EncodesNoEdit text status → IsOutOfMemory status ⊎ OneEncodesNoEdit (texts vecs) status
-one_encodes_none vecs i vec text status inside is same why = ⊎_elim
-    (λ (memory : IsOutOfMemory status). inl memory)
-    (λ (none : EncodesNoEdit text status). inr (record { bytes = text; is_record = text_is_one vecs i vec text inside is same; no_edit = none }))
-    why

@@ -4,6 +4,7 @@ pub mod Current
 pub mod VersionSet
 pub mod CurrentFile
 pub mod FullEdit
+pub mod FilesInOrder
 pub mod Summary
 pub mod VersionSetValue
 pub mod Version

@@ -10,7 +10,7 @@ use Rattle.leveldb_mem.specs.Log.{End, IsLogFile}
 use Rattle.leveldb_mem.specs.Log.Files.{IsHuge}
 use Rattle.leveldb_version.specs.CurrentFile.{IsCurrentUnread}
 use Rattle.leveldb_version.specs.Recover.{IsNamed, IsRead, IsReusable, IsUsable, ReadManifest, RecoverResult, next_number_after}
-use Rattle.leveldb_version.specs.Replay.{IsReplayOf}
+use Rattle.leveldb_version.specs.Replay.{AreReplayed, IsNoManifest, IsReplayOf}
 use Rattle.leveldb_version.specs.VersionEdit.{edit_of}
 use Rattle.leveldb_version.specs.VersionSetValue.{ManifestState, VersionSetValue}
 use Rattle.leveldb_version.specs.declared.version_set.recover.Plan.{Plan}
@@ -23,11 +23,20 @@ abbrev pub IsSizedLog : Option File → List (List ℕ) → End → ℕ → Type
 IsSizedLog file records end size = IsSomeAnd file (λ file.
     IsLogFile (bytes_of file) records end × (length (bytes_of file) ≡ size))
 
--- the log is missing, or has a record of 2^64 bytes; or memory was out
-abbrev pub IsLogUnread : Bool → List ℕ → Observed → ℕ → ℕ → Status → Type 0
-IsLogUnread models_disk path before failed now_failed e =
+-- the value has what the records of a file leave, which has this end and this size
+pub record IsSizedReplay (models_disk : Bool) (file : Option File) (left : Replayed) (end : End)
+    (size : ℕ) : Type 0 where
+  pub records : List (List ℕ)
+  pub replayed : AreReplayed records left
+  pub log : IsTrue models_disk → IsSizedLog file records end size
+
+-- the manifest's file is missing, or has a record of 2^64 bytes, or one that encodes no edit; or
+-- memory was out
+abbrev pub IsFileUnread : Bool → List ℕ → Observed → ℕ → ℕ → Status → Type 0
+IsFileUnread models_disk path before failed now_failed e =
     IsLost models_disk path before failed now_failed e
-    ⊎ ((now_failed ≡ failed) × IsHuge models_disk (before.disk.files path) e)
+    ⊎ ((now_failed ≡ failed) × (IsHuge models_disk (before.disk.files path) e
+    ⊎ IsNoManifest models_disk (before.disk.files path) e))
 
 -- the manifest of this path and number is the one that `CURRENT` names
 pub record IsManifestAt (models_disk : Bool) (store : List ℕ) (files : Files) (path : List ℕ)
@@ -48,7 +57,7 @@ IsManifestUnread models_disk store before failed now_failed status =
     IsCurrentUnread models_disk store before failed now_failed status
     ⊎ ((name : List ℕ) × (n : ℕ)
     × (IsTrue models_disk → IsNamed store before.disk.files name n)
-    × IsLogUnread models_disk (in_folder store name) before failed now_failed status)
+    × IsFileUnread models_disk (in_folder store name) before failed now_failed status)
 
 -- ---- what the set is to become
 

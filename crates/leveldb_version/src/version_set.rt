@@ -13,6 +13,7 @@ use std::alloc::Global;
 mod compactions;
 mod current;
 mod current_file;
+mod files_in_order;
 mod full_edit;
 mod live_files;
 mod log_edit;

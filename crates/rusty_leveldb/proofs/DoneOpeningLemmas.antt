@@ -1,9 +1,7 @@
 -- An opening that is done.
 use Rattle.std.specs.Prelude.{IsSome}
-use Rattle.std.proofs.Common.{◌≡◌, ◌≢◌, ◌≤◌, ◌∙◌, ⊎_elim, inl, inr, ℕ, Bool, true, false, List, [], Ordering, sym, ap, subst, arith, Some, None, Ok, IsTrue}
-use Rattle.leveldb_base.specs.declared.types.FileType.{FileType}
-use Rattle.leveldb_base.specs.declared.types.FileType.TheVariants.{Descriptor, Log, Table, Temp}
-use Rattle.leveldb_env.specs.Env.{Files, Run, in_folder}
+use Rattle.std.proofs.Common.{◌≡◌, ◌≢◌, ◌≤◌, ◌∙◌, ⊎_elim, inl, inr, ℕ, Bool, true, false, List, [], sym, ap, subst, arith, None, Some, Ok, IsTrue}
+use Rattle.leveldb_env.specs.Env.{Files, Run}
 use Rattle.leveldb_env.specs.Options.{Boxed, OptionsOf}
 use Rattle.leveldb_env.specs.declared.env.Env.{Ghosts}
 use Rattle.leveldb_env.specs.declared.filter.FilterPolicy.{Ghosts as FilterGhosts}
@@ -12,23 +10,25 @@ use Rattle.leveldb_table.specs.Cache.{Cached, value_of}
 use Rattle.leveldb_version.specs.Contents.{made}
 use Rattle.leveldb_version.specs.Paths.{lock_path}
 use Rattle.leveldb_version.specs.StoreSteps.{AppendedAreBytes}
-use Rattle.leveldb_version.specs.TableCache.{IsNewTableCache, MatchesFiles, StoreTable, TableOptions, table_key}
+use Rattle.leveldb_version.specs.TableCache.{IsNewTableCache, MatchesFiles, StoreTable, TableOptions, table_key, table_options}
 use Rattle.leveldb_version.specs.VersionSetValue.{VersionSetValue}
-use Rattle.leveldb_version.specs.Writing.{IsObsolete}
 use Rattle.leveldb_version.specs.declared.table_cache.TableCache.{TableCache}
-use Rattle.leveldb_store.proofs.OpenTablesLemmas.{open_after_removal}
+use Rattle.leveldb_store.proofs.KeptFilesLemmas.{keeping, opens_keeping}
 use Rattle.leveldb_store.specs.BuildTable.{TableChoices}
+use Rattle.leveldb_store.specs.Compact.{FailsToMerge, KeepsCompacted}
+use Rattle.leveldb_store.specs.EndsOpening.{EndsOpening}
 use Rattle.leveldb_version.specs.Format.{Agrees, Format, Meaning}
 use Rattle.leveldb_store.specs.OpenStore.{OpenStoreValue}
-use Rattle.leveldb_store.specs.OpenTables.{AreOpenTablesOf, ClosesObsolete}
-use Rattle.leveldb_store.specs.OpensStore.{IsForbidden, LacksUsableEdits, OpensStore, SameBesideOwn}
-use Rattle.leveldb_store.specs.Room.{TellsOnly, TidiesUp}
-use Rattle.leveldb_store.specs.SoundCall.{BytesAreAppended, TimeGoesOn}
-use Rattle.leveldb_store.specs.Switch.{IsObsoletePath, RemovesNoOther}
-use Rattle.leveldb_store.specs.Written.{IsData, KeepsWritten}
+use Rattle.leveldb_store.specs.OpenTables.{AreOpenTablesOf}
+use Rattle.leveldb_store.specs.OpensStore.{IsForbidden, LacksUsableEdits, OpensStore}
+use Rattle.leveldb_store.specs.Read.{HasOpenTables}
+use Rattle.leveldb_store.specs.Room.{TellsOnly}
+use Rattle.leveldb_store.specs.SoundCall.{BytesAreAppended}
+use Rattle.leveldb_store.specs.Written.{IsDataPath}
+use Rattle.leveldb_store.specs.WrittenFrom.{KeepsWrittenFrom}
 use Rattle.rusty_leveldb.specs.Boxes.{EngineOf, InternalOrder}
 use Rattle.rusty_leveldb.specs.Calls.{EngineOpens}
-use Rattle.rusty_leveldb.specs.Engine.{AnswersAs, formats_of, HasOwnTables, IsOpening, IsStoreName, Recalls, no_engine, options_in, scene}
+use Rattle.rusty_leveldb.specs.Engine.{AnswersAs, formats_of, HasOwnTables, IsOpening, IsStoreName, Recalls, no_engine, options_in, scene, tables_by}
 use Rattle.rusty_leveldb.specs.Frame.{IsOwn, Spares}
 use Rattle.rusty_leveldb.specs.Serves.{Goes, IsSpared, Represents}
 use Rattle.rusty_leveldb.specs.State.{Opening, State, done, open_mode, open_store}
@@ -39,63 +39,23 @@ use Rattle.rusty_leveldb.proofs.ReadsLemmas.{IsNamed}
 use Rattle.rusty_leveldb.proofs.RowLemmas.{open_row}
 use Rattle.rusty_leveldb.proofs.UnderLockLemmas.{IsTaken, LooksNoFurther, but, late_spares, never_here}
 
--- ---- what is deleted
+-- ---- the open tables
 
--- an obsolete file is of data
-obsolete_data : (set : VersionSetValue) (kind : FileType) (n : ℕ) → IsObsolete set kind n
-    → IsData kind
-obsolete_data set Log n is = tt
-obsolete_data set Descriptor n is = tt
-obsolete_data set Table n is = tt
-obsolete_data set Temp n is = tt
-obsolete_data set kind n is = absurd is
-
-removed_spares : (set : VersionSetValue) (store : List ℕ) (before after : Files)
-    → set.store ≡ store → RemovesNoOther set before after → SameBesideOwn store before after
-removed_spares set store before after is removes path foreign = ⊎_elim
-    (λ (stays : after path ≡ before path). stays)
-    (λ (gone : IsObsoletePath set path × (after path ≡ None)).
-    let one = gone.0 in absurd (foreign (inl (
-      one.1.1,
-      obsolete_data set one.1.1 one.1.0 one.1.3,
-      (
-        one.0,
-        one.1.0,
-        one.1.2,
-        subst (λ (s : List ℕ). path ≡ in_folder s one.0) is one.2,
-      ),
-    ))))
-    (removes path)
-
-removed_bytes : (set : VersionSetValue) (before after : Files) → RemovesNoOther set before after
-    → AppendedAreBytes before → AppendedAreBytes after
-removed_bytes set before after removes bytes name file there = ⊎_elim
-    (λ (stays : after name ≡ before name). bytes name file (sym stays ∙ there))
-    (λ (gone : IsObsoletePath set name × (after name ≡ None)).
-    absurd (let never : None ≡ Some file = sym gone.1 ∙ there in cc))
-    (removes name)
-
--- The open tables are those of a store that was opened once obsolete files are deleted, where none
--- was open before.
-pub opened_tables : {E C FP F : Type 0} {B : Boxed} {keys : InternalOrder C} (env : Ghosts E F)
-    (by : TableOptions C FP) (cmp : List ℕ → List ℕ → Ordering) (value : OpenStoreValue C)
-    (options : OptionsOf C FP B) (none tables : TableCache E C FP F) (opened to : E)
-    (store : List ℕ) → value.set.store ≡ store → IsNewTableCache store options none
+-- Those of a store are none, where none is open.
+pub none_open : {E C FP F : Type 0} {B : Boxed} {keys : InternalOrder C} (env : Ghosts E F)
+    (by : TableOptions C FP) (set : VersionSetValue) (options : OptionsOf C FP B)
+    (none : TableCache E C FP F) (opened : E) (store : List ℕ) → set.store ≡ store
+    → IsNewTableCache store options none
     → ((by : TableOptions C FP) (files : Files) → MatchesFiles keys env by files none)
-    → TidiesUp env cmp value opened to → ClosesObsolete env value.set opened none to tables
-    → IsTrue env.models_disk
-    → AreOpenTablesOf keys env by value.set (env.observed to).disk.files tables
-opened_tables {E} {C} {FP} {F} env by cmp value options none tables opened to store
-    path is_new matches tidies closes modelled =
-    open_after_removal env by value.set (env.observed opened).disk.files
-    (env.observed to).disk.files (tidies.others modelled) none tables closes.closes (record {
-      path = is_new.path ∙ sym path;
-      given = λ number fits is_open.
-          let never : false ≡ true = subst
-          (λ (tables : Cached (StoreTable C FP F)).
-          IsSome (value_of (table_key number) tables.pairs)) is_new.tables is_open in absurd (cc never);
-      matches = matches by (env.observed opened).disk.files;
-    })
+    → AreOpenTablesOf keys env by set (env.observed opened).disk.files none
+none_open {E} {C} {FP} {F} env by set options none opened store path is_new matches = record {
+  path = is_new.path ∙ sym path;
+  given = λ number fits is_open.
+      let never : false ≡ true = subst
+      (λ (tables : Cached (StoreTable C FP F)).
+      IsSome (value_of (table_key number) tables.pairs)) is_new.tables is_open in absurd (cc never);
+  matches = matches by (env.observed opened).disk.files;
+}
 
 module _ {E C FP F P : Type 0} {B : Boxed} {keys : InternalOrder C} {key_filters : FilterGhosts P}
     (env : Ghosts E F) (choices : OptionsOf C FP B → TableChoices keys key_filters)
@@ -103,20 +63,23 @@ module _ {E C FP F P : Type 0} {B : Boxed} {keys : InternalOrder C} {key_filters
     (engine : EngineOf E C FP F B)
     (took : IsTrue env.models_disk → IsTaken store (env.observed from) (env.observed taken))
     (limit : ℕ)
-    (opens : OpensStore env store asked.format asked.create_if_missing asked.error_if_exists taken limit
-    (Ok engine.store) opened)
+    (first : OpenStoreValue C)
+    (opens_first : OpensStore env store asked.format asked.create_if_missing asked.error_if_exists
+    taken limit (Ok first) opened)
     (opens_count : env.failures opened ≡ env.failures taken)
-    (bytes_go : BytesAreAppended env taken opened)
-    (tidies : TidiesUp env asked.format.order engine.store opened to)
-    (tidy_time : TimeGoesOn env opened to) (mode : engine.mode ≡ open_mode)
+    (bytes_go : BytesAreAppended env taken opened) (cache : TableCache E C FP F)
+    (no_open : IsTrue env.models_disk → AreOpenTablesOf keys env
+    (table_options (formats_of choices options) options) first.set (env.observed opened).disk.files
+    cache)
+    (ends : EndsOpening keys env (table_options (formats_of choices options) options) first opened
+    cache (choices options) (Ok tt) engine.store to engine.tables)
+    (mode : engine.mode ≡ open_mode)
     (unheld : engine.snapshots ≡ record { held = []; given = 0 })
     (lock : engine.lock ≡ lock_path store)
-    (tells : TellsOnly options engine.options) (cmp : engine.store.cmp ≡ options.cmp)
+    (tells : TellsOnly options engine.options) (cmp : first.cmp ≡ options.cmp)
     (ignores : (a b : OptionsOf C FP B) → TellsOnly a b → formats_of choices b ≡ formats_of choices a)
     (asked_is : formats_of choices options ≡ asked.format)
-    (counted : env.failures taken ≡ env.failures from)
-    (tables : IsTrue env.models_disk
-    → HasOwnTables keys env (formats_of choices) engine (env.observed to).disk.files)
+    (counted : env.failures taken ≡ env.failures from) (is_limit : limit ≡ options.write_buffer_size)
     (well : IsStoreName store × IsTrue asked.fits × IsTrue asked.compresses) where
   abbrev formats : OptionsOf C FP B → Format
   formats = formats_of choices
@@ -124,25 +87,60 @@ module _ {E C FP F P : Type 0} {B : Boxed} {keys : InternalOrder C} {key_filters
   abbrev here : Files
   here = (env.observed taken).disk.files
 
+  -- the store as it was opened, which keeps its files or not
+  abbrev value : OpenStoreValue C
+  value = keeping first engine.store.keeps_files
+
+  opens : OpensStore env store asked.format asked.create_if_missing asked.error_if_exists taken limit
+      (Ok value) opened
+  opens = opens_keeping first engine.store.keeps_files env store asked.format
+      asked.create_if_missing asked.error_if_exists taken limit opened opens_first
+
+  -- what the end of the opening keeps
+  abbrev kept : KeepsCompacted keys env (table_options (formats_of choices options) options)
+      value opened cache value.set.last_sequence
+      (FailsToMerge keys env (table_options (formats_of choices options) options)
+      value opened cache (choices options)) ends.compacted
+      engine.store to engine.tables
+  kept = ends.compacts.keeps
+
+  same_cmp : engine.store.cmp ≡ options.cmp
+  same_cmp = kept.rest.cmp ∙ cmp
+
   tells_in : TellsOnly options (options_in engine)
   tells_in = record {
     rest = ap (λ (o : OptionsOf C FP B). record o { cmp = engine.store.cmp }) tells.rest
-        ∙ ap (λ (c : C). record options { log = engine.options.log; cmp = c }) cmp;
+        ∙ ap (λ (c : C). record options { log = engine.options.log; cmp = c }) same_cmp;
     sink = tells.sink;
   }
 
   format : formats (options_in engine) ≡ asked.format
   format = ignores options (options_in engine) tells_in ∙ asked_is
 
+  -- its tables are opened as those of the options
+  by_options : tables_by formats engine ≡ table_options (formats options) options
+  by_options = ap (λ (f : Format). table_options f (options_in engine))
+      (ignores options (options_in engine) tells_in)
+      ∙ ap (λ (o : OptionsOf C FP B). table_options (formats options) o) tells_in.rest
+
+  has_open : IsTrue env.models_disk → HasOpenTables keys env
+      (table_options (formats_of choices options) options) value
+      opened cache
+  has_open modelled = record { modelled = modelled; are = no_open modelled }
+
+  tables : IsTrue env.models_disk → HasOwnTables keys env formats engine (env.observed to).disk.files
+  tables modelled = subst (λ (by : TableOptions C FP). AreOpenTablesOf keys env by engine.store.set
+      (env.observed to).disk.files engine.tables) (sym by_options) (kept.still_open (has_open modelled))
+
   later : env.failures from ≤ env.failures to
-  later = omega (arith, counted, opens_count, tidies.later)
+  later = omega (arith, counted, opens_count, kept.cause.later)
 
   may : IsTrue env.models_disk → LooksNoFurther store asked here → ⊥
   may modelled looks = (opens.stays modelled looks).0
 
   same_locks : IsTrue env.models_disk
       → (env.observed to).disk.locked ≡ (env.observed taken).disk.locked
-  same_locks modelled = tidies.locks modelled ∙ opens.locks modelled
+  same_locks modelled = kept.rest.locks modelled ∙ opens.locks modelled
 
   lock_held : IsTrue env.models_disk → IsTrue ((env.observed to).disk.locked (lock_path store))
   lock_held modelled = ap (λ (l : List ℕ → Bool). l (lock_path store)) (same_locks modelled)
@@ -152,8 +150,8 @@ module _ {E C FP F P : Type 0} {B : Boxed} {keys : InternalOrder C} {key_filters
       → Spares store (IsOwn store) (env.observed from).disk (env.observed to).disk
   spares modelled = late_spares store (env.observed from) (env.observed taken) (env.observed to)
       (took modelled)
-      (λ path foreign. removed_spares engine.store.set store (env.observed opened).disk.files
-      (env.observed to).disk.files opens.path (tidies.others modelled) path foreign
+      (λ path foreign. kept.rest.files modelled path
+      (λ theirs. foreign (inl (subst (λ (s : List ℕ). IsDataPath s path) opens.path theirs)))
       ∙ (opens.others modelled).has path foreign)
       (λ path differs. ap (λ (l : List ℕ → Bool). l path) (same_locks modelled))
 
@@ -166,23 +164,28 @@ module _ {E C FP F P : Type 0} {B : Boxed} {keys : InternalOrder C} {key_filters
     same_format = ap (λ (o : Opening). o.format) is.same
 
     opens_so : OpensStore env store opening.format asked.create_if_missing asked.error_if_exists taken limit
-        (Ok engine.store) opened
+        (Ok value) opened
     opens_so = subst (λ (f : Format). OpensStore env store f asked.create_if_missing
         asked.error_if_exists taken limit
-        (Ok engine.store) opened) (sym same_format) opens
+        (Ok value) opened) (sym same_format) opens
 
     bytes_taken : AppendedAreBytes here
     bytes_taken = made_bytes store (env.observed from).disk.files here (took modelled).run.has
         was.disk_is.bytes
 
     bytes_end : AppendedAreBytes (env.observed to).disk.files
-    bytes_end = removed_bytes engine.store.set (env.observed opened).disk.files
-        (env.observed to).disk.files (tidies.others modelled) (bytes_go modelled bytes_taken)
+    bytes_end = kept.sound.bytes modelled (bytes_go modelled bytes_taken)
 
-    tidied : KeepsWritten opening.format.order meaning engine.store (env.observed opened) engine.store
-        (env.observed to)
-    tidied = subst (λ (f : Format). KeepsWritten f.order meaning engine.store (env.observed opened)
-        engine.store (env.observed to)) (sym same_format) (tidies.keeps modelled meaning)
+    -- the format of the options is the one of the opening
+    is_format : formats options ≡ opening.format
+    is_format = asked_is ∙ sym same_format
+
+    ended : KeepsWrittenFrom opening.format.order meaning value.set.last_sequence value
+        (env.observed opened) engine.store (env.observed to)
+    ended = subst (λ (f : Format). KeepsWrittenFrom f.order meaning value.set.last_sequence value
+        (env.observed opened) engine.store (env.observed to)) is_format
+        (kept.keeps (has_open modelled) meaning
+        (subst (λ (f : Format). Agrees f meaning) (sym is_format) agrees))
 
     early_run : Run (IsSpared store meaning old (risk_opening opening old)) (env.observed from)
         (env.observed taken)
@@ -207,9 +210,10 @@ module _ {E C FP F P : Type 0} {B : Boxed} {keys : InternalOrder C} {key_filters
         let sound = is_sound store meaning opening agrees (env.observed from) old was.disk_is fits
         (env.observed taken) same_but bytes_taken in
         opened_goes env formats store meaning opening agrees from old was fits (env.observed taken)
-        same_but bytes_taken engine (env.observed opened) to opens.path opens.unbroken
+        same_but bytes_taken value (env.observed opened) opens.path
         (opens_so.keeps modelled meaning agrees found sound)
-        (opens_so.opens modelled meaning agrees found sound) tidied (took modelled).was_free allowed
+        (opens_so.opens modelled meaning agrees found sound) engine to ends.ok kept.rest.store
+        kept.rest.last value.set.last_sequence ended (took modelled).was_free allowed
         mode unheld lock (format ∙ sym same_format) (tables modelled) (is.fits.1 (well.0, well.1))
         (subst IsTrue (sym (ap (λ (o : Opening). o.compresses) is.same)) well.2) later early_run
         bytes_end (lock_held modelled) (spares modelled)
@@ -241,8 +245,17 @@ module _ {E C FP F P : Type 0} {B : Boxed} {keys : InternalOrder C} {key_filters
     opened = record {
       mode = mode;
       options = tells_in;
-      place = opens.path;
-      lock = lock ∙ ap lock_path (sym opens.path);
+      place = kept.rest.store ∙ opens.path;
+      lock = lock ∙ ap lock_path (sym (kept.rest.store ∙ opens.path));
+    };
+    ends = record {
+      taken = taken;
+      opened = first;
+      at = opened;
+      tables = cache;
+      opens = subst (λ (n : ℕ). OpensStore env store asked.format asked.create_if_missing
+          asked.error_if_exists taken n (Ok first) opened) is_limit opens_first;
+      ends = ends;
     };
     held = λ modelled. (
       λ was_held. let never : true ≡ false = sym was_held ∙ (took modelled).was_free in cc,
@@ -253,7 +266,7 @@ module _ {E C FP F P : Type 0} {B : Boxed} {keys : InternalOrder C} {key_filters
     time = λ modelled.
         let first = (took modelled).run.time.later in
         let second = (opens.others modelled).time.later in
-        let third = tidy_time modelled in omega (arith, first, second, third);
+        let third = kept.sound.time modelled in omega (arith, first, second, third);
     misnamed = λ no. absurd (no well);
     never_opens = λ modelled never.
         absurd (may modelled (never_here env store asked from taken took modelled never));

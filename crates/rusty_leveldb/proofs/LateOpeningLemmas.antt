@@ -21,8 +21,8 @@ use Rattle.leveldb_store.specs.BuildTable.{TableChoices}
 use Rattle.leveldb_version.specs.Format.{Agrees, Format, HasCompressorError, Meaning}
 use Rattle.leveldb_store.specs.FoundLogs.{HasLogNotKept}
 use Rattle.leveldb_store.specs.OpenStore.{OpenStoreValue}
-use Rattle.leveldb_store.specs.OpensStore.{FailsToOpen, HasOtherComparator, LacksUsableEdits, OpensStore, WhyNotOpenable}
-use Rattle.leveldb_store.specs.Room.{HasFailed}
+use Rattle.leveldb_store.specs.OpensStore.{FailsToOpen, HasOtherComparator, LacksUsableEdits, WhyNotOpenable}
+use Rattle.leveldb_store.specs.Room.{FailsFor, HasFailed}
 use Rattle.leveldb_store.specs.SoundCall.{BytesAreAppended}
 use Rattle.rusty_leveldb.specs.Boxes.{InternalOrder}
 use Rattle.rusty_leveldb.specs.Calls.{EngineOpens}
@@ -33,6 +33,7 @@ use Rattle.rusty_leveldb.specs.Machine.{IsEarly}
 use Rattle.rusty_leveldb.specs.Serves.{Goes, IsSpared, Reads, Represents, refusal_of, setting_between}
 use Rattle.rusty_leveldb.specs.State.{Opening, State, open_store, refused}
 use Rattle.rusty_leveldb.specs.Unopened.{MakesLockAlone, OpenExcused}
+use Rattle.rusty_leveldb.proofs.LeftOpeningLemmas.{LeavesUnopened}
 use Rattle.rusty_leveldb.proofs.LockLemmas.{lock_edits, lock_reads}
 use Rattle.rusty_leveldb.proofs.MachineLemmas.{risk_opening}
 use Rattle.rusty_leveldb.proofs.OpeningLemmas.{contents, fits_or_not, is_sound, lock_spares, opening_holds, opening_run, other_lacks, taken_holds}
@@ -54,10 +55,9 @@ module _ {E C FP F P : Type 0} {B : Boxed} {keys : InternalOrder C} {key_filters
     (options : OptionsOf C FP B) (store : List ℕ) (asked : Opening) (from taken opened to : E)
     (e : Status)
     (took : IsTrue env.models_disk → IsTaken store (env.observed from) (env.observed taken))
-    (limit : ℕ)
-    (opens : OpensStore env store asked.format asked.create_if_missing asked.error_if_exists taken
-    {C = C} limit (Err e) opened)
-    (opens_cause : HasCause {T = OpenStoreValue C} (FailsToOpen env store (choices options)
+    (opens : LeavesUnopened env store asked.format asked.create_if_missing asked.error_if_exists taken
+    opened)
+    (opens_cause : FailsFor {T = OpenStoreValue C} (FailsToOpen env store (choices options)
     asked.create_if_missing asked.error_if_exists taken opened) (env.failures taken)
     (env.failures opened) (Err e))
     (asked_is : formats_of choices options ≡ asked.format)
@@ -89,8 +89,8 @@ module _ {E C FP F P : Type 0} {B : Boxed} {keys : InternalOrder C} {key_filters
       asked.error_if_exists taken opened e). inl
       (excused_late env store asked from taken took (choices options) asked_is opened e fails))
       (λ count. inr (⊎_elim
-      (λ (more : mid ≡ env.failures taken + 1). inl (omega (arith, more, counted)))
-      (λ full. inr (sym counted ∙ full.0)) count)) opens_cause.cause
+      (λ (more : env.failures taken < mid). inl (omega (arith, more, counted)))
+      (λ full. inr (sym counted ∙ full)) count)) opens_cause.cause
 
   -- it isn't opened for these causes, by the format that is asked for
   abbrev FailsAsked : Type 0
@@ -161,12 +161,12 @@ module _ {E C FP F P : Type 0} {B : Boxed} {keys : InternalOrder C} {key_filters
     spares = late_spares store (env.observed from) (env.observed taken) (env.observed to)
         (took modelled)
         (λ path foreign. ap (λ (f : Files). f path) end_files
-        ∙ (opens.others modelled).has path foreign) other_locks
+        ∙ opens.others modelled path foreign) other_locks
 
     -- where it looks no further, all files stay
     unchanged : LooksNoFurther store asked here
         → Run (FilesUnchanged here) (env.observed taken) (env.observed opened)
-    unchanged looks = (opens.stays modelled looks).1
+    unchanged looks = opens.stays modelled looks
 
     made_run : LooksNoFurther store asked here
         → MakesLockAlone store (env.observed from) (env.observed to)
@@ -187,10 +187,10 @@ module _ {E C FP F P : Type 0} {B : Boxed} {keys : InternalOrder C} {key_filters
       same_format : opening.format ≡ asked.format
       same_format = ap (λ (o : Opening). o.format) is.same
 
-      opens_so : OpensStore env store opening.format asked.create_if_missing asked.error_if_exists
-          taken {C = C} limit (Err e) opened
-      opens_so = subst (λ (f : Format). OpensStore env store f asked.create_if_missing
-          asked.error_if_exists taken {C = C} limit (Err e) opened) (sym same_format) opens
+      opens_so : LeavesUnopened env store opening.format asked.create_if_missing
+          asked.error_if_exists taken opened
+      opens_so = subst (λ (f : Format). LeavesUnopened env store f asked.create_if_missing
+          asked.error_if_exists taken opened) (sym same_format) opens
 
       bytes_taken : AppendedAreBytes here
       bytes_taken = made_bytes store (env.observed from).disk.files here (took modelled).run.has
@@ -245,8 +245,7 @@ module _ {E C FP F P : Type 0} {B : Boxed} {keys : InternalOrder C} {key_filters
           one.name one.named)
           (λ same_name. one.other (same_name ∙ ap (λ (f : Format). f.order_name) same_format)))
 
-      late_of : FailsAsked ⊎ ((mid ≡ env.failures taken + 1)
-          ⊎ ((env.failures taken ≡ 2 ^ 64 - 1) × (mid ≡ env.failures taken))) → Late
+      late_of : FailsAsked ⊎ HasFailed (env.failures taken) mid → Late
       late_of (inl (inl memory)) =
           (out_of_memory, (tt, memory.0, ap text_of memory.1), inl (λ never. never))
       late_of (inl (inr (inl (inl bare), count))) =
@@ -304,7 +303,7 @@ module _ {E C FP F P : Type 0} {B : Boxed} {keys : InternalOrder C} {key_filters
       late_of (inr (inl more)) =
           (device_failed, (tt, inl (omega (arith, more, counted))), inl (λ never. never))
       late_of (inr (inr full)) =
-          (device_failed, (tt, inr (sym counted ∙ full.0)), inl (λ never. never))
+          (device_failed, (tt, inr (sym counted ∙ full)), inl (λ never. never))
 
       abbrev Refused : Type 0
       Refused = Goes store meaning (Recalls keys env formats store meaning)
@@ -380,12 +379,13 @@ module _ {E C FP F P : Type 0} {B : Boxed} {keys : InternalOrder C} {key_filters
     err = λ opening is meaning agrees. unopened_row keys env formats store opening meaning from to e
         (stepped opening is meaning agrees);
     opened = tt;
+    ends = tt;
     held = tt;
     others = spares;
     step = stepped;
     time = λ modelled.
         let first = (took modelled).run.time.later in
-        let second = (opens.others modelled).time.later in
+        let second = opens.time modelled in
         let third = does.time.later in omega (arith, first, second, third);
     misnamed = λ no. absurd (no well);
     never_opens = λ modelled never.

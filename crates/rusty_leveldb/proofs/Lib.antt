@@ -30,6 +30,7 @@ pub mod OpeningLemmas
 pub mod UnopenedStepLemmas
 pub mod UnderLockLemmas
 pub mod OpenCallLemmas
+mod LeftOpeningLemmas
 pub mod LateOpeningLemmas
 pub mod DoneOpeningLemmas
 pub mod EngineLemmas
@@ -40,6 +41,8 @@ pub mod WalkLemmas
 pub mod WalkingLemmas
 pub mod KeptLemmas
 mod HeldViewsLemmas
+mod ChargesLemmas
+mod ReadSamplesLemmas
 mod RoomInLemmas
 pub mod WritingLemmas
 pub mod CompactingLemmas

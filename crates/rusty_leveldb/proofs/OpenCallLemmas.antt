@@ -151,6 +151,7 @@ module _ {E C FP F P : Type 0} {B : Boxed} {keys : InternalOrder C} {key_filters
     err = λ opening is meaning agrees. unopened_row keys env formats store opening meaning from to e
         (stepped near later why opening is meaning agrees);
     opened = tt;
+    ends = tt;
     held = tt;
     others = λ modelled. near_others (near modelled);
     step = stepped near later why;

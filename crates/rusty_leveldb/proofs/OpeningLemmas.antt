@@ -22,7 +22,8 @@ use Rattle.leveldb_version.specs.Format.{Agrees, Format, IsTableOf, Meaning}
 use Rattle.leveldb_store.specs.OpenStore.{IsUnbroken, OpenStoreValue}
 use Rattle.leveldb_store.specs.OpensStore.{IsForbidden, IsOpenedAs, IsSound, KeepsFound, LacksUsableEdits}
 use Rattle.leveldb_store.specs.WriteBatch.{IsOf}
-use Rattle.leveldb_store.specs.Written.{KeepsStore, KeepsWritten, Shows}
+use Rattle.leveldb_store.specs.Written.{Shows}
+use Rattle.leveldb_store.specs.WrittenFrom.{KeepsStoreFrom, KeepsWrittenFrom}
 use Rattle.rusty_leveldb.specs.Boxes.{EngineOf, InternalOrder}
 use Rattle.rusty_leveldb.specs.Causes.{Disagrees, Misfits, Setting}
 use Rattle.rusty_leveldb.specs.Engine.{HasOwnTables, Recalls, no_engine, options_in, scene}
@@ -246,11 +247,15 @@ module _ (store : List ℕ) (meaning : Meaning) (opening : Opening)
 
     -- ---- it is opened
 
-    module _ {C : Type 0} (value : OpenStoreValue C) (opened to : Observed)
-        (path : value.set.store ≡ store) (unbroken : IsUnbroken value)
+    -- as this store, which is then kept from the smallest held number on
+    module _ {C : Type 0} (value : OpenStoreValue C) (opened : Observed)
+        (path : value.set.store ≡ store)
         (keeps : KeepsFound order meaning store asked_name contents taken opened)
         (is_opened : IsOpenedAs order meaning store asked_name contents value opened.disk.files)
-        (tidied : KeepsWritten order meaning value opened value to) where
+        (final : OpenStoreValue C) (to : Observed) (unbroken : IsUnbroken final)
+        (same_path : final.set.store ≡ value.set.store)
+        (same_last : final.set.last_sequence ≡ value.set.last_sequence) (smallest : ℕ)
+        (ended : KeepsWrittenFrom order meaning smallest value opened final to) where
       abbrev part : History
       part = finds.part
 
@@ -283,11 +288,14 @@ module _ (store : List ℕ) (meaning : Meaning) (opening : Opening)
       opened_holds = is_opened.holds (may_stay None (made (Some asked_name)))
           (if_same (made (Some asked_name)) (made (Some asked_name)) refl) part matches
 
-      kept : KeepsStore order meaning (Stays now) value opened value to
-      kept = tidied (may_stay None (made (Some asked_name))) is_opened.written
+      kept : KeepsStoreFrom order meaning smallest (Stays now) value opened final to
+      kept = ended (may_stay None (made (Some asked_name))) is_opened.written
 
       last_is : value.set.last_sequence ≡ contents.last
       last_is = is_opened.last
+
+      final_last : final.set.last_sequence ≡ contents.last
+      final_last = same_last ∙ last_is
 
       end_holds : Holds store (IsStore store order (IsTableOf order meaning)) (Stays now)
           to.disk.files part contents.last (length part) None
@@ -299,19 +307,19 @@ module _ (store : List ℕ) (meaning : Meaning) (opening : Opening)
           opened.disk.files to.disk.files part contents.last (length part) None
           (record { now = run.has.now; crash = run.has.crash }) opened_holds
 
-      pub end_of : IsOf order meaning (Stays now) value to.disk.files part (length part)
+      pub end_of : IsOf order meaning (Stays now) final to.disk.files part (length part)
       end_of = record {
         written = kept.written unbroken;
         holds =
-            subst (λ l. Holds value.set.store (IsStore value.set.store order
+            subst (λ l. Holds final.set.store (IsStore final.set.store order
             (IsTableOf order meaning)) (Stays now) to.disk.files part l (length part) None)
-            (sym last_is)
+            (sym final_last)
             (subst (λ p. Holds p (IsStore p order (IsTableOf order meaning)) (Stays now)
-            to.disk.files part contents.last (length part) None) (sym path) end_holds);
+            to.disk.files part contents.last (length part) None) (sym (same_path ∙ path)) end_holds);
       }
 
-      pub end_shows : Shows order meaning value to.disk.files part (greatest (entries_of part))
-      end_shows = written_shows order meaning (Stays now) value to.disk.files part (length part)
+      pub end_shows : Shows order meaning final to.disk.files part (greatest (entries_of part))
+      end_shows = written_shows order meaning (Stays now) final to.disk.files part (length part)
           end_of.written end_of.holds
 
       pub end_stands : IsState now → AppendedAreBytes to.disk.files
@@ -330,7 +338,7 @@ module _ (store : List ℕ) (meaning : Meaning) (opening : Opening)
           → Run (IsSpared store meaning old (risk_opening opening old)) from to
       end_run early =
           let first = opening_run opened keeps in
-          let kept_any = tidied (may_stay (Some opening) old.store) is_opened.written in
+          let kept_any = ended (may_stay (Some opening) old.store) is_opened.written in
           Run-trans (Run-trans early (λ files is. is) first) (λ files is. is)
           (Run-mono (λ files k. spared_opening store meaning opening old order own_order
           (with_batch old.history old.pending) bound opened.disk.files files named
@@ -425,23 +433,26 @@ module _ {E C FP F : Type 0} {B : Boxed} {keys : InternalOrder C} (env : Ghosts 
     (env.observed from).disk old)
     (fits : IsNamed opening.format.order_name old.store) (taken : Observed)
     (but : SameBut (lock_path store) (env.observed from).disk.files taken.disk.files)
-    (bytes : AppendedAreBytes taken.disk.files) (engine : EngineOf E C FP F B)
-    (opened : Observed)
-    (to : E) (path : engine.store.set.store ≡ store) (unbroken : IsUnbroken engine.store)
+    (bytes : AppendedAreBytes taken.disk.files) (value : OpenStoreValue C) (opened : Observed)
+    (path : value.set.store ≡ store)
     (keeps : KeepsFound opening.format.order meaning store opening.format.order_name
     (contents store meaning opening agrees (env.observed from) old was.disk_is fits taken but bytes)
     taken opened)
     (is_opened : IsOpenedAs opening.format.order meaning store opening.format.order_name
     (contents store meaning opening agrees (env.observed from) old was.disk_is fits taken but bytes)
-    engine.store opened.disk.files)
-    (tidied : KeepsWritten opening.format.order meaning engine.store opened engine.store
+    value opened.disk.files)
+    (engine : EngineOf E C FP F B) (to : E) (unbroken : IsUnbroken engine.store)
+    (same_path : engine.store.set.store ≡ value.set.store)
+    (same_last : engine.store.set.last_sequence ≡ value.set.last_sequence) (smallest : ℕ)
+    (ended : KeepsWrittenFrom opening.format.order meaning smallest value opened engine.store
     (env.observed to))
     (was_free : (env.observed from).disk.locked (lock_path store) ≡ false)
     (allowed : IsForbidden store opening.create_if_missing opening.error_if_exists
     taken.disk.files → ⊥) where
   abbrev new : State
   new = now store meaning opening agrees (env.observed from) old was.disk_is fits taken but bytes
-      engine.store opened (env.observed to) path unbroken keeps is_opened tidied
+      value opened path keeps is_opened engine.store (env.observed to) unbroken same_path same_last
+      smallest ended
 
   recalled : engine.mode ≡ open_mode → engine.snapshots ≡ record { held = []; given = 0 }
       → engine.lock ≡ lock_path store
@@ -451,14 +462,15 @@ module _ {E C FP F : Type 0} {B : Boxed} {keys : InternalOrder C} (env : Ghosts 
   recalled mode unheld lock same tables = record {
     mode = mode;
     lock = lock;
-    path = path;
+    path = same_path ∙ path;
     format = λ in_use. same;
     named = λ in_use. refl;
-    last = λ in_use. is_opened.last;
+    last = λ in_use. same_last ∙ is_opened.last;
     shows = λ in_use. record {
       since = greatest (entries_of new.history);
       shows = end_shows store meaning opening agrees (env.observed from) old was.disk_is fits
-          taken but bytes engine.store opened (env.observed to) path unbroken keeps is_opened tidied;
+          taken but bytes value opened path keeps is_opened engine.store (env.observed to) unbroken
+          same_path same_last smallest ended;
       now = omega arith;
       held = λ one there. absurd (in_none one there);
     };
@@ -469,7 +481,8 @@ module _ {E C FP F : Type 0} {B : Boxed} {keys : InternalOrder C} (env : Ghosts 
     };
     tables = λ in_use. tables;
     writes = λ is. (end_of store meaning opening agrees (env.observed from) old was.disk_is fits taken
-        but bytes engine.store opened (env.observed to) path unbroken keeps is_opened tidied).written;
+        but bytes value opened path keeps is_opened engine.store (env.observed to) unbroken same_path
+        same_last smallest ended).written;
   }
 
   pub opened_goes : engine.mode ≡ open_mode → engine.snapshots ≡ record { held = []; given = 0 }
@@ -491,21 +504,22 @@ module _ {E C FP F : Type 0} {B : Boxed} {keys : InternalOrder C} (env : Ghosts 
       let step : Step old.mode setting old (open_store opening) done new =
       subst (λ m. Step m setting old (open_store opening) done new) (sym was.memory_is)
       (opened_step store meaning opening agrees (env.observed from) old was.disk_is fits taken but
-      bytes engine.store opened (env.observed to) path unbroken keeps is_opened tidied was_free allowed
-      setting well set) in
+      bytes value opened path keeps is_opened engine.store (env.observed to) unbroken same_path same_last
+      smallest ended was_free allowed setting well set) in
       record {
         new = new;
         represents = record {
           disk_is = end_stands store meaning opening agrees (env.observed from) old was.disk_is fits
-              taken but bytes engine.store opened (env.observed to) path unbroken keeps is_opened tidied
-              (step_fits setting old new (open_store opening) done was.disk_is.is_state step) bytes_now
+              taken but bytes value opened path keeps is_opened engine.store (env.observed to)
+              unbroken same_path same_last smallest ended (step_fits setting old new (open_store opening) done was.disk_is.is_state step) bytes_now
               locked;
           memory_is = recalled mode unheld lock same tables;
         };
         later = later;
         step = step;
         moments = end_run store meaning opening agrees (env.observed from) old was.disk_is fits taken
-            but bytes engine.store opened (env.observed to) path unbroken keeps is_opened tidied early;
+            but bytes value opened path keeps is_opened engine.store (env.observed to) unbroken
+            same_path same_last smallest ended early;
         spares = opening_spares store old.mode opening (env.observed from).disk
             (env.observed to).disk was.memory_is spares;
         bytes = λ never. absurd never;

@@ -16,7 +16,7 @@ use Rattle.leveldb_store.proofs.OpenTablesLemmas.{open_after_call}
 use Rattle.leveldb_store.proofs.WrittenFromLemmas.{keeps_from}
 use Rattle.leveldb_store.specs.BuildTable.{TableChoices}
 use Rattle.leveldb_store.specs.Compact.{CompactsTables, FailsToCompactRange, KeepsCompacted}
-use Rattle.leveldb_store.specs.LoggedEdits.{LogsByScore, LogsTables}
+use Rattle.leveldb_store.specs.LoggedEdits.{LogsByScore, LogsTableEdits}
 use Rattle.leveldb_store.specs.OpenStore.{IsUnbroken, OpenStoreValue}
 use Rattle.leveldb_store.specs.OpenTables.{ClosesObsolete}
 use Rattle.leveldb_store.specs.Read.{HasOpenTables}
@@ -130,7 +130,7 @@ module _ {E F C FP D P : Type 0} (order : CmpGhosts (InternalKeyCmp C)) (env : G
       (between : TableCache E C FP F) → MakesRoom env cmp old from choices limit (Ok tt) mid at
       → IsSoundCall {T = Unit {0}} env cmp (Agrees choices.format) old from (Ok tt) mid at
       → ClosesObsolete env old.set from tables at between
-      → AddsNone env cmp choices.format old from mid at → LogsTables 2 old.set mid.set
+      → AddsNone env cmp choices.format old from mid at → LogsTableEdits 2 old.set mid.set
       → (result : Result (Unit {0}) Status) (new : OpenStoreValue C) (to : E)
       (now : TableCache E C FP F)
       → CompactsTables order env by mid at between choices smallest result new to now

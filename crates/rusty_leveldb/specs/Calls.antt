@@ -38,6 +38,7 @@ use Rattle.rusty_leveldb.specs.Room.{LogsRoom}
 use Rattle.rusty_leveldb.specs.Rows.{FindsValue, FromEachState, FromStatesOf, IsAbandoned, NotClosed, NotCompacted, NotFlushed, NotOpened, NotUnlocked, NotWritten, RepresentsAt, Row, StaysAsItWas, WalksView}
 use Rattle.rusty_leveldb.specs.Unopened.{IsLockGivenBack, IsLockHeld, MakesLockAlone, NeverOpens, OpenExcused}
 use Rattle.rusty_leveldb.specs.Boxes.{EngineOf, InternalOrder}
+use Rattle.rusty_leveldb.specs.Compact.{EngineEndsOpening}
 use Rattle.rusty_leveldb.specs.CompactionLaws.{HasViewsInTables}
 use Rattle.rusty_leveldb.specs.Walks.{walk_of, walked_or}
 
@@ -429,6 +430,9 @@ module _ {E C FP F P : Type 0} {B : Boxed} {keys : InternalOrder C} {key_filters
         → FromStatesOf keys env (formats_of choices) (risk_of (open_store opening)) name meaning None
         from None to (NotOpened opening e))
     pub opened : IfOk result (IsOpened env (formats_of choices) name options)
+    -- Ok: after its files were opened one compaction was done at most. It is done where the score of
+    -- a level asks for it, and takes a file of that level, unless it fails for a cause.
+    pub ends : IfOk result (λ engine. EngineEndsOpening env choices name options asked engine to)
     -- the lock was free, and is held
     pub held : OnOk result (IsTrue env.models_disk
         → (IsLockHeld name (env.observed from).disk → ⊥)

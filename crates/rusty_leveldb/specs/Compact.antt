@@ -1,5 +1,5 @@
 -- What a compaction of its store leaves of an engine.
-use Rattle.std.specs.Prelude.{◌≡◌, ℕ, List, Result}
+use Rattle.std.specs.Prelude.{◌≡◌, ℕ, List, Ok, Result}
 use Rattle.leveldb_base.specs.declared.error.Status.{Status}
 use Rattle.leveldb_env.specs.declared.env.Env.{Ghosts}
 use Rattle.leveldb_env.specs.declared.filter.FilterPolicy.{Ghosts as FilterGhosts}
@@ -7,10 +7,16 @@ use Rattle.leveldb_env.specs.Options.{Boxed, OptionsOf}
 use Rattle.leveldb_iter.specs.Snapshot.{IsSmallestHeld}
 use Rattle.leveldb_store.specs.BuildTable.{TableChoices}
 use Rattle.leveldb_store.specs.Compact.{CompactsRange}
+use Rattle.leveldb_store.specs.EndsOpening.{EndsOpening}
+use Rattle.leveldb_store.specs.OpenStore.{OpenStoreValue}
+use Rattle.leveldb_store.specs.OpensStore.{OpensStore}
 use Rattle.leveldb_version.specs.Overlap.{named_range}
+use Rattle.leveldb_version.specs.TableCache.{table_options}
+use Rattle.leveldb_version.specs.declared.table_cache.TableCache.{TableCache}
 use Rattle.rusty_leveldb.specs.Boxes.{EngineOf, InternalOrder}
 use Rattle.rusty_leveldb.specs.Engine.{formats_of, options_in, tables_by}
 use Rattle.rusty_leveldb.specs.EngineValue.{FollowsStore}
+use Rattle.rusty_leveldb.specs.State.{Opening}
 
 -- nothing of an engine changes but its store, the open tables, the mode, and the sink of the
 -- options' log
@@ -39,3 +45,20 @@ pub record EngineCompactsStore {E C FP F P : Type 0} {B : Boxed} {keys : Interna
   pub rest : ChangesStore before after
   -- it is broken where the store is
   pub mode : FollowsStore after.mode after.store
+
+-- How an opening that gave an engine ended: its files were opened as a store, and then one compaction
+-- was done at most, for which the score of a level asks.
+pub record EngineEndsOpening {E C FP F P : Type 0} {B : Boxed} {keys : InternalOrder C}
+    {key_filters : FilterGhosts P} (env : Ghosts E F)
+    (choices : OptionsOf C FP B → TableChoices keys key_filters) (name : List ℕ)
+    (options : OptionsOf C FP B) (asked : Opening) (engine : EngineOf E C FP F B) (to : E)
+    : Type 0 where
+  -- the environment once the lock was taken, and once this store was opened, with its open tables
+  pub taken : E
+  pub opened : OpenStoreValue C
+  pub at : E
+  pub tables : TableCache E C FP F
+  pub opens : OpensStore env name asked.format asked.create_if_missing asked.error_if_exists taken
+      options.write_buffer_size (Ok opened) at
+  pub ends : EndsOpening keys env (table_options (formats_of choices options) options) opened at
+      tables (choices options) (Ok tt) engine.store to engine.tables

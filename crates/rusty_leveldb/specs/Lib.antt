@@ -1,4 +1,5 @@
 pub mod EngineValue
+pub mod ReadSamples
 pub mod Boxes
 pub mod Frame
 pub mod State

@@ -14,7 +14,7 @@ use Rattle.leveldb_version.specs.VersionSetValue.{VersionSetValue}
 use Rattle.leveldb_version.specs.declared.table_cache.TableCache.{TableCache}
 use Rattle.leveldb_store.specs.BuildTable.{TableChoices}
 use Rattle.leveldb_store.specs.Compact.{FailsToCompactRange, KeepsCompacted}
-use Rattle.leveldb_store.specs.LoggedEdits.{LogsByScore, LogsTables}
+use Rattle.leveldb_store.specs.LoggedEdits.{LogsByScore, LogsTableEdits}
 use Rattle.leveldb_store.specs.OpenStore.{OpenStoreValue}
 use Rattle.leveldb_store.specs.Room.{IsFull}
 use Rattle.rusty_leveldb.specs.Boxes.{EngineOf, InternalOrder}
@@ -27,7 +27,7 @@ use Rattle.rusty_leveldb.specs.EngineValue.{FollowsStore}
 -- one, which takes a file from this level and adds none to it.
 pub record LogsRoom (cmp : List ℕ → List ℕ → Ordering) (old new : VersionSetValue) : Type 0 where
   pub tabled : VersionSetValue
-  pub tables : LogsTables 2 old tabled
+  pub tables : LogsTableEdits 2 old tabled
   pub by_score : LogsByScore cmp tabled new
 
 -- Room is made in the memtable of a store that isn't broken, and where it was full the compaction is

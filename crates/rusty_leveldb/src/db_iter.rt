@@ -1,21 +1,22 @@
 //! Iterators over a store's view.
-ghost use Rattle.std.specs.Prelude.{◌≡◌, ◌%◌, None, IfErr, IfOk, IsErrAnd, is_some};
+ghost use Rattle.std.specs.Prelude.{◌≡◌, ◌-◌, None, IfErr, IfOk, IsErrAnd, is_some};
 ghost use Rattle.leveldb_base.specs.Error.{IsOutOfMemory};
 ghost use Rattle.leveldb_base.specs.Types.{copied_pair, last_position, next_position, pair_of, position_within, previous_position, seek_position};
 ghost use Rattle.leveldb_base.specs.declared.error.StatusCode.TheVariants.{InvalidArgument};
 ghost use Rattle.leveldb_base.specs.KeyTypes.{IsLongKey};
-ghost use Rattle.rand_core.specs.Stream.{next_u64};
+ghost use Rattle.rusty_leveldb.specs.ReadSamples.{CountsRead};
 
+use crate::read_samples::ReadSamples;
+pub use crate::read_samples::sample_period;
 use leveldb_base::cmp::{Cmp, InternalKeyCmp, UserCmp};
 use leveldb_base::error::Result;
 use leveldb_base::key_types::check_key_size;
 use leveldb_env::compressor::{CompressorList, Compressors};
 use leveldb_env::env::Env;
 use leveldb_env::filter::FilterPolicy;
-use leveldb_iter::walk::Walk;
-use leveldb_store::open_store::StoreView;
+use leveldb_iter::walk::{CountsBytes, Walk};
+use leveldb_store::open_store::{OpenStore, StoreView};
 use leveldb_version::table_cache::{ReadTables, ReadsTables};
-use rand_core::Rng;
 use std::alloc::Global;
 
 /// An iterator over the pairs of a store, in the order of their keys, as the store was when the
@@ -33,6 +34,11 @@ where
     pub(crate) view: V,
     pub(crate) env: &'a mut E,
     pub(crate) tables: ReadTables<'a, E, C, FP, K>,
+    // The store whose files are charged for samples of what is read.
+    pub(crate) store: &'a OpenStore<E, C>,
+    pub(crate) samples: &'a mut ReadSamples,
+    // How many of the bytes that the view has read are counted.
+    pub(crate) counted: u64,
 }
 
 /// The open tables of a store, as its iterators read them.
@@ -47,7 +53,7 @@ impl<
     C: UserCmp + Copy + Drop,
     FP: FilterPolicy + Copy + Drop,
     K: ReadsTables<E, C, FP>,
-    V: Walk<E, ReadTables<'a, E, C, FP, K>>,
+    V: Walk<E, ReadTables<'a, E, C, FP, K>> + CountsBytes,
 > StoreIterator<'a, E, C, FP, K, V> {
     ghost use Rattle.rusty_leveldb.specs.Iterator.{MovesIterator, moved, no_cause, pair_in};
 
@@ -59,7 +65,9 @@ impl<
         ensures valid { IfOk result (λ is_valid. is_valid ≡ is_some
             (pair_in V.Walk self.new)) }
     {
-        self.view.advance(self.env, &mut self.tables)
+        let moved = self.view.advance(self.env, &mut self.tables);
+        self.count_read();
+        moved
     }
 
     /// Moves to the pair before, and from the first or from no position to no position.
@@ -70,7 +78,9 @@ impl<
         ensures valid { IfOk result (λ is_valid. is_valid ≡ is_some
             (pair_in V.Walk self.new)) }
     {
-        self.view.prev(self.env, &mut self.tables)
+        let moved = self.view.prev(self.env, &mut self.tables);
+        self.count_read();
+        moved
     }
 
     /// Moves to the first pair whose key is at or after `key`, or to no position where all are
@@ -85,7 +95,9 @@ impl<
             self.reset();
             return Err(status);
         }
-        self.view.seek(self.env, &mut self.tables, key)
+        let moved = self.view.seek(self.env, &mut self.tables, key);
+        self.count_read();
+        moved
     }
 
     /// Moves to the first pair, or to no position in an empty store.
@@ -93,7 +105,9 @@ impl<
         ensures { MovesIterator ⟦<InternalKeyCmp<C> as Cmp>⟧ E.Env C.Cmp FP.FilterPolicy
             K.codings V.Walk no_cause (λ _ pairs _. position_within pairs 0) self.old result self.new }
     {
-        self.view.seek_to_first(self.env, &mut self.tables)
+        let moved = self.view.seek_to_first(self.env, &mut self.tables);
+        self.count_read();
+        moved
     }
 
     /// Moves to the last pair, or to no position in an empty store.
@@ -101,7 +115,9 @@ impl<
         ensures { MovesIterator ⟦<InternalKeyCmp<C> as Cmp>⟧ E.Env C.Cmp FP.FilterPolicy
             K.codings V.Walk no_cause (λ _ pairs _. last_position pairs) self.old result self.new }
     {
-        self.view.seek_to_last(self.env, &mut self.tables)
+        let moved = self.view.seek_to_last(self.env, &mut self.tables);
+        self.count_read();
+        moved
     }
 
     /// Moves as `advance` does, and returns a copy of the pair that it is then at. Where there is
@@ -148,18 +164,29 @@ impl<
     {
         self.view.valid()
     }
-}
 
-// How many bytes are read between two samples, in the mean.
-const READ_BYTES_PERIOD: u64 = 1 << 20;
-
-/// Draws how many bytes are read until the next sample, fewer than 2 MiB: one number of the
-/// generator, modulo 2097152.
-pub fn sample_period<G: Rng>(rng: &mut G) -> u64
-    ensures period { result ≡ (next_u64 (G.stream rng.old)).0 % 2097152 }
-    ensures rest { G.stream rng.new ≡ (next_u64 (G.stream rng.old)).1 }
-{
-    rng.next_u64() % (2 * READ_BYTES_PERIOD)
+    // Counts the bytes that the view has read since they were counted last, and samples the key of
+    // the pair that it is at, if a key is to be sampled. Without memory for that the sample is lost.
+    #[inline]
+    fn count_read(&mut self)
+        ensures samples { CountsRead (C.cmp self.old.store.now.cmp) self.old.store.now
+            (V.CountsBytes.counted self.old.view - self.old.counted) (pair_in V.Walk self.old)
+            self.old.samples.now self.new.samples.now }
+        ensures counted { self.new.counted ≡ V.CountsBytes.counted self.old.view }
+        ensures rest { self.new ≡ record self.old {
+          samples = self.new.samples;
+          counted = self.new.counted;
+        } }
+    {
+        let read = self.view.bytes_read();
+        let bytes = read.saturating_sub(self.counted);
+        self.counted = read;
+        if self.samples.count(bytes)
+            && let Some((key, _)) = self.view.current()
+        {
+            let _ = self.samples.sample(self.store, key);
+        }
+    }
 }
 
 // A copy of a pair.

@@ -4,6 +4,7 @@
 pub mod db_impl;
 pub mod db_iter;
 pub mod promises;
+pub mod read_samples;
 pub mod shell;
 
 pub use db_impl::DB;

@@ -1,6 +1,6 @@
 //! One compaction of an open store: other files take the place of those that it takes, and its edit
 //! is logged.
-ghost use Rattle.std.specs.Prelude.{◌≡◌, ◌++◌, Bool, IfErr, IfSome, None, Ok, Option, OnErr, OnOk, is_some, map};
+ghost use Rattle.std.specs.Prelude.{◌≡◌, ◌⊎◌, ◌++◌, Bool, IfErr, IfSome, None, Ok, Option, OnErr, OnOk, is_some, map};
 ghost use Rattle.leveldb_base.specs.Error.{IsOutOfMemory};
 ghost use Rattle.leveldb_version.specs.Format.{format_of};
 ghost use Rattle.leveldb_version.specs.Picking.{CompactionValue, IsAskedByReads, IsCompactionOf};
@@ -8,6 +8,7 @@ ghost use Rattle.leveldb_version.specs.TableCache.{table_options};
 ghost use Rattle.leveldb_store.specs.BuildTable.{choices_of};
 ghost use Rattle.leveldb_store.specs.Compact.{CompactsIfAsked, CompactsStore, CompactsTables, EndsByRemoval, LogsCompaction, LogsPicked};
 ghost use Rattle.leveldb_store.specs.OpenStore.{IsUnbroken};
+ghost use Rattle.leveldb_store.specs.SoundCall.{BreaksForCause};
 
 use super::OpenStore;
 use leveldb_base::cmp::{Cmp, InternalKeyCmp, UserCmp};
@@ -24,7 +25,8 @@ use leveldb_version::version_edit::VersionEdit;
 
 impl<E: Env, C: UserCmp + Copy + Drop> OpenStore<E, C> {
     /// Does the compaction for which the current version asks, by the score of a level or else by
-    /// reads, if it asks for one, and deletes the files that are obsolete then. Entries that are
+    /// reads, if it asks for one, and deletes the files that are obsolete then; what fails of that is
+    /// a line for `log`. Entries that are
     /// shadowed at `smallest`, the smallest number at which the store is read, may go, and deletions
     /// up to it that no deeper level needs. No memtable waits.
     ///
@@ -49,6 +51,8 @@ impl<E: Env, C: UserCmp + Copy + Drop> OpenStore<E, C> {
             result self.new env.new tables.new }
         ensures asked { CompactsIfAsked (C.cmp self.old.cmp) options.now.max_file_size self.old
             result self.new }
+        ensures removes { OnOk result ((self.new ≡ self.old) ⊎ EndsByRemoval E.Env self.new env.new) }
+        ensures breaks { BreaksForCause E.Env self.old env.old result self.new env.new }
         ensures log { is_some log.new ≡ is_some log.old }
     {
         let picked = self.versions.pick_compaction(options)?;
@@ -112,6 +116,7 @@ impl<E: Env, C: UserCmp + Copy + Drop> OpenStore<E, C> {
         ensures none { picked ≡ None → (result ≡ Ok tt) × (self.new ≡ self.old)
             × (env.new ≡ env.old) × (tables.new ≡ tables.old) }
         ensures err { OnErr result (self.new.set.full ≡ self.old.set.full) }
+        ensures breaks { BreaksForCause E.Env self.old env.old result self.new env.new }
         ensures log { is_some log.new ≡ is_some log.old }
     {
         let Some(compaction) = picked else {

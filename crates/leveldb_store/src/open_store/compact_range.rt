@@ -142,8 +142,8 @@ impl<E: Env, C: UserCmp + Copy + Drop> OpenStore<E, C> {
             (table_options choices.format options.now) self.old env.old tables.old choices smallest
             result self.new env.new tables.new }
         ensures clear { OnOk result (is_overlapped (C.cmp self.old.cmp) level
-            (named_range (user_part range.entry.0.now) (user_part range.entry.1.now)) self.new.set.full.added
-            ≡ false) }
+            (named_range (user_part range.entry.0.now) (user_part range.entry.1.now))
+            self.new.set.full.added ≡ false) }
         ensures above { KeepsLevelsAbove level self.old.set.full.added self.new.set.full.added }
         ensures log { is_some log.new ≡ is_some log.old }
     {

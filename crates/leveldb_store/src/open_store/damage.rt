@@ -1,7 +1,9 @@
 //! Logs and manifests that an opening left aside: what it left out of them, and what is kept then.
-ghost use Rattle.std.specs.Prelude.{◌≡◌, ◌≤◌, ◌↔◌, ℕ, List, Contains, IsTrue, is_some, map, string_bytes};
+ghost use Rattle.std.specs.Prelude.{◌≡◌, ◌≤◌, ◌↔◌, ℕ, List, Contains, IfOk, IsTrue, is_some, map, string_bytes};
 ghost use Rattle.leveldb_table.specs.TableBlock.{KeepsDisk};
 ghost use Rattle.leveldb_store.specs.Damage.{HasDamagedFile, IsDamagedFile, IsLeftAside};
+ghost use Rattle.leveldb_version.specs.Paths.{log_path};
+ghost use Rattle.leveldb_store.specs.LogReplay.{EndsCleanly};
 ghost use Rattle.leveldb_store.specs.OpenStore.{IsUnbroken};
 ghost use Rattle.leveldb_store.specs.OpenTables.{ClosesObsolete};
 ghost use Rattle.leveldb_store.specs.Room.{TidiesOpened, TidiesUp};
@@ -9,14 +11,16 @@ ghost use Rattle.leveldb_store.specs.SoundCall.{TimeGoesOn};
 
 use super::OpenStore;
 use crate::damage::{LeftOut, left_out};
+use crate::log_replay::{LogReplay, NextBatch};
 use leveldb_base::cmp::UserCmp;
 use leveldb_base::error::Result;
-use leveldb_base::names::file_name_parts;
+use leveldb_base::names::{file_name_parts, log_file_name};
 use leveldb_base::types::{FileNum, FileType};
 use leveldb_env::env::Env;
 use leveldb_env::env::whole_files::read_file;
 use leveldb_env::filter::FilterPolicy;
 use leveldb_env::infolog::Logger;
+use leveldb_mem::write_batch::WriteBatch;
 use leveldb_version::table_cache::TableCache;
 use std::alloc::Global;
 
@@ -46,7 +50,7 @@ impl<E: Env, C: UserCmp + Copy + Drop> OpenStore<E, C> {
 
     // Looks at each log and each manifest that is obsolete, and has the store keep its files if one is
     // damaged or can't be read.
-    fn keep_damaged_files(&mut self, env: &mut E, log: &mut Option<Logger>)
+    pub(super) fn keep_damaged_files(&mut self, env: &mut E, log: &mut Option<Logger>)
         ensures same { self.new ≡ record self.old { keeps_files = self.new.keeps_files } }
         ensures damaged { IsTrue E.models_disk
             → HasDamagedFile self.old.set (E.observed env.old).disk.files
@@ -106,6 +110,9 @@ impl<E: Env, C: UserCmp + Copy + Drop> OpenStore<E, C> {
         let Ok(path) = format!(in self.alloc; "{}/{name}", self.name) else {
             return true;
         };
+        if self.ends_cleanly(env, &path, number) {
+            return false;
+        }
         let Ok(text) = read_file(self.alloc, env, &path) else {
             return true;
         };
@@ -116,6 +123,26 @@ impl<E: Env, C: UserCmp + Copy + Drop> OpenStore<E, C> {
         true
     }
 
+    // Whether the file at this path, of this number, is a log of batches that ends between two
+    // records. It is read a piece at a time, and false where that fails.
+    fn ends_cleanly(&self, env: &mut E, path: &str, number: FileNum) -> bool
+        ensures clean { IsTrue result → IsTrue E.models_disk
+            → EndsCleanly ((E.observed env.old).disk.files path.now) }
+        ensures keeps { KeepsDisk E.Env env.old env.new }
+        ensures later { E.failures env.old ≤ E.failures env.new }
+    {
+        let Ok(own) = log_file_name(self.alloc, &self.name, number) else {
+            return false;
+        };
+        if path != own.as_str() {
+            return false;
+        }
+        match read_through(self.alloc, env, &self.name, number) {
+            Ok(is_clean) => is_clean,
+            Err(_) => false,
+        }
+    }
+
     // Whether a file of this number and type is a log or a manifest that was left aside.
     fn is_left_aside(&self, number: FileNum, kind: FileType) -> bool
         ensures { IsTrue result ↔ IsLeftAside self.now.set kind number }
@@ -124,6 +151,24 @@ impl<E: Env, C: UserCmp + Copy + Drop> OpenStore<E, C> {
             FileType::Log => self.is_past_log(number),
             FileType::Descriptor => number < self.versions.manifest_num(),
             _ => false,
+        }
+    }
+}
+
+// Reads a log batch by batch. Returns whether it ends between two records.
+fn read_through<E: Env>(alloc: Global, env: &mut E, store: &str, number: FileNum) -> Result<bool>
+    ensures clean { IfOk result (λ is_clean. IsTrue is_clean → IsTrue E.models_disk
+        → EndsCleanly ((E.observed env.old).disk.files (log_path store.now number))) }
+    ensures keeps { KeepsDisk E.Env env.old env.new }
+    ensures later { E.failures env.old ≤ E.failures env.new }
+{
+    let mut log = LogReplay::open(alloc, env, store, number)?;
+    let mut batch = WriteBatch::new(alloc)?;
+    'batches: loop {
+        match log.next_batch(env, &mut batch)? {
+            NextBatch::More => {}
+            NextBatch::CleanEnd => return Ok(true),
+            NextBatch::BadEnd => return Ok(false),
         }
     }
 }

@@ -1,6 +1,6 @@
 //! The files that take the place of those of a compaction: those of new tables, into which its own
 //! are merged, or the one file that it moves.
-ghost use Rattle.std.specs.Prelude.{◌≡◌, ◌≢◌, ◌+◌, ◌↔◌, IfSome, IsTrue, None, map};
+ghost use Rattle.std.specs.Prelude.{◌≡◌, ◌≢◌, ◌+◌, ◌↔◌, IfSome, IsTrue, map};
 ghost use Rattle.std.specs.declared.cmp.Ordering.TheVariants.{Less};
 ghost use Rattle.leveldb_base.specs.KeyTypes.{user_part};
 ghost use Rattle.leveldb_env.specs.Env.{AreBytes};
@@ -43,7 +43,6 @@ impl<E: Env, C: UserCmp + Copy + Drop> OpenStore<E, C> {
         compaction: &Compaction<C>,
     ) -> Result<Vec<FileMetaData>>
         requires order { C.cmp options.now.cmp ≡ C.cmp self.old.cmp }
-        requires none_waits { self.old.waiting ≡ None }
         requires chosen { IsCompactionOf (C.cmp self.old.cmp) self.old.current compaction.now.manual
             options.now.max_file_size compaction.now }
         ensures makes { let choices = choices_of C.Cmp FP.FilterPolicy
@@ -147,8 +146,8 @@ impl<E: Env, C: UserCmp + Copy + Drop> OpenStore<E, C> {
             ⟦<InternalKeyCmp<C> as Cmp>⟧ ⟦<InternalFilterPolicy<FP> as FilterPolicy>⟧
             ⟦<CompressorList as Compressors>⟧.codings options.now in
             MakesReplacements ⟦<InternalKeyCmp<C> as Cmp>⟧ E.Env
-            (table_options choices.format options.now) self.old env.old reading.old.cache.now choices
-            smallest compaction.now
+            (table_options choices.format options.now) self.old env.old reading.old.cache.now
+            choices smallest compaction.now
             (λ files. map (λ file. new_file_of (compaction.now.level + 1, file)) files.items)
             result self.new env.new reading.new.cache.now }
         ensures reference { reading.new.cache.ghost_name ≡ reading.old.cache.ghost_name }

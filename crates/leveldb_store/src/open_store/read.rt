@@ -3,8 +3,10 @@ ghost use Rattle.std.specs.Prelude.{◌≡◌, IfErr, IfOk};
 ghost use Rattle.leveldb_base.specs.Entries.{FindsNewest, lookup_copied, value_found};
 ghost use Rattle.leveldb_base.specs.Error.{IsOutOfMemory};
 ghost use Rattle.leveldb_version.specs.Format.{format_of};
+ghost use Rattle.leveldb_version.specs.Sampling.{ChargesForSample};
 ghost use Rattle.leveldb_version.specs.Search.{LooksUpNewest};
 ghost use Rattle.leveldb_version.specs.TableCache.{table_options};
+ghost use Rattle.leveldb_version.specs.Version.{new_files_of};
 ghost use Rattle.leveldb_store.specs.OpenStore.{AreInLevels, AreNumbersGiven};
 ghost use Rattle.leveldb_version.specs.CurrentVersion.{IsCurrent};
 ghost use Rattle.leveldb_store.specs.Read.{FindsInMemory, LooksUpKey, sought_key, with_charge};
@@ -13,8 +15,8 @@ use super::OpenStore;
 use bytes::Bytes;
 use leveldb_base::cmp::{Cmp, InternalKeyCmp, UserCmp};
 use leveldb_base::error::Result;
-use leveldb_base::key_types::LookupKey;
-use leveldb_base::types::{Lookup, MAX_SEQUENCE_NUMBER, SequenceNumber};
+use leveldb_base::key_types::{LookupKey, UserKey};
+use leveldb_base::types::{FileNum, Lookup, MAX_SEQUENCE_NUMBER, SequenceNumber};
 use leveldb_env::compressor::{CompressorList, Compressors};
 use leveldb_env::env::Env;
 use leveldb_env::filter::FilterPolicy;
@@ -57,6 +59,15 @@ impl<E: Env, C: UserCmp + Copy + Drop> OpenStore<E, C> {
         ensures { self.new ≡ with_charge self.old stats.file }
     {
         self.versions.update_stats(stats);
+    }
+
+    /// The file that a sample of this user key charges with a seek, by its level and number: the
+    /// first that a look-up of the key tries, if there is a second.
+    pub fn sampled(&self, key: UserKey<'_>) -> Option<(usize, FileNum)>
+        ensures { ChargesForSample (C.cmp self.now.cmp) key.now (new_files_of self.now.current)
+            result }
+    {
+        self.versions.current().sampled(key)
     }
 
     // What the memtables have of the key at a number.

@@ -4,7 +4,7 @@ ghost use Rattle.std.specs.Prelude.{◌≡◌, ◌≢◌, ◌↔◌, ◌≤◌, 
 ghost use Rattle.leveldb_store.specs.BuildTable.{choices_of};
 ghost use Rattle.leveldb_version.specs.Format.{Agrees, format_of};
 ghost use Rattle.leveldb_version.specs.VersionEdit.{NewFile};
-ghost use Rattle.leveldb_store.specs.LoggedEdits.{LogsTables};
+ghost use Rattle.leveldb_store.specs.LoggedEdits.{LogsTableEdits};
 ghost use Rattle.leveldb_store.specs.OpenStore.{IsUnbroken};
 ghost use Rattle.leveldb_store.specs.OpenTables.{ClosesObsolete};
 ghost use Rattle.leveldb_store.specs.Room.{IsFull, MakesRoom, RemovesAtLast, TidiesUp, but_removal};
@@ -87,7 +87,7 @@ impl<E: Env, C: UserCmp + Copy + Drop> OpenStore<E, C> {
         ensures none_new { let format = format_of C.Cmp FP.FilterPolicy
             ⟦<CompressorList as Compressors>⟧.codings options.now in OnOk (but_removal result)
             (AddsNone E.Env (C.cmp self.old.cmp) format self.old env.old self.new env.new) }
-        ensures tables { OnOk result (LogsTables 2 self.old.set self.new.set) }
+        ensures tables { OnOk result (LogsTableEdits 2 self.old.set self.new.set) }
         ensures closes { ClosesObsolete E.Env self.old.set env.old tables.old env.new tables.new }
         ensures log { is_some log.new ≡ is_some log.old }
     {
@@ -118,7 +118,7 @@ impl<E: Env, C: UserCmp + Copy + Drop> OpenStore<E, C> {
             self.old env.old (but_removal result) self.new env.new }
         ensures removes { IfOk result (λ removal. self.old.waiting ≢ None
             → RemovesAtLast E.Env self.new removal env.new) }
-        ensures tables { OnOk result (LogsTables 1 self.old.set self.new.set) }
+        ensures tables { OnOk result (LogsTableEdits 1 self.old.set self.new.set) }
         ensures numbers { OnOk result (self.new.set.next_file ≤ self.old.set.next_file + 1) }
         ensures none_new { let format = format_of C.Cmp FP.FilterPolicy
             ⟦<CompressorList as Compressors>⟧.codings options.now in OnOk (but_removal result)

@@ -1,6 +1,6 @@
 //! The last steps of an opening: what the logs of a store that was recovered have comes to memory
 //! or to tables, and batches may be appended.
-ghost use Rattle.std.specs.Prelude.{◌≡◌, IfOk};
+ghost use Rattle.std.specs.Prelude.{◌≡◌, IfOk, None};
 ghost use Rattle.leveldb_env.specs.Env.{SameLocks};
 ghost use Rattle.leveldb_store.specs.BuildTable.{choices_of};
 ghost use Rattle.leveldb_store.specs.OpeningSteps.{BeginsWriting, LogsIfWanted, MayBeWritten};
@@ -36,6 +36,7 @@ pub(super) fn begin_writing<E: Env, C: UserCmp + Copy + Drop, FP: FilterPolicy +
         ⟦<CompressorList as Compressors>⟧.codings options.now)
         name.now set.versions set.logs.keys env.old options.now.write_buffer_size result env.new }
     ensures cmp { IfOk result (λ value. value.cmp ≡ options.now.cmp) }
+    ensures none_waits { IfOk result (λ value. value.waiting ≡ None) }
 {
     let path = String::from_str(alloc, name)?;
     let is_anew = set.is_anew;

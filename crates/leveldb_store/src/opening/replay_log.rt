@@ -1,26 +1,21 @@
 //! The replay of a log: its batches go into a memtable, one after another, and each memtable that
 //! is full becomes a table.
 ghost use Rattle.std.specs.Prelude.{◌≡◌, ◌≢◌, ◌⊎◌, [], false, IfErr, IfOk, OnOk, length};
-ghost use Rattle.leveldb_base.specs.Error.{IsOutOfMemory};
 ghost use Rattle.leveldb_base.specs.History.{AreUpTo};
 ghost use Rattle.leveldb_base.specs.declared.error.StatusCode.TheVariants.{Corruption};
 ghost use Rattle.leveldb_mem.specs.MemTable.{FailsToPrepare, bytes_in};
-ghost use Rattle.leveldb_mem.specs.WriteBatch.{IsBatch};
-ghost use Rattle.leveldb_version.specs.Batches.{IsRecordOf};
 ghost use Rattle.leveldb_store.specs.BuildTable.{choices_of};
-ghost use Rattle.leveldb_store.specs.ReplayLog.{TakesBatch, Follows, MakesRestTable, ReplaysFile, ReplaysText, TakesRecord};
+ghost use Rattle.leveldb_store.specs.ReplayLog.{TakesBatch, Follows, MakesRestTable, ReplaysFile, TakesNextBatch};
 
 use crate::build::build_memtable;
+use crate::log_replay::{LogReplay, NextBatch};
 use leveldb_base::cmp::{Cmp, InternalKeyCmp, UserCmp};
 use leveldb_base::error::{Result, StatusCode, err};
-use leveldb_base::names::log_file_name;
 use leveldb_base::types::{FileMetaData, FileNum, MAX_SEQUENCE_NUMBER, SequenceNumber};
 use leveldb_env::compressor::{CompressorList, Compressors};
 use leveldb_env::env::Env;
-use leveldb_env::env::whole_files::read_file;
 use leveldb_env::filter::{FilterPolicy, InternalFilterPolicy};
 use leveldb_env::options::Options;
-use leveldb_mem::log::{Found, ReaderCore};
 use leveldb_mem::memtable::MemTable;
 use leveldb_mem::write_batch::WriteBatch;
 use leveldb_version::version_set::LiveFiles;
@@ -62,44 +57,19 @@ pub(crate) fn replay_log<E: Env, C: UserCmp + Copy + Drop, FP: FilterPolicy + Co
         versions.old last number env.old result versions.new env.new }
     ensures order { IfOk result (λ log. log.rest.cmp ≡ options.now.cmp) }
 {
-    let path = log_file_name(alloc, store, number)?;
-    let text = read_file(alloc, env, &path)?;
-    replay_text(alloc, env, store, options, versions, last, &text)
-}
-
-// Replays a log of these bytes.
-fn replay_text<E: Env, C: UserCmp + Copy + Drop, FP: FilterPolicy + Copy + Drop>(
-    alloc: Global,
-    env: &mut E,
-    store: &str,
-    options: &Options<C, FP>,
-    versions: &mut LiveFiles<E>,
-    last: SequenceNumber,
-    text: &[u8],
-) -> Result<ReplayedLog<C>>
-    requires store { store.now ≡ versions.old.store }
-    ensures replays { ReplaysText E.Env (choices_of C.Cmp FP.FilterPolicy
-        ⟦<InternalKeyCmp<C> as Cmp>⟧ ⟦<InternalFilterPolicy<FP> as FilterPolicy>⟧
-        ⟦<CompressorList as Compressors>⟧.codings options.now) options.now.write_buffer_size
-        versions.old last text.now env.old result versions.new env.new }
-    ensures order { IfOk result (λ log. log.rest.cmp ≡ options.now.cmp) }
-{
-    let mut log = ReplayedLog::begun(alloc, options.cmp, last, text.len());
+    let mut log = LogReplay::open(alloc, env, store, number)?;
+    let mut replayed = ReplayedLog::begun(alloc, options.cmp, last, log.size());
     let mut batch = WriteBatch::new(alloc)?;
-    let mut record = Vec::new(alloc);
-    let mut core = ReaderCore::new(alloc, true);
-    let mut source = text;
-    'records: loop {
-        match core.next_record(&mut source, &mut record)? {
-            Found::Record => {}
-            Found::End => {
-                log.is_clean = true;
-                return Ok(log);
+    'batches: loop {
+        match log.next_batch(env, &mut batch)? {
+            NextBatch::More => {}
+            NextBatch::CleanEnd => {
+                replayed.is_clean = true;
+                return Ok(replayed);
             }
-            Found::WrongChecksum => return Ok(log),
-            Found::Damage(_) => return Ok(log),
+            NextBatch::BadEnd => return Ok(replayed),
         }
-        log.take_record(alloc, env, store, options, versions, &mut batch, &record)?;
+        replayed.take_batch(alloc, env, store, options, versions, &batch)?;
     }
 }
 
@@ -123,26 +93,24 @@ impl<C: UserCmp + Copy + Drop> ReplayedLog<C> {
         }
     }
 
-    // Adds the batch that a record is. If the memtable is full then, it becomes a table.
-    fn take_record<E: Env, FP: FilterPolicy + Copy + Drop>(
+    // Adds the next batch. If the memtable is full then, it becomes a table.
+    fn take_batch<E: Env, FP: FilterPolicy + Copy + Drop>(
         &mut self,
         alloc: Global,
         env: &mut E,
         store: &str,
         options: &Options<C, FP>,
         versions: &mut LiveFiles<E>,
-        batch: &mut WriteBatch,
-        text: &[u8],
+        batch: &WriteBatch,
     ) -> Result<()>
         requires store { store.now ≡ versions.old.store }
         requires order { self.old.rest.cmp ≡ options.now.cmp }
         requires up_to { AreUpTo self.old.last self.old.rest.kept.entries }
-        ensures takes { TakesRecord E.Env (choices_of C.Cmp FP.FilterPolicy
+        ensures takes { TakesNextBatch E.Env (choices_of C.Cmp FP.FilterPolicy
             ⟦<InternalKeyCmp<C> as Cmp>⟧ ⟦<InternalFilterPolicy<FP> as FilterPolicy>⟧
             ⟦<CompressorList as Compressors>⟧.codings options.now) options.now.write_buffer_size
-            text.now self.old versions.old env.old result self.new versions.new env.new }
+            batch.now self.old versions.old env.old result self.new versions.new env.new }
     {
-        read_batch(alloc, batch, text)?;
         check_follows(alloc, self.last, batch)?;
         self.add_batch(batch)?;
         if self.rest.len() > 0 && self.rest.approx_mem_usage() >= options.write_buffer_size {
@@ -189,22 +157,6 @@ impl<C: UserCmp + Copy + Drop> ReplayedLog<C> {
         self.tables.push(file)?;
         self.rest = MemTable::new(alloc, options.cmp);
         Ok(())
-    }
-}
-
-// The batch that a record is.
-fn read_batch(alloc: Global, batch: &mut WriteBatch, text: &[u8]) -> Result<()>
-    ensures ok { OnOk result (IsRecordOf text.now batch.new) }
-    ensures cause { IfErr result (λ status. IsOutOfMemory status
-        ⊎ ((status.code ≡ Corruption) × (IsBatch text.now → ⊥))) }
-{
-    match batch.set_contents(text) {
-        Err(status) if status.code == StatusCode::InvalidArgument => err(
-            alloc,
-            StatusCode::Corruption,
-            "a record of the log is no batch",
-        ),
-        other => other,
     }
 }
 

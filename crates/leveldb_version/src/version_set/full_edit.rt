@@ -31,8 +31,8 @@ pub(super) fn apply_reserved(full: &mut VersionEdit, edit: VersionEdit)
     add_files(&mut full.new_files, edit.new_files);
 }
 
-// Puts each pointer in the place of the one of its level.
-fn add_pointers(pointers: &mut Vec<CompactionPointer>, added: Vec<CompactionPointer>)
+/// Puts each pointer in the place of the one of its level. It takes no memory.
+pub(super) fn add_pointers(pointers: &mut Vec<CompactionPointer>, added: Vec<CompactionPointer>)
     requires { vec_len pointers.old + vec_len added ≤ vec_capacity pointers.old }
     ensures { map pointer_of pointers.new.items
         ≡ fold pointers_with (map pointer_of pointers.old.items) (map pointer_of added.items) }

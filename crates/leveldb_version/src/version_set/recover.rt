@@ -1,5 +1,5 @@
 //! Recovering a version set from the manifest that `CURRENT` names.
-ghost use Rattle.std.specs.Prelude.{◌≡◌, ◌<◌, ◌+◌, ◌^◌, ◌%◌, ◌↔◌, false, if◌then◌else◌, IfOk, IfSome, IsSome, IsTrue, OnOk, map, string_bytes};
+ghost use Rattle.std.specs.Prelude.{◌≡◌, ◌<◌, ◌+◌, ◌^◌, ◌%◌, ◌↔◌, false, if◌then◌else◌, IfOk, IfSome, IsSome, IsTrue, OnOk, string_bytes};
 ghost use Rattle.leveldb_version.specs.CurrentFile.{IsCurrentUnread};
 ghost use Rattle.leveldb_version.specs.VersionEdit.{edit_of};
 ghost use Rattle.leveldb_base.specs.Error.{IsOutOfMemory};
@@ -7,12 +7,12 @@ ghost use Rattle.leveldb_env.specs.Env.{BeforeOrAfter, ChangesFiles, FilesUnchan
 ghost use Rattle.leveldb_mem.specs.Log.{bad, clean, log_block_size};
 ghost use Rattle.leveldb_mem.specs.Log.Writer.{new_writer};
 ghost use Rattle.leveldb_version.specs.Recover.{RecoverResult, WhyUnrecovered};
-ghost use Rattle.leveldb_version.specs.RecoverSteps.{CarriesOut, IsLogUnread, IsManifestAt, IsPlan, IsSizedLog, set_settled};
+ghost use Rattle.leveldb_version.specs.RecoverSteps.{CarriesOut, IsFileUnread, IsManifestAt, IsPlan, IsSizedReplay, set_settled};
 ghost use Rattle.leveldb_version.specs.VersionSetValue.{manifest_state};
 
 use super::current_file::read_current_file;
 use super::live_files::LiveFiles;
-use super::replay::{Replayed, replay};
+use super::replay::{Replayed, replay_file};
 use super::usable::{check_usable, next_number_after};
 use leveldb_base::cmp::Cmp;
 use leveldb_base::error::Result;
@@ -20,7 +20,7 @@ use leveldb_base::types::FileNum;
 use leveldb_env::env::Env;
 use leveldb_env::env::whole_files::found;
 use leveldb_env::options::Options;
-use leveldb_mem::log::{LogFile, WriterCore, read_log_file};
+use leveldb_mem::log::{LogFile, WriterCore};
 use std::alloc::Global;
 
 /// What a set is to become by a manifest that was read: where that is, what its edits leave, and
@@ -65,8 +65,7 @@ impl<E: Env> LiveFiles<E> {
             (E.failures env.old) (E.failures env.new) result }
     {
         let (path, number) = named_manifest(self.alloc, env, &self.store)?;
-        let (records, is_clean, size) = read_sized_log(self.alloc, env, &path)?;
-        let left = replay(self.alloc, records.as_slice())?;
+        let (left, is_clean, size) = read_manifest(self.alloc, env, &path)?;
         check_usable(self.alloc, &options.cmp, &left)?;
         let next_file = next_number_after(self.alloc, self.next_file, number, &left)?;
         let reuses = is_reusable(
@@ -144,26 +143,22 @@ fn named_manifest<E: Env>(alloc: Global, env: &mut E, store: &str) -> Result<(St
     Ok((path, number))
 }
 
-// The records of a log's file, whether it ends between two of them, and its size.
-fn read_sized_log<E: Env>(
-    alloc: Global,
-    env: &mut E,
-    path: &str,
-) -> Result<(Vec<Vec<u8>>, bool, usize)>
+// What the records of a manifest's file leave, whether it ends between two of them, and its size.
+fn read_manifest<E: Env>(alloc: Global, env: &mut E, path: &str) -> Result<(Replayed, bool, usize)>
     ensures still { IsTrue E.models_disk
         → Run (FilesUnchanged (E.observed env.old).disk.files) (E.observed env.old)
         (E.observed env.new) }
     ensures locks { SameLocks E.models_disk (E.observed env.old) (E.observed env.new) }
-    ensures ok { IfOk result (λ found. IsTrue E.models_disk
-        → IsSizedLog ((E.observed env.old).disk.files path.now)
-        (map (λ v. v.items) found.0.items) (if found.1 then clean else bad) found.2) }
-    ensures cause { HasCause (IsLogUnread E.models_disk path.now (E.observed env.old)
+    ensures ok { IfOk result (λ found. IsSizedReplay E.models_disk
+        ((E.observed env.old).disk.files path.now) found.0
+        (if found.1 then clean else bad) found.2) }
+    ensures cause { HasCause (IsFileUnread E.models_disk path.now (E.observed env.old)
         (E.failures env.old) (E.failures env.new))
         (E.failures env.old) (E.failures env.new) result }
 {
-    let (records, is_clean) = found(alloc, path, read_log_file(alloc, env, path))?;
+    let (left, is_clean) = found(alloc, path, replay_file(alloc, env, path))?;
     let size = found(alloc, path, env.size_of(path))?;
-    Ok((records, is_clean, size))
+    Ok((left, is_clean, size))
 }
 
 // Whether a manifest goes on to be used.

@@ -29,8 +29,9 @@ impl<E: Env, C: UserCmp + Copy, FP: FilterPolicy + Copy> Engine<E, C, FP> {
         self.compact_store(env, from, to)
     }
 
-    // Compacts the store of an engine that is open. Entries that are shadowed at the smallest number
-    // at which the engine is read may go. If that breaks the store, the engine is broken.
+    // Compacts the store of an engine that is open, once the files are charged that samples charge.
+    // Entries that are shadowed at the smallest number at which the engine is read may go. If that
+    // breaks the store, the engine is broken.
     fn compact_store(&mut self, env: &mut E, from: &[u8], to: &[u8]) -> Result<()>
         requires { self.old.mode ≡ open_mode }
         ensures compacts { let choices = choices_of C.Cmp FP.FilterPolicy
@@ -42,6 +43,7 @@ impl<E: Env, C: UserCmp + Copy, FP: FilterPolicy + Copy> Engine<E, C, FP> {
     {
         self.options.cmp = self.store.cmp();
         let smallest = self.snapshots.smallest_held(self.store.last_sequence());
+        self.samples.charge(&mut self.store);
         let mut log = self.options.log.take();
         let compacted = self.store.compact_range(
             env,

@@ -8,6 +8,7 @@ ghost use Rattle.rusty_leveldb.specs.EngineValue.{FollowsStore, mode_of};
 ghost use Rattle.leveldb_store.specs.OpenStore.{IsUnbroken};
 ghost use Rattle.leveldb_version.specs.Format.{format_of};
 
+use crate::read_samples::ReadSamples;
 use leveldb_base::cmp::{Cmp, InternalKeyCmp, UserCmp};
 use leveldb_base::error::{Result, StatusCode, err};
 use leveldb_env::compressor::{CompressorList, Compressors};
@@ -47,6 +48,8 @@ pub struct Engine<E: Env, C: Cmp, FP, O = Options<C, FP>, T = TableCache<E, C, F
     // The defaults of the two name the filters' policy.
     pub(crate) policy: PhantomData<FP>,
     pub(crate) snapshots: SnapshotList,
+    // What its iterators read, until a compaction is looked for.
+    pub(crate) samples: ReadSamples,
     pub(crate) mode: Mode,
 }
 
@@ -61,6 +64,7 @@ impl<E: Env, C: Cmp + Drop, FP: Drop, O: Drop, T: Drop> Drop for Engine<E, C, FP
             tables,
             policy: _,
             snapshots,
+            samples,
             mode: _,
         } = self;
         drop(options);
@@ -68,6 +72,7 @@ impl<E: Env, C: Cmp + Drop, FP: Drop, O: Drop, T: Drop> Drop for Engine<E, C, FP
         drop(store);
         drop(tables);
         drop(snapshots);
+        drop(samples);
     }
 }
 

@@ -7,6 +7,7 @@ ghost use Rattle.rusty_leveldb.specs.Serves.{snapshot_of};
 
 use super::engine::Engine;
 use crate::db_iter::{DBIterator, StoreIterator, StoreTables};
+use crate::read_samples::ReadSamples;
 use leveldb_base::cmp::{Cmp, InternalKeyCmp, UserCmp};
 use leveldb_base::error::Result;
 use leveldb_base::types::SequenceNumber;
@@ -65,9 +66,19 @@ impl<E: Env, C: UserCmp + Copy, FP: FilterPolicy + Copy> Engine<E, C, FP> {
         let tables = &mut self.tables;
         let options = &self.options;
         let store = &self.store;
+        let samples = &mut self.samples;
         let policy = options.filter_policy;
         let compressors = &options.compressor_list;
-        iter_over(alloc, store, env, tables, policy, compressors, sequence)
+        iter_over(
+            alloc,
+            store,
+            env,
+            tables,
+            policy,
+            compressors,
+            samples,
+            sequence,
+        )
     }
 }
 
@@ -85,6 +96,7 @@ fn iter_over<
     tables: &'a mut TableCache<E, C, FP>,
     policy: FP,
     compressors: &'a K,
+    samples: &'a mut ReadSamples,
     sequence: SequenceNumber,
 ) -> Result<StoreIterator<'a, E, C, FP, K, StoreView<'a, C>>>
     ensures made { let walk = ⟦<StoreView<'a, C> as Walk<E, ReadTables<'a, E, C, FP, K>>>⟧ in
@@ -99,5 +111,8 @@ fn iter_over<
         view,
         env,
         tables,
+        store,
+        samples,
+        counted: 0,
     })
 }

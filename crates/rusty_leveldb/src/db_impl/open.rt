@@ -6,6 +6,7 @@ ghost use Rattle.rusty_leveldb.specs.Calls.{EngineOpens};
 use super::close::give_back;
 use super::engine::{Engine, Mode};
 use super::names::check_name;
+use crate::read_samples::ReadSamples;
 use leveldb_base::cmp::{Cmp, InternalKeyCmp, UserCmp};
 use leveldb_base::error::Result;
 use leveldb_base::names::lock_file_name;
@@ -24,7 +25,9 @@ impl<E: Env, C: UserCmp + Copy, FP: FilterPolicy + Copy> Engine<E, C, FP> {
     /// A missing store is made, or `InvalidArgument` if the options say so; one that is there is
     /// opened, or `AlreadyExists` if they say so; a locked one is `LockError`. Options that
     /// `Options::check` refuses make no call. An opening that fails gives back the lock that it
-    /// took, unless the device failed once more. A store that is locked, or is missing and isn't to
+    /// took, unless the device failed once more. At its end it does one compaction, where the score
+    /// of a level asks for one; if that fails, the opening is Ok and a line goes to the options' log,
+    /// but where it broke the store it isn't opened. A store that is locked, or is missing and isn't to
     /// be made, or is there and must not be, or that has tables or logs and no `CURRENT`, or a
     /// manifest whose edits can't be used, is never opened; its files stay as they are, but that
     /// its lock's file may be made.
@@ -49,7 +52,13 @@ impl<E: Env, C: UserCmp + Copy, FP: FilterPolicy + Copy> Engine<E, C, FP> {
         match OpenStore::open(alloc, env, name, &options) {
             Ok(store) => {
                 let mut store = store;
-                let _ = store.tidy_opened(env, &mut tables, &mut options.log);
+                let mut log = options.log.take();
+                let ended = store.end_opening(env, &options, &mut tables, &mut log);
+                options.log = log;
+                if let Err(status) = ended {
+                    let _ = give_back(env, &lock);
+                    return Err(status);
+                }
                 Ok(Engine {
                     alloc,
                     options,
@@ -58,6 +67,7 @@ impl<E: Env, C: UserCmp + Copy, FP: FilterPolicy + Copy> Engine<E, C, FP> {
                     tables,
                     policy: PhantomData,
                     snapshots: SnapshotList::new(alloc),
+                    samples: ReadSamples::new(alloc),
                     mode: Mode::Open,
                 })
             }

@@ -9,6 +9,7 @@ ghost use Rattle.rusty_leveldb.specs.Calls.{EngineFlushes, EngineWrites};
 ghost use Rattle.rusty_leveldb.specs.Room.{EngineMakesRoom, StoreMakesRoom};
 
 use super::engine::{Engine, mode_by};
+use crate::read_samples::ReadSamples;
 use leveldb_base::cmp::{Cmp, InternalKeyCmp, UserCmp};
 use leveldb_base::error::Result;
 use leveldb_base::types::SequenceNumber;
@@ -85,6 +86,7 @@ impl<E: Env, C: UserCmp + Copy, FP: FilterPolicy + Copy> Engine<E, C, FP> {
             env,
             &self.options,
             &mut self.tables,
+            &mut self.samples,
             smallest,
             &mut log,
         );
@@ -107,13 +109,15 @@ impl<E: Env, C: UserCmp + Copy, FP: FilterPolicy + Copy> Engine<E, C, FP> {
     }
 }
 
-// Makes room in the memtable of a store, where it is full, and does the compaction then for which the
-// store asks. What the removal of obsolete files fails of is a line for `log`.
+// Makes room in the memtable of a store, where it is full. Then the files are charged that samples
+// charge, and the compaction is done for which the store asks. What the removal of obsolete files
+// fails of is a line for `log`.
 fn room_in<E: Env, C: UserCmp + Copy + Drop, FP: FilterPolicy + Copy + Drop>(
     store: &mut OpenStore<E, C>,
     env: &mut E,
     options: &Options<C, FP>,
     tables: &mut TableCache<E, C, FP>,
+    samples: &mut ReadSamples,
     smallest: SequenceNumber,
     log: &mut Option<Logger>,
 ) -> Result<()>
@@ -131,5 +135,6 @@ fn room_in<E: Env, C: UserCmp + Copy + Drop, FP: FilterPolicy + Copy + Drop>(
         return Ok(());
     }
     let _ = store.make_room(env, options, tables, log)?;
+    samples.charge(store);
     store.compact_if_asked(env, options, tables, smallest, log)
 }

@@ -2,7 +2,7 @@ use Rattle.std.proofs.Common.{inl, refl, subst}
 use Rattle.std.proofs.lemmas.Result.{err_from_is_err_and}
 use Rattle.leveldb_version.specs.CurrentVersion.{IsCurrent}
 use Rattle.leveldb_version.specs.Picking.{IsAskedFor}
-use Rattle.leveldb_store.proofs.AskedCompactionLemmas.{compacts_if_asked, picked_may_be}
+use Rattle.leveldb_store.proofs.AskedCompactionLemmas.{compacts_if_asked, picked_ends, picked_may_be}
 use Rattle.leveldb_store.proofs.CompactedLemmas.{failed_at_once}
 use Rattle.leveldb_store.proofs.CurrentVersionLemmas.{current_by}
 use Rattle.leveldb_store.specs.OpenStore.{OpenStoreValue}
@@ -18,6 +18,8 @@ returns-in_err-picked g c =
         memory = refl;
       };
       asked = record { logged = tt; by_score = tt; err = refl };
+      removes = tt;
+      breaks = λ unbroken. inl unbroken;
       log = refl;
     })
 
@@ -42,3 +44,8 @@ returns-clause-asked g c =
     let current = subst (λ (v : OpenStoreValue g.row.C.Denot). IsCurrent (g.C.Cmp.cmp v.cmp) v.cmp v.set v.current) c.self.view_is (current_by g.C.Cmp c.self.invariant.8 c.in_ok-picked.ensures.current) in
     compacts_if_asked c.args.self.now c.compact_picked.new.self current size picked c.compact_picked.result
     here done.logged (λ none. (done.none none).1) done.err
+
+pub returns-clause-removes : goal.returns-clause-removes
+returns-clause-removes g c =
+    let done = c.compact_picked.ensures in
+    picked_ends _ c.in_ok-picked.picked c.compact_picked.result done.removes (λ none. (done.none none).1)

@@ -10,6 +10,7 @@ returns-in_err-set g c =
       opens = recover_refused g.E.Env _ c.args.name.now c.args.options.now.create_if_missing c.args.options.now.error_if_exists c.args.env.now _ c.recover.new.env _ c.in_err-set.ensures;
       bytes = c.in_err-set.ensures.bytes;
       cmp = tt;
+      none_waits = tt;
     })
 
 pub begin_writing-requires : goal.begin_writing-requires
@@ -24,4 +25,5 @@ returns g c = record {
   bytes = recovered_bytes g.E.Env _ c.args.name.now c.args.options.now.create_if_missing c.args.options.now.error_if_exists c.args.env.now _ c.in_ok-set.set c.recover.new.env c.in_ok-set.ensures
       c.begin_writing.new.env c.begin_writing.result c.begin_writing.ensures.begins;
   cmp = c.begin_writing.ensures.cmp;
+  none_waits = c.begin_writing.ensures.none_waits;
 }

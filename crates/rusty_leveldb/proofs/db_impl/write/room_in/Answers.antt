@@ -1,6 +1,10 @@
 -- There is room, none is made, or it is made and the store compacts what it asks for.
-use Rattle.std.proofs.Common.{◌≡◌, ◌∙◌, ap, false, refl, sym, true}
+use Rattle.std.specs.Prelude.{OnOk}
+use Rattle.std.proofs.Common.{◌≡◌, ◌∙◌, ap, false, refl, subst, sym, true}
 use Rattle.std.proofs.lemmas.Result.{err_from_is_err_and}
+use Rattle.leveldb_store.specs.LoggedEdits.{LogsByScore}
+use Rattle.leveldb_store.specs.OpenStore.{OpenStoreValue}
+use Rattle.rusty_leveldb.proofs.ChargesLemmas.{charged_tables}
 use Rattle.rusty_leveldb.proofs.RoomInLemmas.{room_compacted, room_not_made, room_there}
 use Rattle.rusty_leveldb.proofs.db_impl.write.room_in.Goals as goal
 
@@ -21,10 +25,16 @@ returns-in_err-make_room-clause-makes g c =
 pub returns-clause-makes : goal.returns-clause-makes
 returns-clause-makes g c =
     let made = c.in_ok-make_room.ensures in
+    let charged = c.charge.ensures.version in
     room_compacted _ g.E.Env _ c.args.store.now c.args.env.now c.args.tables.now _ refl _ _
     (sym c.requires.order) (c.if-not-is_full.ensures.0 refl) c.make_room.new.self
     c.make_room.new.env c.make_room.new.tables made.makes made.sound made.closes made.none_new
     made.tables c.compact_if_asked.result c.compact_if_asked.new.self c.compact_if_asked.new.env
-    c.compact_if_asked.new.tables c.compact_if_asked.ensures.compacts
+    c.compact_if_asked.new.tables (charged_tables _ g.E.Env _ c.make_room.new.self
+    c.make_room.new.env c.make_room.new.tables _ made.makes.usable _ c.charge.new.store charged
+    c.compact_if_asked.result c.compact_if_asked.new.self c.compact_if_asked.new.env
+    c.compact_if_asked.new.tables c.compact_if_asked.ensures.compacts)
     (ap g.C.Cmp.cmp made.makes.rest.cmp ∙ sym c.requires.order)
-    c.compact_if_asked.ensures.asked.by_score
+    (subst (λ (s : OpenStoreValue g.row.C.Denot). OnOk c.compact_if_asked.result
+    (LogsByScore (g.C.Cmp.cmp s.cmp) s.set c.compact_if_asked.new.self.set)) charged
+    c.compact_if_asked.ensures.asked.by_score)

@@ -19,13 +19,19 @@ returns-in-Err-clause-life g c = not_lived g.row.C.Denot g.row.FP.Denot _ ghosts
 pub loop-command-init : goal.loop-command-init
 loop-command-init g c =
     let none : c.reserve.new.self.items ≡ [] = c.reserve.ensures.items ∙ c.new-replies.ensures.items in (
-      search rules,
+      c.in-Ok.ensures.time refl,
       search rules,
       [],
       subst (λ items. Given (moment_of c.args.env.now) items []) (sym none) refl,
       subst (λ items. LivesSoFar g.row.C.Denot g.row.FP.Denot (key_order g.row.C g.C.UserCmp g.C.UserCmp-dict g.C.Cmp g.C.Cmp-dict) ghosts (format_of g.C.Cmp g.FP.FilterPolicy (compressors g.dyn-2).codings) c.args.name.now c.args.env.now (opening_of g.C.Cmp g.FP.FilterPolicy (compressors g.dyn-2).codings c.args.options) [] items (map snapshot_of c.new-taken.result.items) [] c.in-Ok.engine c.open.new.env) (sym none)
           (rw c.new-taken.ensures.items (lives_first g.row.C.Denot g.row.FP.Denot _ ghosts (format_of g.C.Cmp g.FP.FilterPolicy (compressors g.dyn-2).codings) (record_only_now, record_counts_now) refl c.args.name.now c.args.env.now c.open.new.env (opening_of g.C.Cmp g.FP.FilterPolicy (compressors g.dyn-2).codings c.args.options) c.in-Ok.engine c.in-Ok.ensures.step)),
     )
+
+pub overflow_sub-moment : goal.overflow_sub-moment
+overflow_sub-moment g c =
+    let so_far = c.loop-command.invariant in
+    let later : moment_of c.loop-command.env ≤ moment_of c.answer-reply.new.env = c.answer-reply.ensures.time refl in
+    omega (arith, so_far.0, later, c.moment.ensures, c.moment-start.ensures)
 
 pub unwrap-requires : goal.unwrap-requires
 unwrap-requires g c = search rules

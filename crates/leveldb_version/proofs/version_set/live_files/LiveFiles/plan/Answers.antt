@@ -1,12 +1,9 @@
-use Rattle.std.proofs.Common.{◌≡◌, ◌∙◌, List, ℕ, Vec, ap, map, rules, subst, sym}
+use Rattle.std.proofs.Common.{◌≡◌, ◌∙◌, rules, subst, sym}
 use Rattle.std.specs.Prelude.{if◌then◌else◌, string_bytes}
-use Rattle.std.specs.Global.{Global}
 use Rattle.std.proofs.lemmas.Result.{err_from_is_err_and}
 use Rattle.leveldb_mem.specs.Log.{bad, clean}
 use Rattle.leveldb_version.specs.RecoverSteps.{IsManifestAt, IsManifestRead}
-use Rattle.leveldb_version.specs.Replay.{AreReplayed}
-use Rattle.leveldb_version.proofs.RecoverLemmas.{current_refused, manifest_read, named_unread, plan_made, plan_unread, plan_unreplayed, plan_unusable, plan_used_up, why_of_replay}
-use Rattle.leveldb_version.proofs.ReplayLemmas.{texts}
+use Rattle.leveldb_version.proofs.RecoverLemmas.{current_refused, manifest_read, named_unread, plan_made, plan_unread, plan_unusable, plan_used_up}
 use Rattle.leveldb_version.proofs.version_set.live_files.LiveFiles.plan.Goals as goal
 
 pub returns-in_err-path-clause-cause : goal.returns-in_err-path-clause-cause
@@ -17,49 +14,31 @@ returns-in_err-path-clause-cause g c =
     rw (p.1, p.2) (plan_unread g.E.Env.models_disk (g.C.Cmp.cmp c.args.options.now.cmp) (g.C.Cmp.name c.args.options.now.cmp) c.args.options.now.reuse_manifest c.args.options.now.max_file_size c.args.self.now
     (g.E.Env.observed c.args.env.now) c.deref.result.now (g.E.Env.failures c.args.env.now) (g.E.Env.failures c.named_manifest.new.env) c.in_err-path.field-0.0 store unread)
 
-pub returns-in_err-records-clause-cause : goal.returns-in_err-records-clause-cause
-returns-in_err-records-clause-cause g c =
-    let p = err_from_is_err_and c.from_residual-in_err-records.result c.from_residual-in_err-records.ensures.1 in
-    let store : c.deref.result.now ≡ c.args.self.now.store = search rules in
-    let unread = named_unread g.E.Env.models_disk c.deref.result.now (g.E.Env.observed c.args.env.now) {U = Unit {0}} c.deref-2.result.now c.in_ok-path.ensures.ok.name c.in_ok-path.number (g.E.Env.observed c.named_manifest.new.env)
-    (g.E.Env.failures c.args.env.now) (g.E.Env.failures c.named_manifest.new.env) (g.E.Env.failures c.read_sized_log.new.env) c.in_err-records.field-0.0 (c.deref-2.ensures ∙ c.in_ok-path.ensures.ok.path_is)
-    c.in_ok-path.ensures.ok.named (λ modelled. (c.named_manifest.ensures.still modelled).has) c.in_ok-path.ensures.cause.ok c.in_err-records.ensures.cause in
-    rw (p.1, p.2) (plan_unread g.E.Env.models_disk (g.C.Cmp.cmp c.args.options.now.cmp) (g.C.Cmp.name c.args.options.now.cmp) c.args.options.now.reuse_manifest c.args.options.now.max_file_size c.args.self.now
-    (g.E.Env.observed c.args.env.now) c.deref.result.now (g.E.Env.failures c.args.env.now) (g.E.Env.failures c.read_sized_log.new.env) c.in_err-records.field-0.0 store unread)
-
 pub returns-in_err-left-clause-cause : goal.returns-in_err-left-clause-cause
 returns-in_err-left-clause-cause g c =
     let p = err_from_is_err_and c.from_residual-in_err-left.result c.from_residual-in_err-left.ensures.1 in
     let store : c.deref.result.now ≡ c.args.self.now.store = search rules in
-    let path = string_bytes c.in_ok-path.path in
-    let end = if c.in_ok-records.is_clean then clean else bad in
-    let records : List (Vec ℕ Global) = c.in_ok-records.records.items in
-    let at : IsManifestAt g.E.Env.models_disk c.args.self.now.store (g.E.Env.observed c.args.env.now).disk.files path c.in_ok-path.number =
-    subst (λ s. IsManifestAt g.E.Env.models_disk s (g.E.Env.observed c.args.env.now).disk.files path c.in_ok-path.number) store c.in_ok-path.ensures.ok in
-    let read : IsManifestRead g.E.Env.models_disk c.args.self.now.store (g.E.Env.observed c.args.env.now).disk.files path c.in_ok-path.number (texts records) end c.in_ok-records.size =
-    manifest_read g.E.Env.models_disk c.args.self.now.store (g.E.Env.observed c.args.env.now) (g.E.Env.observed c.named_manifest.new.env) path c.deref-2.result.now c.in_ok-path.number (texts records) end c.in_ok-records.size
-    at (λ modelled. (c.named_manifest.ensures.still modelled).has) c.deref-2.ensures c.in_ok-records.ensures.ok in
-    let same = c.in_ok-records.ensures.cause.ok ∙ c.in_ok-path.ensures.cause.ok in
-    rw (p.1, p.2) (plan_unreplayed g.E.Env.models_disk (g.C.Cmp.cmp c.args.options.now.cmp) (g.C.Cmp.name c.args.options.now.cmp) c.args.options.now.reuse_manifest c.args.options.now.max_file_size c.args.self.now
-    (g.E.Env.observed c.args.env.now) path c.in_ok-path.number (texts records) end c.in_ok-records.size read (g.E.Env.failures c.args.env.now) (g.E.Env.failures c.read_sized_log.new.env) same c.in_err-left.field-0.0
-    (why_of_replay c.as_slice.result.now records c.in_err-left.field-0.0 c.as_slice.ensures.value c.in_err-left.ensures.cause))
+    let unread = named_unread g.E.Env.models_disk c.deref.result.now (g.E.Env.observed c.args.env.now) {U = Unit {0}} c.deref-2.result.now c.in_ok-path.ensures.ok.name c.in_ok-path.number (g.E.Env.observed c.named_manifest.new.env)
+    (g.E.Env.failures c.args.env.now) (g.E.Env.failures c.named_manifest.new.env) (g.E.Env.failures c.read_manifest.new.env) c.in_err-left.field-0.0 (c.deref-2.ensures ∙ c.in_ok-path.ensures.ok.path_is)
+    c.in_ok-path.ensures.ok.named (λ modelled. (c.named_manifest.ensures.still modelled).has) c.in_ok-path.ensures.cause.ok c.in_err-left.ensures.cause in
+    rw (p.1, p.2) (plan_unread g.E.Env.models_disk (g.C.Cmp.cmp c.args.options.now.cmp) (g.C.Cmp.name c.args.options.now.cmp) c.args.options.now.reuse_manifest c.args.options.now.max_file_size c.args.self.now
+    (g.E.Env.observed c.args.env.now) c.deref.result.now (g.E.Env.failures c.args.env.now) (g.E.Env.failures c.read_manifest.new.env) c.in_err-left.field-0.0 store unread)
 
 pub returns-in_err-check_usable-clause-cause : goal.returns-in_err-check_usable-clause-cause
 returns-in_err-check_usable-clause-cause g c =
     let p = err_from_is_err_and c.from_residual-in_err-check_usable.result c.from_residual-in_err-check_usable.ensures.1 in
     let store : c.deref.result.now ≡ c.args.self.now.store = search rules in
     let path = string_bytes c.in_ok-path.path in
-    let end = if c.in_ok-records.is_clean then clean else bad in
-    let records : List (Vec ℕ Global) = c.in_ok-records.records.items in
+    let end = if c.in_ok-left.is_clean then clean else bad in
+    let replay = c.in_ok-left.ensures.ok in
     let at : IsManifestAt g.E.Env.models_disk c.args.self.now.store (g.E.Env.observed c.args.env.now).disk.files path c.in_ok-path.number =
     subst (λ s. IsManifestAt g.E.Env.models_disk s (g.E.Env.observed c.args.env.now).disk.files path c.in_ok-path.number) store c.in_ok-path.ensures.ok in
-    let read : IsManifestRead g.E.Env.models_disk c.args.self.now.store (g.E.Env.observed c.args.env.now).disk.files path c.in_ok-path.number (texts records) end c.in_ok-records.size =
-    manifest_read g.E.Env.models_disk c.args.self.now.store (g.E.Env.observed c.args.env.now) (g.E.Env.observed c.named_manifest.new.env) path c.deref-2.result.now c.in_ok-path.number (texts records) end c.in_ok-records.size
-    at (λ modelled. (c.named_manifest.ensures.still modelled).has) c.deref-2.ensures c.in_ok-records.ensures.ok in
-    let same = c.in_ok-records.ensures.cause.ok ∙ c.in_ok-path.ensures.cause.ok in
-    let Q : List (Vec ℕ Global) → Type 0 = λ vecs. AreReplayed (texts vecs) c.in_ok-left.left in
+    let read : IsManifestRead g.E.Env.models_disk c.args.self.now.store (g.E.Env.observed c.args.env.now).disk.files path c.in_ok-path.number replay.records end c.in_ok-left.size =
+    manifest_read g.E.Env.models_disk c.args.self.now.store (g.E.Env.observed c.args.env.now) (g.E.Env.observed c.named_manifest.new.env) path c.deref-2.result.now c.in_ok-path.number replay.records end c.in_ok-left.size
+    at (λ modelled. (c.named_manifest.ensures.still modelled).has) c.deref-2.ensures replay.log in
+    let same = c.in_ok-left.ensures.cause.ok ∙ c.in_ok-path.ensures.cause.ok in
     rw (p.1, p.2) (plan_unusable g.E.Env.models_disk (g.C.Cmp.cmp c.args.options.now.cmp) (g.C.Cmp.name c.args.options.now.cmp) c.args.options.now.reuse_manifest c.args.options.now.max_file_size c.args.self.now
-    (g.E.Env.observed c.args.env.now) path c.in_ok-path.number (texts records) end c.in_ok-records.size read (g.E.Env.failures c.args.env.now) (g.E.Env.failures c.read_sized_log.new.env) same c.in_ok-left.left (subst Q c.as_slice.ensures.value c.in_ok-left.ensures.ok)
+    (g.E.Env.observed c.args.env.now) path c.in_ok-path.number replay.records end c.in_ok-left.size read (g.E.Env.failures c.args.env.now) (g.E.Env.failures c.read_manifest.new.env) same c.in_ok-left.left replay.replayed
     c.in_err-check_usable.field-0.0 c.in_err-check_usable.ensures.cause)
 
 pub returns-in_err-next_file-clause-cause : goal.returns-in_err-next_file-clause-cause
@@ -68,17 +47,16 @@ returns-in_err-next_file-clause-cause g c =
     let store : c.deref.result.now ≡ c.args.self.now.store = search rules in
     let next : c.self.inside.next_file ≡ c.args.self.now.next_file = search rules in
     let path = string_bytes c.in_ok-path.path in
-    let end = if c.in_ok-records.is_clean then clean else bad in
-    let records : List (Vec ℕ Global) = c.in_ok-records.records.items in
+    let end = if c.in_ok-left.is_clean then clean else bad in
+    let replay = c.in_ok-left.ensures.ok in
     let at : IsManifestAt g.E.Env.models_disk c.args.self.now.store (g.E.Env.observed c.args.env.now).disk.files path c.in_ok-path.number =
     subst (λ s. IsManifestAt g.E.Env.models_disk s (g.E.Env.observed c.args.env.now).disk.files path c.in_ok-path.number) store c.in_ok-path.ensures.ok in
-    let read : IsManifestRead g.E.Env.models_disk c.args.self.now.store (g.E.Env.observed c.args.env.now).disk.files path c.in_ok-path.number (texts records) end c.in_ok-records.size =
-    manifest_read g.E.Env.models_disk c.args.self.now.store (g.E.Env.observed c.args.env.now) (g.E.Env.observed c.named_manifest.new.env) path c.deref-2.result.now c.in_ok-path.number (texts records) end c.in_ok-records.size
-    at (λ modelled. (c.named_manifest.ensures.still modelled).has) c.deref-2.ensures c.in_ok-records.ensures.ok in
-    let same = c.in_ok-records.ensures.cause.ok ∙ c.in_ok-path.ensures.cause.ok in
-    let Q : List (Vec ℕ Global) → Type 0 = λ vecs. AreReplayed (texts vecs) c.in_ok-left.left in
+    let read : IsManifestRead g.E.Env.models_disk c.args.self.now.store (g.E.Env.observed c.args.env.now).disk.files path c.in_ok-path.number replay.records end c.in_ok-left.size =
+    manifest_read g.E.Env.models_disk c.args.self.now.store (g.E.Env.observed c.args.env.now) (g.E.Env.observed c.named_manifest.new.env) path c.deref-2.result.now c.in_ok-path.number replay.records end c.in_ok-left.size
+    at (λ modelled. (c.named_manifest.ensures.still modelled).has) c.deref-2.ensures replay.log in
+    let same = c.in_ok-left.ensures.cause.ok ∙ c.in_ok-path.ensures.cause.ok in
     rw (p.1, p.2) (plan_used_up g.E.Env.models_disk (g.C.Cmp.cmp c.args.options.now.cmp) (g.C.Cmp.name c.args.options.now.cmp) c.args.options.now.reuse_manifest c.args.options.now.max_file_size c.args.self.now
-    (g.E.Env.observed c.args.env.now) path c.in_ok-path.number (texts records) end c.in_ok-records.size read (g.E.Env.failures c.args.env.now) (g.E.Env.failures c.read_sized_log.new.env) same c.in_ok-left.left (subst Q c.as_slice.ensures.value c.in_ok-left.ensures.ok)
+    (g.E.Env.observed c.args.env.now) path c.in_ok-path.number replay.records end c.in_ok-left.size read (g.E.Env.failures c.args.env.now) (g.E.Env.failures c.read_manifest.new.env) same c.in_ok-left.left replay.replayed
     c.in_err-next_file.field-0.0 (rw (sym next) c.in_err-next_file.ensures.cause))
 
 pub returns-clause-ok : goal.returns-clause-ok
@@ -86,15 +64,13 @@ returns-clause-ok g c =
     let store : c.deref.result.now ≡ c.args.self.now.store = search rules in
     let next : c.self.inside.next_file ≡ c.args.self.now.next_file = search rules in
     let path = string_bytes c.in_ok-path.path in
-    let end = if c.in_ok-records.is_clean then clean else bad in
-    let records : List (Vec ℕ Global) = c.in_ok-records.records.items in
+    let end = if c.in_ok-left.is_clean then clean else bad in
+    let replay = c.in_ok-left.ensures.ok in
     let at : IsManifestAt g.E.Env.models_disk c.args.self.now.store (g.E.Env.observed c.args.env.now).disk.files path c.in_ok-path.number =
     subst (λ s. IsManifestAt g.E.Env.models_disk s (g.E.Env.observed c.args.env.now).disk.files path c.in_ok-path.number) store c.in_ok-path.ensures.ok in
-    let read : IsManifestRead g.E.Env.models_disk c.args.self.now.store (g.E.Env.observed c.args.env.now).disk.files path c.in_ok-path.number (texts records) end c.in_ok-records.size =
-    manifest_read g.E.Env.models_disk c.args.self.now.store (g.E.Env.observed c.args.env.now) (g.E.Env.observed c.named_manifest.new.env) path c.deref-2.result.now c.in_ok-path.number (texts records) end c.in_ok-records.size
-    at (λ modelled. (c.named_manifest.ensures.still modelled).has) c.deref-2.ensures c.in_ok-records.ensures.ok in
-    let same = c.in_ok-records.ensures.cause.ok ∙ c.in_ok-path.ensures.cause.ok in
-    let Q : List (Vec ℕ Global) → Type 0 = λ vecs. AreReplayed (texts vecs) c.in_ok-left.left in
+    let read : IsManifestRead g.E.Env.models_disk c.args.self.now.store (g.E.Env.observed c.args.env.now).disk.files path c.in_ok-path.number replay.records end c.in_ok-left.size =
+    manifest_read g.E.Env.models_disk c.args.self.now.store (g.E.Env.observed c.args.env.now) (g.E.Env.observed c.named_manifest.new.env) path c.deref-2.result.now c.in_ok-path.number replay.records end c.in_ok-left.size
+    at (λ modelled. (c.named_manifest.ensures.still modelled).has) c.deref-2.ensures replay.log in
     plan_made g.E.Env.models_disk (g.C.Cmp.cmp c.args.options.now.cmp) (g.C.Cmp.name c.args.options.now.cmp) c.args.options.now.reuse_manifest c.args.options.now.max_file_size c.args.self.now
-    (g.E.Env.observed c.args.env.now) _ (texts records) c.in_ok-records.is_clean read (subst Q c.as_slice.ensures.value c.in_ok-left.ensures.ok) c.in_ok-check_usable.ensures.ok
+    (g.E.Env.observed c.args.env.now) _ replay.records c.in_ok-left.is_clean read replay.replayed c.in_ok-check_usable.ensures.ok
     (rw (sym next) c.in_ok-next_file.ensures.ok) c.in_ok-next_file.ensures.fits c.is_reusable-reuses.ensures

@@ -5,13 +5,11 @@ use Rattle.std.proofs.lemmas.Result.{err_from_is_err_and}
 use Rattle.leveldb_env.proofs.EnvLemmas.{Run-call}
 use Rattle.leveldb_env.specs.contracts.compressor.CompressorListCompressors.TheImpl.{ghosts as compressors}
 use Rattle.leveldb_version.specs.Format.{format_of}
-use Rattle.leveldb_store.proofs.KeptFilesLemmas.{keeping, opens_keeping, unbroken_keeping}
-use Rattle.leveldb_store.specs.OpenStore.{IsUnbroken}
-use Rattle.leveldb_store.specs.Room.{TidiesUp}
 use Rattle.rusty_leveldb.specs.Engine.{opening_of}
 use Rattle.rusty_leveldb.proofs.AskedLemmas.{within_if, within_is}
-use Rattle.rusty_leveldb.proofs.DoneOpeningLemmas.{done_opens, opened_tables}
+use Rattle.rusty_leveldb.proofs.DoneOpeningLemmas.{done_opens, none_open}
 use Rattle.rusty_leveldb.proofs.LateOpeningLemmas.{late_opens}
+use Rattle.rusty_leveldb.proofs.LeftOpeningLemmas.{broken_bytes, broken_cause, left_broken, left_unopened, unopened_cause}
 use Rattle.rusty_leveldb.proofs.OpenCallLemmas.{early_opens, lock_excused, near_folder, near_lock, near_still, why_of}
 use Rattle.rusty_leveldb.proofs.UnderLockLemmas.{lock_taken}
 use Rattle.rusty_leveldb.proofs.db_impl.open.Engine+E+C+FP.open.Goals as goal
@@ -125,23 +123,12 @@ returns-in_err-lock-2 g c =
     ))))
 
 pub invariant_of-result : goal.invariant_of-result
-invariant_of-result g c = λ is_open. subst IsUnbroken (sym c.tidy_opened.ensures.opened.same)
-    (unbroken_keeping c.in-Ok.store c.tidy_opened.new.self.keeps_files c.in-Ok.ensures.opens.unbroken)
+invariant_of-result g c = λ is_open. c.in_default.ensures.ends.ok
 
-pub returns-in-Ok : goal.returns-in-Ok
-returns-in-Ok g c =
-    let kept = c.tidy_opened.new.self in
-    let tidied = c.tidy_opened.ensures in
-    let opened = keeping c.in-Ok.store kept.keeps_files in
-    let from = c.open.new.env in
-    let to = c.tidy_opened.new.env in
-    let order = g.C.Cmp.cmp in
-    let same : kept ≡ opened = tidied.opened.same in
-    let tidies : TidiesUp g.E.Env (order c.in-Ok.store.cmp) opened from to =
-    subst (λ v. TidiesUp g.E.Env (order v.cmp) v from to) same tidied.tidies in
-    rw same (done_opens g.E.Env _ c.args.name.now c.args.options
+pub returns-in_default : goal.returns-in_default
+returns-in_default g c = done_opens g.E.Env _ c.args.name.now c.args.options
     (opening_of g.C.Cmp g.FP.FilterPolicy (compressors g.dyn-2).codings c.args.options)
-    c.args.env.now c.lock.new.self c.open.new.env to _
+    c.args.env.now c.lock.new.self c.open.new.env c.end_opening-ended.new.env _
     (λ modelled. lock_taken c.args.name.now c.deref.result.now (g.E.Env.observed c.args.env.now)
     (g.E.Env.observed c.mkdir.new.self) (g.E.Env.observed c.lock.new.self) modelled
     (c.deref.ensures ∙ c.in_ok-lock.ensures.ok)
@@ -150,26 +137,24 @@ returns-in-Ok g c =
     (c.deref.ensures ∙ c.in_ok-lock.ensures.ok) (Run-call modelled c.mkdir.ensures.does)
     c.in_ok-lock-2.ensures.does) (c.mkdir.ensures.locks modelled) c.in_ok-lock-2.ensures.does
     c.in_ok-lock-2.ensures.locks (c.in_ok-lock-2.ensures.was_free modelled))
-    c.args.options.write_buffer_size
-    (opens_keeping c.in-Ok.store kept.keeps_files g.E.Env _ _ _ _ _ _ _ c.in-Ok.ensures.opens)
-    c.in-Ok.ensures.cause.ok c.in-Ok.ensures.bytes
-    (subst (λ cmp. TidiesUp g.E.Env (order cmp) opened from to) c.in-Ok.ensures.cmp tidies)
-    tidied.time refl c.new-in-Ok.ensures c.in_ok-lock.ensures.ok
-    (record { rest = refl; sink = tidied.log }) c.in-Ok.ensures.cmp
+    c.args.options.write_buffer_size c.in-Ok.store c.in-Ok.ensures.opens
+    c.in-Ok.ensures.cause.ok c.in-Ok.ensures.bytes c.in_ok-tables.tables
+    (λ modelled. none_open g.E.Env _ c.in-Ok.store.set c.args.options c.in_ok-tables.tables
+    c.open.new.env c.args.name.now c.in-Ok.ensures.opens.path c.in_ok-tables.ensures.ok
+    c.in_ok-tables.ensures.matches)
+    c.in_default.ensures.ends refl c.new-in-Ok.ensures c.in_ok-lock.ensures.ok
+    (record { rest = refl; sink = c.end_opening-ended.ensures.log ∙ ap is_some c.take-log.ensures.value }) c.in-Ok.ensures.cmp
     (λ a b is. ap (format_of g.C.Cmp g.FP.FilterPolicy (compressors g.dyn-2).codings) is.rest) refl
-    (c.in_ok-lock-2.ensures.cause.ok ∙ c.in_ok-mkdir.ensures.cause.ok)
-    (opened_tables g.E.Env _ (g.C.Cmp.cmp c.in-Ok.store.cmp) opened c.args.options
-    c.in_ok-tables.tables _ from to c.args.name.now c.in-Ok.ensures.opens.path c.in_ok-tables.ensures.ok
-    c.in_ok-tables.ensures.matches tidies tidied.closes) (
+    (c.in_ok-lock-2.ensures.cause.ok ∙ c.in_ok-mkdir.ensures.cause.ok) refl (
       c.in_ok-check_name.ensures.ok,
       within_is c.args.options c.in_ok-check.ensures.limits,
       c.in_ok-check.ensures.compressor,
-    ))
+    )
 
-pub returns-in-Err : goal.returns-in-Err
-returns-in-Err g c = late_opens g.E.Env _ c.args.options c.args.name.now
+pub returns-in-Err-ended : goal.returns-in-Err-ended
+returns-in-Err-ended g c = late_opens g.E.Env _ c.args.options c.args.name.now
     (opening_of g.C.Cmp g.FP.FilterPolicy (compressors g.dyn-2).codings c.args.options)
-    c.args.env.now c.lock.new.self c.open.new.env c.give_back.new.env c.in-Err.status
+    c.args.env.now c.lock.new.self c.end_opening-ended.new.env c.give_back.new.env c.in-Err-ended.status
     (λ modelled. lock_taken c.args.name.now c.deref.result.now (g.E.Env.observed c.args.env.now)
     (g.E.Env.observed c.mkdir.new.self) (g.E.Env.observed c.lock.new.self) modelled
     (c.deref.ensures ∙ c.in_ok-lock.ensures.ok)
@@ -178,11 +163,58 @@ returns-in-Err g c = late_opens g.E.Env _ c.args.options c.args.name.now
     (c.deref.ensures ∙ c.in_ok-lock.ensures.ok) (Run-call modelled c.mkdir.ensures.does)
     c.in_ok-lock-2.ensures.does) (c.mkdir.ensures.locks modelled) c.in_ok-lock-2.ensures.does
     c.in_ok-lock-2.ensures.locks (c.in_ok-lock-2.ensures.was_free modelled))
-    c.args.options.write_buffer_size c.in-Err.ensures.opens c.in-Err.ensures.cause refl c.in-Err.ensures.bytes c.give_back.result c.give_back.ensures.does
-    c.deref-in-Err.result.now (c.deref-in-Err.ensures ∙ c.in_ok-lock.ensures.ok)
+    (left_broken _ g.E.Env _ _ c.args.name.now _ _ _ c.lock.new.self c.open.new.env
+    c.end_opening-ended.new.env c.args.options.write_buffer_size c.in-Ok.store c.in-Ok.ensures.opens
+    c.in-Ok.ensures.cause.ok refl c.in_ok-tables.tables
+    (λ modelled. none_open g.E.Env _ c.in-Ok.store.set c.args.options c.in_ok-tables.tables
+    c.open.new.env c.args.name.now c.in-Ok.ensures.opens.path c.in_ok-tables.ensures.ok
+    c.in_ok-tables.ensures.matches)
+    c.in-Err-ended.status c.end_opening-ended.new.self c.end_opening-ended.new.tables
+    c.in-Err-ended.ensures.ends)
+    (broken_cause _ g.E.Env _ _ c.args.name.now _ _ _ c.lock.new.self c.open.new.env
+    c.end_opening-ended.new.env c.args.options.write_buffer_size c.in-Ok.store c.in-Ok.ensures.opens
+    c.in-Ok.ensures.cause.ok refl c.in_ok-tables.tables
+    (λ modelled. none_open g.E.Env _ c.in-Ok.store.set c.args.options c.in_ok-tables.tables
+    c.open.new.env c.args.name.now c.in-Ok.ensures.opens.path c.in_ok-tables.ensures.ok
+    c.in_ok-tables.ensures.matches)
+    c.in-Err-ended.status c.end_opening-ended.new.self c.end_opening-ended.new.tables
+    c.in-Err-ended.ensures.ends _)
+    refl
+    (broken_bytes _ g.E.Env _ _ c.args.name.now _ _ _ c.lock.new.self c.open.new.env
+    c.end_opening-ended.new.env c.args.options.write_buffer_size c.in-Ok.store c.in-Ok.ensures.opens
+    c.in-Ok.ensures.cause.ok refl c.in_ok-tables.tables
+    (λ modelled. none_open g.E.Env _ c.in-Ok.store.set c.args.options c.in_ok-tables.tables
+    c.open.new.env c.args.name.now c.in-Ok.ensures.opens.path c.in_ok-tables.ensures.ok
+    c.in_ok-tables.ensures.matches)
+    c.in-Err-ended.status c.end_opening-ended.new.self c.end_opening-ended.new.tables
+    c.in-Err-ended.ensures.ends c.in-Ok.ensures.bytes)
+    c.give_back.result c.give_back.ensures.does
+    c.deref-in-Err-ended.result.now (c.deref-in-Err-ended.ensures ∙ c.in_ok-lock.ensures.ok)
     c.give_back.ensures.locks c.give_back.ensures.cause
     (c.in_ok-lock-2.ensures.cause.ok ∙ c.in_ok-mkdir.ensures.cause.ok) (
       c.in_ok-check_name.ensures.ok,
       within_is c.args.options c.in_ok-check.ensures.limits,
       c.in_ok-check.ensures.compressor,
     ) (g.met.E.Env.counts c.give_back.new.env)
+
+pub returns-in-Err : goal.returns-in-Err
+returns-in-Err g c = late_opens g.E.Env _ c.args.options c.args.name.now
+    (opening_of g.C.Cmp g.FP.FilterPolicy (compressors g.dyn-2).codings c.args.options)
+    c.args.env.now c.lock.new.self c.open.new.env c.give_back-in-Err.new.env c.in-Err.status
+    (λ modelled. lock_taken c.args.name.now c.deref.result.now (g.E.Env.observed c.args.env.now)
+    (g.E.Env.observed c.mkdir.new.self) (g.E.Env.observed c.lock.new.self) modelled
+    (c.deref.ensures ∙ c.in_ok-lock.ensures.ok)
+    (near_lock c.args.name.now c.deref.result.now (g.E.Env.observed c.args.env.now)
+    (g.E.Env.observed c.mkdir.new.self) (g.E.Env.observed c.lock.new.self) modelled
+    (c.deref.ensures ∙ c.in_ok-lock.ensures.ok) (Run-call modelled c.mkdir.ensures.does)
+    c.in_ok-lock-2.ensures.does) (c.mkdir.ensures.locks modelled) c.in_ok-lock-2.ensures.does
+    c.in_ok-lock-2.ensures.locks (c.in_ok-lock-2.ensures.was_free modelled))
+    (left_unopened g.E.Env _ _ _ _ _ _ c.in-Err.status c.open.new.env c.in-Err.ensures.opens)
+    (unopened_cause c.in-Err.ensures.cause) refl c.in-Err.ensures.bytes c.give_back-in-Err.result c.give_back-in-Err.ensures.does
+    c.deref-in-Err.result.now (c.deref-in-Err.ensures ∙ c.in_ok-lock.ensures.ok)
+    c.give_back-in-Err.ensures.locks c.give_back-in-Err.ensures.cause
+    (c.in_ok-lock-2.ensures.cause.ok ∙ c.in_ok-mkdir.ensures.cause.ok) (
+      c.in_ok-check_name.ensures.ok,
+      within_is c.args.options c.in_ok-check.ensures.limits,
+      c.in_ok-check.ensures.compressor,
+    ) (g.met.E.Env.counts c.give_back-in-Err.new.env)

@@ -1,0 +1,56 @@
+//! The end of an opening: one compaction is done at most, and what is obsolete is deleted.
+ghost use Rattle.std.specs.Prelude.{◌≡◌, None, is_some};
+ghost use Rattle.leveldb_version.specs.TableCache.{table_options};
+ghost use Rattle.leveldb_store.specs.BuildTable.{choices_of};
+ghost use Rattle.leveldb_store.specs.EndsOpening.{EndsOpening};
+ghost use Rattle.leveldb_store.specs.OpenStore.{IsUnbroken};
+
+use super::OpenStore;
+use leveldb_base::cmp::{Cmp, InternalKeyCmp, UserCmp};
+use leveldb_base::error::Result;
+use leveldb_env::compressor::{CompressorList, Compressors};
+use leveldb_env::env::Env;
+use leveldb_env::filter::{FilterPolicy, InternalFilterPolicy};
+use leveldb_env::infolog::Logger;
+use leveldb_env::log;
+use leveldb_env::options::Options;
+use leveldb_version::table_cache::TableCache;
+
+impl<E: Env, C: UserCmp + Copy + Drop> OpenStore<E, C> {
+    /// Ends an opening. It looks for damage in the logs and manifests that were left aside, as
+    /// `tidy_opened` does; then it does the compaction for which the score of a level asks, if one
+    /// asks for it, and deletes what is obsolete. Nothing is read at a number below the last one yet,
+    /// so entries that are shadowed there may go. What fails of that is a line for `log`; an Err is
+    /// that of a compaction which broke the store.
+    pub fn end_opening<FP: FilterPolicy + Copy + Drop>(
+        &mut self,
+        env: &mut E,
+        options: &Options<C, FP>,
+        tables: &mut TableCache<E, C, FP>,
+        log: &mut Option<Logger>,
+    ) -> Result<()>
+        requires usable { IsUnbroken self.old }
+        requires order { C.cmp options.now.cmp ≡ C.cmp self.old.cmp }
+        requires none_waits { self.old.waiting ≡ None }
+        ensures ends { let choices = choices_of C.Cmp FP.FilterPolicy
+            ⟦<InternalKeyCmp<C> as Cmp>⟧ ⟦<InternalFilterPolicy<FP> as FilterPolicy>⟧
+            ⟦<CompressorList as Compressors>⟧.codings options.now in
+            EndsOpening ⟦<InternalKeyCmp<C> as Cmp>⟧ E.Env
+            (table_options choices.format options.now) self.old env.old tables.old choices result
+            self.new env.new tables.new }
+        ensures log { is_some log.new ≡ is_some log.old }
+    {
+        self.keep_damaged_files(env, log);
+        let smallest = self.last_sequence();
+        let compacted = self.compact_if_asked(env, options, tables, smallest, log);
+        if let Err(e) = &compacted {
+            log!(*log, self.alloc; "tables aren't compacted: {e}");
+        }
+        if self.is_broken() {
+            return compacted;
+        }
+        // What fails of that is a line for `log`.
+        let _ = self.tidy_up(env, tables, log);
+        Ok(())
+    }
+}
