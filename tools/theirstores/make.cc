@@ -3,6 +3,7 @@
 //     c++ -std=c++17 make.cc -lleveldb -lsnappy -lpthread -o make
 //     ./make plain FOLDER     a store without compression: a table in level 2, one above it, and a log
 //     ./make snappy FOLDER    a store of one table, whose block is compressed
+//     ./make dumped FOLDER    a store whose log, manifest and table have each kind of line of a dump
 #include <cstdio>
 #include <cstdlib>
 #include <memory>
@@ -64,6 +65,25 @@ void MakeSnappy(const char* folder, const leveldb::Options& options) {
   Open(folder, options);
 }
 
+// It is never opened again, so the manifest keeps the edits of its compactions.
+void MakeDumped(const char* folder, const leveldb::Options& options) {
+  leveldb::WriteOptions write;
+  auto db = Open(folder, options);
+  for (int number = 0; number < 5; ++number) Check(db->Put(write, KeyOf(number), std::string(number, 'v')));
+  db->CompactRange(nullptr, nullptr);
+  Check(db->Put(write, "key02", "it's \\ \"new\""));
+  Check(db->Delete(write, "key03"));
+  Check(db->Put(write, std::string("\0\x7f\xff~ ", 5), "\n"));
+  db->CompactRange(nullptr, nullptr);
+  leveldb::WriteBatch batch;
+  batch.Put("", "");
+  batch.Delete("key01");
+  batch.Put("it's", "\xc3\xa4\t");
+  Check(db->Write(write, &batch));
+  leveldb::WriteBatch none;
+  Check(db->Write(write, &none));
+}
+
 }  // namespace
 
 int main(int argc, char** argv) {
@@ -75,6 +95,7 @@ int main(int argc, char** argv) {
   options.compression = kind == "snappy" ? leveldb::kSnappyCompression : leveldb::kNoCompression;
   if (kind == "plain") MakePlain(argv[2], options);
   else if (kind == "snappy") MakeSnappy(argv[2], options);
+  else if (kind == "dumped") MakeDumped(argv[2], options);
   else return 2;
   return 0;
 }
