@@ -4,7 +4,8 @@
     tools/suites.py FOLDER NAME..     the crates of crates.txt and the suites of tests/suites.txt of these names, with all that they use
 
 The folder gets a crates.txt, and for each of them crates/NAME/src, with specs where a crate has them. The sources of a suite, tests/NAME/*.rs,
-become .rt files there. Then `rt try`, in such a crate's folder, runs it.
+become .rt files there. Then `rt try`, in such a crate's folder, runs it. The module `long` of a suite, tests/NAME/long.rs, has its tests that
+take minutes: it has none there, unless these are asked for.
 """
 import pathlib
 import re
@@ -12,6 +13,8 @@ import shutil
 import sys
 
 TOP = pathlib.Path(__file__).resolve().parent.parent
+# the module of a suite whose tests take minutes
+LONG = "long"
 TEST = re.compile(r"^ *#\[test\]\n(?: *#\[.*\]\n)* *(?:pub )?fn (\w+)", re.MULTILINE)
 
 
@@ -31,18 +34,19 @@ def sources():
     return lines_of(TOP / "tests/suites.txt")
 
 
-def tests_of(name):
-    """Returns the paths of the tests in a folder of tests/, below its crate; a library of suites has none."""
+def tests_of(name, with_long=False):
+    """Returns the paths of the tests in a folder of tests/, below its crate, with the long ones or without; a library of suites has none."""
     folder, found = TOP / "tests" / name, []
     for path in sorted(folder.glob("**/*.rs")):
         module = [it for it in path.relative_to(folder).with_suffix("").parts if it not in ("lib", "mod")]
-        found += ["::".join([*module, test]) for test in TEST.findall(path.read_text(encoding="utf-8"))]
+        if with_long or module != [LONG]:
+            found += ["::".join([*module, test]) for test in TEST.findall(path.read_text(encoding="utf-8"))]
     return found
 
 
-def suites():
-    """Returns the tests of each suite by its name, in the order of tests/suites.txt."""
-    found = {name: tests_of(name) for name in sources()}
+def suites(with_long=False):
+    """Returns the tests of each suite by its name, in the order of tests/suites.txt, with the long ones or without."""
+    found = {name: tests_of(name, with_long) for name in sources()}
     return {name: tests for name, tests in found.items() if tests}
 
 
@@ -57,8 +61,8 @@ def with_below(names):
     return found
 
 
-def put(name, folder):
-    """Puts one crate or suite into the folder."""
+def put(name, folder, with_long=True):
+    """Puts one crate or suite into the folder, with its long tests or without."""
     to = pathlib.Path(folder, "crates", name)
     if name not in sources():
         for part in ("src", "specs"):
@@ -68,14 +72,17 @@ def put(name, folder):
     for path in (TOP / "tests" / name).glob("**/*.rs"):
         copy = (to / "src" / path.relative_to(TOP / "tests" / name)).with_suffix(".rt")
         copy.parent.mkdir(parents=True, exist_ok=True)
-        shutil.copy(path, copy)
+        if with_long or path != TOP / "tests" / name / f"{LONG}.rs":
+            shutil.copy(path, copy)
+        else:
+            copy.write_text("//! Left out here.\n", encoding="utf-8")
 
 
-def assemble(folder, names):
-    """Puts these crates and suites, with all that they use, into a folder that has none of them."""
+def assemble(folder, names, with_long=False):
+    """Puts these crates and suites, with all that they use, into a folder that has none of them; the suites with their long tests or without."""
     found = with_below(names)
     for name in found:
-        put(name, folder)
+        put(name, folder, with_long)
     lines = [f"{name}: {' '.join(uses)}\n" for name, uses in found.items()]
     pathlib.Path(folder, "crates.txt").write_text("".join(lines), encoding="utf-8")
 

@@ -5,7 +5,9 @@ use crate::crash_disks::{
 };
 use crate::replies::KEYS;
 use crate::steps::Step;
-use crate::sweep::{crash_everywhere, crash_twice_everywhere, fail_everywhere, is_possible};
+use crate::sweep::{
+    crash_everywhere, crash_twice_everywhere, fail_everywhere, is_new, is_possible, nothing_seen,
+};
 use leveldb_base::cmp::DefaultCmp;
 use leveldb_base::error::Result;
 use slow_history::Move;
@@ -66,12 +68,14 @@ const SMALL: Setting = Setting {
     write_buffer_size: 300,
     max_file_size: 1,
     reuses: true,
+    keys: 6,
 };
 
 const LARGE: Setting = Setting {
     write_buffer_size: 300,
     max_file_size: 2 << 20,
     reuses: true,
+    keys: 6,
 };
 
 const IN_SMALL: Script<'static> = Script {
@@ -127,10 +131,16 @@ fn levels_in_the_end(rt: HostRuntime) -> Result<()> {
     Ok(())
 }
 
-/// Whether the disk that a crash leaves on this side is a store by its definition, or none.
-fn is_whole(alloc: Global, recorded: &Recorded, side: Side, kind: Tails) -> Result<bool> {
+/// Whether the disk that a crash leaves on this side is a store by its definition, or none, or the one that was seen last.
+fn is_whole(
+    alloc: Global,
+    recorded: &Recorded,
+    side: Side,
+    kind: Tails,
+    seen: &mut Vec<u8>,
+) -> Result<bool> {
     let mut left = crash(alloc, &recorded.env, side, kind)?;
-    Ok(read_store(alloc, &mut left, &DefaultCmp, "db").is_ok())
+    Ok(!is_new(alloc, &mut left, seen)? || read_store(alloc, &mut left, &DefaultCmp, "db").is_ok())
 }
 
 /// Each disk that a crash leaves is a whole store.
@@ -141,9 +151,11 @@ fn leave_whole_stores(
     kind: Tails,
 ) -> Result<()> {
     let recorded = record(alloc, script)?;
+    let mut seen = nothing_seen(alloc)?;
     for moment in 0..=recorded.env.moment() {
         for side in &sides_of(alloc, moment)? {
-            assert!(rt; is_whole(alloc, &recorded, *side, kind)?, "{side:?}");
+            let is_right = is_whole(alloc, &recorded, *side, kind, &mut seen)?;
+            assert!(rt; is_right, "{side:?}");
         }
     }
     Ok(())
@@ -179,13 +191,17 @@ fn crashes_with_wrong_bytes(rt: HostRuntime) -> Result<()> {
 #[test]
 fn second_crashes(rt: HostRuntime) -> Result<()> {
     let kinds = (Tails::WithoutLast, Tails::Nothing);
-    crash_twice_everywhere(&rt, rt.alloc(), SHORT, kinds)
+    let openings = crash_twice_everywhere(&rt, rt.alloc(), SHORT, kinds)?;
+    assert!(rt; openings > 100, "{openings}");
+    Ok(())
 }
 
 #[test]
 fn second_crashes_with_wrong_bytes(rt: HostRuntime) -> Result<()> {
     let kinds = (Tails::Whole, Tails::WrongBytes);
-    crash_twice_everywhere(&rt, rt.alloc(), SHORT, kinds)
+    let openings = crash_twice_everywhere(&rt, rt.alloc(), SHORT, kinds)?;
+    assert!(rt; openings > 100, "{openings}");
+    Ok(())
 }
 
 #[test]
@@ -305,7 +321,22 @@ fn setting_of(seed: u64) -> Setting {
         write_buffer_size: if seed % 3 == 0 { 1 } else { 300 },
         max_file_size: if seed % 2 == 0 { 1 } else { 2 << 20 },
         reuses: seed % 4 < 2,
+        keys: 6,
     }
+}
+
+/// Sweeps the script of this seed: a crash at each moment without tails, and with whole ones, and each call failing, its change made or not.
+pub fn sweep_seed(rt: &impl Abort, alloc: Global, seed: u64, count: usize) -> Result<()> {
+    let trials = [
+        Trial::Crashes(Tails::Nothing),
+        Trial::Crashes(Tails::Whole),
+        Trial::Failures(false),
+        Trial::Failures(true),
+    ];
+    for trial in trials {
+        try_any(rt, alloc, seed, setting_of(seed), count, trial)?;
+    }
+    Ok(())
 }
 
 #[test]

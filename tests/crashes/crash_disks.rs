@@ -21,6 +21,8 @@ pub struct Setting {
     pub max_file_size: usize,
     /// Whether the last log and the manifest are used on.
     pub reuses: bool,
+    /// How many of the keys are written, and looked up to find the store's map.
+    pub keys: usize,
 }
 
 /// The defaults: a store of these tests has one log then.
@@ -28,6 +30,7 @@ pub const DEFAULTS: Setting = Setting {
     write_buffer_size: 4 << 20,
     max_file_size: 2 << 20,
     reuses: true,
+    keys: 6,
 };
 
 pub fn options_of(setting: Setting) -> Options<DefaultCmp, BloomPolicy> {
@@ -94,10 +97,10 @@ fn change_tails(tails: &mut Vec<(String, Vec<u8>)>, kind: Tails) {
 /// The disk that a crash leaves.
 pub fn crash(alloc: Global, env: &RecordEnv, side: Side, kind: Tails) -> Result<RecordEnv> {
     let after = side.after;
-    let mut tails = env.tails(alloc, side.moment, after)?;
-    match kind {
-        Tails::Nothing => tails.clear(),
-        _ => change_tails(&mut tails, kind),
+    let mut tails = Vec::new(alloc);
+    if !matches!(kind, Tails::Nothing) {
+        tails = env.tails(alloc, side.moment, after)?;
+        change_tails(&mut tails, kind);
     }
     env.disk_at(alloc, side.moment, &Pick { tails, after })
 }
@@ -177,7 +180,7 @@ pub fn find_all(alloc: Global, env: &mut RecordEnv, setting: Setting) -> Result<
         env,
         "db",
         options_of(setting),
-        &look_ups(alloc)?,
+        &look_ups(alloc, setting.keys)?,
         &mut replies,
     )?;
     for reply in &replies {
@@ -263,26 +266,36 @@ pub fn judge_all(alloc: Global, calls: &[Call]) -> Result<SlowStore> {
     Ok(slow)
 }
 
-/// The slow store after a crash at this moment and a reopening: the calls that returned by then happened, and the next may have begun.
-pub fn judge_crash(alloc: Global, calls: &[Call], moment: u64) -> Result<SlowStore> {
+/// How many calls returned by this moment, and whether it is past the last of them, so that the next may have begun.
+pub fn calls_by(calls: &[Call], moment: u64) -> (usize, bool) {
     let done = calls
         .iter()
         .take_while(|call| call.moment <= moment)
         .count();
+    let (returned, _) = calls.split_at(done);
+    let last = returned.last().map_or(0, |call| call.moment);
+    (done, last < moment)
+}
+
+/// The slow store after a crash at this moment and a reopening: the calls that returned by then happened, and the next may have begun.
+pub fn judge_crash(alloc: Global, calls: &[Call], moment: u64) -> Result<SlowStore> {
+    let (done, is_inside) = calls_by(calls, moment);
     let (returned, later) = calls.split_at(done);
     let mut slow = judge_all(alloc, returned)?;
-    let last = returned.last().map_or(0, |call| call.moment);
     match later.first() {
-        Some(next) if last < moment => crash_inside(&mut slow, alloc, &next.step)?,
+        Some(next) if is_inside => crash_inside(&mut slow, alloc, &next.step)?,
         _ => slow.crashed()?,
     }
     slow.opened()?;
     Ok(slow)
 }
 
-/// How many crashes there were where the slow store allows more than one map, and how many of them left the shortest history and the longest.
+/// How many crashes there were, how often a store was opened on what they left, how many crashes there were where the slow store allows more
+/// than one map, and how many of these left the shortest history and the longest.
 #[derive(Clone, Copy, Debug)]
 pub struct Tally {
+    pub crashes: usize,
+    pub openings: usize,
     pub open: usize,
     pub shortest: usize,
     pub longest: usize,
@@ -291,6 +304,8 @@ pub struct Tally {
 impl Tally {
     pub fn new() -> Tally {
         Tally {
+            crashes: 0,
+            openings: 0,
             open: 0,
             shortest: 0,
             longest: 0,
@@ -299,6 +314,7 @@ impl Tally {
 
     /// Counts one crash, and returns whether what was found is an allowed map.
     pub fn count(&mut self, maps: &[Vec<BorrowedPair<'_>>], found: &[Reply]) -> bool {
+        self.crashes = self.crashes.saturating_add(1);
         if let [first, .., last] = maps {
             self.open = self.open.saturating_add(1);
             self.shortest = self

@@ -106,7 +106,7 @@ fn look_up_all(alloc: Global, env: &mut MemEnv) -> Result<Vec<Reply>> {
         env,
         "db",
         Options::default(),
-        &look_ups(alloc)?,
+        &look_ups(alloc, 6)?,
         &mut replies,
     )?;
     Ok(replies)

@@ -1,12 +1,13 @@
 //! Lives of a store with a crash after each, reported by `lives`.
-use crate::crash_disks::{Tally, add_calls, assert_tally, judge_crash};
+use crate::crash_disks::{
+    DEFAULTS, Setting, Side, Tally, add_calls, assert_tally, judge_crash, options_of,
+};
 use crate::replies::{bytes_of, look_ups};
 use crate::steps::{Call, Step, commands_of};
 use leveldb_base::cmp::DefaultCmp;
 use leveldb_base::error::{Result, StatusCode};
 use leveldb_env::filter::BloomPolicy;
 use leveldb_env::mem_env::Pick;
-use leveldb_env::options::Options;
 use rusty_leveldb::shell::{Command, Life, Reply, Report, lives};
 use std::alloc::Global;
 use std::process::Abort;
@@ -26,31 +27,56 @@ const STEPS: [Step; 8] = [
 
 type DefaultLife = Life<DefaultCmp, BloomPolicy>;
 
-/// A life of these commands, and a crash at its end, if there is one, that leaves nothing but what is durable.
+/// A life of these commands, and a crash at its end, if there is one, on this side, that leaves nothing but what is durable.
+fn life_of(
+    alloc: Global,
+    setting: Setting,
+    commands: Vec<Command>,
+    crash: Option<Side>,
+    fail: Option<(u64, bool)>,
+) -> DefaultLife {
+    Life {
+        options: options_of(setting),
+        commands,
+        moment: crash.map(|side| side.moment),
+        pick: Pick {
+            tails: Vec::new(alloc),
+            after: crash.is_some_and(|side| side.after),
+        },
+        fail,
+    }
+}
+
+/// The same with the defaults, where no name change in flight is made.
 fn life(
     alloc: Global,
     commands: Vec<Command>,
     moment: Option<u64>,
     fail: Option<(u64, bool)>,
 ) -> DefaultLife {
-    Life {
-        options: Options::default(),
-        commands,
-        moment,
-        pick: Pick {
-            tails: Vec::new(alloc),
-            after: false,
-        },
-        fail,
-    }
+    let after = false;
+    let crash = moment.map(|moment| Side { moment, after });
+    life_of(alloc, DEFAULTS, commands, crash, fail)
 }
 
-/// The steps with a crash at this moment, and then a look-up of each key.
-fn crash_and_look(alloc: Global, moment: u64) -> Result<Vec<Report>> {
+/// The steps with a crash on this side of a moment, and then a look-up of each key.
+fn crash_and_look_at(
+    alloc: Global,
+    setting: Setting,
+    steps: &[Step],
+    crash: Side,
+) -> Result<Vec<Report>> {
     let mut all = Vec::new(alloc);
-    all.push(life(alloc, commands_of(alloc, &STEPS)?, Some(moment), None))?;
-    all.push(life(alloc, look_ups(alloc)?, None, None))?;
+    let commands = commands_of(alloc, steps)?;
+    all.push(life_of(alloc, setting, commands, Some(crash), None))?;
+    let commands = look_ups(alloc, setting.keys)?;
+    all.push(life_of(alloc, setting, commands, None, None))?;
     lives(alloc, "db", all)
+}
+
+fn crash_and_look(alloc: Global, moment: u64) -> Result<Vec<Report>> {
+    let after = false;
+    crash_and_look_at(alloc, DEFAULTS, &STEPS, Side { moment, after })
 }
 
 fn replies_of(alloc: Global, report: Report) -> Result<Vec<Reply>> {
@@ -65,6 +91,7 @@ fn replies_of(alloc: Global, report: Report) -> Result<Vec<Reply>> {
 /// Whether the second report is of a map that the slow store allows after the first and a crash at this moment.
 fn is_allowed(
     alloc: Global,
+    steps: &[Step],
     mut reports: Vec<Report>,
     moment: u64,
     tally: &mut Tally,
@@ -73,28 +100,35 @@ fn is_allowed(
         return Ok(false);
     };
     let mut calls: Vec<Call> = Vec::new(alloc);
-    add_calls(&mut calls, first, 0, u64::MAX, &STEPS)?;
+    add_calls(&mut calls, first, 0, u64::MAX, steps)?;
     let slow = judge_crash(alloc, &calls, moment)?;
     let found = replies_of(alloc, second)?;
     Ok(tally.count(&slow.maps(&DefaultCmp)?, &found))
 }
 
-/// How many moments the life of all steps has.
-fn last_moment(alloc: Global) -> Result<u64> {
+/// How many moments the life of these steps has, up to its last reply.
+fn last_moment(alloc: Global, setting: Setting, steps: &[Step]) -> Result<u64> {
     let mut all = Vec::new(alloc);
-    all.push(life(alloc, commands_of(alloc, &STEPS)?, None, None))?;
+    let commands = commands_of(alloc, steps)?;
+    all.push(life_of(alloc, setting, commands, None, None))?;
     let reports = lives(alloc, "db", all)?;
     let last = reports.first().and_then(|report| report.replies.last());
     Ok(last.map_or(0, |reply| reply.0))
 }
 
-/// Crashes at each moment of the life of all steps.
-fn crash_at_each(rt: &impl Abort, alloc: Global) -> Result<Tally> {
+/// Crashes at each moment of the life of these steps, on one side of the name changes in flight.
+pub fn crash_at_each(
+    rt: &impl Abort,
+    alloc: Global,
+    setting: Setting,
+    steps: &[Step],
+    after: bool,
+) -> Result<Tally> {
     let mut tally = Tally::new();
-    for moment in 0..=last_moment(alloc)? {
-        let reports = crash_and_look(alloc, moment)?;
+    for moment in 0..=last_moment(alloc, setting, steps)? {
+        let reports = crash_and_look_at(alloc, setting, steps, Side { moment, after })?;
         assert!(rt;
-            is_allowed(alloc, reports, moment, &mut tally)?,
+            is_allowed(alloc, steps, reports, moment, &mut tally)?,
             "at {moment}"
         );
     }
@@ -104,7 +138,7 @@ fn crash_at_each(rt: &impl Abort, alloc: Global) -> Result<Tally> {
 /// Where a batch may be lost, it is, but at the two moments of the close that come after its sync.
 #[test]
 fn a_crash_at_each_moment(rt: HostRuntime) -> Result<()> {
-    let tally = crash_at_each(&rt, rt.alloc())?;
+    let tally = crash_at_each(&rt, rt.alloc(), DEFAULTS, &STEPS, false)?;
     let kept = tally.open.saturating_sub(tally.shortest);
     assert_tally(
         &rt,
@@ -117,7 +151,7 @@ fn a_crash_at_each_moment(rt: HostRuntime) -> Result<()> {
 /// The life ends with its last call, since `abandon` finds the store closed: no crash comes later.
 #[test]
 fn a_moment_to_come(rt: HostRuntime) -> Result<()> {
-    let last = last_moment(rt.alloc())?;
+    let last = last_moment(rt.alloc(), DEFAULTS, &STEPS)?;
     assert!(rt; crash_and_look(rt.alloc(), last).is_ok());
     let later = crash_and_look(rt.alloc(), last.saturating_add(1));
     assert!(rt; failed_with(later, StatusCode::InvalidArgument)?);

@@ -4,30 +4,39 @@ use rusty_leveldb::shell::{Command, Reply};
 use slow_history::BorrowedPair;
 use std::alloc::Global;
 
-/// All keys that are ever written, in order.
-pub const KEYS: [&str; 6] = ["", "a", "b", "c", "d", "e"];
+/// All keys that are ever written, in order. Most scripts write the first six alone.
+pub const KEYS: [&str; 13] = [
+    "", "a", "b", "c", "d", "e", "f", "g", "h", "i", "j", "k", "l",
+];
 
 pub fn bytes_of(alloc: Global, text: &str) -> Result<Vec<u8>> {
     Ok(Vec::from_slice(alloc, text.as_bytes())?)
 }
 
-/// A look-up of each key.
-pub fn look_ups(alloc: Global) -> Result<Vec<Command>> {
+/// A look-up of each of the first keys, so many of them.
+pub fn look_ups(alloc: Global, count: usize) -> Result<Vec<Command>> {
     let mut commands = Vec::new(alloc);
-    for key in &KEYS {
+    for key in KEYS.iter().take(count) {
         commands.push(Command::Get(bytes_of(alloc, key)?))?;
     }
     Ok(commands)
 }
 
 /// Whether the reply to a look-up of this key is that of this map.
-fn has(map: &[BorrowedPair<'_>], key: &str, reply: &Reply) -> bool {
+pub fn has(map: &[BorrowedPair<'_>], key: &str, reply: &Reply) -> bool {
     for pair in map {
         if pair.0 == key.as_bytes() {
             return matches!(reply, Reply::Value(value) if pair.1 == value.as_slice());
         }
     }
     matches!(reply, Reply::Nothing)
+}
+
+/// Whether each key of a map is among the first ones, so many of them.
+fn is_within(map: &[BorrowedPair<'_>], count: usize) -> bool {
+    let last = KEYS.iter().take(count).last();
+    map.iter()
+        .all(|pair| last.is_some_and(|last| pair.0 <= last.as_bytes()))
 }
 
 /// Whether the replies to all look-ups are those of this map.
@@ -37,7 +46,7 @@ pub fn is_map(map: &[BorrowedPair<'_>], replies: &[Reply]) -> bool {
             return false;
         }
     }
-    replies.len() == KEYS.len()
+    is_within(map, replies.len())
 }
 
 /// Whether the replies to all look-ups are those of one of these maps.

@@ -11,7 +11,7 @@ use std::alloc::Global;
 pub type Change = (&'static str, Option<&'static str>);
 
 /// What is asked of a store.
-#[derive(Clone, Copy)]
+#[derive(Clone, Copy, Debug)]
 pub enum Step {
     Open,
     Put(&'static str, &'static str),
@@ -62,12 +62,13 @@ fn shell_move(alloc: Global, one: &Move<'_>) -> Result<ShellMove> {
     })
 }
 
-fn walk_of(alloc: Global, at: Option<usize>, moves: &[Move<'_>]) -> Result<Command> {
+/// Moves of an iterator as they are asked of a store.
+pub fn shell_moves(alloc: Global, moves: &[Move<'_>]) -> Result<Vec<ShellMove>> {
     let mut asked = Vec::new(alloc);
     for one in moves {
         asked.push(shell_move(alloc, one)?)?;
     }
-    Ok(Command::Walk(at, asked))
+    Ok(asked)
 }
 
 /// The command of a step between opening and abandoning.
@@ -81,7 +82,7 @@ fn command_of(alloc: Global, step: &Step) -> Result<Option<Command>> {
         Step::Snap => Command::Snap,
         Step::GetAt(number, key) => Command::GetAt(*number, bytes_of(alloc, key)?),
         Step::Release(number) => Command::Release(*number),
-        Step::Walk(at, moves) => walk_of(alloc, *at, moves)?,
+        Step::Walk(at, moves) => Command::Walk(*at, shell_moves(alloc, moves)?),
         Step::Compact(from, to) => {
             Command::Compact(bytes_of(alloc, from)?, bytes_of(alloc, to)?)
         }
@@ -118,7 +119,7 @@ fn slow_items(alloc: Global, changes: &[Change]) -> Result<Vec<SlowItem>> {
 }
 
 /// The changes that a step writes and whether it syncs them, if it is a write.
-fn written_by(alloc: Global, step: &Step) -> Result<Option<(Vec<SlowItem>, bool)>> {
+pub fn written_by(alloc: Global, step: &Step) -> Result<Option<(Vec<SlowItem>, bool)>> {
     Ok(match step {
         Step::Put(key, value) => Some((slow_items(alloc, &[(key, Some(value))])?, false)),
         Step::Delete(key) => Some((slow_items(alloc, &[(key, None)])?, false)),
@@ -208,7 +209,8 @@ fn landing_of(led: &ShellStep) -> Landing<'_> {
     }
 }
 
-fn landings_of<'a>(alloc: Global, steps: &'a [ShellStep]) -> Result<Vec<Landing<'a>>> {
+/// Where the moves of a walk led.
+pub fn landings_of<'a>(alloc: Global, steps: &'a [ShellStep]) -> Result<Vec<Landing<'a>>> {
     let mut landings = Vec::new(alloc);
     for led in steps {
         landings.push(landing_of(led))?;

@@ -1,7 +1,7 @@
 //! A script on a recording device: a crash at each of its moments, a second one at each moment of the reopening, and each call of the
 //! device failing once. What is found is what the slow store allows.
 use crate::crash_disks::{
-    Recorded, Script, Setting, Side, Tails, Tally, bytes_on, crash, find_all, judge_all,
+    Recorded, Script, Setting, Side, Tails, Tally, bytes_on, calls_by, crash, find_all, judge_all,
     judge_crash, options_of, pass_on_memory, record, record_on, sides_of,
 };
 use crate::replies::{are_same, is_any_map};
@@ -12,16 +12,17 @@ use leveldb_env::mem_env::RecordEnv;
 use rusty_leveldb::db_impl::Engine;
 use rusty_leveldb::shell::{Reply, Step as ShellStep};
 use slow_history::BorrowedPair;
+use slow_machine::SlowStore;
 use std::alloc::Global;
 use std::process::Abort;
 
 /// Bytes that no disk has, since no name has a slash.
-fn nothing_seen(alloc: Global) -> Result<Vec<u8>> {
+pub fn nothing_seen(alloc: Global) -> Result<Vec<u8>> {
     Ok(Vec::from_slice(alloc, b"/")?)
 }
 
 /// Whether this disk isn't the one that was seen last, which it is then.
-fn is_new(alloc: Global, disk: &mut RecordEnv, seen: &mut Vec<u8>) -> Result<bool> {
+pub fn is_new(alloc: Global, disk: &mut RecordEnv, seen: &mut Vec<u8>) -> Result<bool> {
     let bytes = bytes_on(alloc, disk)?;
     let is_new = bytes != *seen;
     *seen = bytes;
@@ -35,12 +36,18 @@ struct Looked {
     found: Vec<Reply>,
 }
 
-/// Looks up all keys on this disk, if it isn't the one that was looked at last.
-fn look(alloc: Global, disk: &mut RecordEnv, setting: Setting, looked: &mut Looked) -> Result<()> {
-    if is_new(alloc, disk, &mut looked.disk)? {
+/// Looks up all keys on this disk, if it isn't the one that was looked at last, and returns whether it opened the store for that.
+fn look(
+    alloc: Global,
+    disk: &mut RecordEnv,
+    setting: Setting,
+    looked: &mut Looked,
+) -> Result<bool> {
+    let is_new = is_new(alloc, disk, &mut looked.disk)?;
+    if is_new {
         looked.found = find_all(alloc, disk, setting)?;
     }
-    Ok(())
+    Ok(is_new)
 }
 
 /// Crashes on this side of a moment: one of these maps is found.
@@ -55,22 +62,23 @@ fn crash_on(
     tally: &mut Tally,
 ) -> Result<()> {
     let mut left = crash(alloc, &recorded.env, side, kind)?;
-    look(alloc, &mut left, recorded.setting, looked)?;
+    let is_opened = look(alloc, &mut left, recorded.setting, looked)?;
+    tally.openings = tally.openings.saturating_add(usize::from(is_opened));
     assert!(rt; tally.count(maps, &looked.found), "{side:?}, {kind:?}");
     Ok(())
 }
 
-/// Crashes on each side of this moment.
+/// Crashes on each side of this moment: one of the maps of this slow store is found.
 fn crash_at(
     rt: &impl Abort,
     alloc: Global,
     recorded: &Recorded,
+    slow: &SlowStore,
     moment: u64,
     kind: Tails,
     looked: &mut Looked,
     tally: &mut Tally,
 ) -> Result<()> {
-    let slow = judge_crash(alloc, &recorded.calls, moment)?;
     let maps = slow.maps(&DefaultCmp)?;
     for side in &sides_of(alloc, moment)? {
         crash_on(rt, alloc, recorded, *side, kind, &maps, looked, tally)?;
@@ -98,8 +106,24 @@ pub fn crash_everywhere(
     pass_on_memory(&recorded)?;
     let mut tally = Tally::new();
     let mut looked = nothing_looked_at(alloc)?;
+    let mut slow = judge_crash(alloc, &recorded.calls, 0)?;
+    let mut place = calls_by(&recorded.calls, 0);
     for moment in 0..=recorded.env.moment() {
-        crash_at(rt, alloc, &recorded, moment, kind, &mut looked, &mut tally)?;
+        // The slow store is the same at all moments between two calls.
+        if calls_by(&recorded.calls, moment) != place {
+            place = calls_by(&recorded.calls, moment);
+            slow = judge_crash(alloc, &recorded.calls, moment)?;
+        }
+        crash_at(
+            rt,
+            alloc,
+            &recorded,
+            &slow,
+            moment,
+            kind,
+            &mut looked,
+            &mut tally,
+        )?;
     }
     Ok(tally)
 }
@@ -113,7 +137,7 @@ struct Reopened {
     found: Vec<Reply>,
 }
 
-/// Crashes again: what the first crash left is durable, so the same map is found.
+/// Crashes again: what the first crash left is durable, so the same map is found. Returns how often the store was opened for that.
 fn crash_again_on(
     rt: &impl Abort,
     alloc: Global,
@@ -121,13 +145,14 @@ fn crash_again_on(
     side: Side,
     kind: Tails,
     seen: &mut Vec<u8>,
-) -> Result<()> {
+) -> Result<usize> {
     let mut left = crash(alloc, &reopened.env, side, kind)?;
-    if is_new(alloc, &mut left, seen)? {
-        let found = find_all(alloc, &mut left, reopened.setting)?;
-        assert!(rt; are_same(&reopened.found, &found), "{side:?}, {kind:?}");
+    if !is_new(alloc, &mut left, seen)? {
+        return Ok(0);
     }
-    Ok(())
+    let found = find_all(alloc, &mut left, reopened.setting)?;
+    assert!(rt; are_same(&reopened.found, &found), "{side:?}, {kind:?}");
+    Ok(1)
 }
 
 /// Crashes again on each side of this moment.
@@ -138,20 +163,22 @@ fn crash_again_at(
     moment: u64,
     kind: Tails,
     seen: &mut Vec<u8>,
-) -> Result<()> {
+) -> Result<usize> {
+    let mut openings = 0;
     for side in &sides_of(alloc, moment)? {
-        crash_again_on(rt, alloc, reopened, *side, kind, seen)?;
+        openings += crash_again_on(rt, alloc, reopened, *side, kind, seen)?;
     }
-    Ok(())
+    Ok(openings)
 }
 
 /// Crashes again at each moment of a reopening.
-fn crash_again(rt: &impl Abort, alloc: Global, reopened: &Reopened, kind: Tails) -> Result<()> {
+fn crash_again(rt: &impl Abort, alloc: Global, reopened: &Reopened, kind: Tails) -> Result<usize> {
     let mut seen = nothing_seen(alloc)?;
+    let mut openings = 0;
     for moment in reopened.start..=reopened.env.moment() {
-        crash_again_at(rt, alloc, reopened, moment, kind, &mut seen)?;
+        openings += crash_again_at(rt, alloc, reopened, moment, kind, &mut seen)?;
     }
-    Ok(())
+    Ok(openings)
 }
 
 /// Opens the store on this disk, where this was found before.
@@ -179,10 +206,10 @@ fn crash_twice_on(
     side: Side,
     kinds: (Tails, Tails),
     seen: &mut Vec<u8>,
-) -> Result<()> {
+) -> Result<usize> {
     let mut env = crash(alloc, &recorded.env, side, kinds.0)?;
     if !is_new(alloc, &mut env, seen)? {
-        return Ok(());
+        return Ok(0);
     }
     let mut left = crash(alloc, &recorded.env, side, kinds.0)?;
     let found = find_all(alloc, &mut left, recorded.setting)?;
@@ -198,26 +225,28 @@ fn crash_twice_at(
     moment: u64,
     kinds: (Tails, Tails),
     seen: &mut Vec<u8>,
-) -> Result<()> {
+) -> Result<usize> {
+    let mut openings = 0;
     for side in &sides_of(alloc, moment)? {
-        crash_twice_on(rt, alloc, recorded, *side, kinds, seen)?;
+        openings += crash_twice_on(rt, alloc, recorded, *side, kinds, seen)?;
     }
-    Ok(())
+    Ok(openings)
 }
 
-/// Crashes at each moment of a script, and again at each moment of the reopening.
+/// Crashes at each moment of a script, and again at each moment of the reopening. Returns how often the store was opened after a second crash.
 pub fn crash_twice_everywhere(
     rt: &impl Abort,
     alloc: Global,
     script: Script<'_>,
     kinds: (Tails, Tails),
-) -> Result<()> {
+) -> Result<usize> {
     let recorded = record(alloc, script)?;
     let mut seen = nothing_seen(alloc)?;
+    let mut openings = 0;
     for moment in 0..=recorded.env.moment() {
-        crash_twice_at(rt, alloc, &recorded, moment, kinds, &mut seen)?;
+        openings += crash_twice_at(rt, alloc, &recorded, moment, kinds, &mut seen)?;
     }
-    Ok(())
+    Ok(openings)
 }
 
 /// Whether each move that failed has a cause: the device, or memory.
@@ -248,7 +277,8 @@ fn has_cause(call: &Call) -> bool {
     }
 }
 
-fn have_causes(calls: &[Call]) -> bool {
+/// Whether each call that failed has a cause.
+pub fn have_causes(calls: &[Call]) -> bool {
     for call in calls {
         if !has_cause(call) {
             return false;

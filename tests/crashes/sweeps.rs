@@ -101,13 +101,17 @@ fn crashes_with_a_wrong_byte(rt: HostRuntime) -> Result<()> {
 #[test]
 fn second_crashes_without_tails(rt: HostRuntime) -> Result<()> {
     let kinds = (Tails::WithoutLast, Tails::Nothing);
-    crash_twice_everywhere(&rt, rt.alloc(), SCRIPT, kinds)
+    let openings = crash_twice_everywhere(&rt, rt.alloc(), SCRIPT, kinds)?;
+    assert!(rt; openings > 100, "{openings}");
+    Ok(())
 }
 
 #[test]
 fn second_crashes_without_the_last_byte(rt: HostRuntime) -> Result<()> {
     let kinds = (Tails::WrongLogBytes, Tails::WithoutLast);
-    crash_twice_everywhere(&rt, rt.alloc(), SCRIPT, kinds)
+    let openings = crash_twice_everywhere(&rt, rt.alloc(), SCRIPT, kinds)?;
+    assert!(rt; openings > 100, "{openings}");
+    Ok(())
 }
 
 #[test]

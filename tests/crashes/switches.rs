@@ -50,6 +50,7 @@ const REUSING: Script<'static> = Script {
         write_buffer_size: 300,
         max_file_size: 2 << 20,
         reuses: true,
+        keys: 6,
     },
     lives: &[FIRST, SECOND],
 };
@@ -60,6 +61,7 @@ const ANEW: Script<'static> = Script {
         write_buffer_size: 300,
         max_file_size: 2 << 20,
         reuses: false,
+        keys: 6,
     },
     lives: &[FIRST, SECOND],
 };
@@ -143,19 +145,25 @@ fn crashes_of_new_manifests_with_wrong_bytes(rt: HostRuntime) -> Result<()> {
 #[test]
 fn second_crashes(rt: HostRuntime) -> Result<()> {
     let kinds = (Tails::WithoutLast, Tails::Nothing);
-    crash_twice_everywhere(&rt, rt.alloc(), REUSING, kinds)
+    let openings = crash_twice_everywhere(&rt, rt.alloc(), REUSING, kinds)?;
+    assert!(rt; openings > 100, "{openings}");
+    Ok(())
 }
 
 #[test]
 fn second_crashes_with_wrong_bytes(rt: HostRuntime) -> Result<()> {
     let kinds = (Tails::Whole, Tails::WrongBytes);
-    crash_twice_everywhere(&rt, rt.alloc(), REUSING, kinds)
+    let openings = crash_twice_everywhere(&rt, rt.alloc(), REUSING, kinds)?;
+    assert!(rt; openings > 100, "{openings}");
+    Ok(())
 }
 
 #[test]
 fn second_crashes_of_new_manifests(rt: HostRuntime) -> Result<()> {
     let kinds = (Tails::Nothing, Tails::WithoutLast);
-    crash_twice_everywhere(&rt, rt.alloc(), ANEW, kinds)
+    let openings = crash_twice_everywhere(&rt, rt.alloc(), ANEW, kinds)?;
+    assert!(rt; openings > 100, "{openings}");
+    Ok(())
 }
 
 #[test]

@@ -84,6 +84,7 @@ const SCRIPT: Script<'static> = Script {
         write_buffer_size: 300,
         max_file_size: 2 << 20,
         reuses: true,
+        keys: 6,
     },
     lives: &[FIRST, SECOND],
 };
@@ -126,6 +127,7 @@ const TABLES: Script<'static> = Script {
         write_buffer_size: 1,
         max_file_size: 2 << 20,
         reuses: true,
+        keys: 6,
     },
     lives: &[&[
         Step::Put("a", "1"),

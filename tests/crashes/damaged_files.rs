@@ -1,0 +1,434 @@
+//! Stores of which one file is cut to each length, has each of its bytes raised, or is taken away, and is opened then. An opening fails as
+//! damage does, or what is found is what the slow reader reads of the changed files. Of a table that is damaged nothing wrong is found.
+use crate::changed_files::{Change, File, bytes_in, disk_with, files_on, make_file};
+use crate::replies::{KEYS, has};
+use crate::steps::{Step, commands_of, landings_of};
+use crate::twelve_keys::OVER_ALL;
+use leveldb_base::cmp::DefaultCmp;
+use leveldb_base::error::{Result, StatusCode};
+use leveldb_base::names::parse_file_name;
+use leveldb_base::types::FileType;
+use leveldb_env::env::Env;
+use leveldb_env::filter::BloomPolicy;
+use leveldb_env::mem_env::MemEnv;
+use leveldb_env::options::Options;
+use rusty_leveldb::shell::{Reply, Step as ShellStep, run};
+use slow_history::{BorrowedPair, Entry, Move, is_walk, view_of};
+use slow_store::{Contents, read_store};
+use std::alloc::Global;
+use std::process::Abort;
+
+type DefaultOptions = Options<DefaultCmp, BloomPolicy>;
+
+/// Down over all pairs of either store, past the first.
+const DOWN: &[Move<'static>] = &[
+    Move::Seek(b"l"),
+    Move::Prev,
+    Move::Prev,
+    Move::Prev,
+    Move::Prev,
+    Move::Prev,
+    Move::Prev,
+    Move::Prev,
+    Move::Prev,
+    Move::Prev,
+    Move::Prev,
+    Move::Prev,
+    Move::Prev,
+    Move::Seek(b"b"),
+    Move::Prev,
+    Move::Prev,
+];
+
+/// What is asked of a store that was opened.
+const ASKED: &[Step] = &[
+    Step::Get("a"),
+    Step::Get("b"),
+    Step::Get("c"),
+    Step::Get("d"),
+    Step::Get("e"),
+    Step::Get("f"),
+    Step::Get("g"),
+    Step::Get("h"),
+    Step::Get("i"),
+    Step::Get("j"),
+    Step::Get("k"),
+    Step::Get("l"),
+    Step::Get("m"),
+    Step::Walk(None, OVER_ALL),
+    Step::Walk(None, DOWN),
+];
+
+/// A table with a key, a log with another.
+const TWO_PUTS: &[Step] = &[Step::Put("a", "1"), Step::Put("b", "2")];
+
+/// How a store is made and opened: the size of its memtable and of its blocks, and whether logs and manifest are used on.
+#[derive(Clone, Copy)]
+struct Making {
+    buffer: usize,
+    block: usize,
+    reuses: bool,
+}
+
+fn options_of(making: Making) -> DefaultOptions {
+    let mut options = Options::default();
+    options.write_buffer_size = making.buffer;
+    options.block_size = making.block;
+    options.reuse_logs = making.reuses;
+    options.reuse_manifest = making.reuses;
+    options
+}
+
+/// How many changed disks were opened, how many of these openings failed, and how many replies of those that did not.
+#[derive(Clone, Copy, Debug)]
+struct Counts {
+    disks: usize,
+    refused_openings: usize,
+    refused_replies: usize,
+}
+
+/// The files that these steps leave, and one that is of no store.
+fn files_of(alloc: Global, making: Making, steps: &[Step]) -> Result<Vec<File>> {
+    let mut env = MemEnv::new(alloc);
+    let mut replies = Vec::new(alloc);
+    let commands = commands_of(alloc, steps)?;
+    run(&mut env, "db", options_of(making), &commands, &mut replies)?;
+    make_file(alloc, &mut env, "notes.txt", b"notes")?;
+    files_on(alloc, &mut env)
+}
+
+/// The entries by their rising numbers.
+fn in_order(alloc: Global, contents: &Contents) -> Result<Vec<&Entry>> {
+    let mut entries = Vec::new(alloc);
+    for sequence in 1..=contents.last {
+        for entry in &contents.entries {
+            if entry.sequence == sequence {
+                entries.push(entry)?;
+            }
+        }
+    }
+    Ok(entries)
+}
+
+/// The map of what the slow reader read.
+fn map_of(alloc: Global, contents: &Contents) -> Result<Vec<BorrowedPair<'_>>> {
+    let entries = in_order(alloc, contents)?;
+    view_of(alloc, &DefaultCmp, entries.as_slice(), contents.last)
+}
+
+/// Whether each move that failed did as damage does, and none failed where none may.
+fn have_causes(steps: &[ShellStep], may_fail: bool) -> bool {
+    for led in steps {
+        if let ShellStep::Refused(status) = led
+            && !(may_fail && status.code == StatusCode::Corruption)
+        {
+            return false;
+        }
+    }
+    true
+}
+
+/// Whether a store of this map may reply so, where damage may be found or not.
+fn is_reply(
+    alloc: Global,
+    map: &[BorrowedPair<'_>],
+    step: &Step,
+    reply: &Reply,
+    may_fail: bool,
+) -> Result<bool> {
+    Ok(match (step, reply) {
+        (_, Reply::Refused(status)) => may_fail && status.code == StatusCode::Corruption,
+        (Step::Get(key), _) => has(map, key, reply),
+        (Step::Walk(_, moves), Reply::Walk(steps)) => {
+            let landings = landings_of(alloc, steps)?;
+            is_walk(&DefaultCmp, map, moves, &landings) && have_causes(steps, may_fail)
+        }
+        _ => false,
+    })
+}
+
+/// Whether a store of this map may reply all this.
+fn are_replies(
+    alloc: Global,
+    map: &[BorrowedPair<'_>],
+    replies: &[Reply],
+    may_fail: bool,
+) -> Result<bool> {
+    for (step, reply) in ASKED.iter().zip(replies) {
+        if !is_reply(alloc, map, step, reply, may_fail)? {
+            return Ok(false);
+        }
+    }
+    Ok(replies.len() == ASKED.len())
+}
+
+fn leads_to(steps: &[ShellStep], key: &str) -> bool {
+    steps.iter().any(
+        |led| matches!(led, ShellStep::At(found, _) if found.as_slice() == key.as_bytes()),
+    )
+}
+
+/// Whether a reply tells what a key has, or that it has nothing.
+fn tells_of(step: &Step, reply: &Reply, key: &str) -> bool {
+    match (step, reply) {
+        (Step::Get(asked), Reply::Value(_) | Reply::Nothing) => *asked == key,
+        (_, Reply::Walk(steps)) => leads_to(steps, key),
+        _ => false,
+    }
+}
+
+fn is_told_of(replies: &[Reply], key: &str) -> bool {
+    ASKED
+        .iter()
+        .zip(replies)
+        .any(|(step, reply)| tells_of(step, reply, key))
+}
+
+/// The bytes of a table's block that has this key alone, its type and its checksum, if the table has such a block: an entry that
+/// shares nothing with others, of a key and 8 bytes more, with the value's length before it.
+fn is_in_block_of(table: &[u8], key: &str, at: usize) -> bool {
+    let [letter] = key.as_bytes() else {
+        return false;
+    };
+    for (start, window) in table.windows(4).enumerate() {
+        if window[0] == 0 && window[1] == 9 && window[3] == *letter {
+            let end = start + 12 + usize::from(window[2]) + 8 + 5;
+            return start <= at && at < end;
+        }
+    }
+    false
+}
+
+/// Whether nothing is told of a key of the map whose block has the changed byte.
+fn is_untold(map: &[BorrowedPair<'_>], table: &[u8], change: Change, replies: &[Reply]) -> bool {
+    let Change::Raised(at) = change else {
+        return true;
+    };
+    for key in &KEYS {
+        let is_there = map.iter().any(|pair| pair.0 == key.as_bytes());
+        if is_there && is_in_block_of(table, key, at) && is_told_of(replies, key) {
+            return false;
+        }
+    }
+    true
+}
+
+fn count_refused(replies: &[Reply]) -> usize {
+    replies
+        .iter()
+        .filter(|reply| matches!(reply, Reply::Refused(_)))
+        .count()
+}
+
+/// Whether a file of this name may be deleted by an opening: an obsolete log, manifest or table, or a temporary file.
+fn may_go(alloc: Global, name: &str) -> bool {
+    matches!(
+        parse_file_name(alloc, name),
+        Ok((
+            _,
+            FileType::Log | FileType::Descriptor | FileType::Table | FileType::Temp
+        ))
+    )
+}
+
+/// Whether an opening may leave this of a file: its bytes, and more of them in a manifest; and where it goes on, another manifest's
+/// name in `CURRENT`, or no file.
+fn may_be_left(
+    alloc: Global,
+    is_open: bool,
+    name: &str,
+    before: &[u8],
+    after: Option<&[u8]>,
+) -> bool {
+    match after {
+        Some(bytes) if bytes == before => true,
+        Some(bytes) if name.starts_with("MANIFEST-") => bytes.starts_with(before),
+        Some(_) => is_open && name == "CURRENT",
+        None => is_open && may_go(alloc, name),
+    }
+}
+
+/// Whether a file that wasn't there may be made by an opening: the lock, or a table, and where it goes on a log or a manifest.
+fn may_be_made(alloc: Global, is_open: bool, name: &str) -> bool {
+    match parse_file_name(alloc, name) {
+        Ok((_, FileType::DBLock | FileType::Table)) => true,
+        Ok((_, FileType::Log | FileType::Descriptor)) => is_open,
+        _ => false,
+    }
+}
+
+/// Whether an opening may have made these files of those.
+fn are_left(alloc: Global, is_open: bool, before: &[File], after: &[File]) -> bool {
+    for (name, bytes) in before {
+        let left = bytes_in(after, name.as_str());
+        if !may_be_left(alloc, is_open, name.as_str(), bytes.as_slice(), left) {
+            return false;
+        }
+    }
+    after.iter().all(|(name, _)| {
+        bytes_in(before, name.as_str()).is_some() || may_be_made(alloc, is_open, name.as_str())
+    })
+}
+
+/// A store that is sound, and how it is opened.
+#[derive(Drop)]
+struct Sound {
+    making: Making,
+    files: Vec<File>,
+    contents: Contents,
+}
+
+fn sound_store(alloc: Global, making: Making, steps: &[Step]) -> Result<Sound> {
+    let files = files_of(alloc, making, steps)?;
+    let mut env = disk_with(alloc, &files, "", Change::TakenAway)?;
+    let Some(contents) = read_store(alloc, &mut env, &DefaultCmp, "db")? else {
+        return leveldb_base::error::err(alloc, StatusCode::NotFound, "no store");
+    };
+    Ok(Sound {
+        making,
+        files,
+        contents,
+    })
+}
+
+/// What the slow reader reads, if the files are a store.
+fn read_slowly(alloc: Global, env: &mut MemEnv) -> Result<Option<Contents>> {
+    let read = read_store(alloc, env, &DefaultCmp, "db");
+    match &read {
+        Err(status) if status.code == StatusCode::Corruption => Ok(None),
+        _ => read,
+    }
+}
+
+/// Whether this may be what an opening returned and what was replied then, where this file was changed. `read` is what the slow reader
+/// read of the changed files.
+fn is_allowed(
+    alloc: Global,
+    sound: &Sound,
+    file: &File,
+    change: Change,
+    read: Option<&Contents>,
+    opened: &Result<()>,
+    replies: &[Reply],
+) -> Result<bool> {
+    let is_table = file.0.as_str().ends_with(".ldb");
+    match (opened, read) {
+        (Err(status), None) => Ok(status.code == StatusCode::Corruption),
+        (Err(_), Some(_)) => Ok(false),
+        (Ok(()), Some(contents)) => {
+            are_replies(alloc, &map_of(alloc, contents)?, replies, is_table)
+        }
+        (Ok(()), None) => {
+            let map = map_of(alloc, &sound.contents)?;
+            Ok(
+                is_table
+                    && !matches!(change, Change::TakenAway)
+                    && are_replies(alloc, &map, replies, true)?
+                    && is_untold(&map, file.1.as_slice(), change, replies),
+            )
+        }
+    }
+}
+
+fn is_free(env: &mut MemEnv) -> Result<bool> {
+    env.lock("db/LOCK")?;
+    env.unlock("db/LOCK")?;
+    Ok(true)
+}
+
+/// Opens the store with this file changed so.
+fn open_changed(
+    rt: &impl Abort,
+    alloc: Global,
+    sound: &Sound,
+    file: &File,
+    change: Change,
+    counts: &mut Counts,
+) -> Result<()> {
+    let name = file.0.as_str();
+    let mut env = disk_with(alloc, &sound.files, name, change)?;
+    let before = files_on(alloc, &mut env)?;
+    let read = read_slowly(alloc, &mut env)?;
+    let mut replies = Vec::new(alloc);
+    let commands = commands_of(alloc, ASKED)?;
+    let options = options_of(sound.making);
+    let opened = run(&mut env, "db", options, &commands, &mut replies);
+    let is_right = is_allowed(alloc, sound, file, change, read.as_ref(), &opened, &replies)?;
+    assert!(rt; is_right, "{name}, {change:?}");
+    let after = files_on(alloc, &mut env)?;
+    assert!(rt;
+        are_left(alloc, opened.is_ok(), &before, &after) && is_free(&mut env)?,
+        "files, {name}, {change:?}"
+    );
+    counts.disks += 1;
+    counts.refused_openings += usize::from(opened.is_err());
+    counts.refused_replies += count_refused(&replies);
+    Ok(())
+}
+
+/// Opens the store with this file cut to each length, with each byte raised, and taken away.
+fn change_file(
+    rt: &impl Abort,
+    alloc: Global,
+    sound: &Sound,
+    file: &File,
+    counts: &mut Counts,
+) -> Result<()> {
+    for at in 0..file.1.len() {
+        open_changed(rt, alloc, sound, file, Change::Cut(at), counts)?;
+        open_changed(rt, alloc, sound, file, Change::Raised(at), counts)?;
+    }
+    open_changed(rt, alloc, sound, file, Change::TakenAway, counts)
+}
+
+/// Opens a store with each of its files changed in each way.
+fn change_each(rt: &impl Abort, alloc: Global, making: Making, steps: &[Step]) -> Result<Counts> {
+    let mut counts = Counts {
+        disks: 0,
+        refused_openings: 0,
+        refused_replies: 0,
+    };
+    let sound = sound_store(alloc, making, steps)?;
+    for file in &sound.files {
+        change_file(rt, alloc, &sound, file, &mut counts)?;
+    }
+    Ok(counts)
+}
+
+fn assert_counts(rt: &impl Abort, counts: Counts, disks: usize) {
+    let is_right = counts.disks == disks
+        && counts.refused_openings * 10 > disks
+        && counts.refused_replies * 10 > disks;
+    assert!(rt; is_right, "{counts:?}");
+}
+
+/// Changes each file of a store with a table and a log, both of one pair.
+pub fn change_two_puts(rt: &impl Abort, alloc: Global, reuses: bool, disks: usize) -> Result<()> {
+    let making = Making {
+        buffer: 1,
+        block: 4096,
+        reuses,
+    };
+    let counts = change_each(rt, alloc, making, TWO_PUTS)?;
+    assert_counts(rt, counts, disks);
+    Ok(())
+}
+
+/// Changes each file of the store that these steps leave, whose tables have a block for each key.
+pub fn change_blocks(rt: &impl Abort, alloc: Global, steps: &[Step]) -> Result<()> {
+    let making = Making {
+        buffer: 300,
+        block: 1,
+        reuses: true,
+    };
+    let counts = change_each(rt, alloc, making, steps)?;
+    assert!(rt; counts.disks > 1000, "{counts:?}");
+    assert_counts(rt, counts, counts.disks);
+    Ok(())
+}
+
+/// Files of 16, 5, 24, 81 and 177 bytes, and a lock.
+#[test]
+fn a_table_and_a_log(rt: HostRuntime) -> Result<()> {
+    change_two_puts(&rt, rt.alloc(), true, 612)
+}

@@ -1,0 +1,117 @@
+//! Sweeps that take minutes each: ./test --long.
+use crate::by_score::{APART, SCRIPT as BY_SCORE};
+use crate::compactions::sweep_seed;
+use crate::crash_disks::{Script, Tails, assert_tally};
+use crate::damaged_files::{change_blocks, change_two_puts};
+use crate::lives::crash_at_each;
+use crate::random_commands::run_all;
+use crate::sweep::{crash_everywhere, crash_twice_everywhere, fail_everywhere};
+use crate::twelve_keys::{SCRIPT as TWELVE_KEYS, STEPS};
+use leveldb_base::error::Result;
+use std::alloc::Global;
+use std::process::Abort;
+
+const ALL_TAILS: [Tails; 5] = [
+    Tails::Nothing,
+    Tails::Whole,
+    Tails::WithoutLast,
+    Tails::WrongLogBytes,
+    Tails::WrongBytes,
+];
+
+fn crash_twice(
+    rt: &impl Abort,
+    alloc: Global,
+    script: Script<'_>,
+    kinds: (Tails, Tails),
+) -> Result<()> {
+    let openings = crash_twice_everywhere(rt, alloc, script, kinds)?;
+    assert!(rt; openings > 100, "{openings}");
+    Ok(())
+}
+
+fn crash_with_all(rt: &impl Abort, alloc: Global, script: Script<'_>) -> Result<()> {
+    for kind in ALL_TAILS {
+        let tally = crash_everywhere(rt, alloc, script, kind)?;
+        assert_tally(rt, tally, tally.open > 100);
+    }
+    Ok(())
+}
+
+/// The opening makes a table of the log, and a new manifest.
+#[test]
+fn damage_where_no_file_is_used_on(rt: HostRuntime) -> Result<()> {
+    change_two_puts(&rt, rt.alloc(), false, 630)
+}
+
+/// Tables of a level, and a log.
+#[test]
+fn damage_before_a_compaction(rt: HostRuntime) -> Result<()> {
+    change_blocks(&rt, rt.alloc(), &STEPS[..14])
+}
+
+/// The table of a compaction.
+#[test]
+fn damage_after_a_compaction(rt: HostRuntime) -> Result<()> {
+    change_blocks(&rt, rt.alloc(), STEPS)
+}
+
+/// By `lives` itself: each life runs the script anew, and the next looks at what a crash left.
+#[test]
+fn crashes_of_lives(rt: HostRuntime) -> Result<()> {
+    for after in [false, true] {
+        let tally = crash_at_each(&rt, rt.alloc(), TWELVE_KEYS.setting, STEPS, after)?;
+        assert_tally(&rt, tally, tally.shortest > 20);
+    }
+    Ok(())
+}
+
+#[test]
+fn second_crashes_after_whole_tails(rt: HostRuntime) -> Result<()> {
+    crash_twice(&rt, rt.alloc(), TWELVE_KEYS, (Tails::Whole, Tails::Nothing))
+}
+
+#[test]
+fn second_crashes_after_other_tails(rt: HostRuntime) -> Result<()> {
+    let kinds = (Tails::WithoutLast, Tails::Nothing);
+    crash_twice(&rt, rt.alloc(), TWELVE_KEYS, kinds)?;
+    let kinds = (Tails::WrongLogBytes, Tails::WithoutLast);
+    crash_twice(&rt, rt.alloc(), TWELVE_KEYS, kinds)
+}
+
+#[test]
+fn crashes_in_compactions_by_score(rt: HostRuntime) -> Result<()> {
+    crash_with_all(&rt, rt.alloc(), BY_SCORE)?;
+    crash_with_all(&rt, rt.alloc(), APART)
+}
+
+#[test]
+fn second_crashes_in_compactions_by_score(rt: HostRuntime) -> Result<()> {
+    crash_twice(&rt, rt.alloc(), BY_SCORE, (Tails::Nothing, Tails::Nothing))?;
+    crash_twice(&rt, rt.alloc(), APART, (Tails::Whole, Tails::WithoutLast))
+}
+
+#[test]
+fn failures_in_compactions_by_score(rt: HostRuntime) -> Result<()> {
+    for script in [BY_SCORE, APART] {
+        for done in [false, true] {
+            let tally = fail_everywhere(&rt, rt.alloc(), script, done)?;
+            assert_tally(&rt, tally, tally.open > 100);
+        }
+    }
+    Ok(())
+}
+
+/// Scripts that look random, each with crashes and failures at each of its moments and calls.
+#[test]
+fn ten_seeds(rt: HostRuntime) -> Result<()> {
+    for seed in 100..110 {
+        sweep_seed(&rt, rt.alloc(), seed, 12)?;
+    }
+    Ok(())
+}
+
+#[test]
+fn six_thousand_commands(rt: HostRuntime) -> Result<()> {
+    run_all(&rt, rt.alloc())
+}
