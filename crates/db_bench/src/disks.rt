@@ -76,3 +76,15 @@ fn delete_store<E: Env>(alloc: Global, env: &mut E, folder: &str) -> Result<()> 
     }
     env.unlock(&lock)
 }
+
+/// How many bytes the files in a folder have whose names are as a store gives them.
+pub fn size_of_store<E: Env>(alloc: Global, env: &mut E, folder: &str) -> Result<u64> {
+    let mut bytes = 0u64;
+    for name in &env.children(alloc, folder)? {
+        if file_name_parts(name).is_some() {
+            let path = format!(in alloc; "{folder}/{name}")?;
+            bytes = bytes.saturating_add(env.size_of(&path)? as u64);
+        }
+    }
+    Ok(bytes)
+}

@@ -17,16 +17,39 @@ pub const LEAST_CACHE_SIZE: u64 = 4096;
 
 pub const MOST_CACHE_SIZE: u64 = 1 << 30;
 
+/// The greatest `--write_buffer_size`.
+pub const MOST_WRITE_BUFFER_SIZE: u64 = 1 << 30;
+
 /// How much a row does. A row of several sizes does up to twice the `--num`.
 #[derive(Clone, Copy, Debug)]
 pub struct Scale {
     pub num: u64,
     pub value_size: usize,
-    /// Bytes of blocks that a store which is read keeps in memory.
+    /// Bytes of blocks that a store keeps in memory.
     pub cache_size: usize,
+    /// Bytes of a memtable that becomes a table.
+    pub write_buffer_size: usize,
     pub ghost some: { 0 < num },
     pub ghost few: { num ≤ 20000000 },
     pub ghost short: { value_size ≤ 1048576 },
+    pub ghost cached: { (4096 ≤ cache_size) × (cache_size ≤ 1073741824) },
+    pub ghost buffered: { (0 < write_buffer_size) × (write_buffer_size ≤ 1073741824) },
+}
+
+impl Scale {
+    /// The same sizes, for `num` entries.
+    pub fn with_num(self, num: u64) -> Scale
+        requires some { 0 < num }
+        requires few { num ≤ 20000000 }
+        ensures { result.num ≡ num }
+    {
+        Scale {
+            num,
+            value_size: self.value_size,
+            cache_size: self.cache_size,
+            write_buffer_size: self.write_buffer_size,
+        }
+    }
 }
 
 /// What the program is asked for.
@@ -36,11 +59,14 @@ pub struct Flags<'a> {
     pub num: u64,
     pub value_size: usize,
     pub cache_size: usize,
+    pub write_buffer_size: usize,
     /// The folder in whose `bench` the stores are; none for memory.
     pub folder: Option<&'a str>,
     pub ghost some: { 0 < num },
     pub ghost few: { num ≤ 10000000 },
     pub ghost short: { value_size ≤ 1048576 },
+    pub ghost cached: { (4096 ≤ cache_size) × (cache_size ≤ 1073741824) },
+    pub ghost buffered: { (0 < write_buffer_size) × (write_buffer_size ≤ 1073741824) },
 }
 
 /// Why the program stopped.
@@ -56,7 +82,7 @@ impl fmt::Display for Fault {
     fn fmt<W: fmt::Write>(&self, f: &mut fmt::Formatter<W>) -> fmt::Result {
         match self {
             Fault::Usage => f.write_str(
-                "usage: db_bench [--benchmarks=ROW,..] [--num=N] [--value_size=N] [--cache_size=N] [--db=DIR]",
+                "usage: db_bench [--benchmarks=ROW,..] [--num=N] [--value_size=N] [--cache_size=N] [--write_buffer_size=N] [--db=DIR]",
             ),
             Fault::Failed(status) => match &status.err {
                 None => write!(f, "db_bench: {}", status.code),
@@ -91,14 +117,15 @@ impl From<io::Error> for Fault {
 }
 
 /// Reads the flags; a later one replaces an earlier one.
-/// Without flags each row is run, over 100000 entries of 100 bytes, with 4 MiB of blocks in memory,
-/// and so are the stores.
+/// Without flags each row is run, over 100000 entries of 100 bytes, with 4 MiB of blocks in memory
+/// and memtables of 4 MiB; the stores are in memory, too.
 pub fn parse<'a>(alloc: Global, words: &'a [String]) -> Result<Flags<'a>, Fault> {
     let mut flags = Flags {
         rows: Vec::from_slice(alloc, &Row::ALL)?,
         num: 100_000,
         value_size: 100,
         cache_size: 4 << 20,
+        write_buffer_size: 4 << 20,
         folder: None,
     };
     for word in words {
@@ -117,6 +144,8 @@ fn set<'a>(alloc: Global, flags: &mut Flags<'a>, word: &'a str) -> Result<(), Fa
         flags.value_size = read_number(digits, 0, MOST_VALUE_SIZE as u64)? as usize;
     } else if let Some(digits) = word.strip_prefix("--cache_size=") {
         flags.cache_size = read_number(digits, LEAST_CACHE_SIZE, MOST_CACHE_SIZE)? as usize;
+    } else if let Some(digits) = word.strip_prefix("--write_buffer_size=") {
+        flags.write_buffer_size = read_number(digits, 1, MOST_WRITE_BUFFER_SIZE)? as usize;
     } else if let Some(folder) = word.strip_prefix("--db=") {
         if folder.is_empty() {
             return Err(Fault::Usage);

@@ -22,8 +22,9 @@ pub fn read_forward<K: Clock, D: Disks>(
 {
     let mut env = filled(alloc, clock, disks, job)?;
     let mut options = Options::default();
-    options.reuse_logs = false;
+    options.write_buffer_size = job.scale.write_buffer_size;
     options.block_cache_capacity_bytes = job.scale.cache_size;
+    options.reuse_logs = false;
     let mut db = DB::open(alloc, disks.store(), &mut env, options)?;
     let mut it = db.new_iter()?;
     let mut tally = Tally::new(job.checked);
@@ -54,8 +55,9 @@ pub fn read_backward<K: Clock, D: Disks>(
 {
     let mut env = filled(alloc, clock, disks, job)?;
     let mut options = Options::default();
-    options.reuse_logs = false;
+    options.write_buffer_size = job.scale.write_buffer_size;
     options.block_cache_capacity_bytes = job.scale.cache_size;
+    options.reuse_logs = false;
     let mut db = DB::open(alloc, disks.store(), &mut env, options)?;
     let mut it = db.new_iter()?;
     it.seek_to_last()?;
@@ -87,8 +89,9 @@ pub fn seek_at_random<K: Clock, D: Disks>(
 {
     let mut env = filled(alloc, clock, disks, job)?;
     let mut options = Options::default();
-    options.reuse_logs = false;
+    options.write_buffer_size = job.scale.write_buffer_size;
     options.block_cache_capacity_bytes = job.scale.cache_size;
+    options.reuse_logs = false;
     let mut db = DB::open(alloc, disks.store(), &mut env, options)?;
     let mut it = db.new_iter()?;
     let mut numbers = Numbers::random(job.scale.num);

@@ -20,6 +20,7 @@ mod rows;
 mod store_rows;
 mod sum_rows;
 mod table_rows;
+mod update_rows;
 
 fn main(rt: HostRuntime) -> io::Result<ExitCode> {
     if let Err(status) = reserve_descriptors(&rt) {

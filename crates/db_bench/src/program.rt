@@ -110,6 +110,7 @@ fn add_task(tasks: &mut Vec<Task>, flags: &Flags<'_>, row: Row, num: u64) -> Res
         num,
         value_size: flags.value_size,
         cache_size: flags.cache_size,
+        write_buffer_size: flags.write_buffer_size,
     };
     tasks.push(Task { row, scale })?;
     Ok(())
@@ -124,8 +125,7 @@ fn write_run<O: Write, F: Write>(
     err: &mut F,
 ) -> Result<()> {
     let name = row.name();
-    let Run { outcome, nanos: _ } = run;
-    let did = outcome.line(alloc, name)?;
+    let did = run.outcome.line(alloc, name)?;
     out.write_all(did.as_bytes())?;
     out.flush()?;
     let took = run.line(alloc, name)?;

@@ -6,19 +6,30 @@ use leveldb_base::error::Result;
 use std::alloc::Global;
 use std::time::{Clock, Instant};
 
-/// What a row did: operations, bytes that were read or written, and their checksum, or 0.
+/// The bytes of a store: of the files in its folder, and of the keys and values that it shows.
+#[derive(Clone, Copy, Debug)]
+pub struct Space {
+    pub files: u64,
+    pub live: u64,
+}
+
+/// What a row did: operations, bytes that were read or written, and their checksum, or 0; and the
+/// space of its store, where the row looks at that.
 #[derive(Clone, Copy, Debug)]
 pub struct Outcome {
     pub ops: u64,
     pub bytes: u64,
     pub sum: u32,
+    pub space: Option<Space>,
 }
 
-/// A run of a row: what it did, and in how many nanoseconds.
+/// A run of a row: what it did, and in how many nanoseconds; and in a row that times each operation
+/// those of the slowest one.
 #[derive(Clone, Copy, Debug)]
 pub struct Run {
     pub outcome: Outcome,
     pub nanos: u64,
+    pub slowest: Option<u64>,
 }
 
 /// Counts the bytes that a row reads or writes, and in the warm-up run takes their checksum.
@@ -71,6 +82,7 @@ impl Tally {
                 Some(digest) => digest.finalize(),
                 None => 0,
             },
+            space: None,
         }
     }
 }
@@ -91,39 +103,85 @@ impl<'c, K: Clock> Timer<'c, K> {
         })
     }
 
+    /// The nanoseconds since it runs.
+    pub fn nanos(&self) -> Result<u64> {
+        let time = self.start.elapsed(self.clock)?;
+        Ok(
+            time.as_secs()
+                .saturating_mul(1_000_000_000)
+                .saturating_add(u64::from(time.subsec_nanos())),
+        )
+    }
+
     /// The run that ends now.
     pub fn stop(self, outcome: Outcome) -> Result<Run>
         ensures { IfOk result (λ run. run.outcome ≡ outcome) }
     {
-        let Timer { clock, start } = self;
-        let time = start.elapsed(clock)?;
-        let nanos = time
-            .as_secs()
-            .saturating_mul(1_000_000_000)
-            .saturating_add(u64::from(time.subsec_nanos()));
-        Ok(Run { outcome, nanos })
+        let nanos = self.nanos()?;
+        Ok(Run {
+            outcome,
+            nanos,
+            slowest: None,
+        })
     }
 }
 
 impl Outcome {
     /// The line of standard output.
     pub fn line(self, alloc: Global, name: &str) -> Result<String> {
-        let Outcome { ops, bytes, sum } = self;
-        Ok(format!(in alloc; "{name} {ops} ops {bytes} bytes crc32c {sum:08x}\n")?)
+        let Outcome {
+            ops,
+            bytes,
+            sum,
+            space,
+        } = self;
+        let room = match space {
+            Some(Space { files, live }) => {
+                format!(in alloc; " files {files} bytes live {live} bytes")?
+            }
+            None => String::new(alloc),
+        };
+        Ok(format!(in alloc; "{name} {ops} ops {bytes} bytes crc32c {sum:08x}{room}\n")?)
     }
 }
 
 impl Run {
-    /// The line of standard error: microseconds an operation, and millions of bytes a second.
+    /// What this run did, and the lesser times of the two.
+    pub fn or_faster(self, other: Run) -> Run
+        ensures { result.outcome ≡ self.outcome }
+    {
+        Run {
+            outcome: self.outcome,
+            nanos: self.nanos.min(other.nanos),
+            slowest: match (self.slowest, other.slowest) {
+                (Some(mine), Some(theirs)) => Some(mine.min(theirs)),
+                (mine, theirs) => mine.or(theirs),
+            },
+        }
+    }
+
+    /// The line of standard error: microseconds an operation, and millions of bytes a second; and
+    /// the microseconds of the slowest operation, where each was timed.
     pub fn line(self, alloc: Global, name: &str) -> Result<String> {
-        let Run { outcome, nanos } = self;
+        let Run {
+            outcome,
+            nanos,
+            slowest,
+        } = self;
         let each = nanos / outcome.ops.max(1);
         let (micros, rest) = (each / 1000, each % 1000);
         let rate = outcome.bytes.saturating_mul(10_000) / nanos.max(1);
         let (megabytes, tenth) = (rate / 10, rate % 10);
         let ops = outcome.ops;
+        let stall = match slowest {
+            Some(nanos) => {
+                let (micros, rest) = (nanos / 1000, nanos % 1000);
+                format!(in alloc; "; slowest {micros}.{rest:03} micros")?
+            }
+            None => String::new(alloc),
+        };
         Ok(format!(in alloc;
-            "{name:<12} : {micros:>7}.{rest:03} micros/op; {megabytes:>6}.{tenth} MB/s; {ops} ops\n"
+            "{name:<12} : {micros:>7}.{rest:03} micros/op; {megabytes:>6}.{tenth} MB/s; {ops} ops{stall}\n"
         )?)
     }
 }

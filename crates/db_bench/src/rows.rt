@@ -5,7 +5,9 @@ ghost use Rattle.db_bench.specs.Rows.{ops_of};
 use crate::disks::Disks;
 use crate::flags::Scale;
 use crate::report::Run;
-use crate::{block_rows, iter_rows, log_rows, mem_rows, store_rows, sum_rows, table_rows};
+use crate::{
+    block_rows, iter_rows, log_rows, mem_rows, store_rows, sum_rows, table_rows, update_rows,
+};
 use leveldb_base::error::Result;
 use std::alloc::Global;
 use std::time::Clock;
@@ -17,8 +19,11 @@ pub enum Row {
     FillRandom,
     FillSync,
     Overwrite,
+    Stalls,
+    Churn,
     ReadRandom,
     ReadMissing,
+    ReadUpdated,
     ReadSeq,
     ReadReverse,
     SeekRandom,
@@ -60,13 +65,16 @@ pub struct Job {
 
 impl Row {
     /// All rows, in the order in which they run where no rows are named.
-    pub const ALL: [Row; 28] = [
+    pub const ALL: [Row; 31] = [
         Row::FillSeq,
         Row::FillSync,
         Row::FillRandom,
         Row::Overwrite,
+        Row::Stalls,
+        Row::Churn,
         Row::ReadRandom,
         Row::ReadMissing,
+        Row::ReadUpdated,
         Row::ReadSeq,
         Row::ReadReverse,
         Row::SeekRandom,
@@ -98,8 +106,11 @@ impl Row {
             Row::FillRandom => "fillrandom",
             Row::FillSync => "fillsync",
             Row::Overwrite => "overwrite",
+            Row::Stalls => "stalls",
+            Row::Churn => "churn",
             Row::ReadRandom => "readrandom",
             Row::ReadMissing => "readmissing",
+            Row::ReadUpdated => "readupdated",
             Row::ReadSeq => "readseq",
             Row::ReadReverse => "readreverse",
             Row::SeekRandom => "seekrandom",
@@ -137,7 +148,7 @@ impl Row {
 }
 
 /// Runs a row once to warm up, and then three times.
-/// The run has what was done, and the least of the three times.
+/// The run has what was done, and the least times of the three.
 pub fn measure<K: Clock, D: Disks>(alloc: Global, clock: &K, disks: &D, task: Task) -> Result<Run>
     ensures { IfOk result (λ run. run.outcome.ops ≡ ops_of task.row task.scale.num) }
 {
@@ -148,15 +159,15 @@ pub fn measure<K: Clock, D: Disks>(alloc: Global, clock: &K, disks: &D, task: Ta
     };
     let warm = run_once(alloc, clock, disks, row, job)?;
     job.checked = false;
-    let mut nanos = u64::MAX;
-    for _ in 0..3u32 {
-        let run = run_once(alloc, clock, disks, row, job)?;
-        nanos = nanos.min(run.nanos);
-    }
-    Ok(Run {
+    let mut least = Run {
         outcome: warm.outcome,
-        nanos,
-    })
+        nanos: u64::MAX,
+        slowest: None,
+    };
+    for _ in 0..3u32 {
+        least = least.or_faster(run_once(alloc, clock, disks, row, job)?);
+    }
+    Ok(least)
 }
 
 // Runs a row once.
@@ -174,8 +185,11 @@ fn run_once<K: Clock, D: Disks>(
         Row::FillRandom => store_rows::fill_at_random(alloc, clock, disks, job),
         Row::FillSync => store_rows::fill_synced(alloc, clock, disks, job),
         Row::Overwrite => store_rows::overwrite(alloc, clock, disks, job),
+        Row::Stalls => update_rows::time_each(alloc, clock, disks, job),
+        Row::Churn => update_rows::churn(alloc, clock, disks, job),
         Row::ReadRandom => store_rows::read_at_random(alloc, clock, disks, job),
         Row::ReadMissing => store_rows::read_missing(alloc, clock, disks, job),
+        Row::ReadUpdated => update_rows::read_updated(alloc, clock, disks, job),
         Row::ReadSeq => iter_rows::read_forward(alloc, clock, disks, job),
         Row::ReadReverse => iter_rows::read_backward(alloc, clock, disks, job),
         Row::SeekRandom => iter_rows::seek_at_random(alloc, clock, disks, job),

@@ -2,19 +2,20 @@
 //!
 //! Each function opens the store that it uses: the gate refuses a crate with a function that takes one
 //! by `&mut` (docs/index.md says why).
-ghost use Rattle.std.specs.Prelude.{◌≡◌, ◌+◌, ◌/◌, IfOk};
+ghost use Rattle.std.specs.Prelude.{◌≡◌, ◌+◌, ◌/◌, ◌<◌, IfOk};
 
 use crate::disks::Disks;
+use crate::flags::Scale;
 use crate::keys::{Numbers, Values, key_of, missing_key_of};
 use crate::report::{Run, Tally, Timer};
 use crate::rows::Job;
 use leveldb_env::env::Env;
-use rusty_leveldb::{DB, Options, Result, WriteBatch};
+use rusty_leveldb::{BloomPolicy, DB, DefaultCmp, Options, Result, WriteBatch};
 use std::alloc::Global;
 use std::time::Clock;
 
-// Sets the keys of the next numbers to their values in the store of this name, and closes it.
-fn put_all<K: Clock, E: Env>(
+/// Sets the keys of the next numbers to their values in the store of this name, and closes it.
+pub(crate) fn put_all<K: Clock, E: Env>(
     alloc: Global,
     clock: &K,
     env: &mut E,
@@ -25,7 +26,10 @@ fn put_all<K: Clock, E: Env>(
     ensures { IfOk result (λ run. run.outcome.ops ≡ job.scale.num) }
 {
     let values = Values::new(alloc, job.scale.value_size)?;
-    let mut db = DB::open(alloc, name, env, Options::default())?;
+    let mut options = Options::default();
+    options.write_buffer_size = job.scale.write_buffer_size;
+    options.block_cache_capacity_bytes = job.scale.cache_size;
+    let mut db = DB::open(alloc, name, env, options)?;
     let mut tally = Tally::new(job.checked);
     let timer = Timer::start(clock)?;
     for _ in 0..job.scale.num {
@@ -61,7 +65,10 @@ fn put_all_synced<K: Clock, E: Env>(
 {
     let mut numbers = Numbers::random(job.scale.num);
     let values = Values::new(alloc, job.scale.value_size)?;
-    let mut db = DB::open(alloc, name, env, Options::default())?;
+    let mut options = Options::default();
+    options.write_buffer_size = job.scale.write_buffer_size;
+    options.block_cache_capacity_bytes = job.scale.cache_size;
+    let mut db = DB::open(alloc, name, env, options)?;
     let mut tally = Tally::new(job.checked);
     let timer = Timer::start(clock)?;
     for _ in 0..ops {
@@ -85,23 +92,20 @@ fn sought(key: &[u8; 17], missing: bool) -> &[u8] {
     &key[..16]
 }
 
-// Gets the values of keys at random from the tables of the store of this name, or of the keys between these, and closes
-// it. The first half of the look-ups isn't timed: it fills the caches.
-fn get_all<K: Clock, E: Env>(
+/// Gets the values of keys at random from the store of this name, or of the keys between these, and
+/// closes it. The first half of the look-ups isn't timed: it fills the caches.
+pub(crate) fn get_all<K: Clock, E: Env>(
     alloc: Global,
     clock: &K,
     env: &mut E,
     name: &str,
+    options: Options<DefaultCmp, BloomPolicy>,
     job: Job,
     missing: bool,
 ) -> Result<Run>
     ensures { IfOk result (λ run. run.outcome.ops ≡ job.scale.num) }
 {
     let mut numbers = Numbers::random(job.scale.num);
-    // As the store is opened, what its log has becomes a table.
-    let mut options = Options::default();
-    options.reuse_logs = false;
-    options.block_cache_capacity_bytes = job.scale.cache_size;
     let mut db = DB::open(alloc, name, env, options)?;
     let mut tally = Tally::new(job.checked);
     let mut timer = Timer::start(clock)?;
@@ -194,7 +198,11 @@ pub fn read_at_random<K: Clock, D: Disks>(
     ensures { IfOk result (λ run. run.outcome.ops ≡ job.scale.num) }
 {
     let mut env = filled(alloc, clock, disks, job)?;
-    get_all(alloc, clock, &mut env, disks.store(), job, false)
+    let mut options = Options::default();
+    options.write_buffer_size = job.scale.write_buffer_size;
+    options.block_cache_capacity_bytes = job.scale.cache_size;
+    options.reuse_logs = false;
+    get_all(alloc, clock, &mut env, disks.store(), options, job, false)
 }
 
 /// Gets keys at random that the store doesn't have, between those that it has.
@@ -207,12 +215,19 @@ pub fn read_missing<K: Clock, D: Disks>(
     ensures { IfOk result (λ run. run.outcome.ops ≡ job.scale.num) }
 {
     let mut env = filled(alloc, clock, disks, job)?;
-    get_all(alloc, clock, &mut env, disks.store(), job, true)
+    let mut options = Options::default();
+    options.write_buffer_size = job.scale.write_buffer_size;
+    options.block_cache_capacity_bytes = job.scale.cache_size;
+    options.reuse_logs = false;
+    get_all(alloc, clock, &mut env, disks.store(), options, job, true)
 }
 
 // Opens a store that is there, and closes it.
-fn open_and_close<E: Env>(alloc: Global, env: &mut E, name: &str) -> Result<()> {
-    let mut db = DB::open(alloc, name, env, Options::default())?;
+fn open_and_close<E: Env>(alloc: Global, env: &mut E, name: &str, scale: Scale) -> Result<()> {
+    let mut options = Options::default();
+    options.write_buffer_size = scale.write_buffer_size;
+    options.block_cache_capacity_bytes = scale.cache_size;
+    let mut db = DB::open(alloc, name, env, options)?;
     db.close()
 }
 
@@ -224,32 +239,49 @@ pub fn open_again<K: Clock, D: Disks>(alloc: Global, clock: &K, disks: &D, job: 
     let mut env = filled(alloc, clock, disks, job)?;
     let timer = Timer::start(clock)?;
     for _ in 0..ops {
-        open_and_close(alloc, &mut env, disks.store())?;
+        open_and_close(alloc, &mut env, disks.store(), job.scale)?;
     }
     timer.stop(Tally::new(false).outcome(ops))
 }
 
-// Puts the keys of the next numbers in one opening of the store of this name. What an earlier opening
-// left in a log becomes a table of level 0, and what this one puts stays in a log.
-fn put_part<E: Env>(
+/// What a row puts in several openings: the keys of the next numbers, with their values.
+#[derive(Drop)]
+pub(crate) struct Load {
+    pub numbers: Numbers,
+    pub values: Values,
+    pub tally: Tally,
+}
+
+impl Load {
+    /// Keys at random, of numbers below a limit.
+    pub(crate) fn of(alloc: Global, job: Job, below: u64) -> Result<Load>
+        requires { 0 < below }
+    {
+        Ok(Load {
+            numbers: Numbers::random(below),
+            values: Values::new(alloc, job.scale.value_size)?,
+            tally: Tally::new(job.checked),
+        })
+    }
+}
+
+/// Puts the keys of the next numbers in one opening of the store of this name.
+pub(crate) fn put_part<E: Env>(
     alloc: Global,
     env: &mut E,
     name: &str,
-    values: &Values,
-    numbers: &mut Numbers,
+    options: Options<DefaultCmp, BloomPolicy>,
+    load: &mut Load,
     count: u64,
-    tally: &mut Tally,
 ) -> Result<()> {
-    let mut options = Options::default();
-    options.reuse_logs = false;
     let mut db = DB::open(alloc, name, env, options)?;
     for _ in 0..count {
-        let number = numbers.next_number();
+        let number = load.numbers.next_number();
         let key = key_of(number);
-        let value = values.value_of(number);
+        let value = load.values.value_of(number);
         db.put(&key, value)?;
-        tally.see(&key);
-        tally.see(value);
+        load.tally.see(&key);
+        load.tally.see(value);
     }
     db.close()
 }
@@ -262,26 +294,22 @@ pub fn compact<K: Clock, D: Disks>(alloc: Global, clock: &K, disks: &D, job: Job
 {
     let num = job.scale.num;
     let mut env = disks.empty()?;
-    let values = Values::new(alloc, job.scale.value_size)?;
-    let mut numbers = Numbers::random(num);
-    let mut tally = Tally::new(job.checked);
+    let mut load = Load::of(alloc, job, num)?;
     for part in 0..4u64 {
         let count = (num + part) / 4;
-        let name = disks.store();
-        put_part(
-            alloc,
-            &mut env,
-            name,
-            &values,
-            &mut numbers,
-            count,
-            &mut tally,
-        )?;
+        let mut options = Options::default();
+        options.write_buffer_size = job.scale.write_buffer_size;
+        options.block_cache_capacity_bytes = job.scale.cache_size;
+        options.reuse_logs = false;
+        put_part(alloc, &mut env, disks.store(), options, &mut load, count)?;
     }
-    let mut db = DB::open(alloc, disks.store(), &mut env, Options::default())?;
+    let mut options = Options::default();
+    options.write_buffer_size = job.scale.write_buffer_size;
+    options.block_cache_capacity_bytes = job.scale.cache_size;
+    let mut db = DB::open(alloc, disks.store(), &mut env, options)?;
     let timer = Timer::start(clock)?;
     db.compact_range(b"", b"")?;
-    let run = timer.stop(tally.outcome(1))?;
+    let run = timer.stop(load.tally.outcome(1))?;
     db.close()?;
     Ok(run)
 }
