@@ -10,7 +10,7 @@ use leveldb_env::options::Options;
 use slow_store::read_store;
 use std::alloc::Global;
 use std::process::Abort;
-use support::Lines;
+use support::{Lines, Raised};
 
 /// A disk with a store of one key, of this many tables and one more, and its newest value in the log.
 fn left_with(alloc: Global, count: u8) -> Result<RecordEnv> {
@@ -188,5 +188,39 @@ fn over_a_damaged_table(rt: HostRuntime) -> Result<()> {
     assert!(rt; count_tables(alloc, &mut env)? == 6);
     engine.put(&mut env, b"b", b"1")?;
     assert!(rt; one_byte(engine.get(&mut env, b"b")?) == b'1');
+    engine.close(&mut env)
+}
+
+/// The same options with a compressor for new blocks.
+fn raising(alloc: Global, options: DefaultOptions) -> Result<DefaultOptions> {
+    let mut options = options;
+    let raised = Box::new(alloc, Raised)?;
+    options.compressor_list.set_with_id(alloc, 7, raised)?;
+    options.compressor = 7;
+    Ok(options)
+}
+
+/// A store whose blocks a compressor made opens without it, tells a line and keeps its tables; with it, it is compacted.
+#[test]
+fn without_its_compressor(rt: HostRuntime) -> Result<()> {
+    let alloc = rt.alloc();
+    let mut env = RecordEnv::new(alloc);
+    let mut engine = opened(alloc, &mut env, raising(alloc, buffered(1))?)?;
+    for value in 0..6 {
+        engine.put(&mut env, b"a", &[b'1' + value])?;
+    }
+    engine.abandon(&mut env)?;
+    let tables = count_tables(alloc, &mut env)?;
+    let lines = Lines::new(alloc)?;
+    let mut options = tabling();
+    options.log = Some(lines.log(alloc, "")?);
+    let mut engine = opened(alloc, &mut env, options)?;
+    assert!(rt; lines.counts().0 == 1);
+    assert!(rt; one_byte(engine.get(&mut env, b"a")?) == b'6');
+    assert!(rt; count_tables(alloc, &mut env)? == tables + 1);
+    engine.close(&mut env)?;
+    let mut engine = opened(alloc, &mut env, raising(alloc, tabling())?)?;
+    assert!(rt; one_byte(engine.get(&mut env, b"a")?) == b'6');
+    assert!(rt; count_tables(alloc, &mut env)? < tables);
     engine.close(&mut env)
 }

@@ -29,12 +29,12 @@ module _ {E F C FP D P : Type 0} (order : CmpGhosts (InternalKeyCmp C)) (env : G
     (by : TableOptions C FP) (old : OpenStoreValue C) (from : E) (tables : TableCache E C FP F)
     {keys : CmpGhosts D} {filters : FilterGhosts P} (choices : TableChoices keys filters)
     (format_is : choices.format ≡ by.format) (smallest : ℕ) where
-  abbrev Memory : (List ℕ → List ℕ → Ordering) → Result (Unit {0}) Status → OpenStoreValue C → E
+  abbrev pub Memory : (List ℕ → List ℕ → Ordering) → Result (Unit {0}) Status → OpenStoreValue C → E
       → Type 0
   Memory cmp result new to = IsStepToRoom env cmp by.format
       (FailsToMakeRoom env cmp old from choices) old from result new to
 
-  abbrev Fails : OpenStoreValue C → Status → Type 0
+  abbrev pub Fails : OpenStoreValue C → Status → Type 0
   Fails = FailsToCompactRange order env by old from tables choices
 
   fails_in_memory : (new : OpenStoreValue C) (status : Status)

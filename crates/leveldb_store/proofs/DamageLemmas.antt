@@ -1,29 +1,22 @@
 -- Files that were left aside and are damaged, and what a removal of obsolete files leaves where files
 -- were only read before it.
-use Rattle.std.specs.Prelude.{Contains, IsSome, IsSomeAnd, IsTrue, Result}
-use Rattle.std.proofs.Common.{◌≡◌, ◌∙◌, ◌⊎◌, ⊎_elim, ◌||◌, ◌≤◌, ◌<◌, ◌+◌, ◌++◌, ◌∷◌, ℕ, Bool, List, None, Option, Some, ap, arith, false, get_or, length, map, refl, subst, sym, take, true}
+use Rattle.std.specs.Prelude.{Contains, IsSome, IsSomeAnd, IsTrue}
+use Rattle.std.proofs.Common.{◌≡◌, ◌⊎◌, ⊎_elim, ◌||◌, ◌<◌, ◌+◌, ℕ, Bool, List, None, Option, Some, false, get_or, length, map, refl, subst, sym, take, true}
 use Rattle.std.proofs.lemmas.List.Elements.{Contains-push_cases}
 use Rattle.std.specs.declared.cmp.Ordering.{Ordering}
 use Rattle.leveldb_base.proofs.NamesLemmas.{one_reading}
 use Rattle.leveldb_base.specs.Names.{IsFileName}
 use Rattle.leveldb_base.specs.declared.types.FileType.{FileType}
-use Rattle.leveldb_env.proofs.EnvLemmas.{Run-mono, Run-trans}
+use Rattle.leveldb_env.proofs.EnvLemmas.{Run-mono}
 use Rattle.leveldb_env.specs.Env.{File, Files, ListsChildren, bytes_of, in_folder}
 use Rattle.leveldb_env.specs.declared.env.Env.{Ghosts}
-use Rattle.leveldb_base.specs.declared.error.Status.{Status}
-use Rattle.leveldb_table.proofs.TableBlockLemmas.{same_files}
 use Rattle.leveldb_table.specs.TableBlock.{KeepsDisk}
 use Rattle.leveldb_version.specs.Format.{Meaning}
 use Rattle.leveldb_store.proofs.RemoveLemmas.{name_unslashed, next_item, none_removed, removal_keeps}
-use Rattle.leveldb_store.proofs.TableKeepsLemmas.{KeepsHistory-trans}
-use Rattle.leveldb_store.proofs.KeptFilesLemmas.{keeping}
-use Rattle.leveldb_store.specs.Damage.{HasDamagedFile, IsDamagedFile, IsLeftAside, LosesRecords}
+use Rattle.leveldb_store.specs.Damage.{IsDamagedFile, IsLeftAside, LosesRecords}
 use Rattle.leveldb_version.specs.VersionSetValue.{VersionSetValue}
-use Rattle.leveldb_store.specs.OpenStore.{IsUnbroken, OpenStoreValue}
-use Rattle.leveldb_store.specs.Room.{TidiesOpened, TidiesUp}
-use Rattle.leveldb_store.specs.SoundCall.{TimeGoesOn}
-use Rattle.leveldb_store.specs.Switch.{RemovesNoOther, RemovesObsolete}
-use Rattle.leveldb_store.specs.Written.{IsWritten, KeepsWritten}
+use Rattle.leveldb_store.specs.OpenStore.{OpenStoreValue}
+use Rattle.leveldb_store.specs.Written.{KeepsWritten}
 
 module _ {E F C : Type 0} (env : Ghosts E F) (cmp : List ℕ → List ℕ → Ordering)
     (value : OpenStoreValue C) (from mid to : E) (keeps : KeepsDisk env from mid) where
@@ -34,53 +27,6 @@ module _ {E F C : Type 0} (env : Ghosts E F) (cmp : List ℕ → List ℕ → Or
       (λ store. IsTrue (allowed store)) value (env.observed from) (env.observed mid)
       (Run-mono (λ files same. none_removed value.set (env.observed from).disk.files files same)
       (keeps.disk modelled)) w
-
-  pub tidies_after : env.failures from ≤ env.failures mid → TidiesUp env cmp value mid to
-      → TidiesUp env cmp value from to
-  tidies_after later tidies = record {
-    others = λ modelled. subst
-        (λ (files : Files). RemovesNoOther value.set files (env.observed to).disk.files)
-        (keeps.disk modelled).has (tidies.others modelled);
-    keeps = λ modelled meaning allowed w.
-        let first = still_written modelled meaning allowed w in
-        let second = tidies.keeps modelled meaning allowed
-        (subst (IsWritten cmp meaning value) (sym (keeps.disk modelled).has) w) in
-        record {
-          moments = λ bound reached. Run-trans (first.moments bound reached)
-              (λ files passes. KeepsHistory-trans (first.moments bound reached).has passes)
-              (second.moments bound reached);
-          written = second.written;
-          shows = λ history since s. second.shows history since (first.shows history since s);
-        };
-    locks = λ modelled. tidies.locks modelled ∙ keeps.locks modelled;
-    later = omega (arith, later, tidies.later);
-  }
-
--- reads before a removal let time go on too
-pub time_after : {E F : Type 0} (env : Ghosts E F) (from mid to : E) → KeepsDisk env from mid
-    → TimeGoesOn env mid to → TimeGoesOn env from to
-time_after env from mid to keeps time modelled =
-    let first = (keeps.disk modelled).time.later in
-    let second = time modelled in omega (arith, first, second)
-
--- what an opening does at its end, by what it found and what the removal then did
-pub tidied_opened : {E F C : Type 0} (env : Ghosts E F) (old : OpenStoreValue C) (from mid : E)
-    (new : OpenStoreValue C) (result : Result (Unit {0}) Status) (to : E) → IsUnbroken old
-    → new ≡ keeping old new.keeps_files
-    → (IsTrue env.models_disk → HasDamagedFile old.set (env.observed from).disk.files
-    → IsTrue new.keeps_files)
-    → KeepsDisk env from mid → RemovesObsolete env old.set mid new.keeps_files result to
-    → TidiesOpened env old from new result to
-tidied_opened env old from mid new result to usable same damaged keeps removes = record {
-  same = same;
-  damaged = λ modelled has.
-      let kept = damaged modelled has in (
-        kept,
-        ap (λ e. (env.observed e).disk.files) (removes.keeps usable.manifest kept).1
-            ∙ same_files env keeps modelled,
-      );
-  removes = (mid, keeps, removes);
-}
 
 -- ---- damaged files
 

@@ -93,7 +93,7 @@ pub mod CompactedLemmas
 mod ReplacedFilesLemmas
 mod CompactPickedLemmas
 mod CompactLevelLemmas
-mod CompactRangeLemmas
+pub mod CompactRangeLemmas
 pub mod LoggedEditsLemmas
 pub mod AskedCompactionLemmas
 mod EndsOpeningLemmas

@@ -13,10 +13,8 @@ use Rattle.leveldb_env.specs.Options.{Boxed, OptionsOf}
 use Rattle.leveldb_env.specs.declared.env.Env.{Ghosts}
 use Rattle.leveldb_env.specs.declared.filter.FilterPolicy.{Ghosts as FilterGhosts}
 use Rattle.leveldb_mem.specs.MemTable.{Kept, memory_of_entries}
-use Rattle.leveldb_table.specs.TableBlock.{KeepsDisk}
 use Rattle.leveldb_store.specs.BuildTable.{IsNotTabled, TableChoices}
 use Rattle.leveldb_version.specs.Format.{Agrees, Format, Meaning}
-use Rattle.leveldb_store.specs.Damage.{HasDamagedFile}
 use Rattle.leveldb_store.specs.OpenStore.{IsUnbroken, OpenStoreValue}
 use Rattle.leveldb_store.specs.Switch.{AreFileNumbersTooFew, RemovesNoOther, RemovesObsolete}
 use Rattle.leveldb_store.specs.Written.{IsWritten, KeepsWritten, SparesRest}
@@ -118,15 +116,3 @@ module _ {E F C : Type 0} (env : Ghosts E F) (cmp : List ℕ → List ℕ → Or
         → KeepsWritten cmp meaning old (env.observed from) old (env.observed to)
     pub locks : SameLocks env.models_disk (env.observed from) (env.observed to)
     pub later : env.failures from ≤ env.failures to
-
--- What an opening does at its end: it looks at the logs and manifests that were left aside, and then
--- removes what is obsolete.
-pub record TidiesOpened {E F C : Type 0} (env : Ghosts E F) (old : OpenStoreValue C) (from : E)
-    (new : OpenStoreValue C) (result : Result (Unit {0}) Status) (to : E) : Type 0 where
-  pub same : new ≡ record old { keeps_files = new.keeps_files }
-  -- where one of them is damaged no file changes, and no removal changes one later
-  pub damaged : IsTrue env.models_disk → HasDamagedFile old.set (env.observed from).disk.files
-      → IsTrue new.keeps_files × ((env.observed to).disk.files ≡ (env.observed from).disk.files)
-  -- files were only read before the removal
-  pub removes : (at : E) × KeepsDisk env from at
-      × RemovesObsolete env old.set at new.keeps_files result to

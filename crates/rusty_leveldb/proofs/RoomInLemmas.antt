@@ -1,30 +1,26 @@
 -- Room in the memtable of a store, and the compaction after it: both as one step, which may drop
 -- entries that are shadowed at the smallest number that is held.
 use Rattle.std.specs.Prelude.{OnOk, Result}
-use Rattle.std.proofs.Common.{◌≡◌, inl, inr, ⊎_elim, sym, ◌∙◌, ℕ, List, [], Ok, Err, None, ap, refl, subst}
+use Rattle.std.proofs.Common.{◌≡◌, inl, ◌∙◌, ℕ, List, [], Ok, Err, None, ap, refl, subst}
 use Rattle.std.specs.declared.cmp.Ordering.{Ordering}
 use Rattle.leveldb_base.specs.declared.cmp.Cmp.{Ghosts as CmpGhosts}
 use Rattle.leveldb_base.specs.declared.cmp.internal.InternalKeyCmp.{InternalKeyCmp}
 use Rattle.leveldb_base.specs.declared.error.Status.{Status}
 use Rattle.leveldb_env.specs.declared.env.Env.{Ghosts}
 use Rattle.leveldb_env.specs.declared.filter.FilterPolicy.{Ghosts as FilterGhosts}
-use Rattle.leveldb_version.specs.Format.{Agrees, Format, Meaning}
-use Rattle.leveldb_version.specs.TableCache.{TableOptions, files_at}
+use Rattle.leveldb_version.specs.Format.{Agrees}
+use Rattle.leveldb_version.specs.TableCache.{TableOptions}
 use Rattle.leveldb_version.specs.declared.table_cache.TableCache.{TableCache}
 use Rattle.leveldb_store.proofs.CompactedLemmas.{compacted_then, merge_between, nothing_compacted}
-use Rattle.leveldb_store.proofs.OpenTablesLemmas.{open_after_call}
-use Rattle.leveldb_store.proofs.WrittenFromLemmas.{keeps_from}
+use Rattle.leveldb_store.proofs.CompactRangeLemmas.{memory_compacted}
 use Rattle.leveldb_store.specs.BuildTable.{TableChoices}
 use Rattle.leveldb_store.specs.Compact.{CompactsTables, FailsToCompactRange, KeepsCompacted}
 use Rattle.leveldb_store.specs.LoggedEdits.{LogsByScore, LogsTableEdits}
 use Rattle.leveldb_store.specs.OpenStore.{IsUnbroken, OpenStoreValue}
 use Rattle.leveldb_store.specs.OpenTables.{ClosesObsolete}
-use Rattle.leveldb_store.specs.Read.{HasOpenTables}
-use Rattle.leveldb_store.specs.Room.{FailsFor, FailsToMakeRoom, IsFull, MakesRoom}
-use Rattle.leveldb_store.specs.RoomSteps.{AddsNone}
+use Rattle.leveldb_store.specs.Room.{FailsToMakeRoom, IsFull, MakesRoom}
+use Rattle.leveldb_store.specs.RoomSteps.{AddsNone, IsStepToRoom}
 use Rattle.leveldb_store.specs.SoundCall.{IsSoundCall}
-use Rattle.leveldb_store.specs.Written.{IsWritten, KeepsWritten}
-use Rattle.leveldb_store.specs.WrittenFrom.{AddsNoEntry}
 use Rattle.rusty_leveldb.specs.Room.{LogsRoom, StoreMakesRoom}
 
 module _ {E F C FP D P : Type 0} (order : CmpGhosts (InternalKeyCmp C)) (env : Ghosts E F)
@@ -53,63 +49,19 @@ module _ {E F C FP D P : Type 0} (order : CmpGhosts (InternalKeyCmp C)) (env : G
       (now : TableCache E C FP F) (made : MakesRoom env cmp old from choices limit result new to)
       (sound : IsSoundCall env cmp (Agrees choices.format) old from result new to)
       (closes : ClosesObsolete env old.set from tables to now) where
-    fails : (status : Status) → FailsToMakeRoom env cmp old from choices status
-        → FailsToCompactRange order env by old from tables choices new status
-    fails status (inl memory) = inl (inl memory)
-    fails status (inr (inl few)) = inr (inl few)
-    fails status (inr (inr (inl recent))) = inr (inr (inl recent))
-    fails status (inr (inr (inr (inl waiting)))) = inr (inr (inr waiting))
-    fails status (inr (inr (inr (inr lost)))) = inl (inr (inr (inr (record {
-      fault = inl lost.0;
-      lacks = λ meaning live has. absurd (lost.1 has.has_open.modelled meaning
-          (subst (λ (f : Format). Agrees f meaning) (sym format_is) has.agrees)
-          (subst (λ c. IsWritten c meaning old (files_at env from)) (sym same) has.written));
-    }))))
-
-    cause : (result : Result (Unit {0}) Status)
-        → FailsFor (FailsToMakeRoom env cmp old from choices) (env.failures from) (env.failures to)
-        result
-        → FailsFor (FailsToCompactRange order env by old from tables choices new) (env.failures from)
-        (env.failures to) result
-    cause (Ok unit) why = record { later = why.later; cause = tt }
-    cause (Err status) why = record {
-      later = why.later;
-      cause = ⊎_elim (λ excused. inl (fails status excused)) (λ counted. inr counted) why.cause;
-    }
-
-    adds_none : (result : Result (Unit {0}) Status)
-        → OnOk result (AddsNone env cmp choices.format old from new to)
-        → OnOk result (HasOpenTables order env by old from tables → (meaning : Meaning)
-        → Agrees by.format meaning → IsWritten by.format.order meaning old (files_at env from)
-        → AddsNoEntry by.format.order meaning old (files_at env from) new (files_at env to))
-    adds_none (Ok unit) none = λ has meaning agrees w.
-        subst (λ c. AddsNoEntry c meaning old (files_at env from) new (files_at env to)) same
-        (none has.modelled meaning (subst (λ (f : Format). Agrees f meaning) (sym format_is) agrees)
-        (subst (λ c. IsWritten c meaning old (files_at env from)) (sym same) w))
-    adds_none (Err status) none = tt
-
     -- what tables of memory keep
     room_keeps : OnOk result (AddsNone env cmp choices.format old from new to) → Keeps result new to now
-    room_keeps none = record {
-      keeps = λ has meaning agrees. keeps_from by.format.order meaning smallest old
-          (env.observed from) new (env.observed to)
-          (subst (λ c. KeepsWritten c meaning old (env.observed from) new (env.observed to)) same
-          (made.keeps has.modelled meaning
-          (subst (λ (f : Format). Agrees f meaning) (sym format_is) agrees)));
-      usable = made.usable;
-      rest = made.rest;
-      still_open = λ has. open_after_call env by old new from to made.rest tables now closes.closes
-          has.modelled has.are;
-      none_new = adds_none result none;
-      sound = record {
-        time = sound.time;
-        bytes = sound.bytes;
-        breaks = λ modelled meaning means w. sound.breaks modelled meaning
-            (subst (λ (f : Format). Agrees f meaning) (sym format_is) means.1)
-            (subst (λ c. IsWritten c meaning old (files_at env from)) (sym same) w);
-      };
-      cause = cause result made.cause;
-    }
+    room_keeps none = memory_compacted order env by old from tables choices format_is smallest same
+        result new to now
+        (subst (λ f. IsStepToRoom env cmp f (FailsToMakeRoom env cmp old from choices) old from
+        result new to) format_is (record {
+          keeps = made.keeps;
+          usable = made.usable;
+          rest = made.rest;
+          cause = made.cause;
+          sound = sound;
+        }))
+        (subst (λ f. OnOk result (AddsNone env cmp f old from new to)) format_is none) closes
 
   -- no room was made
   pub room_not_made : {cmp : List ℕ → List ℕ → Ordering} → cmp ≡ by.format.order

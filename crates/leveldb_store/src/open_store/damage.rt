@@ -4,10 +4,6 @@ ghost use Rattle.leveldb_table.specs.TableBlock.{KeepsDisk};
 ghost use Rattle.leveldb_store.specs.Damage.{HasDamagedFile, IsDamagedFile, IsLeftAside};
 ghost use Rattle.leveldb_version.specs.Paths.{log_path};
 ghost use Rattle.leveldb_store.specs.LogReplay.{EndsCleanly};
-ghost use Rattle.leveldb_store.specs.OpenStore.{IsUnbroken};
-ghost use Rattle.leveldb_store.specs.OpenTables.{ClosesObsolete};
-ghost use Rattle.leveldb_store.specs.Room.{TidiesOpened, TidiesUp};
-ghost use Rattle.leveldb_store.specs.SoundCall.{TimeGoesOn};
 
 use super::OpenStore;
 use crate::damage::{LeftOut, left_out};
@@ -25,31 +21,10 @@ use leveldb_version::table_cache::TableCache;
 use std::alloc::Global;
 
 impl<E: Env, C: UserCmp + Copy + Drop> OpenStore<E, C> {
-    /// Ends an opening: looks at each log and each manifest that is obsolete, and then deletes the
-    /// files that are, as `tidy_up` does. A log or a manifest that is damaged is a line for `log`:
+    /// Looks at each log and each manifest that is obsolete. One that is damaged is a line for `log`:
     /// where whole records are left out of it, or what is left out isn't the end that a crash
     /// leaves. If there is one, or if one can't be read, the store keeps its files: it deletes none
-    /// now or while it is open, so that a repair can find what was left out, and the tables that it
-    /// names.
-    pub fn tidy_opened<FP: FilterPolicy + Copy + Drop>(
-        &mut self,
-        env: &mut E,
-        tables: &mut TableCache<E, C, FP>,
-        log: &mut Option<Logger>,
-    ) -> Result<()>
-        requires usable { IsUnbroken self.old }
-        ensures opened { TidiesOpened E.Env self.old env.old self.new result env.new }
-        ensures tidies { TidiesUp E.Env (C.cmp self.new.cmp) self.new env.old env.new }
-        ensures closes { ClosesObsolete E.Env self.old.set env.old tables.old env.new tables.new }
-        ensures time { TimeGoesOn E.Env env.old env.new }
-        ensures log { is_some log.new ≡ is_some log.old }
-    {
-        self.keep_damaged_files(env, log);
-        self.tidy_up(env, tables, log)
-    }
-
-    // Looks at each log and each manifest that is obsolete, and has the store keep its files if one is
-    // damaged or can't be read.
+    /// while it is open, so that a repair can find what was left out, and the tables that it names.
     pub(super) fn keep_damaged_files(&mut self, env: &mut E, log: &mut Option<Logger>)
         ensures same { self.new ≡ record self.old { keeps_files = self.new.keeps_files } }
         ensures damaged { IsTrue E.models_disk
