@@ -2,9 +2,15 @@
 //
 //     theirs make FOLDER COUNT VALUE_SIZE     COUNT puts of keys at random, all in one log
 //     theirs open FOLDER                      opens the store as an opening without options does, and closes it
+//     theirs time PROGRAM ..                  runs a program, and prints its milliseconds and the most kilobytes that it had in memory
 //
 // A key is a number of sixteen digits. `make` ends without closing the store, as a kill would. `open` compresses no block, has filters of ten bits a key, and
 // waits for the thread that compacts.
+#include <sys/resource.h>
+#include <sys/wait.h>
+#include <unistd.h>
+
+#include <chrono>
 #include <cstdint>
 #include <cstdio>
 #include <cstdlib>
@@ -42,6 +48,21 @@ void Make(leveldb::Options options, const char* folder, uint64_t count, size_t v
   std::_Exit(0);
 }
 
+int Time(char** command) {
+  const auto began = std::chrono::steady_clock::now();
+  const pid_t child = fork();
+  if (child == 0) {
+    execv(command[0], command);
+    std::_Exit(127);
+  }
+  int status = 1;
+  rusage used = {};
+  if (child < 0 || wait4(child, &status, 0, &used) != child) return 1;
+  const std::chrono::duration<double, std::milli> took = std::chrono::steady_clock::now() - began;
+  std::printf("%.1f %ld\n", took.count(), used.ru_maxrss);
+  return status == 0 ? 0 : 1;
+}
+
 }  // namespace
 
 int main(int argc, char** argv) {
@@ -50,6 +71,7 @@ int main(int argc, char** argv) {
   std::unique_ptr<const leveldb::FilterPolicy> filters(leveldb::NewBloomFilterPolicy(10));
   options.filter_policy = filters.get();
   const std::string what = argc > 1 ? argv[1] : "";
+  if (what == "time" && argc > 2) return Time(argv + 2);
   if (what == "make" && argc == 5) Make(options, argv[2], std::strtoull(argv[3], nullptr, 10), std::strtoull(argv[4], nullptr, 10));
   if (what != "open" || argc != 3) return 2;
   delete Open(options, argv[2]);
