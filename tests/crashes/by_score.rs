@@ -72,13 +72,14 @@ const ONE_COMPACTION: &[Step] = &[
     Step::Walk(None, ALL),
 ];
 
-const SHORT: Script<'static> = Script {
+pub const SHORT: Script<'static> = Script {
     setting: Setting {
         write_buffer_size: 1,
         max_file_size: 2 << 20,
         reuses: true,
         keys: 6,
     },
+    every: 1,
     lives: &[ONE_COMPACTION],
 };
 
@@ -90,6 +91,7 @@ pub const SCRIPT: Script<'static> = Script {
         reuses: true,
         keys: 6,
     },
+    every: 1,
     lives: &[FIRST, SECOND],
 };
 
@@ -101,6 +103,7 @@ pub const APART: Script<'static> = Script {
         reuses: false,
         keys: 6,
     },
+    every: 1,
     lives: &[FIRST, SECOND],
 };
 
@@ -132,21 +135,21 @@ fn compactions_of_level_0(rt: HostRuntime) -> Result<()> {
 
 #[test]
 fn crashes_without_tails(rt: HostRuntime) -> Result<()> {
-    let tally = crash_everywhere(&rt, rt.alloc(), SHORT, Tails::Nothing)?;
-    assert_tally(&rt, tally, tally.shortest > 20);
+    let tally = crash_everywhere(&rt, rt.alloc(), SHORT.one_of(5), Tails::Nothing)?;
+    assert_tally(&rt, tally, tally.shortest > 5);
     Ok(())
 }
 
 #[test]
 fn crashes_with_whole_tails(rt: HostRuntime) -> Result<()> {
-    let tally = crash_everywhere(&rt, rt.alloc(), SHORT, Tails::Whole)?;
-    assert_tally(&rt, tally, tally.longest > 20);
+    let tally = crash_everywhere(&rt, rt.alloc(), SHORT.one_of(5), Tails::Whole)?;
+    assert_tally(&rt, tally, tally.longest > 5);
     Ok(())
 }
 
 #[test]
 fn failures_without_their_change(rt: HostRuntime) -> Result<()> {
-    let tally = fail_everywhere(&rt, rt.alloc(), SHORT, false)?;
+    let tally = fail_everywhere(&rt, rt.alloc(), SHORT.one_of(7), false)?;
     assert_tally(&rt, tally, tally.open > 0);
     Ok(())
 }

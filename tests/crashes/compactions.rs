@@ -1,7 +1,7 @@
 //! Compactions of a store with small tables on a recording device: crashes and failures come at each moment and call of scripts, some of which
 //! look random. Each disk that a crash leaves is a whole store by the definition, and each view that is held stays.
 use crate::crash_disks::{
-    Recorded, Script, Setting, Side, Tails, assert_tally, crash, record, sides_of,
+    Recorded, Script, Setting, Side, Tails, assert_tally, crash, record, sides_tried,
 };
 use crate::replies::KEYS;
 use crate::steps::Step;
@@ -78,19 +78,22 @@ const LARGE: Setting = Setting {
     keys: 6,
 };
 
-const IN_SMALL: Script<'static> = Script {
+pub const IN_SMALL: Script<'static> = Script {
     setting: SMALL,
+    every: 1,
     lives: &[FIRST, SECOND],
 };
 
-const IN_LARGE: Script<'static> = Script {
+pub const IN_LARGE: Script<'static> = Script {
     setting: LARGE,
+    every: 1,
     lives: &[FIRST, SECOND],
 };
 
 /// A compaction that takes two tables, and one that leaves none.
-const SHORT: Script<'static> = Script {
+pub const SHORT: Script<'static> = Script {
     setting: LARGE,
+    every: 1,
     lives: &[&[
         Step::Put("a", "1"),
         Step::Compact("", ""),
@@ -105,6 +108,7 @@ const SHORT: Script<'static> = Script {
 /// A table of each key, of which the second compaction takes none but that in memory.
 const APART: Script<'static> = Script {
     setting: LARGE,
+    every: 1,
     lives: &[&[
         Step::Put("a", "1"),
         Step::Compact("", ""),
@@ -144,7 +148,7 @@ fn is_whole(
 }
 
 /// Each disk that a crash leaves is a whole store.
-fn leave_whole_stores(
+pub fn leave_whole_stores(
     rt: &impl Abort,
     alloc: Global,
     script: Script<'_>,
@@ -153,7 +157,7 @@ fn leave_whole_stores(
     let recorded = record(alloc, script)?;
     let mut seen = nothing_seen(alloc)?;
     for moment in 0..=recorded.env.moment() {
-        for side in &sides_of(alloc, moment)? {
+        for side in &sides_tried(alloc, &recorded, moment, kind)? {
             let is_right = is_whole(alloc, &recorded, *side, kind, &mut seen)?;
             assert!(rt; is_right, "{side:?}");
         }
@@ -163,27 +167,27 @@ fn leave_whole_stores(
 
 #[test]
 fn whole_stores(rt: HostRuntime) -> Result<()> {
-    leave_whole_stores(&rt, rt.alloc(), IN_SMALL, Tails::WithoutLast)?;
-    leave_whole_stores(&rt, rt.alloc(), IN_LARGE, Tails::Whole)
+    leave_whole_stores(&rt, rt.alloc(), IN_SMALL.one_of(7), Tails::WithoutLast)?;
+    leave_whole_stores(&rt, rt.alloc(), IN_LARGE.one_of(5), Tails::Whole)
 }
 
 #[test]
 fn crashes_without_tails(rt: HostRuntime) -> Result<()> {
-    let tally = crash_everywhere(&rt, rt.alloc(), IN_SMALL, Tails::Nothing)?;
+    let tally = crash_everywhere(&rt, rt.alloc(), IN_SMALL.one_of(7), Tails::Nothing)?;
     assert_tally(&rt, tally, tally.shortest > 0);
     Ok(())
 }
 
 #[test]
 fn crashes_with_whole_tails(rt: HostRuntime) -> Result<()> {
-    let tally = crash_everywhere(&rt, rt.alloc(), IN_LARGE, Tails::Whole)?;
+    let tally = crash_everywhere(&rt, rt.alloc(), IN_LARGE.one_of(5), Tails::Whole)?;
     assert_tally(&rt, tally, tally.longest > 0);
     Ok(())
 }
 
 #[test]
 fn crashes_with_wrong_bytes(rt: HostRuntime) -> Result<()> {
-    let tally = crash_everywhere(&rt, rt.alloc(), IN_LARGE, Tails::WrongBytes)?;
+    let tally = crash_everywhere(&rt, rt.alloc(), IN_LARGE.one_of(5), Tails::WrongBytes)?;
     assert_tally(&rt, tally, tally.open > 0);
     Ok(())
 }
@@ -191,29 +195,29 @@ fn crashes_with_wrong_bytes(rt: HostRuntime) -> Result<()> {
 #[test]
 fn second_crashes(rt: HostRuntime) -> Result<()> {
     let kinds = (Tails::WithoutLast, Tails::Nothing);
-    let openings = crash_twice_everywhere(&rt, rt.alloc(), SHORT, kinds)?;
-    assert!(rt; openings > 100, "{openings}");
+    let openings = crash_twice_everywhere(&rt, rt.alloc(), SHORT.one_of(5), kinds)?;
+    assert!(rt; openings > 20, "{openings}");
     Ok(())
 }
 
 #[test]
 fn second_crashes_with_wrong_bytes(rt: HostRuntime) -> Result<()> {
     let kinds = (Tails::Whole, Tails::WrongBytes);
-    let openings = crash_twice_everywhere(&rt, rt.alloc(), SHORT, kinds)?;
-    assert!(rt; openings > 100, "{openings}");
+    let openings = crash_twice_everywhere(&rt, rt.alloc(), SHORT.one_of(5), kinds)?;
+    assert!(rt; openings > 20, "{openings}");
     Ok(())
 }
 
 #[test]
 fn failures_without_their_change(rt: HostRuntime) -> Result<()> {
-    let tally = fail_everywhere(&rt, rt.alloc(), IN_SMALL, false)?;
+    let tally = fail_everywhere(&rt, rt.alloc(), IN_SMALL.one_of(13), false)?;
     assert_tally(&rt, tally, tally.open > 0);
     Ok(())
 }
 
 #[test]
 fn failures_with_their_change(rt: HostRuntime) -> Result<()> {
-    let tally = fail_everywhere(&rt, rt.alloc(), IN_LARGE, true)?;
+    let tally = fail_everywhere(&rt, rt.alloc(), IN_LARGE.one_of(13), true)?;
     assert_tally(&rt, tally, tally.open > 0);
     Ok(())
 }
@@ -295,13 +299,13 @@ fn try_script(rt: &impl Abort, alloc: Global, script: Script<'_>, trial: Trial) 
     Ok(())
 }
 
-/// Tries a script of two lives that looks random.
+/// Tries a script of two lives that looks random, one of so many of its moments or calls.
 fn try_any(
     rt: &impl Abort,
     alloc: Global,
     seed: u64,
-    setting: Setting,
     count: usize,
+    every: u64,
     trial: Trial,
 ) -> Result<()> {
     let mut random = Random(seed);
@@ -309,7 +313,8 @@ fn try_any(
     let second = any_life(alloc, &mut random, count / 2)?;
     let lives = [first.as_slice(), second.as_slice()];
     let script = Script {
-        setting,
+        setting: setting_of(seed),
+        every,
         lives: &lives,
     };
     try_script(rt, alloc, script, trial)
@@ -334,17 +339,22 @@ pub fn sweep_seed(rt: &impl Abort, alloc: Global, seed: u64, count: usize) -> Re
         Trial::Failures(true),
     ];
     for trial in trials {
-        try_any(rt, alloc, seed, setting_of(seed), count, trial)?;
+        try_any(rt, alloc, seed, count, 1, trial)?;
+    }
+    Ok(())
+}
+
+/// Runs the scripts of this many seeds.
+pub fn run_seeds(rt: &impl Abort, alloc: Global, seeds: u64) -> Result<()> {
+    for seed in 0..seeds {
+        try_any(rt, alloc, seed, 60, 1, Trial::Run)?;
     }
     Ok(())
 }
 
 #[test]
 fn random_runs(rt: HostRuntime) -> Result<()> {
-    for seed in 0..60 {
-        try_any(&rt, rt.alloc(), seed, setting_of(seed), 60, Trial::Run)?;
-    }
-    Ok(())
+    run_seeds(&rt, rt.alloc(), 12)
 }
 
 #[test]
@@ -355,14 +365,7 @@ fn random_crashes(rt: HostRuntime) -> Result<()> {
         } else {
             Tails::Whole
         };
-        try_any(
-            &rt,
-            rt.alloc(),
-            seed,
-            setting_of(seed),
-            10,
-            Trial::Crashes(kind),
-        )?;
+        try_any(&rt, rt.alloc(), seed, 10, 7, Trial::Crashes(kind))?;
     }
     Ok(())
 }
@@ -371,7 +374,7 @@ fn random_crashes(rt: HostRuntime) -> Result<()> {
 fn random_failures(rt: HostRuntime) -> Result<()> {
     for seed in 4..7 {
         let trial = Trial::Failures(seed % 4 < 2);
-        try_any(&rt, rt.alloc(), seed, setting_of(seed), 10, trial)?;
+        try_any(&rt, rt.alloc(), seed, 10, 13, trial)?;
     }
     Ok(())
 }

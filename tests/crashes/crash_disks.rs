@@ -46,13 +46,27 @@ pub fn options_of(setting: Setting) -> Options<DefaultCmp, BloomPolicy> {
 #[derive(Clone, Copy)]
 pub struct Script<'a> {
     pub setting: Setting,
+    /// A sweep tries one of so many of its moments and calls.
+    pub every: u64,
     pub lives: &'a [&'a [Step]],
+}
+
+impl<'a> Script<'a> {
+    /// The same, of whose moments and calls a sweep tries one of so many.
+    pub fn one_of(self, every: u64) -> Script<'a> {
+        Script {
+            setting: self.setting,
+            every,
+            lives: self.lives,
+        }
+    }
 }
 
 /// The device and the calls of a script that was run.
 #[derive(Drop)]
 pub struct Recorded {
     pub setting: Setting,
+    pub every: u64,
     pub env: RecordEnv,
     pub calls: Vec<Call>,
 }
@@ -119,6 +133,34 @@ pub fn sides_of(alloc: Global, moment: u64) -> Result<Vec<Side>> {
         })?;
     }
     Ok(sides)
+}
+
+/// By how much the moments that are tried with this kind of tails are later than those of the first kind, so that all kinds try all of them.
+fn shift_of(kind: Tails) -> u64 {
+    match kind {
+        Tails::Nothing => 0,
+        Tails::Whole => 1,
+        Tails::WithoutLast => 2,
+        Tails::WrongLogBytes => 3,
+        Tails::WrongBytes => 4,
+    }
+}
+
+/// The sides of a moment that a sweep tries with this kind of tails.
+pub fn sides_tried(
+    alloc: Global,
+    recorded: &Recorded,
+    moment: u64,
+    kind: Tails,
+) -> Result<Vec<Side>> {
+    let mut tried = Vec::new(alloc);
+    for side in &sides_of(alloc, moment)? {
+        let number = moment * 2 + u64::from(side.after) + shift_of(kind);
+        if number % recorded.every == 0 {
+            tried.push(*side)?;
+        }
+    }
+    Ok(tried)
 }
 
 fn add_file(alloc: Global, env: &mut RecordEnv, name: &str, all: &mut Vec<u8>) -> Result<()> {
@@ -243,6 +285,7 @@ pub fn record_life(alloc: Global, recorded: &mut Recorded, steps: &[Step]) -> Re
 pub fn record_on(alloc: Global, env: RecordEnv, script: Script<'_>) -> Result<Recorded> {
     let mut recorded = Recorded {
         setting: script.setting,
+        every: script.every,
         env,
         calls: Vec::new(alloc),
     };

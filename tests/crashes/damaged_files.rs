@@ -68,6 +68,8 @@ struct Making {
     buffer: usize,
     block: usize,
     reuses: bool,
+    /// One of so many changes is tried.
+    every: usize,
 }
 
 fn options_of(making: Making) -> DefaultOptions {
@@ -79,9 +81,10 @@ fn options_of(making: Making) -> DefaultOptions {
     options
 }
 
-/// How many changed disks were opened, how many of these openings failed, and how many replies of those that did not.
+/// How many changes there are, how many changed disks were opened, how many of these openings failed, and how many replies of those that did not.
 #[derive(Clone, Copy, Debug)]
 struct Counts {
+    changes: usize,
     disks: usize,
     refused_openings: usize,
     refused_replies: usize,
@@ -336,6 +339,22 @@ fn is_free(env: &mut MemEnv) -> Result<bool> {
     Ok(true)
 }
 
+/// Opens the store with this file changed so, if this change is among those that are tried.
+fn try_change(
+    rt: &impl Abort,
+    alloc: Global,
+    sound: &Sound,
+    file: &File,
+    change: Change,
+    counts: &mut Counts,
+) -> Result<()> {
+    counts.changes += 1;
+    if counts.changes % sound.making.every != 0 {
+        return Ok(());
+    }
+    open_changed(rt, alloc, sound, file, change, counts)
+}
+
 /// Opens the store with this file changed so.
 fn open_changed(
     rt: &impl Abort,
@@ -375,15 +394,16 @@ fn change_file(
     counts: &mut Counts,
 ) -> Result<()> {
     for at in 0..file.1.len() {
-        open_changed(rt, alloc, sound, file, Change::Cut(at), counts)?;
-        open_changed(rt, alloc, sound, file, Change::Raised(at), counts)?;
+        try_change(rt, alloc, sound, file, Change::Cut(at), counts)?;
+        try_change(rt, alloc, sound, file, Change::Raised(at), counts)?;
     }
-    open_changed(rt, alloc, sound, file, Change::TakenAway, counts)
+    try_change(rt, alloc, sound, file, Change::TakenAway, counts)
 }
 
 /// Opens a store with each of its files changed in each way.
 fn change_each(rt: &impl Abort, alloc: Global, making: Making, steps: &[Step]) -> Result<Counts> {
     let mut counts = Counts {
+        changes: 0,
         disks: 0,
         refused_openings: 0,
         refused_replies: 0,
@@ -402,12 +422,19 @@ fn assert_counts(rt: &impl Abort, counts: Counts, disks: usize) {
     assert!(rt; is_right, "{counts:?}");
 }
 
-/// Changes each file of a store with a table and a log, both of one pair.
-pub fn change_two_puts(rt: &impl Abort, alloc: Global, reuses: bool, disks: usize) -> Result<()> {
+/// Changes each file of a store with a table and a log, both of one pair: one of so many of these changes.
+pub fn change_two_puts(
+    rt: &impl Abort,
+    alloc: Global,
+    reuses: bool,
+    every: usize,
+    disks: usize,
+) -> Result<()> {
     let making = Making {
         buffer: 1,
         block: 4096,
         reuses,
+        every,
     };
     let counts = change_each(rt, alloc, making, TWO_PUTS)?;
     assert_counts(rt, counts, disks);
@@ -420,6 +447,7 @@ pub fn change_blocks(rt: &impl Abort, alloc: Global, steps: &[Step]) -> Result<(
         buffer: 300,
         block: 1,
         reuses: true,
+        every: 1,
     };
     let counts = change_each(rt, alloc, making, steps)?;
     assert!(rt; counts.disks > 1000, "{counts:?}");
@@ -430,5 +458,5 @@ pub fn change_blocks(rt: &impl Abort, alloc: Global, steps: &[Step]) -> Result<(
 /// Files of 16, 5, 24, 81 and 177 bytes, and a lock.
 #[test]
 fn a_table_and_a_log(rt: HostRuntime) -> Result<()> {
-    change_two_puts(&rt, rt.alloc(), true, 612)
+    change_two_puts(&rt, rt.alloc(), true, 5, 122)
 }

@@ -37,6 +37,7 @@ fn run_failing(alloc: Global, steps: &[Step], nth: u64, done: bool) -> Result<Re
     let lives = [steps];
     let script = Script {
         setting: DEFAULTS,
+        every: 1,
         lives: &lives,
     };
     record_on(alloc, env, script)
@@ -48,6 +49,7 @@ fn calls_to_open(alloc: Global) -> Result<u64> {
     let lives = [first.as_slice()];
     let script = Script {
         setting: DEFAULTS,
+        every: 1,
         lives: &lives,
     };
     let recorded = record(alloc, script)?;
@@ -161,6 +163,7 @@ const ANEW: Setting = Setting {
 fn closed_store(alloc: Global) -> Result<RecordEnv> {
     let script = Script {
         setting: DEFAULTS,
+        every: 1,
         lives: &[&[Step::Put("k", "1"), Step::Close]],
     };
     Ok(record(alloc, script)?.env)

@@ -1,12 +1,16 @@
-//! Sweeps that take minutes each: ./test --long.
-use crate::by_score::{APART, SCRIPT as BY_SCORE};
-use crate::compactions::sweep_seed;
+//! Sweeps that take minutes each, over every moment, call and change: ./test --long.
+use crate::by_score::{APART, SCRIPT as BY_SCORE, SHORT as ONE_BY_SCORE};
+use crate::compactions::{
+    IN_LARGE, IN_SMALL, SHORT as COMPACTIONS, leave_whole_stores, run_seeds, sweep_seed,
+};
 use crate::crash_disks::{Script, Tails, assert_tally};
 use crate::damaged_files::{change_blocks, change_two_puts};
 use crate::lives::crash_at_each;
 use crate::random_commands::run_all;
 use crate::sweep::{crash_everywhere, crash_twice_everywhere, fail_everywhere};
+use crate::switches::{ANEW, REUSING};
 use crate::twelve_keys::{SCRIPT as TWELVE_KEYS, STEPS};
+use crate::views::{SCRIPT as VIEWS, walk_over_each_byte};
 use leveldb_base::error::Result;
 use std::alloc::Global;
 use std::process::Abort;
@@ -19,6 +23,7 @@ const ALL_TAILS: [Tails; 5] = [
     Tails::WrongBytes,
 ];
 
+/// Crashes at each moment, and again at each moment of the openings after it.
 fn crash_twice(
     rt: &impl Abort,
     alloc: Global,
@@ -30,18 +35,36 @@ fn crash_twice(
     Ok(())
 }
 
-fn crash_with_all(rt: &impl Abort, alloc: Global, script: Script<'_>) -> Result<()> {
-    for kind in ALL_TAILS {
-        let tally = crash_everywhere(rt, alloc, script, kind)?;
-        assert_tally(rt, tally, tally.open > 100);
+fn crash_with_all(rt: &impl Abort, alloc: Global, scripts: &[Script<'_>]) -> Result<()> {
+    for script in scripts {
+        for kind in ALL_TAILS {
+            let tally = crash_everywhere(rt, alloc, *script, kind)?;
+            assert_tally(rt, tally, tally.crashes > 100 && tally.open > 0);
+        }
     }
     Ok(())
+}
+
+fn fail_all(rt: &impl Abort, alloc: Global, scripts: &[Script<'_>]) -> Result<()> {
+    for script in scripts {
+        for done in [false, true] {
+            let tally = fail_everywhere(rt, alloc, *script, done)?;
+            assert_tally(rt, tally, tally.crashes > 100 && tally.open > 0);
+        }
+    }
+    Ok(())
+}
+
+/// A table and a log, which is used on.
+#[test]
+fn damage_where_files_are_used_on(rt: HostRuntime) -> Result<()> {
+    change_two_puts(&rt, rt.alloc(), true, 1, 612)
 }
 
 /// The opening makes a table of the log, and a new manifest.
 #[test]
 fn damage_where_no_file_is_used_on(rt: HostRuntime) -> Result<()> {
-    change_two_puts(&rt, rt.alloc(), false, 630)
+    change_two_puts(&rt, rt.alloc(), false, 1, 630)
 }
 
 /// Tables of a level, and a log.
@@ -56,6 +79,11 @@ fn damage_after_a_compaction(rt: HostRuntime) -> Result<()> {
     change_blocks(&rt, rt.alloc(), STEPS)
 }
 
+#[test]
+fn walks_over_a_damaged_table(rt: HostRuntime) -> Result<()> {
+    walk_over_each_byte(&rt, rt.alloc(), 1)
+}
+
 /// By `lives` itself: each life runs the script anew, and the next looks at what a crash left.
 #[test]
 fn crashes_of_lives(rt: HostRuntime) -> Result<()> {
@@ -64,6 +92,26 @@ fn crashes_of_lives(rt: HostRuntime) -> Result<()> {
         assert_tally(&rt, tally, tally.shortest > 20);
     }
     Ok(())
+}
+
+#[test]
+fn crashes_of_twelve_keys(rt: HostRuntime) -> Result<()> {
+    crash_with_all(&rt, rt.alloc(), &[TWELVE_KEYS])
+}
+
+#[test]
+fn failures_of_twelve_keys(rt: HostRuntime) -> Result<()> {
+    fail_all(&rt, rt.alloc(), &[TWELVE_KEYS])
+}
+
+#[test]
+fn second_crashes_of_twelve_keys(rt: HostRuntime) -> Result<()> {
+    crash_twice(
+        &rt,
+        rt.alloc(),
+        TWELVE_KEYS,
+        (Tails::Nothing, Tails::Nothing),
+    )
 }
 
 #[test]
@@ -80,9 +128,69 @@ fn second_crashes_after_other_tails(rt: HostRuntime) -> Result<()> {
 }
 
 #[test]
+fn crashes_of_switches(rt: HostRuntime) -> Result<()> {
+    crash_with_all(&rt, rt.alloc(), &[REUSING, ANEW])
+}
+
+#[test]
+fn failures_of_switches(rt: HostRuntime) -> Result<()> {
+    fail_all(&rt, rt.alloc(), &[REUSING, ANEW])
+}
+
+#[test]
+fn second_crashes_of_switches(rt: HostRuntime) -> Result<()> {
+    crash_twice(
+        &rt,
+        rt.alloc(),
+        REUSING,
+        (Tails::WithoutLast, Tails::Nothing),
+    )?;
+    crash_twice(&rt, rt.alloc(), REUSING, (Tails::Whole, Tails::WrongBytes))?;
+    crash_twice(&rt, rt.alloc(), ANEW, (Tails::Nothing, Tails::WithoutLast))
+}
+
+#[test]
+fn crashes_of_views(rt: HostRuntime) -> Result<()> {
+    crash_with_all(&rt, rt.alloc(), &[VIEWS])
+}
+
+#[test]
+fn failures_of_views(rt: HostRuntime) -> Result<()> {
+    fail_all(&rt, rt.alloc(), &[VIEWS])
+}
+
+#[test]
+fn crashes_in_compactions(rt: HostRuntime) -> Result<()> {
+    crash_with_all(&rt, rt.alloc(), &[IN_LARGE, IN_SMALL])
+}
+
+/// Each disk that a crash leaves is a whole store by its definition.
+#[test]
+fn whole_stores_in_compactions(rt: HostRuntime) -> Result<()> {
+    leave_whole_stores(&rt, rt.alloc(), IN_SMALL, Tails::WithoutLast)?;
+    leave_whole_stores(&rt, rt.alloc(), IN_LARGE, Tails::Whole)
+}
+
+#[test]
+fn failures_in_compactions(rt: HostRuntime) -> Result<()> {
+    fail_all(&rt, rt.alloc(), &[IN_LARGE, IN_SMALL])
+}
+
+#[test]
+fn second_crashes_in_compactions(rt: HostRuntime) -> Result<()> {
+    let kinds = (Tails::WithoutLast, Tails::Nothing);
+    crash_twice(&rt, rt.alloc(), COMPACTIONS, kinds)?;
+    crash_twice(
+        &rt,
+        rt.alloc(),
+        COMPACTIONS,
+        (Tails::Whole, Tails::WrongBytes),
+    )
+}
+
+#[test]
 fn crashes_in_compactions_by_score(rt: HostRuntime) -> Result<()> {
-    crash_with_all(&rt, rt.alloc(), BY_SCORE)?;
-    crash_with_all(&rt, rt.alloc(), APART)
+    crash_with_all(&rt, rt.alloc(), &[ONE_BY_SCORE, BY_SCORE, APART])
 }
 
 #[test]
@@ -93,13 +201,7 @@ fn second_crashes_in_compactions_by_score(rt: HostRuntime) -> Result<()> {
 
 #[test]
 fn failures_in_compactions_by_score(rt: HostRuntime) -> Result<()> {
-    for script in [BY_SCORE, APART] {
-        for done in [false, true] {
-            let tally = fail_everywhere(&rt, rt.alloc(), script, done)?;
-            assert_tally(&rt, tally, tally.open > 100);
-        }
-    }
-    Ok(())
+    fail_all(&rt, rt.alloc(), &[ONE_BY_SCORE, BY_SCORE, APART])
 }
 
 /// Scripts that look random, each with crashes and failures at each of its moments and calls.
@@ -109,6 +211,12 @@ fn ten_seeds(rt: HostRuntime) -> Result<()> {
         sweep_seed(&rt, rt.alloc(), seed, 12)?;
     }
     Ok(())
+}
+
+/// Longer ones, with neither.
+#[test]
+fn sixty_seeds(rt: HostRuntime) -> Result<()> {
+    run_seeds(&rt, rt.alloc(), 60)
 }
 
 #[test]

@@ -2,7 +2,7 @@
 //! device failing once. What is found is what the slow store allows.
 use crate::crash_disks::{
     Recorded, Script, Setting, Side, Tails, Tally, bytes_on, calls_by, crash, find_all, judge_all,
-    judge_crash, options_of, pass_on_memory, record, record_on, sides_of,
+    judge_crash, options_of, pass_on_memory, record, record_on, sides_of, sides_tried,
 };
 use crate::replies::{are_same, is_any_map};
 use crate::steps::{Call, Step};
@@ -79,8 +79,12 @@ fn crash_at(
     looked: &mut Looked,
     tally: &mut Tally,
 ) -> Result<()> {
+    let sides = sides_tried(alloc, recorded, moment, kind)?;
+    if sides.is_empty() {
+        return Ok(());
+    }
     let maps = slow.maps(&DefaultCmp)?;
-    for side in &sides_of(alloc, moment)? {
+    for side in &sides {
         crash_on(rt, alloc, recorded, *side, kind, &maps, looked, tally)?;
     }
     Ok(())
@@ -227,7 +231,7 @@ fn crash_twice_at(
     seen: &mut Vec<u8>,
 ) -> Result<usize> {
     let mut openings = 0;
-    for side in &sides_of(alloc, moment)? {
+    for side in &sides_tried(alloc, recorded, moment, kinds.0)? {
         openings += crash_twice_on(rt, alloc, recorded, *side, kinds, seen)?;
     }
     Ok(openings)
@@ -356,7 +360,9 @@ pub fn fail_everywhere(
     let calls = record(alloc, script)?.env.moment() / 2;
     let mut tally = Tally::new();
     for nth in 1..=calls {
-        fail_once(rt, alloc, script, nth, done, &mut tally)?;
+        if (nth + u64::from(done)) % script.every == 0 {
+            fail_once(rt, alloc, script, nth, done, &mut tally)?;
+        }
     }
     Ok(tally)
 }

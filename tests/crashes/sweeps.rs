@@ -38,11 +38,13 @@ const THIRD: &[Step] = &[
 
 const SCRIPT: Script<'static> = Script {
     setting: DEFAULTS,
+    every: 1,
     lives: &[FIRST, SECOND, THIRD],
 };
 
 const TWO_LIVES: Script<'static> = Script {
     setting: DEFAULTS,
+    every: 1,
     lives: &[FIRST, SECOND],
 };
 

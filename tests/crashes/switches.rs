@@ -45,24 +45,26 @@ const SECOND: &[Step] = &[
 ];
 
 /// The last log and the manifest are used on by each opening.
-const REUSING: Script<'static> = Script {
+pub const REUSING: Script<'static> = Script {
     setting: Setting {
         write_buffer_size: 300,
         max_file_size: 2 << 20,
         reuses: true,
         keys: 6,
     },
+    every: 1,
     lives: &[FIRST, SECOND],
 };
 
 /// Each opening makes a new manifest, and a table of what the logs have.
-const ANEW: Script<'static> = Script {
+pub const ANEW: Script<'static> = Script {
     setting: Setting {
         write_buffer_size: 300,
         max_file_size: 2 << 20,
         reuses: false,
         keys: 6,
     },
+    every: 1,
     lives: &[FIRST, SECOND],
 };
 
@@ -87,109 +89,109 @@ fn tables_in_three_levels(rt: HostRuntime) -> Result<()> {
 /// Where a switch has synced the log, a crash loses less than it may.
 #[test]
 fn crashes_without_tails(rt: HostRuntime) -> Result<()> {
-    let tally = crash_everywhere(&rt, rt.alloc(), REUSING, Tails::Nothing)?;
+    let tally = crash_everywhere(&rt, rt.alloc(), REUSING.one_of(5), Tails::Nothing)?;
     assert_tally(
         &rt,
         tally,
-        tally.shortest > 20 && tally.shortest < tally.open,
+        tally.shortest > 5 && tally.shortest < tally.open,
     );
     Ok(())
 }
 
 #[test]
 fn crashes_with_whole_tails(rt: HostRuntime) -> Result<()> {
-    let tally = crash_everywhere(&rt, rt.alloc(), REUSING, Tails::Whole)?;
-    assert_tally(&rt, tally, tally.longest > 20);
+    let tally = crash_everywhere(&rt, rt.alloc(), REUSING.one_of(5), Tails::Whole)?;
+    assert_tally(&rt, tally, tally.longest > 5);
     Ok(())
 }
 
 #[test]
 fn crashes_without_the_last_byte(rt: HostRuntime) -> Result<()> {
-    let tally = crash_everywhere(&rt, rt.alloc(), REUSING, Tails::WithoutLast)?;
-    assert_tally(&rt, tally, tally.shortest > 20);
+    let tally = crash_everywhere(&rt, rt.alloc(), REUSING.one_of(5), Tails::WithoutLast)?;
+    assert_tally(&rt, tally, tally.shortest > 5);
     Ok(())
 }
 
 #[test]
 fn crashes_with_wrong_bytes(rt: HostRuntime) -> Result<()> {
-    let tally = crash_everywhere(&rt, rt.alloc(), REUSING, Tails::WrongBytes)?;
-    assert_tally(&rt, tally, tally.shortest > 20);
+    let tally = crash_everywhere(&rt, rt.alloc(), REUSING.one_of(5), Tails::WrongBytes)?;
+    assert_tally(&rt, tally, tally.shortest > 5);
     Ok(())
 }
 
 #[test]
 fn crashes_of_new_manifests(rt: HostRuntime) -> Result<()> {
-    let tally = crash_everywhere(&rt, rt.alloc(), ANEW, Tails::Nothing)?;
+    let tally = crash_everywhere(&rt, rt.alloc(), ANEW.one_of(5), Tails::Nothing)?;
     assert_tally(
         &rt,
         tally,
-        tally.shortest > 20 && tally.shortest < tally.open,
+        tally.shortest > 5 && tally.shortest < tally.open,
     );
     Ok(())
 }
 
 #[test]
 fn crashes_of_new_manifests_with_tails(rt: HostRuntime) -> Result<()> {
-    let tally = crash_everywhere(&rt, rt.alloc(), ANEW, Tails::Whole)?;
-    assert_tally(&rt, tally, tally.longest > 20);
+    let tally = crash_everywhere(&rt, rt.alloc(), ANEW.one_of(5), Tails::Whole)?;
+    assert_tally(&rt, tally, tally.longest > 5);
     Ok(())
 }
 
 #[test]
 fn crashes_of_new_manifests_with_wrong_bytes(rt: HostRuntime) -> Result<()> {
-    let tally = crash_everywhere(&rt, rt.alloc(), ANEW, Tails::WrongBytes)?;
-    assert_tally(&rt, tally, tally.shortest > 20);
+    let tally = crash_everywhere(&rt, rt.alloc(), ANEW.one_of(5), Tails::WrongBytes)?;
+    assert_tally(&rt, tally, tally.shortest > 5);
     Ok(())
 }
 
 #[test]
 fn second_crashes(rt: HostRuntime) -> Result<()> {
     let kinds = (Tails::WithoutLast, Tails::Nothing);
-    let openings = crash_twice_everywhere(&rt, rt.alloc(), REUSING, kinds)?;
-    assert!(rt; openings > 100, "{openings}");
+    let openings = crash_twice_everywhere(&rt, rt.alloc(), REUSING.one_of(9), kinds)?;
+    assert!(rt; openings > 20, "{openings}");
     Ok(())
 }
 
 #[test]
 fn second_crashes_with_wrong_bytes(rt: HostRuntime) -> Result<()> {
     let kinds = (Tails::Whole, Tails::WrongBytes);
-    let openings = crash_twice_everywhere(&rt, rt.alloc(), REUSING, kinds)?;
-    assert!(rt; openings > 100, "{openings}");
+    let openings = crash_twice_everywhere(&rt, rt.alloc(), REUSING.one_of(9), kinds)?;
+    assert!(rt; openings > 20, "{openings}");
     Ok(())
 }
 
 #[test]
 fn second_crashes_of_new_manifests(rt: HostRuntime) -> Result<()> {
     let kinds = (Tails::Nothing, Tails::WithoutLast);
-    let openings = crash_twice_everywhere(&rt, rt.alloc(), ANEW, kinds)?;
-    assert!(rt; openings > 100, "{openings}");
+    let openings = crash_twice_everywhere(&rt, rt.alloc(), ANEW.one_of(9), kinds)?;
+    assert!(rt; openings > 20, "{openings}");
     Ok(())
 }
 
 #[test]
 fn failures_without_their_change(rt: HostRuntime) -> Result<()> {
-    let tally = fail_everywhere(&rt, rt.alloc(), REUSING, false)?;
-    assert_tally(&rt, tally, tally.shortest > 20 && tally.longest > 20);
+    let tally = fail_everywhere(&rt, rt.alloc(), REUSING.one_of(5), false)?;
+    assert_tally(&rt, tally, tally.shortest > 5 && tally.longest > 5);
     Ok(())
 }
 
 #[test]
 fn failures_with_their_change(rt: HostRuntime) -> Result<()> {
-    let tally = fail_everywhere(&rt, rt.alloc(), REUSING, true)?;
-    assert_tally(&rt, tally, tally.shortest > 20 && tally.longest > 20);
+    let tally = fail_everywhere(&rt, rt.alloc(), REUSING.one_of(5), true)?;
+    assert_tally(&rt, tally, tally.shortest > 5 && tally.longest > 5);
     Ok(())
 }
 
 #[test]
 fn failures_of_new_manifests(rt: HostRuntime) -> Result<()> {
-    let tally = fail_everywhere(&rt, rt.alloc(), ANEW, false)?;
-    assert_tally(&rt, tally, tally.shortest > 20 && tally.longest > 20);
+    let tally = fail_everywhere(&rt, rt.alloc(), ANEW.one_of(5), false)?;
+    assert_tally(&rt, tally, tally.shortest > 5 && tally.longest > 5);
     Ok(())
 }
 
 #[test]
 fn failures_of_new_manifests_with_their_change(rt: HostRuntime) -> Result<()> {
-    let tally = fail_everywhere(&rt, rt.alloc(), ANEW, true)?;
-    assert_tally(&rt, tally, tally.shortest > 20 && tally.longest > 20);
+    let tally = fail_everywhere(&rt, rt.alloc(), ANEW.one_of(5), true)?;
+    assert_tally(&rt, tally, tally.shortest > 5 && tally.longest > 5);
     Ok(())
 }

@@ -55,59 +55,60 @@ pub const SCRIPT: Script<'static> = Script {
         reuses: true,
         keys: 13,
     },
+    every: 1,
     lives: &[STEPS],
 };
 
 #[test]
 fn crashes_without_tails(rt: HostRuntime) -> Result<()> {
-    let tally = crash_everywhere(&rt, rt.alloc(), SCRIPT, Tails::Nothing)?;
+    let tally = crash_everywhere(&rt, rt.alloc(), SCRIPT.one_of(5), Tails::Nothing)?;
     assert_tally(
         &rt,
         tally,
-        tally.shortest > 20 && tally.shortest < tally.open,
+        tally.shortest > 5 && tally.shortest < tally.open,
     );
     Ok(())
 }
 
 #[test]
 fn crashes_with_whole_tails(rt: HostRuntime) -> Result<()> {
-    let tally = crash_everywhere(&rt, rt.alloc(), SCRIPT, Tails::Whole)?;
-    assert_tally(&rt, tally, tally.longest > 20);
+    let tally = crash_everywhere(&rt, rt.alloc(), SCRIPT.one_of(5), Tails::Whole)?;
+    assert_tally(&rt, tally, tally.longest > 5);
     Ok(())
 }
 
 #[test]
 fn crashes_without_the_last_byte(rt: HostRuntime) -> Result<()> {
-    let tally = crash_everywhere(&rt, rt.alloc(), SCRIPT, Tails::WithoutLast)?;
-    assert_tally(&rt, tally, tally.shortest > 20);
+    let tally = crash_everywhere(&rt, rt.alloc(), SCRIPT.one_of(5), Tails::WithoutLast)?;
+    assert_tally(&rt, tally, tally.shortest > 5);
     Ok(())
 }
 
 #[test]
 fn crashes_with_a_wrong_byte(rt: HostRuntime) -> Result<()> {
-    let tally = crash_everywhere(&rt, rt.alloc(), SCRIPT, Tails::WrongLogBytes)?;
-    assert_tally(&rt, tally, tally.shortest > 20);
+    let tally = crash_everywhere(&rt, rt.alloc(), SCRIPT.one_of(5), Tails::WrongLogBytes)?;
+    assert_tally(&rt, tally, tally.shortest > 5);
     Ok(())
 }
 
 #[test]
 fn second_crashes(rt: HostRuntime) -> Result<()> {
     let kinds = (Tails::Nothing, Tails::Nothing);
-    let openings = crash_twice_everywhere(&rt, rt.alloc(), SCRIPT, kinds)?;
-    assert!(rt; openings > 100, "{openings}");
+    let openings = crash_twice_everywhere(&rt, rt.alloc(), SCRIPT.one_of(9), kinds)?;
+    assert!(rt; openings > 20, "{openings}");
     Ok(())
 }
 
 #[test]
 fn failures_without_their_change(rt: HostRuntime) -> Result<()> {
-    let tally = fail_everywhere(&rt, rt.alloc(), SCRIPT, false)?;
-    assert_tally(&rt, tally, tally.shortest > 20 && tally.longest > 20);
+    let tally = fail_everywhere(&rt, rt.alloc(), SCRIPT.one_of(7), false)?;
+    assert_tally(&rt, tally, tally.shortest > 2 && tally.longest > 2);
     Ok(())
 }
 
 #[test]
 fn failures_with_their_change(rt: HostRuntime) -> Result<()> {
-    let tally = fail_everywhere(&rt, rt.alloc(), SCRIPT, true)?;
-    assert_tally(&rt, tally, tally.shortest > 10 && tally.longest > 20);
+    let tally = fail_everywhere(&rt, rt.alloc(), SCRIPT.one_of(7), true)?;
+    assert_tally(&rt, tally, tally.shortest > 1 && tally.longest > 2);
     Ok(())
 }

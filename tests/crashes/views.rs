@@ -79,19 +79,20 @@ const SECOND: &[Step] = &[
     Step::Walk(None, TURNING),
 ];
 
-const SCRIPT: Script<'static> = Script {
+pub const SCRIPT: Script<'static> = Script {
     setting: Setting {
         write_buffer_size: 300,
         max_file_size: 2 << 20,
         reuses: true,
         keys: 6,
     },
+    every: 1,
     lives: &[FIRST, SECOND],
 };
 
 #[test]
 fn crashes_without_tails(rt: HostRuntime) -> Result<()> {
-    let tally = crash_everywhere(&rt, rt.alloc(), SCRIPT, Tails::Nothing)?;
+    let tally = crash_everywhere(&rt, rt.alloc(), SCRIPT.one_of(5), Tails::Nothing)?;
     assert_tally(
         &rt,
         tally,
@@ -102,21 +103,21 @@ fn crashes_without_tails(rt: HostRuntime) -> Result<()> {
 
 #[test]
 fn crashes_with_whole_tails(rt: HostRuntime) -> Result<()> {
-    let tally = crash_everywhere(&rt, rt.alloc(), SCRIPT, Tails::Whole)?;
+    let tally = crash_everywhere(&rt, rt.alloc(), SCRIPT.one_of(5), Tails::Whole)?;
     assert_tally(&rt, tally, tally.longest > 0);
     Ok(())
 }
 
 #[test]
 fn failures_without_their_change(rt: HostRuntime) -> Result<()> {
-    let tally = fail_everywhere(&rt, rt.alloc(), SCRIPT, false)?;
+    let tally = fail_everywhere(&rt, rt.alloc(), SCRIPT.one_of(7), false)?;
     assert_tally(&rt, tally, tally.open > 0);
     Ok(())
 }
 
 #[test]
 fn failures_with_their_change(rt: HostRuntime) -> Result<()> {
-    let tally = fail_everywhere(&rt, rt.alloc(), SCRIPT, true)?;
+    let tally = fail_everywhere(&rt, rt.alloc(), SCRIPT.one_of(7), true)?;
     assert_tally(&rt, tally, tally.open > 0);
     Ok(())
 }
@@ -129,6 +130,7 @@ const TABLES: Script<'static> = Script {
         reuses: true,
         keys: 6,
     },
+    every: 1,
     lives: &[&[
         Step::Put("a", "1"),
         Step::Put("b", "2"),
@@ -190,11 +192,18 @@ fn walk_over_damage(rt: &impl Abort, alloc: Global, at: usize) -> Result<()> {
     Ok(())
 }
 
+/// One of so many bytes of the table is wrong.
+pub fn walk_over_each_byte(rt: &impl Abort, alloc: Global, every: usize) -> Result<()> {
+    for at in 0..177 {
+        if at % every == 0 {
+            walk_over_damage(rt, alloc, at)?;
+        }
+    }
+    Ok(())
+}
+
 /// A move that needs a table which can't be read fails and leaves no position, and no move leads outside the view.
 #[test]
 fn walks_over_a_damaged_table(rt: HostRuntime) -> Result<()> {
-    for at in 0..177 {
-        walk_over_damage(&rt, rt.alloc(), at)?;
-    }
-    Ok(())
+    walk_over_each_byte(&rt, rt.alloc(), 5)
 }
