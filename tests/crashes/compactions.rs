@@ -167,7 +167,7 @@ pub fn leave_whole_stores(
 
 #[test]
 fn whole_stores(rt: HostRuntime) -> Result<()> {
-    leave_whole_stores(&rt, rt.alloc(), IN_SMALL.one_of(7), Tails::WithoutLast)?;
+    leave_whole_stores(&rt, rt.alloc(), IN_SMALL.one_of(13), Tails::WithoutLast)?;
     leave_whole_stores(&rt, rt.alloc(), IN_LARGE.one_of(5), Tails::Whole)
 }
 
@@ -195,7 +195,7 @@ fn crashes_with_wrong_bytes(rt: HostRuntime) -> Result<()> {
 #[test]
 fn second_crashes(rt: HostRuntime) -> Result<()> {
     let kinds = (Tails::WithoutLast, Tails::Nothing);
-    let openings = crash_twice_everywhere(&rt, rt.alloc(), SHORT.one_of(5), kinds)?;
+    let openings = crash_twice_everywhere(&rt, rt.alloc(), SHORT.one_of(15), kinds)?;
     assert!(rt; openings > 20, "{openings}");
     Ok(())
 }
@@ -203,14 +203,14 @@ fn second_crashes(rt: HostRuntime) -> Result<()> {
 #[test]
 fn second_crashes_with_wrong_bytes(rt: HostRuntime) -> Result<()> {
     let kinds = (Tails::Whole, Tails::WrongBytes);
-    let openings = crash_twice_everywhere(&rt, rt.alloc(), SHORT.one_of(5), kinds)?;
+    let openings = crash_twice_everywhere(&rt, rt.alloc(), SHORT.one_of(15), kinds)?;
     assert!(rt; openings > 20, "{openings}");
     Ok(())
 }
 
 #[test]
 fn failures_without_their_change(rt: HostRuntime) -> Result<()> {
-    let tally = fail_everywhere(&rt, rt.alloc(), IN_SMALL.one_of(13), false)?;
+    let tally = fail_everywhere(&rt, rt.alloc(), IN_SMALL.one_of(25), false)?;
     assert_tally(&rt, tally, tally.open > 0);
     Ok(())
 }
@@ -365,7 +365,7 @@ fn random_crashes(rt: HostRuntime) -> Result<()> {
         } else {
             Tails::Whole
         };
-        try_any(&rt, rt.alloc(), seed, 10, 7, Trial::Crashes(kind))?;
+        try_any(&rt, rt.alloc(), seed, 10, 13, Trial::Crashes(kind))?;
     }
     Ok(())
 }
@@ -374,7 +374,7 @@ fn random_crashes(rt: HostRuntime) -> Result<()> {
 fn random_failures(rt: HostRuntime) -> Result<()> {
     for seed in 4..7 {
         let trial = Trial::Failures(seed % 4 < 2);
-        try_any(&rt, rt.alloc(), seed, 10, 13, trial)?;
+        try_any(&rt, rt.alloc(), seed, 10, 17, trial)?;
     }
     Ok(())
 }

@@ -200,10 +200,15 @@ fn settle(rt: &impl Abort, trial: Trial, seed: u64) -> Result<()> {
     trial.engine.abandon(&mut trial.env)
 }
 
-#[test]
-fn random_steps(rt: HostRuntime) -> Result<()> {
-    for seed in 0..12 {
-        try_steps(&rt, rt.alloc(), seed)?;
+/// Steps of each of this many seeds.
+pub fn try_seeds(rt: &impl Abort, alloc: Global, seeds: u64) -> Result<()> {
+    for seed in 0..seeds {
+        try_steps(rt, alloc, seed)?;
     }
     Ok(())
+}
+
+#[test]
+fn random_steps(rt: HostRuntime) -> Result<()> {
+    try_seeds(&rt, rt.alloc(), 2)
 }

@@ -23,6 +23,8 @@ mod engines;
 #[cfg(test)]
 mod iterators;
 #[cfg(test)]
+mod long;
+#[cfg(test)]
 mod memory;
 #[cfg(test)]
 mod merged_inputs;

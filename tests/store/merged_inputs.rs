@@ -192,10 +192,29 @@ fn merge_small(
     )
 }
 
-/// A crash at each moment of a merge leaves the inputs whole, whatever it keeps of what wasn't synced.
-#[test]
-fn each_crash_leaves_the_inputs(rt: HostRuntime) -> Result<()> {
-    let alloc = rt.alloc();
+/// A crash on either side of this moment leaves the inputs whole, whatever it keeps of what wasn't synced.
+fn crash_at(
+    rt: &impl Abort,
+    alloc: Global,
+    env: &RecordEnv,
+    inputs: &Inputs,
+    next: u64,
+    moment: u64,
+) -> Result<()> {
+    for after in [false, true] {
+        for tails in [Vec::new(alloc), env.tails(alloc, moment, after)?] {
+            let mut left = env.disk_at(alloc, moment, &Pick { tails, after })?;
+            assert!(rt;
+                keeps_inputs(alloc, &mut left, inputs, next)?,
+                "moment {moment}"
+            );
+        }
+    }
+    Ok(())
+}
+
+/// Crashes at one of so many moments of a merge.
+pub fn crash_in_merge(rt: &impl Abort, alloc: Global, every: u64) -> Result<()> {
     let mut env = RecordEnv::new(alloc);
     let mut versions = VersionSet::new(alloc, "db", &DefaultCmp)?;
     let inputs = write_inputs(alloc, &mut env, &mut versions, &mut Random(6))?;
@@ -204,58 +223,55 @@ fn each_crash_leaves_the_inputs(rt: HostRuntime) -> Result<()> {
     assert!(rt; files.len() > 2 && env.moment() > before + 40);
     let next = versions.next_file_num();
     for moment in before..=env.moment() {
-        for after in [false, true] {
-            let pick = Pick {
-                tails: Vec::new(alloc),
-                after,
-            };
-            let mut left = env.disk_at(alloc, moment, &pick)?;
-            assert!(rt;
-                keeps_inputs(alloc, &mut left, &inputs, next)?,
-                "moment {moment}"
-            );
-            let tails = env.tails(alloc, moment, after)?;
-            let mut left = env.disk_at(alloc, moment, &Pick { tails, after })?;
-            assert!(rt;
-                keeps_inputs(alloc, &mut left, &inputs, next)?,
-                "moment {moment}"
-            );
+        if moment % every == 0 {
+            crash_at(rt, alloc, &env, &inputs, next, moment)?;
         }
     }
     Ok(())
 }
 
-/// Where each call fails once, done or undone, the merge fails so, and the inputs are whole.
 #[test]
-fn each_failure_leaves_the_inputs(rt: HostRuntime) -> Result<()> {
-    let alloc = rt.alloc();
-    let mut nth = 1;
-    let mut failed = 0;
-    for _ in 0..500 {
-        for done in [false, true] {
-            let mut env = RecordEnv::new(alloc);
-            let mut versions = VersionSet::new(alloc, "db", &DefaultCmp)?;
-            let inputs = write_inputs(alloc, &mut env, &mut versions, &mut Random(6))?;
-            env.fail(nth, done);
-            let merged = merge_small(alloc, &mut env, &mut versions, &inputs);
-            if merged.is_ok() {
-                assert!(rt; failed > 60);
-                return Ok(());
-            }
-            assert!(rt;
-                failed_with(merged, StatusCode::IOError)?,
-                "call {nth} {done}"
-            );
-            let next = versions.next_file_num();
-            assert!(rt;
-                keeps_inputs(alloc, &mut env, &inputs, next)?,
-                "call {nth} {done}"
-            );
-            failed += 1;
-        }
-        nth += 1;
+fn crashes_leave_the_inputs(rt: HostRuntime) -> Result<()> {
+    crash_in_merge(&rt, rt.alloc(), 11)
+}
+
+/// A merge of which this call fails, done or undone, fails so and leaves the inputs whole. Returns whether it makes so many calls.
+fn fail_at(rt: &impl Abort, alloc: Global, nth: u64, done: bool) -> Result<bool> {
+    let mut env = RecordEnv::new(alloc);
+    let mut versions = VersionSet::new(alloc, "db", &DefaultCmp)?;
+    let inputs = write_inputs(alloc, &mut env, &mut versions, &mut Random(6))?;
+    env.fail(nth, done);
+    let merged = merge_small(alloc, &mut env, &mut versions, &inputs);
+    if merged.is_ok() {
+        return Ok(false);
     }
-    assert!(rt; false, "no end of calls");
+    assert!(rt;
+        failed_with(merged, StatusCode::IOError)?,
+        "call {nth} {done}"
+    );
+    let next = versions.next_file_num();
+    assert!(rt;
+        keeps_inputs(alloc, &mut env, &inputs, next)?,
+        "call {nth} {done}"
+    );
+    Ok(true)
+}
+
+/// One of so many calls of a merge fails once, and then the next of them. Returns how many failures there were.
+pub fn fail_in_merge(rt: &impl Abort, alloc: Global, every: u64) -> Result<u64> {
+    let mut failed = 0;
+    while fail_at(rt, alloc, 1 + failed * every, false)?
+        && fail_at(rt, alloc, 1 + failed * every, true)?
+    {
+        failed += 1;
+    }
+    Ok(failed)
+}
+
+#[test]
+fn failures_leave_the_inputs(rt: HostRuntime) -> Result<()> {
+    let failed = fail_in_merge(&rt, rt.alloc(), 5)?;
+    assert!(rt; failed > 6, "{failed}");
     Ok(())
 }
 

@@ -208,18 +208,23 @@ fn compare(
     Ok(entries.len() - left.len())
 }
 
-#[test]
-fn merges_leave_what_the_slow_merge_leaves(rt: HostRuntime) -> Result<()> {
-    let alloc = rt.alloc();
+/// Compares this many merges of entries that look random. Returns how many entries went.
+pub fn compare_merges(rt: &impl Abort, alloc: Global, rounds: usize) -> Result<usize> {
     let mut random = Random(21);
     let mut gone = 0;
-    for round in 0..120 {
+    for round in 0..rounds {
         let entries = entries(alloc, &mut random, 70)?;
         let options = small([1, 150, 400, 3000][round % 4]);
         let smallest = random.below(80);
-        gone += compare(&rt, alloc, &options, smallest, entries.as_slice())?;
+        gone += compare(rt, alloc, &options, smallest, entries.as_slice())?;
     }
-    assert!(rt; gone > 1000, "{gone} entries went");
+    Ok(gone)
+}
+
+#[test]
+fn merges_leave_what_the_slow_merge_leaves(rt: HostRuntime) -> Result<()> {
+    let gone = compare_merges(&rt, rt.alloc(), 40)?;
+    assert!(rt; gone > 300, "{gone} entries went");
     Ok(())
 }
 

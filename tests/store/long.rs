@@ -1,0 +1,35 @@
+//! Trials that take minutes, of which short ones are in the modules themselves: ./test --long.
+use crate::compactions_of_many::try_seeds;
+use crate::merged_inputs::{crash_in_merge, fail_in_merge};
+use crate::merging::compare_merges;
+use crate::open_tables::damage_each;
+use leveldb_base::error::Result;
+
+#[test]
+fn twelve_seeds(rt: HostRuntime) -> Result<()> {
+    try_seeds(&rt, rt.alloc(), 12)
+}
+
+#[test]
+fn merges_beside_the_slow_merge(rt: HostRuntime) -> Result<()> {
+    let gone = compare_merges(&rt, rt.alloc(), 400)?;
+    assert!(rt; gone > 3000, "{gone} entries went");
+    Ok(())
+}
+
+#[test]
+fn crashes_in_a_merge(rt: HostRuntime) -> Result<()> {
+    crash_in_merge(&rt, rt.alloc(), 1)
+}
+
+#[test]
+fn failures_in_a_merge(rt: HostRuntime) -> Result<()> {
+    let failed = fail_in_merge(&rt, rt.alloc(), 1)?;
+    assert!(rt; failed > 30, "{failed}");
+    Ok(())
+}
+
+#[test]
+fn each_byte_of_a_table(rt: HostRuntime) -> Result<()> {
+    damage_each(&rt, rt.alloc(), 1)
+}
