@@ -170,16 +170,19 @@ fn crash_and_go_on(
     Ok(())
 }
 
-/// A crash that leaves each prefix of the log's unsynced bytes.
+/// A crash that leaves each prefix of the log's unsynced bytes, or one of so many of these and all of them.
 fn crash_with_each_tail(
     rt: &impl Abort,
     alloc: Global,
     env: &MemEnv,
     unsynced: &[u8],
     maps: &[Vec<BorrowedPair<'_>>],
+    every: usize,
 ) -> Result<()> {
     for end in 0..=unsynced.len() {
-        crash_and_go_on(rt, alloc, env, &unsynced[..end], maps)?;
+        if end % every == 0 || end == unsynced.len() {
+            crash_and_go_on(rt, alloc, env, &unsynced[..end], maps)?;
+        }
     }
     Ok(())
 }
@@ -208,19 +211,24 @@ fn unsynced_in(rt: &impl Abort, alloc: Global, env: &mut MemEnv) -> Result<Vec<u
     Ok(Vec::from_slice(alloc, &bytes[kept..])?)
 }
 
-fn crash_after(rt: &impl Abort, alloc: Global, batches: &[Batch]) -> Result<()> {
+fn crash_after(rt: &impl Abort, alloc: Global, batches: &[Batch], every: usize) -> Result<()> {
     let mut env = written(alloc, batches)?;
     let unsynced = unsynced_in(rt, alloc, &mut env)?;
     let slow = allowed(alloc, batches)?;
     let maps = slow.maps(&DefaultCmp)?;
-    crash_with_each_tail(rt, alloc, &env, &unsynced, &maps)?;
+    crash_with_each_tail(rt, alloc, &env, &unsynced, &maps, every)?;
     crash_with_a_wrong_byte(rt, alloc, &env, &unsynced, &maps)
 }
 
-#[test]
-fn each_crash_keeps_a_prefix(rt: HostRuntime) -> Result<()> {
+/// Crashes after each of the batches, with one of so many tails.
+pub fn crash_after_each(rt: &impl Abort, alloc: Global, every: usize) -> Result<()> {
     for count in 0..=BATCHES.len() {
-        crash_after(&rt, rt.alloc(), &BATCHES[..count])?;
+        crash_after(rt, alloc, &BATCHES[..count], every)?;
     }
     Ok(())
+}
+
+#[test]
+fn crashes_keep_a_prefix(rt: HostRuntime) -> Result<()> {
+    crash_after_each(&rt, rt.alloc(), 7)
 }

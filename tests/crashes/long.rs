@@ -4,8 +4,10 @@ use crate::compactions::{
     IN_LARGE, IN_SMALL, SHORT as COMPACTIONS, leave_whole_stores, run_seeds, sweep_seed,
 };
 use crate::crash_disks::{Script, Tails, assert_tally};
+use crate::crashes::crash_after_each;
 use crate::damaged_files::{change_blocks, change_two_puts};
 use crate::lives::crash_at_each;
+use crate::program::read_long_inputs;
 use crate::random_commands::run_all;
 use crate::sweep::{crash_everywhere, crash_twice_everywhere, fail_everywhere};
 use crate::switches::{ANEW, REUSING};
@@ -13,6 +15,7 @@ use crate::twelve_keys::{SCRIPT as TWELVE_KEYS, STEPS};
 use crate::views::{SCRIPT as VIEWS, walk_over_each_byte};
 use leveldb_base::error::Result;
 use std::alloc::Global;
+use std::io;
 use std::process::Abort;
 
 const ALL_TAILS: [Tails; 5] = [
@@ -53,6 +56,12 @@ fn fail_all(rt: &impl Abort, alloc: Global, scripts: &[Script<'_>]) -> Result<()
         }
     }
     Ok(())
+}
+
+/// A crash after each batch that leaves each prefix of what the log has that isn't durable.
+#[test]
+fn each_crash_keeps_a_prefix(rt: HostRuntime) -> Result<()> {
+    crash_after_each(&rt, rt.alloc(), 1)
 }
 
 /// A table and a log, which is used on.
@@ -217,6 +226,12 @@ fn ten_seeds(rt: HostRuntime) -> Result<()> {
 #[test]
 fn sixty_seeds(rt: HostRuntime) -> Result<()> {
     run_seeds(&rt, rt.alloc(), 60)
+}
+
+/// 64 MiB, and more.
+#[test]
+fn long_inputs(rt: HostRuntime) -> io::Result<()> {
+    read_long_inputs(&rt, rt.alloc())
 }
 
 #[test]

@@ -323,10 +323,10 @@ fn read_newlines(rt: &impl Abort, alloc: Global, count: u64, err: &[u8]) -> io::
     Ok(input.0)
 }
 
-#[test]
-fn long_input(rt: HostRuntime) -> io::Result<()> {
-    assert!(rt; read_newlines(&rt, rt.alloc(), 1 << 26, b"bad command in line 1\n")? == 0);
-    assert!(rt; read_newlines(&rt, rt.alloc(), (1 << 26) + 7, b"input too long\n")? == 6);
+/// The longest input, and a longer one.
+pub fn read_long_inputs(rt: &impl Abort, alloc: Global) -> io::Result<()> {
+    assert!(rt; read_newlines(rt, alloc, 1 << 26, b"bad command in line 1\n")? == 0);
+    assert!(rt; read_newlines(rt, alloc, (1 << 26) + 7, b"input too long\n")? == 6);
     Ok(())
 }
 

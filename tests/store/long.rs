@@ -3,6 +3,7 @@ use crate::compactions_of_many::try_seeds;
 use crate::merged_inputs::{crash_in_merge, fail_in_merge};
 use crate::merging::compare_merges;
 use crate::open_tables::damage_each;
+use crate::replays::open_over_short_reads;
 use leveldb_base::error::Result;
 
 #[test]
@@ -27,6 +28,11 @@ fn failures_in_a_merge(rt: HostRuntime) -> Result<()> {
     let failed = fail_in_merge(&rt, rt.alloc(), 1)?;
     assert!(rt; failed > 30, "{failed}");
     Ok(())
+}
+
+#[test]
+fn logs_over_short_reads(rt: HostRuntime) -> Result<()> {
+    open_over_short_reads(&rt, rt.alloc(), 16, 8)
 }
 
 #[test]

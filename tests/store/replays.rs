@@ -11,6 +11,7 @@ use leveldb_mem::log::LogWriter;
 use leveldb_mem::write_batch::WriteBatch;
 use slow_store::read_store;
 use std::alloc::Global;
+use std::process::Abort;
 use support::{Random, ShortReads, failed_with};
 
 /// The log of a new store.
@@ -100,15 +101,18 @@ fn open_over<E: Env>(alloc: Global, env: &mut E, log: &[u8], setting: Setting) -
     })
 }
 
-/// Whatever the log is, an opening leaves what the slow store read before, and the same files where a read gives 1 to 9
+/// Whatever the log of this many batches at most is, an opening leaves what the slow store read before, and the same files where a read gives 1 to 9
 /// bytes.
-#[test]
-fn logs_over_short_reads(rt: HostRuntime) -> Result<()> {
-    let alloc = rt.alloc();
+pub fn open_over_short_reads(
+    rt: &impl Abort,
+    alloc: Global,
+    rounds: usize,
+    most: u64,
+) -> Result<()> {
     let mut random = Random(63);
     let mut entries = 0;
-    for round in 0..8 {
-        let batches = random.below(9);
+    for round in 0..rounds {
+        let batches = random.below(most + 1);
         let mut log = random_log(alloc, &mut random, batches)?;
         damage(&mut log, &mut random);
         let setting = [
@@ -130,8 +134,13 @@ fn logs_over_short_reads(rt: HostRuntime) -> Result<()> {
         );
         entries += whole.after.map_or(0, |numbers| numbers.len());
     }
-    assert!(rt; entries > 8, "the logs had few entries");
+    assert!(rt; entries > rounds, "the logs had few entries");
     Ok(())
+}
+
+#[test]
+fn logs_over_short_reads(rt: HostRuntime) -> Result<()> {
+    open_over_short_reads(&rt, rt.alloc(), 4, 4)
 }
 
 /// A record that is no batch, after one that is: the opening fails, and a read of few bytes changes nothing of that.
