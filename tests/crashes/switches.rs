@@ -163,7 +163,7 @@ fn second_crashes_with_wrong_bytes(rt: HostRuntime) -> Result<()> {
 #[test]
 fn second_crashes_of_new_manifests(rt: HostRuntime) -> Result<()> {
     let kinds = (Tails::Nothing, Tails::WithoutLast);
-    let openings = crash_twice_everywhere(&rt, rt.alloc(), ANEW.one_of(31), kinds)?;
+    let openings = crash_twice_everywhere(&rt, rt.alloc(), ANEW.one_of(91), kinds)?;
     assert!(rt; openings > 20, "{openings}");
     Ok(())
 }

@@ -32,7 +32,7 @@ fn failures_in_a_merge(rt: HostRuntime) -> Result<()> {
 
 #[test]
 fn logs_over_short_reads(rt: HostRuntime) -> Result<()> {
-    open_over_short_reads(&rt, rt.alloc(), 16, 8)
+    open_over_short_reads(&rt, rt.alloc(), 8, 8, 8)
 }
 
 #[test]

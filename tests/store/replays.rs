@@ -20,12 +20,17 @@ const LOG: &str = "000003.log";
 /// Lengths of values: records within a block, up to its end, and over several.
 const LENGTHS: &[usize] = &[0, 1, 20, 300, 7_000, 32_700, 33_000, 70_000];
 
-/// A batch of one or two puts from this number on.
-fn random_batch(alloc: Global, random: &mut Random, sequence: u64) -> Result<WriteBatch> {
+/// A batch of one or two puts from this number on, whose values have the first of these lengths, so many of them.
+fn random_batch(
+    alloc: Global,
+    random: &mut Random,
+    sequence: u64,
+    lengths: u64,
+) -> Result<WriteBatch> {
     let mut batch = WriteBatch::new(alloc)?;
     for _ in 0..=random.below(2) {
         let key = format!(in alloc; "{}", random.below(40))?;
-        let length = LENGTHS[random.below(8) as usize];
+        let length = LENGTHS[random.below(lengths) as usize];
         let mut value = Vec::new(alloc);
         value.resize(length, random.below(256) as u8)?;
         batch.put(key.as_bytes(), value.as_slice())?;
@@ -35,11 +40,11 @@ fn random_batch(alloc: Global, random: &mut Random, sequence: u64) -> Result<Wri
 }
 
 /// The bytes of a log of so many batches.
-fn random_log(alloc: Global, random: &mut Random, batches: u64) -> Result<Vec<u8>> {
+fn random_log(alloc: Global, random: &mut Random, batches: u64, lengths: u64) -> Result<Vec<u8>> {
     let mut writer = LogWriter::new(alloc, Vec::new(alloc));
     let mut sequence = 1;
     for _ in 0..batches {
-        let batch = random_batch(alloc, random, sequence)?;
+        let batch = random_batch(alloc, random, sequence, lengths)?;
         sequence += u64::from(batch.count());
         writer.add_record(batch.contents())?;
     }
@@ -101,19 +106,20 @@ fn open_over<E: Env>(alloc: Global, env: &mut E, log: &[u8], setting: Setting) -
     })
 }
 
-/// Whatever the log of this many batches at most is, an opening leaves what the slow store read before, and the same files where a read gives 1 to 9
+/// Whatever the log of this many batches at most and of values of these lengths is, an opening leaves what the slow store read before, and the same files where a read gives 1 to 9
 /// bytes.
 pub fn open_over_short_reads(
     rt: &impl Abort,
     alloc: Global,
     rounds: usize,
     most: u64,
+    lengths: u64,
 ) -> Result<()> {
     let mut random = Random(63);
     let mut entries = 0;
     for round in 0..rounds {
         let batches = random.below(most + 1);
-        let mut log = random_log(alloc, &mut random, batches)?;
+        let mut log = random_log(alloc, &mut random, batches, lengths)?;
         damage(&mut log, &mut random);
         let setting = [
             Setting::Defaults,
@@ -140,7 +146,7 @@ pub fn open_over_short_reads(
 
 #[test]
 fn logs_over_short_reads(rt: HostRuntime) -> Result<()> {
-    open_over_short_reads(&rt, rt.alloc(), 4, 4)
+    open_over_short_reads(&rt, rt.alloc(), 8, 5, 5)
 }
 
 /// A record that is no batch, after one that is: the opening fails, and a read of few bytes changes nothing of that.
@@ -148,7 +154,7 @@ fn logs_over_short_reads(rt: HostRuntime) -> Result<()> {
 fn record_that_is_no_batch(rt: HostRuntime) -> Result<()> {
     let alloc = rt.alloc();
     let mut writer = LogWriter::new(alloc, Vec::new(alloc));
-    writer.add_record(random_batch(alloc, &mut Random(1), 1)?.contents())?;
+    writer.add_record(random_batch(alloc, &mut Random(1), 1, 8)?.contents())?;
     writer.add_record(b"no batch")?;
     let whole = open_over(
         alloc,
@@ -206,7 +212,7 @@ fn count_calls(alloc: Global, log: &[u8]) -> Result<u64> {
 #[test]
 fn reads_that_fail(rt: HostRuntime) -> Result<()> {
     let alloc = rt.alloc();
-    let log = random_log(alloc, &mut Random(7), 6)?;
+    let log = random_log(alloc, &mut Random(7), 6, 8)?;
     let reads = log.len() as u64 / 4096;
     let calls = count_calls(alloc, &log)?;
     assert!(rt; reads > 20 && calls > reads, "{reads} reads, {calls} calls");
