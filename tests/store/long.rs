@@ -3,7 +3,7 @@ use crate::compactions_of_many::try_seeds;
 use crate::merged_inputs::{crash_in_merge, fail_in_merge};
 use crate::merging::compare_merges;
 use crate::open_tables::damage_each;
-use crate::replays::open_over_short_reads;
+use crate::replays::{fail_reads, open_over_short_reads};
 use leveldb_base::error::Result;
 
 #[test]
@@ -33,6 +33,11 @@ fn failures_in_a_merge(rt: HostRuntime) -> Result<()> {
 #[test]
 fn logs_over_short_reads(rt: HostRuntime) -> Result<()> {
     open_over_short_reads(&rt, rt.alloc(), 8, 8, 8)
+}
+
+#[test]
+fn reads_that_fail(rt: HostRuntime) -> Result<()> {
+    fail_reads(&rt, rt.alloc(), 1)
 }
 
 #[test]

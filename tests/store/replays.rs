@@ -208,10 +208,8 @@ fn count_calls(alloc: Global, log: &[u8]) -> Result<u64> {
     Ok((env.moment() - before) / 2)
 }
 
-/// Each call of an opening fails once. All reads of the log are among those that fail it.
-#[test]
-fn reads_that_fail(rt: HostRuntime) -> Result<()> {
-    let alloc = rt.alloc();
+/// One of so many calls of an opening fails once. All reads of the log are among those that fail it.
+pub fn fail_reads(rt: &impl Abort, alloc: Global, every: u64) -> Result<()> {
     let log = random_log(alloc, &mut Random(7), 6, 8)?;
     let reads = log.len() as u64 / 4096;
     let calls = count_calls(alloc, &log)?;
@@ -219,15 +217,20 @@ fn reads_that_fail(rt: HostRuntime) -> Result<()> {
     for done in [false, true] {
         let mut refused = 0;
         for nth in 1..=calls {
-            match refused_at(alloc, &log, nth, done)? {
-                Some(is_right) => {
-                    assert!(rt; is_right, "call {nth} of {calls}");
-                    refused += 1;
-                }
-                None => {}
+            if nth % every != 0 {
+                continue;
+            }
+            if let Some(is_right) = refused_at(alloc, &log, nth, done)? {
+                assert!(rt; is_right, "call {nth} of {calls}");
+                refused += 1;
             }
         }
-        assert!(rt; refused > reads + 5, "{refused} of {calls} calls");
+        assert!(rt; refused * every > reads, "{refused} of {calls} calls");
     }
     Ok(())
+}
+
+#[test]
+fn reads_that_fail(rt: HostRuntime) -> Result<()> {
+    fail_reads(&rt, rt.alloc(), 7)
 }
