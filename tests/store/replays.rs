@@ -146,7 +146,7 @@ pub fn open_over_short_reads(
 
 #[test]
 fn logs_over_short_reads(rt: HostRuntime) -> Result<()> {
-    open_over_short_reads(&rt, rt.alloc(), 8, 5, 5)
+    open_over_short_reads(&rt, rt.alloc(), 8, 16, 5)
 }
 
 /// A record that is no batch, after one that is: the opening fails, and a read of few bytes changes nothing of that.
