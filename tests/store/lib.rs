@@ -21,6 +21,8 @@ mod damage;
 #[cfg(test)]
 mod engines;
 #[cfg(test)]
+mod failed_openings;
+#[cfg(test)]
 mod iterators;
 #[cfg(test)]
 mod long;

@@ -17,7 +17,7 @@ use Rattle.leveldb_base.specs.declared.cmp.internal.InternalKeyCmp.{InternalKeyC
 use Rattle.leveldb_base.specs.declared.error.Status.{Status}
 use Rattle.leveldb_base.specs.declared.types.FileType.{FileType}
 use Rattle.leveldb_base.specs.declared.types.FileType.TheVariants.{Descriptor, Table}
-use Rattle.leveldb_env.proofs.EnvLemmas.{bytes_eq-apart}
+use Rattle.leveldb_env.proofs.EnvLemmas.{Run-call, Run-mono, bytes_eq-apart}
 use Rattle.leveldb_env.specs.Env.{AreBytes, SameLocks}
 use Rattle.leveldb_env.specs.WholeFiles.{IsLost}
 use Rattle.leveldb_env.specs.declared.env.Env.{Ghosts}
@@ -42,12 +42,14 @@ use Rattle.leveldb_version.specs.declared.table_cache.TableCache.{TableCache}
 use Rattle.leveldb_store.proofs.CompactEditLemmas.{compaction_encodable, is_compaction_edit}
 use Rattle.leveldb_store.proofs.CompactKeepsLemmas.{HasMade, full_then, keeps_logged, keeps_new, keeps_unlogged, with_numbers}
 use Rattle.leveldb_store.proofs.GivenTablesLemmas.{SameGiven, given_same, same_beside, same_then}
+use Rattle.leveldb_store.proofs.KeptBytesLemmas.{loses_appending, loses_by_tables, meanwhile_then}
 use Rattle.leveldb_store.proofs.OpenTablesLemmas.{stay_open}
 use Rattle.leveldb_store.proofs.SoundLemmas.{GoesOn, appending_bytes, failed_later, failed_once, goes_on_then, never_broken, sound_ok, sound_unbroken, written_manifest}
 use Rattle.leveldb_store.proofs.TableKeepsLemmas.{appending_and_syncing, is_table_path, live_below, types_apart}
 use Rattle.leveldb_store.proofs.WrittenFromLemmas.{keeps_from}
 use Rattle.leveldb_store.specs.BuildTable.{TableChoices}
 use Rattle.leveldb_store.specs.Compact.{CompactsInFull, CompactsStore, FailsToCompact, HasTablesWritten, LogsCompaction, MakesReplacements, ReplacesFiles}
+use Rattle.leveldb_store.specs.KeptBytes.{NewTablesLoseNothing}
 use Rattle.leveldb_store.specs.Opening.{GivesNumbers}
 use Rattle.leveldb_store.specs.OpenStore.{HasOwnManifest, IsUnbroken, OpenStoreValue}
 use Rattle.leveldb_store.specs.OpenTables.{AreOpenTablesOf}
@@ -108,6 +110,11 @@ module _ {E F C FP D P X : Type 0} (order : CmpGhosts (InternalKeyCmp C)) {keys 
     spares_made modelled path spared = (m.changes.run modelled).has path (λ k up under k_fits.
         not_data store (table_path store k) path Table tt (is_table_path store k k_fits) spared)
 
+    loses_made : NewTablesLoseNothing env store from at old.set.next_file
+    loses_made modelled below = Run-mono
+        (λ now same. loses_by_tables store old.set.next_file n (files_at env from) now below same)
+        (m.changes.run modelled)
+
     goes_on_made : GoesOn env from at
     goes_on_made = (λ modelled. (m.changes.run modelled).time.later, m.changes.bytes)
 
@@ -143,6 +150,7 @@ module _ {E F C FP D P X : Type 0} (order : CmpGhosts (InternalKeyCmp C)) {keys 
       memory = refl;
       given = same_made;
       rest = spares_all;
+      kept = loses_made;
       still_open = m.still_open;
       sound = sound_unbroken env cmp (Agrees by.format) old from status mid at goes_on_made
           (λ unbroken. record { manifest = unbroken.manifest; log = unbroken.log });
@@ -255,6 +263,14 @@ module _ {E F C FP D P X : Type 0} (order : CmpGhosts (InternalKeyCmp C)) {keys 
         (((logs manifest used).does modelled).now modelled) path
         (not_data store manifest.path path Descriptor tt (own modelled manifest used) spared)
         ∙ spares_made (Ok x) m modelled path spared
+
+    loses_all : (result : Result (Unit {0}) Status) → Logs result
+        → NewTablesLoseNothing env store from to old.set.next_file
+    loses_all result logs modelled below =
+        meanwhile_then env store (loses_made (Ok x) m modelled below)
+        (Run-mono (λ now passes. loses_appending store manifest.path
+        (frame manifest.writer (edit_record mid.set edit)) (files_at env at) now passes)
+        (Run-call modelled ((logs manifest used).does modelled)))
 
     locks_all : SameLocks env.models_disk (env.observed from) (env.observed to)
     locks_all modelled = locks modelled ∙ m.changes.locks modelled
@@ -385,6 +401,7 @@ module _ {E F C FP D P X : Type 0} (order : CmpGhosts (InternalKeyCmp C)) {keys 
               (same_all (Err status) logs modelled);
           locks = locks_all;
         };
+        kept = loses_all (Err status) logs;
         still_open = open_logged (Err status) logs (either (λ s. s.store) refl)
             (omega (arith, either (λ s. s.next_file) refl));
         sound = record {
@@ -487,6 +504,7 @@ module _ {E F C FP D P X : Type 0} (order : CmpGhosts (InternalKeyCmp C)) {keys 
               (same_all (Ok tt) logs modelled);
           locks = locks_all;
         };
+        kept = loses_all (Ok tt) logs;
         still_open = open_logged (Ok tt) logs (part_is (λ s. s.store))
             (omega (arith, part_is (λ s. s.next_file)));
         sound = sound_ok env cmp (Agrees by.format) old from tt new to

@@ -6,6 +6,7 @@ use Rattle.std.specs.declared.cmp.Ordering.{Ordering}
 use Rattle.leveldb_base.specs.declared.cmp.Cmp.{Ghosts as CmpGhosts}
 use Rattle.leveldb_base.specs.declared.cmp.internal.InternalKeyCmp.{InternalKeyCmp}
 use Rattle.leveldb_base.specs.declared.error.Status.{Status}
+use Rattle.leveldb_env.proofs.EnvLemmas.{Run-mono}
 use Rattle.leveldb_env.specs.Env.{Files}
 use Rattle.leveldb_env.specs.declared.env.Env.{Ghosts}
 use Rattle.leveldb_env.specs.declared.filter.FilterPolicy.{Ghosts as FilterGhosts}
@@ -16,6 +17,7 @@ use Rattle.leveldb_version.specs.declared.table_cache.TableCache.{TableCache}
 use Rattle.leveldb_store.proofs.CompactPickedLemmas.{compacted_tidied}
 use Rattle.leveldb_store.proofs.CompactedLemmas.{compacts_then}
 use Rattle.leveldb_store.proofs.DamageLemmas.{still_written}
+use Rattle.leveldb_store.proofs.KeptBytesLemmas.{loses_none, meanwhile_then}
 use Rattle.leveldb_store.proofs.KeptFilesLemmas.{keeping, unbroken_keeping}
 use Rattle.leveldb_store.proofs.OpenTablesLemmas.{no_removal}
 use Rattle.leveldb_store.proofs.RoomLemmas.{spares_then}
@@ -25,6 +27,7 @@ use Rattle.leveldb_store.specs.BuildTable.{TableChoices}
 use Rattle.leveldb_store.specs.Compact.{CompactsTables}
 use Rattle.leveldb_store.specs.Damage.{HasDamagedFile}
 use Rattle.leveldb_store.specs.EndsOpening.{EndsOpening}
+use Rattle.leveldb_store.specs.KeptBytes.{NewTablesLoseNothing, TableNumbersAreBelow}
 use Rattle.leveldb_store.specs.LoggedEdits.{LogsByScore}
 use Rattle.leveldb_store.specs.OpenStore.{IsUnbroken, OpenStoreValue}
 use Rattle.leveldb_store.specs.OpenTables.{ClosesObsolete}
@@ -151,6 +154,7 @@ module _ {E F C FP D P : Type 0} (order : CmpGhosts (InternalKeyCmp C)) (env : G
         ok = ok;
         broken = tt;
         breaks = λ usable. tt;
+        kept = tt;
         damaged = still_damaged;
       }
 
@@ -174,7 +178,17 @@ module _ {E F C FP D P : Type 0} (order : CmpGhosts (InternalKeyCmp C)) (env : G
         (compacts : CompactsTables order env by kept at tables choices old.set.last_sequence
         (Err status) new mid between)
         (err : new.set.full ≡ old.set.full)
-        (breaks : BreaksForCause {T = Unit {0}} env kept at (Err status) new mid) where
+        (breaks : BreaksForCause {T = Unit {0}} env kept at (Err status) new mid)
+        (loses : NewTablesLoseNothing env old.set.store at mid old.set.next_file) where
+      loses_none_then : NewTablesLoseNothing env old.set.store from mid old.set.next_file
+      loses_none_then modelled below =
+          let same = same_files env looked modelled in
+          meanwhile_then env old.set.store
+          (Run-mono (λ now is. loses_none old.set.store (files_at env from) now is)
+          (looked.disk modelled))
+          (loses modelled (subst (λ (f : Files).
+          TableNumbersAreBelow old.set.store f old.set.next_file) (sym same) below))
+
       broke_for : (IsUnbroken new → ⊥) → IsManifestLost env old from mid status
           ⊎ HasFailed (env.failures from) (env.failures mid)
       broke_for broken = ⊎_elim (λ usable. absurd (broken usable))
@@ -199,6 +213,7 @@ module _ {E F C FP D P : Type 0} (order : CmpGhosts (InternalKeyCmp C)) (env : G
         ok = tt;
         broken = (broken, refl);
         breaks = λ usable. inr (broke_for broken);
+        kept = loses_none_then;
         damaged = still_damaged (Err status) new mid between compacts tt err breaks;
       }
 
@@ -207,9 +222,11 @@ module _ {E F C FP D P : Type 0} (order : CmpGhosts (InternalKeyCmp C)) (env : G
         (between : TableCache E C FP F)
         → CompactsTables order env by kept at tables choices old.set.last_sequence compacted new mid
         between → OnErr compacted (new.set.full ≡ old.set.full)
-        → BreaksForCause env kept at compacted new mid → (IsUnbroken new → ⊥)
+        → BreaksForCause env kept at compacted new mid
+        → OnErr compacted (NewTablesLoseNothing env old.set.store at mid old.set.next_file)
+        → (IsUnbroken new → ⊥)
         → EndsOpening order env by old from tables choices compacted new mid between
-    ends_broken (Ok done) new mid between compacts err breaks broken =
+    ends_broken (Ok done) new mid between compacts err breaks loses broken =
         absurd (broken compacts.keeps.usable)
-    ends_broken (Err status) new mid between compacts err breaks broken =
-        ends_broken_so status new mid between compacts err breaks broken
+    ends_broken (Err status) new mid between compacts err breaks loses broken =
+        ends_broken_so status new mid between compacts err breaks loses broken

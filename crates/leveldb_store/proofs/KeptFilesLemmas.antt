@@ -42,5 +42,7 @@ module _ {C : Type 0} (value : OpenStoreValue C) (keeps : Bool) where
         };
     stays = o.stays;
     others = o.others;
+    kept = o.kept;
+    numbers = o.numbers;
     locks = o.locks;
   }

@@ -21,6 +21,7 @@ mod MergedCausesLemmas
 mod MergeFilesLemmas
 mod MovedFileLemmas
 pub mod WriteLemmas
+pub mod KeptBytesLemmas
 mod OpeningNamesLemmas
 mod ListingLemmas
 mod OpeningCausesLemmas
@@ -72,6 +73,7 @@ mod OpeningDamageLemmas
 mod RecoverSetLemmas
 mod OpeningLogLemmas
 mod OpeningEndLemmas
+mod OpeningKeptLemmas
 mod OpeningMadeLemmas
 mod OpeningNumbersLemmas
 mod OpeningSameLemmas

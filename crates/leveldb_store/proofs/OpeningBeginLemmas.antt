@@ -1,7 +1,7 @@
 -- A store that was recovered is opened: its logs are replayed, the log to write is opened, and an
 -- edit is logged where one is wanted.
-use Rattle.std.specs.Prelude.{◌≢◌, All, Contains, IfSome, IsSome, IsTrue, Result, Ok, Err, max}
-use Rattle.std.proofs.Common.{◌||◌, ◌≡◌, ◌⊎◌, ◌∙◌, ◌<◌, ◌^◌, inl, inr, ⊎_elim, ℕ, Bool, true, false, List, Option, None, Some, ap, arith, refl, subst, sym}
+use Rattle.std.specs.Prelude.{◌≢◌, All, Contains, IfSome, IsSome, IsTrue, OnOk, Result, Ok, Err, max}
+use Rattle.std.proofs.Common.{◌||◌, ◌≡◌, ◌⊎◌, ◌∙◌, ◌<◌, ◌≤◌, ◌^◌, inl, inr, ⊎_elim, ℕ, Bool, true, false, List, Option, None, Some, ap, arith, refl, subst, sym}
 use Rattle.std.proofs.lemmas.List.Elements.{All-contains, All-contains_itself, All-weaker}
 use Rattle.std.specs.Cmp.Lexicographic.{bytes_decides}
 use Rattle.leveldb_base.proofs.NamesLemmas.{made_name, made_paths_apart}
@@ -24,7 +24,7 @@ use Rattle.leveldb_version.specs.Contents.{Contents}
 use Rattle.leveldb_version.specs.CurrentFile.{temp_path}
 use Rattle.leveldb_version.specs.LogEdit.{LogEditResult}
 use Rattle.leveldb_version.specs.Opening.{tables_edit}
-use Rattle.leveldb_version.specs.Paths.{IsFilePath, log_path, table_path}
+use Rattle.leveldb_version.specs.Paths.{IsFilePath, log_path, manifest_path, table_path}
 use Rattle.leveldb_version.specs.StoreSteps.{KeepsHistory}
 use Rattle.leveldb_version.specs.VersionEdit.{Edit, NewFile}
 use Rattle.leveldb_version.specs.VersionSetValue.{AreFileNumbersUsedUp, ManifestState, OpenManifest, VersionSetValue, broken, in_use, unmade, with_number_given}
@@ -33,6 +33,8 @@ use Rattle.leveldb_store.proofs.GivenNumbersLemmas.{given_later}
 use Rattle.leveldb_store.proofs.OpeningBytesLemmas.{log_bytes, logging_bytes, made_keys_bytes, made_tables_there}
 use Rattle.leveldb_store.proofs.OpeningEndLemmas.{IsOpenValue, edit_logged, log_spared, logged_manifest, logging_keeps, logging_spares, made_levels_fit, went_on}
 use Rattle.leveldb_store.proofs.OpeningFrontLemmas.{keeps_found_then}
+use Rattle.leveldb_store.proofs.KeptBytesLemmas.{loses_at_tables, meanwhile_none, meanwhile_then, numbers_at_tables, numbers_still}
+use Rattle.leveldb_store.proofs.OpeningKeptLemmas.{logging_loses, loses_at_log, number_is_new, table_numbers_below}
 use Rattle.leveldb_store.proofs.OpeningLogLemmas.{HasLogOpen, IsReplayedWith, log_opened, log_opening_keeps, replayed_recovered, replaying_keeps}
 use Rattle.leveldb_store.proofs.OpeningRecoverLemmas.{cause_of_step}
 use Rattle.leveldb_store.proofs.OpeningSameLemmas.{spares_then}
@@ -40,6 +42,7 @@ use Rattle.leveldb_store.proofs.TableKeepsLemmas.{is_log_path, is_table_path, ty
 use Rattle.leveldb_store.specs.BuildTable.{TableChoices}
 use Rattle.leveldb_version.specs.Format.{Agrees, Format, IsTableOf, Meaning}
 use Rattle.leveldb_store.specs.FoundLogs.{HasLogNotKept, LacksNumbersFor, LogsBeginWith}
+use Rattle.leveldb_store.specs.KeptBytes.{HasNewNumbers, LosesNoBytesMeanwhile, TableNumbersAreBelow}
 use Rattle.leveldb_store.specs.OpenStore.{AreInLevels, AreNumbersGiven, HasOwnManifest, OpenStoreValue}
 use Rattle.leveldb_store.specs.Opening.{SameButTables}
 use Rattle.leveldb_store.specs.OpeningSteps.{AreDamagedLogs, BeginsWriting, LogsIfWanted, MayBeWritten, OpensLog, ReplaysLogs, WasRecovered, WhyNotBegun, WhyNotReplayed, entries_to_write, files_to_write, made_files, number_to_write, set_to_write, size_to_write}
@@ -68,6 +71,11 @@ set_to_write_is (Some used) set = (refl, refl, refl)
 last_to_write : {C : Type 0} (used : Option (UsedLog C)) (set : VersionSetValue) → (set_to_write used set).last_sequence ≡ set.last_sequence
 last_to_write None set = refl
 last_to_write (Some used) set = refl
+
+-- and its next number is no smaller
+next_to_write : {C : Type 0} (used : Option (UsedLog C)) (set : VersionSetValue) → set.next_file ≤ (set_to_write used set).next_file
+next_to_write None set = omega arith
+next_to_write (Some used) set = omega arith
 
 -- the same files
 full_to_write : {C : Type 0} (used : Option (UsedLog C)) (set : VersionSetValue) → (set_to_write used set).full ≡ set.full
@@ -134,9 +142,10 @@ module _ {E F D FP : Type 0} (env : Ghosts E F) {order : CmpGhosts D} {filters :
 
   -- an error at any of the steps
   refused_at : (C : Type 0) (to : E) (status : Status) → (IsTrue env.models_disk → Keeps to) → (IsTrue env.models_disk → Run (SameBesideOwn store first) (env.observed from) (env.observed to))
+      → (IsTrue env.models_disk → HasNewNumbers store set first → LosesNoBytesMeanwhile env store from to)
       → BytesAreAppended env from to
       → SameLocks env.models_disk (env.observed from) (env.observed to) → HasCauseOr {T = OpenStoreValue C} Why (env.failures from) (env.failures to) (Err status) → Begins C (Err status) to
-  refused_at C to status keeps spares bytes locks cause = record {
+  refused_at C to status keeps spares loses bytes locks cause = record {
     path = tt;
     unbroken = tt;
     room = tt;
@@ -145,6 +154,8 @@ module _ {E F D FP : Type 0} (env : Ghosts E F) {order : CmpGhosts D} {filters :
     keeps = keeps;
     opens = λ modelled meaning agrees contents was. tt;
     others = spares;
+    kept = loses;
+    numbers = tt;
     bytes = bytes;
     locks = locks;
     cause = cause;
@@ -154,7 +165,8 @@ module _ {E F D FP : Type 0} (env : Ghosts E F) {order : CmpGhosts D} {filters :
   pub nothing_begun : (C : Type 0) (status : Status) → IsOutOfMemory status → Begins C (Err status) from
   nothing_begun C status memory = refused_at C from status
       (λ modelled meaning agrees contents was allowed there can bound reached. begun (env.observed from) (record { now = λ history c. c; crash = λ durable history s. s }))
-      (λ modelled. begun (env.observed from) (λ path other. refl)) (λ modelled before. before) (λ modelled. refl)
+      (λ modelled. begun (env.observed from) (λ path other. refl))
+      (λ modelled numbers. meanwhile_none env store from) (λ modelled before. before) (λ modelled. refl)
       (record { later = omega arith; ok = tt; uncounted = λ why. refl; cause = inl (inl memory) })
 
   -- ---- the logs are replayed
@@ -202,6 +214,10 @@ module _ {E F D FP : Type 0} (env : Ghosts E F) {order : CmpGhosts D} {filters :
         (λ now same path other. unmade_path path (λ n fits is. other (inl (Table, tt, (file_name Table n, n, made_name Table n fits, is)))) now same)
         (replays.spares.run modelled)
 
+    -- no byte is lost, where the numbers that are given are new
+    loses1 : IsTrue env.models_disk → HasNewNumbers store set first → LosesNoBytesMeanwhile env store from e1
+    loses1 modelled numbers = Run-mono (λ now same. loses_at_tables store set set1 may.path first now (table_numbers_below store first set.next_file numbers.below) same) (replays.spares.run modelled)
+
     keeps1 : IsTrue env.models_disk → Keeps e1
     keeps1 modelled meaning agrees contents was allowed there can bound reached =
         replaying_keeps env modelled store format.order meaning contents set set1 logs from e1 was.1 replays.spares allowed bound
@@ -212,7 +228,7 @@ module _ {E F D FP : Type 0} (env : Ghosts E F) {order : CmpGhosts D} {filters :
     why_not_replayed status (inr (inr damaged)) = inr (inr (inr (damaged.0, λ modelled. subst (λ s. AreDamagedLogs s first logs) may.path (damaged.1 modelled))))
 
   pub replay_refused : {C : Type 0} (status : Status) (set1 : VersionSetValue) (e1 : E) → ReplaysLogs env choices {C = C} limit set logs from (Err status) set1 e1 → Begins C (Err status) e1
-  replay_refused {C} status set1 e1 replays = refused_at C e1 status (keeps1 (Err status) set1 e1 replays) (spares1 (Err status) set1 e1 replays) replays.spares.bytes replays.spares.locks
+  replay_refused {C} status set1 e1 replays = refused_at C e1 status (keeps1 (Err status) set1 e1 replays) (spares1 (Err status) set1 e1 replays) (loses1 (Err status) set1 e1 replays) replays.spares.bytes replays.spares.locks
       (cause_of_step (env.failures from) (env.failures from) (env.failures e1) status refl (why_not_replayed (Err status) set1 e1 replays status) replays.cause)
 
   -- ---- the log to write is opened
@@ -265,6 +281,28 @@ module _ {E F D FP : Type 0} (env : Ghosts E F) {order : CmpGhosts D} {filters :
           Run-trans before (λ now spares. spares_then store first replayed_files now before.has spares)
           (Run-mono (λ now passes. log_spared replay.used store set2.next_file opens.number_fits replayed_files now passes) (run2 modelled))
 
+      loses2 : IsTrue env.models_disk → HasNewNumbers store set first → LosesNoBytesMeanwhile env store from e2
+      loses2 modelled numbers =
+          meanwhile_then env store (loses1 (Ok replay) set1 e1 replays modelled numbers)
+          (Run-mono (λ now passes. loses_at_log store replay.used set2.next_file replayed_files now no_log passes) (run2 modelled))
+        where
+          next : ℕ
+          next = set2.next_file
+
+          same_next : next ≡ set1.next_file
+          same_next = ap (λ (s : VersionSetValue). s.next_file) set2_is
+
+          fits : next < 2 ^ 64
+          fits = let before = replays.spares.fits may.fits in omega (arith, same_next, before)
+
+          -- a new log isn't there yet
+          no_log : replayed_files (log_path store next) ≡ None
+          no_log = unmade_path (Ok replay) set1 e1 replays (log_path store next)
+              (λ n n_fits is. let apart = types_apart store (log_path store next) (table_path store n) Log Table (is_log_path store next fits) (is_table_path store n n_fits) (λ e. cc) in
+              let never : true ≡ false = sym ((bytes_decides (log_path store next) (table_path store n)).1 is) ∙ apart in cc)
+              replayed_files (replays.spares.run modelled).has
+              ∙ number_is_new store first set.next_file numbers.below Log next fits (let rises = replays.spares.numbers.rises in omega (arith, same_next, rises))
+
       keeps2 : IsTrue env.models_disk → Keeps e2
       keeps2 modelled meaning agrees contents was = keeps_found_then store format.order_name format.order meaning contents contents (env.observed from) (env.observed e1) (env.observed e2) (inl refl)
           (keeps1 (Ok replay) set1 e1 replays modelled meaning agrees contents was)
@@ -302,6 +340,25 @@ module _ {E F D FP : Type 0} (env : Ghosts E F) {order : CmpGhosts D} {filters :
                 (is_log_path store (number_to_write replay.used set2.next_file) opens.number_fits) (is_table_path store file.number has.0) (λ e. cc)))) has.1,
           )) files all
 
+      -- the number of each table is below those that are given then
+      numbers2 : OnOk result (IsTrue env.models_disk → TableNumbersAreBelow store first set.next_file → TableNumbersAreBelow store log_files set3.next_file)
+      numbers2 = by result opens.set
+        where
+          still : IsTrue env.models_disk → (n : ℕ) → n < 2 ^ 64 → log_files (table_path store n) ≡ replayed_files (table_path store n)
+          still modelled n fits = log_alone replay.used store set2.next_file replayed_files log_files (run2 modelled).has (table_path store n)
+              (types_apart store (log_path store (number_to_write replay.used set2.next_file)) (table_path store n) Log Table
+              (is_log_path store (number_to_write replay.used set2.next_file) opens.number_fits) (is_table_path store n fits) (λ e. cc))
+
+          by : (r : Result (OpenLog E F × MemTableState C) Status) → OnOk r (set3 ≡ set_to_write replay.used set2)
+              → OnOk r (IsTrue env.models_disk → TableNumbersAreBelow store first set.next_file → TableNumbersAreBelow store log_files set3.next_file)
+          by (Ok pair) is = λ modelled below. numbers_still store replayed_files log_files set1.next_file set3.next_file
+              (let same = ap (λ (s : VersionSetValue). s.next_file) set2_is in
+              let more = next_to_write replay.used set2 in
+              let now = ap (λ (s : VersionSetValue). s.next_file) is in omega (arith, same, more, now))
+              (still modelled)
+              (numbers_at_tables store set set1 may.path first replayed_files replays.spares.numbers.rises (replays.spares.run modelled).has below)
+          by (Err status) is = tt
+
     -- there is no number for a new log
     no_number : (status : Status) → AreFileNumbersUsedUp set2.next_file status → Why status
     no_number status used = inl (record {
@@ -318,7 +375,7 @@ module _ {E F D FP : Type 0} (env : Ghosts E F) {order : CmpGhosts D} {filters :
     })
 
     pub log_refused : (cmp : C) (status : Status) (set3 : VersionSetValue) (e2 : E) → OpensLog env store cmp replay.used set2 e1 (Err status) set3 e2 → Begins C (Err status) e2
-    log_refused cmp status set3 e2 opens = refused_at C e2 status (keeps2 cmp (Err status) set3 e2 opens) (spares2 cmp (Err status) set3 e2 opens) (bytes2 cmp (Err status) set3 e2 opens) (locks2 cmp (Err status) set3 e2 opens)
+    log_refused cmp status set3 e2 opens = refused_at C e2 status (keeps2 cmp (Err status) set3 e2 opens) (spares2 cmp (Err status) set3 e2 opens) (loses2 cmp (Err status) set3 e2 opens) (bytes2 cmp (Err status) set3 e2 opens) (locks2 cmp (Err status) set3 e2 opens)
         (cause_of_step (env.failures from) (env.failures e1) (env.failures e2) status replays.cause.ok (λ used. inr (no_number status used)) opens.cause)
 
     -- ---- an edit is logged where one is wanted
@@ -406,6 +463,28 @@ module _ {E F D FP : Type 0} (env : Ghosts E F) {order : CmpGhosts D} {filters :
               (logging_spares env made set3 N e2 e3 set4 modelled (own3 modelled) fits3 result logged)
           spares3 false logged modelled = subst (λ e. Run (SameBesideOwn store (env.observed e2).disk.files) (env.observed e2) (env.observed e)) (sym logged.1) (begun (env.observed e2) (λ path other. refl))
 
+          loses3 : (b : Bool) → LogsIfWanted env b N made set3 e2 result set4 e3 → IsTrue env.models_disk → HasNewNumbers store set first → LosesNoBytesMeanwhile env store e2 e3
+          loses3 true logged modelled numbers = subst (λ s. LosesNoBytesMeanwhile env s e2 e3) path3
+              (logging_loses env made set3 N e2 e3 set4 modelled fits3 no_manifest result logged)
+            where
+              fits : set.manifest_number < 2 ^ 64
+              fits = let below = may.manifest_fits in let next = may.fits in omega (arith, below, next)
+
+              path : List ℕ
+              path = manifest_path store set.manifest_number
+
+              no_manifest : set3.manifest ≡ unmade → (env.observed e2).disk.files (manifest_path set3.store set3.manifest_number) ≡ None
+              no_manifest is = ap (λ s. (env.observed e2).disk.files (manifest_path s set3.manifest_number)) path3
+                  ∙ ap (λ n. (env.observed e2).disk.files (manifest_path store n)) same3.number
+                  ∙ manifest_still cmp (Ok pair) set3 e2 opens modelled path (file_name Descriptor set.manifest_number, set.manifest_number, made_name Descriptor set.manifest_number fits, refl)
+                  ∙ numbers.manifest (sym same3.manifest ∙ is)
+          loses3 false logged modelled numbers = subst (λ e. LosesNoBytesMeanwhile env store e2 e) (sym logged.1)
+              (meanwhile_none env store e2)
+
+          all_lose : LogsIfWanted env wanted N made set3 e2 result set4 e3 → IsTrue env.models_disk → HasNewNumbers store set first → LosesNoBytesMeanwhile env store from e3
+          all_lose logged modelled numbers =
+              meanwhile_then env store (loses2 cmp (Ok pair) set3 e2 opens modelled numbers) (loses3 wanted logged modelled numbers)
+
           module _ (logged : LogsIfWanted env wanted N made set3 e2 result set4 e3) (locks : SameLocks env.models_disk (env.observed e2) (env.observed e3)) where
             all_keep : IsTrue env.models_disk → Keeps e3
             all_keep modelled meaning agrees contents was = keeps_found_then store format.order_name format.order meaning contents contents (env.observed from) (env.observed e2) (env.observed e3)
@@ -461,7 +540,7 @@ module _ {E F D FP : Type 0} (env : Ghosts E F) {order : CmpGhosts D} {filters :
           logged_cause false logged = absurd logged.2
 
           pub edit_refused : LogsIfWanted env wanted N made set3 e2 (Err status) set4 e3 → SameLocks env.models_disk (env.observed e2) (env.observed e3) → Begins C (Err status) e3
-          edit_refused logged locks = refused_at C e3 status (all_keep (Err status) set4 e3 logged locks) (all_spare (Err status) set4 e3 logged locks)
+          edit_refused logged locks = refused_at C e3 status (all_keep (Err status) set4 e3 logged locks) (all_spare (Err status) set4 e3 logged locks) (all_lose (Err status) set4 e3 logged)
               (all_bytes (Err status) set4 e3 logged locks) (all_locks (Err status) set4 e3 logged locks)
               (cause_of_step (env.failures from) (env.failures e2) (env.failures e3) status (opens.cause.ok ∙ replays.cause.ok) (λ why. inr why) (logged_cause wanted logged))
 
@@ -474,6 +553,9 @@ module _ {E F D FP : Type 0} (env : Ghosts E F) {order : CmpGhosts D} {filters :
             pub used : OpenManifest
             pub is_in_use : set4.manifest ≡ in_use used
             pub last : set4.last_sequence ≡ set3.last_sequence
+            pub next : set4.next_file ≡ set3.next_file
+            pub same_tables : IsTrue env.models_disk → (n : ℕ) → n < 2 ^ 64
+                → (env.observed e3).disk.files (table_path store n) ≡ (env.observed e2).disk.files (table_path store n)
             pub own : IsTrue env.models_disk → IsFilePath Descriptor store used.path
             pub there : IsTrue env.models_disk → (env.observed e3).disk.files used.path ≢ None
             pub given : AreNumbersGiven set4 set4.full.added
@@ -488,6 +570,9 @@ module _ {E F D FP : Type 0} (env : Ghosts E F) {order : CmpGhosts D} {filters :
                 used = it.manifest;
                 is_in_use = it.is_in_use;
                 last = it.last;
+                next = it.next;
+                same_tables = λ modelled n fits. subst (λ s. (env.observed e3).disk.files (table_path s n) ≡ (env.observed e2).disk.files (table_path s n)) path3
+                    (it.tables modelled (own3 modelled) fits3 n fits);
                 own = λ modelled. subst (λ s. IsFilePath Descriptor s it.manifest.path) path3 (it.own (own3 modelled) fits3);
                 there = λ modelled. it.there modelled fits3 (there3 modelled);
                 given = it.given live3 made3;
@@ -511,6 +596,8 @@ module _ {E F D FP : Type 0} (env : Ghosts E F) {order : CmpGhosts D} {filters :
                 used = on.0;
                 is_in_use = ap (λ (s : VersionSetValue). s.manifest) same.0 ∙ same3.manifest ∙ on.1;
                 last = ap (λ (s : VersionSetValue). s.last_sequence) same.0;
+                next = ap (λ (s : VersionSetValue). s.next_file) same.0;
+                same_tables = λ modelled n fits. ap (λ e. (env.observed e).disk.files (table_path store n)) same.1;
                 own = λ modelled. subst (λ s. IsFilePath Descriptor s on.0.path) may.path (may.own modelled on.0 on.1);
                 there = λ modelled. subst (λ e. (env.observed e).disk.files on.0.path ≢ None) (sym same.1) (there3 modelled on.0 (same3.manifest ∙ on.1));
                 given = subst (λ (s : VersionSetValue). AreNumbersGiven s s.full.added) (sym same.0) live3;
@@ -590,6 +677,10 @@ module _ {E F D FP : Type 0} (env : Ghosts E F) {order : CmpGhosts D} {filters :
               keeps = all_keep (Ok done) set4 e3 logged locks;
               opens = opened_by wanted refl logged;
               others = all_spare (Ok done) set4 e3 logged locks;
+              kept = all_lose (Ok done) set4 e3 logged;
+              numbers = λ modelled below. numbers_still store (env.observed e2).disk.files (env.observed e3).disk.files set3.next_file value.set.next_file
+                  (let same = is_ended.next in let now = ap (λ (s : VersionSetValue). s.next_file) is.set_is in omega (arith, same, now))
+                  (is_ended.same_tables modelled) (numbers2 cmp (Ok pair) set3 e2 opens modelled below);
               bytes = all_bytes (Ok done) set4 e3 logged locks;
               locks = all_locks (Ok done) set4 e3 logged locks;
               cause = record { later = omega (arith, none_counted); ok = none_counted; uncounted = tt; cause = tt };

@@ -425,6 +425,7 @@ module _ {E F : Type 0} (env : Ghosts E F) (built : List FileMetaData) (set : Ve
     pub manifest : OpenManifest
     pub is_in_use : new.manifest ≡ in_use manifest
     pub last : new.last_sequence ≡ set.last_sequence
+    pub next : new.next_file ≡ set.next_file
     pub own : HasOwnManifest set → set.manifest_number < 2 ^ 64
         → IsFilePath Descriptor set.store manifest.path
     -- it is there, if the one that was in use was
@@ -495,6 +496,7 @@ module _ {E F : Type 0} (env : Ghosts E F) (built : List FileMetaData) (set : Ve
             manifest = new_manifest set tables;
             is_in_use = ap (λ (v : VersionSetValue). v.manifest) l.ok;
             last = ap (λ (v : VersionSetValue). v.last_sequence) l.ok;
+            next = ap (λ (v : VersionSetValue). v.next_file) l.ok;
             own = λ own fits. (
               file_name Descriptor set.manifest_number,
               set.manifest_number,
@@ -536,6 +538,7 @@ module _ {E F : Type 0} (env : Ghosts E F) (built : List FileMetaData) (set : Ve
             };
             is_in_use = ap (λ (v : VersionSetValue). v.manifest) l.ok;
             last = ap (λ (v : VersionSetValue). v.last_sequence) l.ok;
+            next = ap (λ (v : VersionSetValue). v.next_file) l.ok;
             own = λ own fits. own manifest is;
             there = λ modelled fits there gone. there manifest is
                 (none_before manifest.path (frame manifest.writer (edit_record set tables))

@@ -15,6 +15,9 @@ use Rattle.leveldb_store.proofs.FoundLogsLemmas.{logs_same}
 use Rattle.leveldb_store.specs.BuildTable.{TableChoices}
 use Rattle.leveldb_store.specs.FoundLogs.{LacksNumbersFor}
 use Rattle.leveldb_version.specs.Format.{Agrees, Format, Meaning}
+use Rattle.leveldb_store.proofs.KeptBytesLemmas.{meanwhile_then}
+use Rattle.leveldb_store.proofs.OpeningKeptLemmas.{table_numbers_below}
+use Rattle.leveldb_store.specs.KeptBytes.{HasNewNumbers, LosesNoBytesMeanwhile, LosesNothing}
 use Rattle.leveldb_store.specs.OpenStore.{OpenStoreValue}
 use Rattle.leveldb_store.specs.OpeningState.{with_comparator}
 use Rattle.leveldb_store.specs.OpeningSteps.{BeginsWriting, RecoversStore, WasRecovered, WhyNotBegun}
@@ -35,6 +38,8 @@ module _ {E F C : Type 0} (env : Ghosts E F) (format : Format) (store : List ℕ
     opens = λ modelled meaning agrees contents sound. tt;
     stays = recovers.stays;
     others = recovers.others;
+    kept = recovers.kept;
+    numbers = tt;
     locks = recovers.locks;
   }
 
@@ -84,6 +89,10 @@ module _ {E F D FP : Type 0} (env : Ghosts E F) {keys : CmpGhosts D} {filters : 
     })
     why_not_opened status (inr (inr damaged)) = inl (inr (inr (inr (inl (damaged.0, λ modelled. recovers.ok.damage modelled (damaged.1 modelled))))))
 
+    -- no byte is lost
+    all_lose : (IsTrue env.models_disk → HasNewNumbers store it.versions (env.observed mid).disk.files → LosesNoBytesMeanwhile env store mid to) → LosesNothing env store from to
+    all_lose later modelled there = meanwhile_then env store (recovers.kept modelled there) (later modelled (recovers.ok.new_numbers modelled))
+
     module _ {C : Type 0} where
       abbrev Begins : Result (OpenStoreValue C) Status → Type 0
       Begins result = BeginsWriting env choices store it.versions it.logs.keys mid limit result to
@@ -122,6 +131,8 @@ module _ {E F D FP : Type 0} (env : Ghosts E F) {keys : CmpGhosts D} {filters : 
             (begins.opens modelled meaning agrees (with_comparator format.order_name contents) (was_recovered modelled meaning agrees contents sound));
         stays = λ modelled which. absurd (recovers.stays modelled which).0;
         others = λ modelled. let run = recovers.others modelled in Run-trans run (λ now spares. spares_then store (env.observed from).disk.files (env.observed mid).disk.files now run.has spares) (begins.others modelled);
+        kept = all_lose begins.kept;
+        numbers = λ modelled. begins.numbers modelled (table_numbers_below store (env.observed mid).disk.files it.versions.next_file (recovers.ok.new_numbers modelled).below);
         locks = λ modelled. begins.locks modelled ∙ recovers.locks modelled;
       }
       recovered_then (Err status) begins = record {
@@ -134,6 +145,8 @@ module _ {E F D FP : Type 0} (env : Ghosts E F) {keys : CmpGhosts D} {filters : 
         opens = λ modelled meaning agrees contents sound. tt;
         stays = λ modelled which. absurd (recovers.stays modelled which).0;
         others = λ modelled. let run = recovers.others modelled in Run-trans run (λ now spares. spares_then store (env.observed from).disk.files (env.observed mid).disk.files now run.has spares) (begins.others modelled);
+        kept = all_lose begins.kept;
+        numbers = tt;
         locks = λ modelled. begins.locks modelled ∙ recovers.locks modelled;
       }
 

@@ -16,10 +16,12 @@ use Rattle.leveldb_store.proofs.OpeningBytesLemmas.{keeping_bytes, set_bytes}
 use Rattle.leveldb_store.proofs.OpeningFrontLemmas.{IsFoundOrMade, current_is_there, damaged_before, found_is_sound, keeps_found_then, lacking_is_damaged, other_before}
 use Rattle.leveldb_store.proofs.OpeningMadeLemmas.{making_keeps, making_spares}
 use Rattle.leveldb_store.proofs.OpeningNamesLemmas.{sorted_none}
-use Rattle.leveldb_store.proofs.OpeningRecoveredLemmas.{comparator_is, edits_read, have_numbers, in_use_is, is_read, is_recovered, leaving_keeps, log_was, logs_read, logs_there, manifest_below, manifest_there, numbers_after, own_is, path_is, tables_there, then_bytes, unbroken_is}
+use Rattle.leveldb_store.proofs.OpeningRecoveredLemmas.{comparator_is, edits_read, have_numbers, in_use_is, is_read, is_recovered, leaving_keeps, log_was, logs_read, logs_there, manifest_below, manifest_there, new_numbers, numbers_after, own_is, path_is, tables_there, then_bytes, unbroken_is}
+use Rattle.leveldb_store.proofs.OpeningKeptLemmas.{finding_loses, keeping_loses, setting_loses}
 use Rattle.leveldb_store.proofs.OpeningSameLemmas.{keeping_keeps, keeping_spares, spares_then}
 use Rattle.leveldb_store.specs.FoundLogs.{LogBeginsWith}
 use Rattle.leveldb_version.specs.Format.{Format, IsTableOf, Meaning}
+use Rattle.leveldb_store.specs.KeptBytes.{HasNewNumbers, LosesNothing}
 use Rattle.leveldb_store.specs.OpeningState.{IsRecoveredWith, with_comparator}
 use Rattle.leveldb_store.specs.OpeningSteps.{AreBeingKept, AreDamagedLogs, ComesAfterFound, FindsStore, IsBeingMade, IsUnsupported, RecoversSet, RecoversStore, WhyNotFound, WhyNotRecovered, with_logs_kept}
 use Rattle.leveldb_store.specs.OpensStore.{AreTablesThere, HasHugeManifest, HasSharedUserKey, IsDamaged, IsForbidden, IsSound, KeepsFound, LacksCurrent, LacksNumbers, LacksUsableEdits, SameBesideOwn, WhyNotOpenable}
@@ -109,6 +111,7 @@ module _ {E F : Type 0} (env : Ghosts E F) (format : Format) (store : List ℕ) 
           which,
     );
     others = found_spares (Err status) mid finds;
+    kept = λ modelled there. finding_loses env store format.order_name create_if_missing error_if_exists from modelled there (Err status) mid finds;
     bytes = finds.bytes;
     locks = finds.locks;
     cause = cause_of_step (env.failures from) (env.failures from) (env.failures mid) status refl (λ why. inr (why_not_found status why)) finds.cause;
@@ -178,6 +181,7 @@ module _ {E F : Type 0} (env : Ghosts E F) (format : Format) (store : List ℕ) 
               which,
         );
         others = both_spare (Err status) then sets;
+        kept = λ modelled there. setting_loses env store format.order_name create_if_missing error_if_exists from modelled there (Ok done) mid finds (Err status) then sets;
         bytes = both_bytes (Err status) then sets;
         locks = λ modelled. sets.locks modelled ∙ finds.locks modelled;
         cause = cause_of_step (env.failures from) (env.failures mid) (env.failures then) status finds.cause.ok (λ why. inr (why_not_recovered status why)) sets.cause;
@@ -215,6 +219,9 @@ module _ {E F : Type 0} (env : Ghosts E F) (format : Format) (store : List ℕ) 
               (keeping_spares store logs (have_numbers env format reuse limit store mid then it.is_anew it.versions logs sets.ok) (env.observed then).disk.files now being))
               (run modelled)
 
+          all_lose : LosesNothing env store from to
+          all_lose modelled there = keeping_loses env store format.order_name create_if_missing error_if_exists from modelled there (Ok done) mid finds (Ok it) then sets logs to (run modelled)
+
           three_bytes : BytesAreAppended env from to
           three_bytes modelled before = keeping_bytes env store logs then to run modelled (both_bytes (Ok it) then sets modelled before)
 
@@ -236,6 +243,7 @@ module _ {E F : Type 0} (env : Ghosts E F) (format : Format) (store : List ℕ) 
             keeps = λ modelled meaning agrees contents sound. all_keep modelled meaning contents sound;
             stays = λ modelled which. absurd (is_usable modelled which);
             others = all_spare;
+            kept = all_lose;
             bytes = three_bytes;
             locks = all_locks;
             cause = cause_of_step (env.failures from) (env.failures then) (env.failures to) status (sets.cause.ok ∙ finds.cause.ok) (λ never. absurd never)
@@ -303,6 +311,8 @@ module _ {E F : Type 0} (env : Ghosts E F) (format : Format) (store : List ℕ) 
                       (manifest_there env format reuse limit store mid then it.is_anew it.versions logs sets.ok modelled manifest used);
                 };
                 recovered = λ modelled meaning agrees contents sound. all_recovered modelled meaning contents sound;
+                new_numbers = λ modelled. subst (HasNewNumbers store it.versions) (sym (kept modelled))
+                    (new_numbers env format reuse limit store mid then it.is_anew it.versions logs sets.ok modelled);
                 numbers = numbers;
                 logs = logs_were;
                 rising = sets.ok.logs_are.rising;
@@ -311,6 +321,7 @@ module _ {E F : Type 0} (env : Ghosts E F) (format : Format) (store : List ℕ) 
               keeps = λ modelled meaning agrees contents sound. all_keep modelled meaning contents sound;
               stays = λ modelled which. absurd (is_usable modelled which);
               others = all_spare;
+              kept = all_lose;
               bytes = three_bytes;
               locks = all_locks;
               cause = record {

@@ -7,9 +7,10 @@ use Rattle.std.specs.declared.cmp.Ordering.{Ordering}
 use Rattle.leveldb_base.proofs.NamesLemmas.{made_name}
 use Rattle.leveldb_base.specs.Names.{IsFileName, file_name}
 use Rattle.leveldb_base.specs.Types.{Pair}
+use Rattle.leveldb_base.specs.declared.types.FileType.{FileType}
 use Rattle.leveldb_base.specs.declared.types.FileType.TheVariants.{Descriptor, Log}
 use Rattle.leveldb_env.proofs.EnvLemmas.{Run-mono}
-use Rattle.leveldb_env.specs.Env.{BeforeOrAfter, Files, Run, in_folder, synced}
+use Rattle.leveldb_env.specs.Env.{BeforeOrAfter, File, Files, Run, in_folder, synced}
 use Rattle.leveldb_env.specs.declared.env.Env.{Ghosts}
 use Rattle.leveldb_mem.specs.Log.{End, bad, clean}
 use Rattle.leveldb_mem.specs.WriteBatch.{Batch}
@@ -22,7 +23,7 @@ use Rattle.leveldb_version.proofs.RecoveringLemmas.{recovered_sets_track, safe_s
 use Rattle.leveldb_version.specs.Contents.{Contents, Store, made}
 use Rattle.leveldb_version.specs.Opening.{IsRecoveredBut}
 use Rattle.leveldb_version.specs.OpeningLaws.{RecoveredIsTracked}
-use Rattle.leveldb_version.specs.Paths.{log_path, table_path}
+use Rattle.leveldb_version.specs.Paths.{log_path, manifest_path, table_path}
 use Rattle.leveldb_version.specs.Recover.{IsRead, IsReusable, LeavesFiles, ReadManifest, next_number_after, set_going_on, set_starting_anew}
 use Rattle.leveldb_version.specs.Store.{IsManagedBy, LogIsReplayed, ReplayedLog}
 use Rattle.leveldb_version.specs.StoreSteps.{AppendedAreBytes, KeepsHistory}
@@ -36,6 +37,7 @@ use Rattle.leveldb_store.proofs.OpeningSameLemmas.{AreThere, HaveNumbers, SameTe
 use Rattle.leveldb_store.specs.OpeningState.{IsRecoveredWith}
 use Rattle.leveldb_store.proofs.TableKeepsLemmas.{KeepsHistory-refl}
 use Rattle.leveldb_version.specs.Format.{Format, IsTableOf, Meaning}
+use Rattle.leveldb_store.specs.KeptBytes.{HasNewNumbers}
 use Rattle.leveldb_store.specs.OpenStore.{HasOwnManifest}
 use Rattle.leveldb_store.proofs.FoundNumbersLemmas.{edits_after}
 use Rattle.leveldb_store.specs.FoundLogs.{BeginsWithBatches, LogBeginsWith}
@@ -208,6 +210,34 @@ module _ {E F : Type 0} (env : Ghosts E F) (format : Format) (reuse : Bool) (lim
       -- all that is read is as it was
       pub last_text : SameText first last
       last_text = SameText-trans first then_files last same_text (logs_same_text store logs then_files logs_there)
+
+      -- no file has a number that is given from now on, nor that of the manifest which is begun
+      pub new_numbers : HasNewNumbers store set last
+      new_numbers = record {
+        below = λ name n kind is there. let given = was_below name n kind is there in omega (arith, given, least);
+        manifest = λ anew. by anew (last (manifest_path store set.manifest_number)) refl;
+      }
+        where
+          was_below : (name : List ℕ) (n : ℕ) (kind : FileType) → IsFileName name n kind → last (in_folder store name) ≢ None → n < r.marked.next_file
+          was_below name n kind is there =
+              r.below modelled name n kind is (gone_again (first (in_folder store name)) (last (in_folder store name)) (last_text (in_folder store name)) there)
+
+          least : r.marked.next_file ≤ set.next_file
+          least = ⊎_elim (λ (it : GoesOn). omega (arith, ap (λ (s : VersionSetValue). s.next_file) it.1))
+              (λ (it : StartsAnew). omega (arith, ap (λ (s : VersionSetValue). s.next_file) it.1)) outcome
+
+          begun_above : set.manifest ≡ unmade → r.marked.next_file ≤ set.manifest_number
+          begun_above anew = ⊎_elim (λ (it : GoesOn). absurd (not_unmade _ (sym (ap (λ (s : VersionSetValue). s.manifest) it.1) ∙ anew)))
+              (λ (it : StartsAnew). omega (arith, ap (λ (s : VersionSetValue). s.manifest_number) it.1)) outcome
+
+          by : set.manifest ≡ unmade → (file : Option File) → last (manifest_path store set.manifest_number) ≡ file → last (manifest_path store set.manifest_number) ≡ None
+          by anew None is = is
+          by anew (Some file) is =
+              let fits = r.fits in
+              let given = was_below (file_name Descriptor set.manifest_number) set.manifest_number Descriptor
+              (made_name Descriptor set.manifest_number (omega (arith, manifest_below, fits)))
+              (λ gone. let never : Some file ≡ None = sym is ∙ gone in cc) in
+              absurd (omega (arith, given, begun_above anew))
 
       -- its live tables are there
       pub tables_there : AreTablesThere store last set.full.added

@@ -34,6 +34,7 @@ use Rattle.leveldb_version.specs.VersionSet.{level_file}
 use Rattle.leveldb_version.specs.VersionSetValue.{AreFileNumbersUsedUp, OpenManifest, VersionSetValue, broken, in_use}
 use Rattle.leveldb_version.specs.declared.table_cache.TableCache.{TableCache}
 use Rattle.leveldb_store.specs.BuildTable.{IsNotTabled, TableChoices}
+use Rattle.leveldb_store.specs.KeptBytes.{NewTablesLoseNothing}
 use Rattle.leveldb_store.specs.LoggedEdits.{LogsByScore}
 use Rattle.leveldb_store.specs.OpenStore.{AreInLevels, AreNumbersGiven, IsUnbroken, OpenStoreValue}
 use Rattle.leveldb_store.specs.OpenTables.{AreOpenTablesOf}
@@ -244,6 +245,8 @@ module _ {E F C FP : Type 0} (order : CmpGhosts (InternalKeyCmp C)) (env : Ghost
           → files_at env to (table_path old.set.store number)
           ≡ files_at env from (table_path old.set.store number)
       pub rest : SparesRest env.models_disk old (env.observed from) new (env.observed to)
+      -- whatever the files are, none loses a byte, where the numbers of its tables are new
+      pub kept : NewTablesLoseNothing env old.set.store from to old.set.next_file
       pub still_open : KeepsOpenTables new to now
       pub sound : IsSoundCall env by.format.order (Agrees by.format) old from result new to
       pub breaks : BreaksForCause env old from result new to

@@ -11,6 +11,7 @@ use Rattle.leveldb_version.specs.declared.table_cache.TableCache.{TableCache}
 use Rattle.leveldb_store.specs.BuildTable.{TableChoices}
 use Rattle.leveldb_store.specs.Compact.{CompactsTables}
 use Rattle.leveldb_store.specs.Damage.{HasDamagedFile}
+use Rattle.leveldb_store.specs.KeptBytes.{NewTablesLoseNothing}
 use Rattle.leveldb_store.specs.LoggedEdits.{LogsByScore}
 use Rattle.leveldb_store.specs.OpenStore.{IsUnbroken, OpenStoreValue}
 use Rattle.leveldb_store.specs.SoundCall.{BreaksForCause}
@@ -36,6 +37,8 @@ pub record EndsOpening {E F C FP D P : Type 0} (order : CmpGhosts (InternalKeyCm
   pub ok : OnOk result (IsUnbroken new)
   pub broken : OnErr result ((IsUnbroken new → ⊥) × (result ≡ compacted))
   pub breaks : BreaksForCause env old from result new to
+  -- an Err has deleted no file, and whatever the files are none loses a byte
+  pub kept : OnErr result (NewTablesLoseNothing env old.set.store from to old.set.next_file)
   -- a store of which a log or a manifest is damaged that was left aside keeps its files
   pub damaged : IsTrue env.models_disk → HasDamagedFile old.set (env.observed from).disk.files
       → IsTrue new.keeps_files

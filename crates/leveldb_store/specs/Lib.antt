@@ -15,6 +15,7 @@ pub mod Switch
 pub mod Damage
 pub mod Read
 pub mod View
+pub mod KeptBytes
 pub mod Opening
 pub mod OpensStore
 pub mod ReplayLog

@@ -35,6 +35,7 @@ use Rattle.leveldb_version.specs.Writing.{NumbersAreBelow}
 use Rattle.leveldb_store.specs.BuildTable.{TableChoices}
 use Rattle.leveldb_version.specs.Format.{Agrees, Format, Meaning}
 use Rattle.leveldb_store.specs.Listing.{AreNamesIn}
+use Rattle.leveldb_store.specs.KeptBytes.{HasNewNumbers, LosesNoBytesMeanwhile, LosesNothing, TableNumbersAreBelow}
 use Rattle.leveldb_store.specs.OpenStore.{AreInLevels, AreNumbersGiven, HasOwnManifest, IsUnbroken, OpenStoreValue}
 use Rattle.leveldb_store.specs.Opening.{AreMadeTables, GivesNumbers, SameButTables}
 use Rattle.leveldb_store.specs.OpeningState.{HasComparator, IsRecoveredWith, with_comparator}
@@ -533,6 +534,9 @@ module _ {E F : Type 0} (env : Ghosts E F) (format : Format) (store : List ℕ)
         → IsRecoveredWith store format.order meaning
         (with_comparator format.order_name contents) it.versions it.logs.keys
         (env.observed to).disk.files
+    -- no file has a number that is given from now on
+    pub new_numbers : IsTrue env.models_disk
+        → HasNewNumbers store it.versions (env.observed to).disk.files
     -- at most one number was given after those that were found
     pub numbers : IsTrue env.models_disk → (next : ℕ)
         × ComesAfterFound store (env.observed from).disk.files next
@@ -568,6 +572,7 @@ module _ {E F : Type 0} (env : Ghosts E F) (format : Format) (store : List ℕ)
     pub others : IsTrue env.models_disk
         → Run (SameBesideOwn store (env.observed from).disk.files) (env.observed from)
         (env.observed to)
+    pub kept : LosesNothing env store from to
     pub bytes : BytesAreAppended env from to
     pub locks : SameLocks env.models_disk (env.observed from) (env.observed to)
     pub cause : HasCauseOr
@@ -621,6 +626,13 @@ module _ {E F D FP : Type 0} (env : Ghosts E F) {order : CmpGhosts D} {filters :
     pub others : IsTrue env.models_disk
         → Run (SameBesideOwn store (env.observed from).disk.files) (env.observed from)
         (env.observed to)
+    -- where the numbers that are given are new, no byte is lost
+    pub kept : IsTrue env.models_disk → HasNewNumbers store set (env.observed from).disk.files
+        → LosesNoBytesMeanwhile env store from to
+    -- and no table has one that is given then
+    pub numbers : IfOk result (λ value. IsTrue env.models_disk
+        → TableNumbersAreBelow store (env.observed from).disk.files set.next_file
+        → TableNumbersAreBelow store (env.observed to).disk.files value.set.next_file)
     pub bytes : BytesAreAppended env from to
     pub locks : SameLocks env.models_disk (env.observed from) (env.observed to)
     pub cause : HasCauseOr WhyNotBegun (env.failures from) (env.failures to) result

@@ -28,6 +28,7 @@ use Rattle.leveldb_version.specs.VersionSetValue.{OpenManifest, VersionSetValue,
 use Rattle.leveldb_store.specs.BuildTable.{TableChoices}
 use Rattle.leveldb_store.specs.FoundLogs.{HasLogNotKept, LogsBeginWith}
 use Rattle.leveldb_version.specs.Format.{Agrees, Format, IsTableOf, Meaning}
+use Rattle.leveldb_store.specs.KeptBytes.{LosesNothing, TableNumbersAreBelow}
 use Rattle.leveldb_store.specs.OpenStore.{IsUnbroken, OpenStoreValue}
 use Rattle.leveldb_store.specs.Room.{IsFull}
 use Rattle.leveldb_store.specs.Written.{IsDataPath, IsWritten}
@@ -260,6 +261,11 @@ module _ {E F : Type 0} (env : Ghosts E F) (store : List ℕ) (format : Format)
     pub others : IsTrue env.models_disk
         → Run (SameBesideOwn store (env.observed from).disk.files) (env.observed from)
         (env.observed to)
+    -- whatever the files are, no file of a store that is there loses a byte, but for `CURRENT`
+    pub kept : LosesNothing env store from to
+    -- and no table has a number that is given from now on
+    pub numbers : IfOk result (λ value. IsTrue env.models_disk
+        → TableNumbersAreBelow store (env.observed to).disk.files value.set.next_file)
     pub locks : SameLocks env.models_disk (env.observed from) (env.observed to)
 
 module _ {E F D FP : Type 0} (env : Ghosts E F) (store : List ℕ) {keys : CmpGhosts D}

@@ -271,5 +271,6 @@ module _ {E C FP F P : Type 0} {B : Boxed} {keys : InternalOrder C} {key_filters
     never_opens = λ modelled never.
         absurd (may modelled (never_here env store asked from taken took modelled never));
     unopened = tt;
+    kept = tt;
     cause = record { later = later; cause = tt };
   }

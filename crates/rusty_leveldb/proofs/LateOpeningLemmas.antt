@@ -11,7 +11,7 @@ use Rattle.leveldb_env.specs.Env.{BeforeOrAfter, ChangesFiles, ChangesLocks, Fil
 use Rattle.leveldb_env.specs.Options.{Boxed, OptionsOf}
 use Rattle.leveldb_env.specs.declared.env.Env.{Ghosts}
 use Rattle.leveldb_env.specs.declared.filter.FilterPolicy.{Ghosts as FilterGhosts}
-use Rattle.leveldb_env.proofs.EnvLemmas.{Run-mono, Run-trans, SameBut-created, call}
+use Rattle.leveldb_env.proofs.EnvLemmas.{Run-call, Run-mono, Run-trans, SameBut-created, call}
 use Rattle.leveldb_version.proofs.BytesLemmas.{bytes_stay}
 use Rattle.leveldb_version.specs.Contents.{made}
 use Rattle.leveldb_version.specs.Holds.{Holds}
@@ -19,7 +19,9 @@ use Rattle.leveldb_version.specs.Paths.{lock_path}
 use Rattle.leveldb_version.specs.StoreSteps.{AppendedAreBytes}
 use Rattle.leveldb_store.specs.BuildTable.{TableChoices}
 use Rattle.leveldb_version.specs.Format.{Agrees, Format, HasCompressorError, Meaning}
+use Rattle.leveldb_store.proofs.KeptBytesLemmas.{loses_made, loses_none, meanwhile_then}
 use Rattle.leveldb_store.specs.FoundLogs.{HasLogNotKept}
+use Rattle.leveldb_store.specs.KeptBytes.{LosesNothing}
 use Rattle.leveldb_store.specs.OpenStore.{OpenStoreValue}
 use Rattle.leveldb_store.specs.OpensStore.{FailsToOpen, HasOtherComparator, LacksUsableEdits, WhyNotOpenable}
 use Rattle.leveldb_store.specs.Room.{FailsFor, HasFailed}
@@ -371,6 +373,18 @@ module _ {E C FP F P : Type 0} {B : Boxed} {keys : InternalOrder C} {key_filters
   stepped opening is meaning agrees modelled old was =
       late_goes modelled opening is meaning agrees old was
 
+  -- neither the lock nor the opening loses a byte
+  nothing_lost : LosesNothing env store from to
+  nothing_lost modelled there = meanwhile_then env store
+      (Run-mono
+      (λ now made. loses_made store (lock_path store) (env.observed from).disk.files now made)
+      (took modelled).run)
+      (meanwhile_then env store
+      (opens.kept modelled
+      (λ gone. there (sym (same_current env store asked from taken took modelled) ∙ gone)))
+      (Run-mono (λ now same. loses_none store (env.observed opened).disk.files now same)
+      (Run-call modelled does)))
+
   pub late_opens : IsStoreName store × IsTrue asked.fits × IsTrue asked.compresses
       → env.failures to < 2 ^ 64
       → EngineOpens env choices store options asked from (Err e) to
@@ -390,6 +404,7 @@ module _ {E C FP F P : Type 0} {B : Boxed} {keys : InternalOrder C} {key_filters
     misnamed = λ no. absurd (no well);
     never_opens = λ modelled never.
         (tt, made_run modelled (never_here env store asked from taken took modelled never));
+    kept = nothing_lost;
     unopened = λ modelled. ⊎_elim (λ same_lock. inl same_lock)
         (λ held. inr (
           held.0,

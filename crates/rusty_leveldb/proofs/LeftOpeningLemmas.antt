@@ -13,11 +13,13 @@ use Rattle.leveldb_version.specs.Format.{Agrees, Format, IsTableOf, Meaning}
 use Rattle.leveldb_version.specs.StoreSteps.{KeepsHistory}
 use Rattle.leveldb_version.specs.TableCache.{TableOptions}
 use Rattle.leveldb_version.specs.declared.table_cache.TableCache.{TableCache}
+use Rattle.leveldb_store.proofs.KeptBytesLemmas.{meanwhile_then}
 use Rattle.leveldb_store.proofs.KeptFilesLemmas.{keeping, opens_keeping}
 use Rattle.leveldb_store.proofs.OpeningFrontLemmas.{keeps_found_then}
 use Rattle.leveldb_store.proofs.SoundLemmas.{failed_once}
 use Rattle.leveldb_store.specs.BuildTable.{TableChoices}
 use Rattle.leveldb_store.specs.EndsOpening.{EndsOpening}
+use Rattle.leveldb_store.specs.KeptBytes.{LosesNoBytesMeanwhile, LosesNothing, TableNumbersAreBelow}
 use Rattle.leveldb_store.specs.OpenStore.{IsUnbroken, OpenStoreValue}
 use Rattle.leveldb_store.specs.OpenTables.{AreOpenTablesOf}
 use Rattle.leveldb_store.specs.OpensStore.{FailsToOpen, IsForbidden, IsSound, KeepsFound, LacksCurrent, LacksUsableEdits, OpensStore, SameBesideOwn}
@@ -44,6 +46,8 @@ pub record LeavesUnopened {E F : Type 0} (env : Ghosts E F) (store : List ℕ) (
       → Run (FilesUnchanged (env.observed from).disk.files) (env.observed from) (env.observed to)
   pub others : IsTrue env.models_disk
       → SameBesideOwn store (env.observed from).disk.files (env.observed to).disk.files
+  -- of a store that was there no file loses a byte, whatever the files are
+  pub kept : LosesNothing env store from to
   pub time : TimeGoesOn env from to
   pub locks : SameLocks env.models_disk (env.observed from) (env.observed to)
 
@@ -58,6 +62,7 @@ module _ {E F C : Type 0} (env : Ghosts E F) (store : List ℕ) (format : Format
     keeps = opens.keeps;
     stays = λ modelled looks. (opens.stays modelled looks).1;
     others = λ modelled. (opens.others modelled).has;
+    kept = opens.kept;
     time = λ modelled. (opens.others modelled).time.later;
     locks = opens.locks;
   }
@@ -115,6 +120,14 @@ module _ {E F C FP D P : Type 0} (order : CmpGhosts (InternalKeyCmp C)) (env : G
       ((keeps_in modelled meaning agrees allowed is.written).moments bound
       (subst (λ n. n ≤ bound) (sym is.last) reached))
 
+  -- the compaction loses no byte, whose tables have new numbers
+  nothing_lost : LosesNothing env store taken to
+  nothing_lost modelled there = meanwhile_then env store (opens_first.kept modelled there)
+      (subst (λ (s : List ℕ). LosesNoBytesMeanwhile env s opened to) opens_first.path
+      (ends.kept modelled (subst (λ (s : List ℕ).
+      TableNumbersAreBelow s (env.observed opened).disk.files first.set.next_file)
+      (sym opens_first.path) (opens_first.numbers modelled))))
+
   pub left_broken : LeavesUnopened env store format create_if_missing error_if_exists taken to
   left_broken = record {
     keeps = λ modelled meaning agrees contents sound.
@@ -126,6 +139,7 @@ module _ {E F C FP D P : Type 0} (order : CmpGhosts (InternalKeyCmp C)) (env : G
     others = λ modelled path foreign. ends.compacts.keeps.rest.files modelled path
         (λ theirs. foreign (inl (subst (λ (s : List ℕ). IsDataPath s path) opens.path theirs)))
         ∙ (opens.others modelled).has path foreign;
+    kept = nothing_lost;
     time = λ modelled.
         let before = (opens.others modelled).time.later in
         let after = ends.compacts.keeps.sound.time modelled in omega (arith, before, after);

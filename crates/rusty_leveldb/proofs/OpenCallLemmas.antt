@@ -13,6 +13,7 @@ use Rattle.leveldb_env.proofs.EnvLemmas.{Run-call, Run-mono, SameBut-created, be
 use Rattle.leveldb_version.proofs.BytesLemmas.{bytes_stay}
 use Rattle.leveldb_version.specs.Paths.{lock_path}
 use Rattle.leveldb_version.specs.StoreSteps.{AppendedAreBytes}
+use Rattle.leveldb_store.proofs.KeptBytesLemmas.{loses_made}
 use Rattle.leveldb_store.specs.BuildTable.{TableChoices}
 use Rattle.leveldb_version.specs.Format.{Agrees, Format, Meaning}
 use Rattle.leveldb_store.specs.Room.{HasFailed}
@@ -158,6 +159,9 @@ module _ {E C FP F P : Type 0} {B : Boxed} {keys : InternalOrder C} {key_filters
     time = λ modelled. (near modelled).run.time.later;
     misnamed = λ no. (misnamed no, tt);
     never_opens = λ modelled never. (tt, (near modelled).run);
+    kept = λ modelled there. Run-mono
+        (λ now made. loses_made store (lock_path store) (env.observed from).disk.files now made)
+        (near modelled).run;
     unopened = λ modelled.
         inl (ap (λ (l : List ℕ → Bool). l (lock_path store)) (near modelled).locks);
     cause = record { later = later; cause = why };

@@ -19,6 +19,7 @@ use Rattle.leveldb_mem.specs.MemTable.{IsUnion}
 use Rattle.leveldb_store.specs.BuildTable.{TableChoices}
 use Rattle.leveldb_store.specs.Compact.{AreClearOf, deepest_overlapped}
 use Rattle.leveldb_store.specs.FoundLogs.{HasLogNotKept}
+use Rattle.leveldb_store.specs.KeptBytes.{LosesNothing}
 use Rattle.leveldb_store.specs.Read.{GetsFromMemory, GetsFromTables}
 use Rattle.leveldb_store.specs.Room.{FailsFor, IsFull, TellsOnly}
 use Rattle.leveldb_store.specs.SoundCall.{TimeGoesOn}
@@ -456,6 +457,10 @@ module _ {E C FP F P : Type 0} {B : Boxed} {keys : InternalOrder C} {key_filters
     -- one that isn't to be made, or one that is there and must not be; and its files stay
     pub never_opens : IsTrue env.models_disk → NeverOpens name asked (env.observed from).disk
         → OnOk result ⊥ × MakesLockAlone name (env.observed from) (env.observed to)
+    -- One that fails loses nothing of a store that was there, whatever its files are: at each moment
+    -- every file but `CURRENT` and temporary ones is there still, and begins with the bytes that it
+    -- had.
+    pub kept : OnErr result (LosesNothing env name from to)
     -- an opening that fails gives back the lock
     pub unopened : IfErr result (λ status. IsTrue env.models_disk
         → IsLockGivenBack env name asked from (HasLogNotKept (choices options) env.models_disk name

@@ -7,6 +7,7 @@ ghost use Rattle.leveldb_version.specs.Picking.{CompactionValue, IsAskedByReads,
 ghost use Rattle.leveldb_version.specs.TableCache.{table_options};
 ghost use Rattle.leveldb_store.specs.BuildTable.{choices_of};
 ghost use Rattle.leveldb_store.specs.Compact.{CompactsIfAsked, CompactsStore, CompactsTables, EndsByRemoval, LogsCompaction, LogsPicked};
+ghost use Rattle.leveldb_store.specs.KeptBytes.{NewTablesLoseNothing};
 ghost use Rattle.leveldb_store.specs.OpenStore.{IsUnbroken};
 ghost use Rattle.leveldb_store.specs.SoundCall.{BreaksForCause};
 
@@ -30,8 +31,8 @@ impl<E: Env, C: UserCmp + Copy + Drop> OpenStore<E, C> {
     /// shadowed at `smallest`, the smallest number at which the store is read, may go, and deletions
     /// up to it that no deeper level needs. No memtable waits.
     ///
-    /// After an Err the tables are those that they were, and the next call tries again, unless the
-    /// store broke.
+    /// After an Err the tables are those that they were, no file has lost a byte, and the next call
+    /// tries again, unless the store broke.
     pub fn compact_if_asked<FP: FilterPolicy + Copy + Drop>(
         &mut self,
         env: &mut E,
@@ -52,6 +53,8 @@ impl<E: Env, C: UserCmp + Copy + Drop> OpenStore<E, C> {
         ensures asked { CompactsIfAsked (C.cmp self.old.cmp) options.now.max_file_size self.old
             result self.new }
         ensures removes { OnOk result ((self.new ≡ self.old) ⊎ EndsByRemoval E.Env self.new env.new) }
+        ensures kept { OnErr result (NewTablesLoseNothing E.Env self.old.set.store env.old env.new
+            self.old.set.next_file) }
         ensures breaks { BreaksForCause E.Env self.old env.old result self.new env.new }
         ensures log { is_some log.new ≡ is_some log.old }
     {
@@ -116,6 +119,8 @@ impl<E: Env, C: UserCmp + Copy + Drop> OpenStore<E, C> {
         ensures none { picked ≡ None → (result ≡ Ok tt) × (self.new ≡ self.old)
             × (env.new ≡ env.old) × (tables.new ≡ tables.old) }
         ensures err { OnErr result (self.new.set.full ≡ self.old.set.full) }
+        ensures kept { OnErr result (NewTablesLoseNothing E.Env self.old.set.store env.old env.new
+            self.old.set.next_file) }
         ensures breaks { BreaksForCause E.Env self.old env.old result self.new env.new }
         ensures log { is_some log.new ≡ is_some log.old }
     {

@@ -13,7 +13,7 @@ returns-then-is_broken-clause-ends g c =
     let done = rw same at (rw (c.last_sequence-smallest.ensures) at c.compact_if_asked-compacted.ensures) in
     ends_broken _ g.E.Env _ _ c.args.self.now c.args.env.now c.args.tables.now c.requires.usable kept.keeps_files c.keep_damaged_files.new.env looked.keeps looked.later looked.damaged
     c.compact_if_asked-compacted.result c.compact_if_asked-compacted.new.self c.compact_if_asked-compacted.new.env c.compact_if_asked-compacted.new.tables
-    done.compacts done.asked.err done.breaks
+    done.compacts done.asked.err done.breaks done.kept
     (λ usable. let never : true ≡ false = sym c.if-is_broken.true ∙ c.is_broken.ensures.1 usable in cc)
 
 pub returns-clause-ends : goal.returns-clause-ends

@@ -3,8 +3,13 @@ use Rattle.std.specs.Prelude.{max}
 use Rattle.std.proofs.lemmas.Result.{err_from_is_err_and}
 use Rattle.leveldb_mem.specs.Log.LogFile.{LogFileState}
 use Rattle.leveldb_version.specs.Paths.{log_path}
-use Rattle.leveldb_store.proofs.OpeningBeginLemmas.{all_begun, edit_refused, ended_levels, ended_given, ended_made, ended_own, ended_path, ended_up_to, log_refused, neither, replay_refused, unversioned}
+use Rattle.leveldb_store.proofs.OpeningBeginLemmas.{all_begun, edit_refused, ended_levels, ended_given, ended_made, ended_own, ended_path, ended_up_to, log_refused, neither, nothing_begun, replay_refused, unversioned}
 use Rattle.leveldb_store.proofs.opening.begin.begin_writing.Goals as goal
+
+pub returns-in_err-path-clause-begins : goal.returns-in_err-path-clause-begins
+returns-in_err-path-clause-begins g c =
+    let failed = err_from_is_err_and c.from_residual.result c.from_residual.ensures.1 in
+    rw failed.1 (nothing_begun g.E.Env _ _ c.args.name.now c.args.set.is_anew c.args.set.versions c.args.set.logs.keys c.args.env.now c.requires _ failed.0 failed.2)
 
 pub returns-in_err-replay-clause-begins : goal.returns-in_err-replay-clause-begins
 returns-in_err-replay-clause-begins g c =
