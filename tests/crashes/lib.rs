@@ -27,6 +27,8 @@ mod program;
 #[cfg(test)]
 mod random_commands;
 #[cfg(test)]
+mod read_alone;
+#[cfg(test)]
 mod real_files;
 #[cfg(test)]
 mod refused_memory;

@@ -276,7 +276,11 @@ fn compactions(rt: HostRuntime) -> Result<()> {
 
 #[test]
 fn misuse(rt: HostRuntime) -> io::Result<()> {
-    let wanted = (2, b"".as_slice(), b"usage: ldb DIR\n".as_slice());
+    let wanted = (
+        2,
+        b"".as_slice(),
+        b"usage: ldb [--read-only] DIR\n".as_slice(),
+    );
     let mut env = MemEnv::new(rt.alloc());
     assert_run(&rt, &mut env, rt.alloc(), &[], b"get", wanted)?;
     assert_run(&rt, &mut env, rt.alloc(), &["db", "db"], b"get", wanted)

@@ -4,6 +4,7 @@ use crate::crash_disks::{
     Recorded, Script, Setting, Side, Tails, Tally, bytes_on, calls_by, crash, find_all, judge_all,
     judge_crash, options_of, pass_on_memory, record, record_on, sides_of, sides_tried,
 };
+use crate::read_alone::{find_alone, find_both, is_read_alone};
 use crate::replies::{are_same, is_any_map};
 use crate::steps::{Call, Step};
 use leveldb_base::cmp::DefaultCmp;
@@ -38,14 +39,16 @@ struct Looked {
 
 /// Looks up all keys on this disk, if it isn't the one that was looked at last, and returns whether it opened the store for that.
 fn look(
+    rt: &impl Abort,
     alloc: Global,
     disk: &mut RecordEnv,
     setting: Setting,
+    is_alone: bool,
     looked: &mut Looked,
 ) -> Result<bool> {
     let is_new = is_new(alloc, disk, &mut looked.disk)?;
     if is_new {
-        looked.found = find_all(alloc, disk, setting)?;
+        looked.found = find_both(rt, alloc, disk, setting, is_alone)?;
     }
     Ok(is_new)
 }
@@ -62,7 +65,8 @@ fn crash_on(
     tally: &mut Tally,
 ) -> Result<()> {
     let mut left = crash(alloc, &recorded.env, side, kind)?;
-    let is_opened = look(alloc, &mut left, recorded.setting, looked)?;
+    let is_alone = is_read_alone(recorded.every, side.moment);
+    let is_opened = look(rt, alloc, &mut left, recorded.setting, is_alone, looked)?;
     tally.openings = tally.openings.saturating_add(usize::from(is_opened));
     assert!(rt; tally.count(maps, &looked.found), "{side:?}, {kind:?}");
     Ok(())
@@ -136,6 +140,7 @@ pub fn crash_everywhere(
 #[derive(Drop)]
 struct Reopened {
     setting: Setting,
+    every: u64,
     env: RecordEnv,
     start: u64,
     found: Vec<Reply>,
@@ -154,7 +159,8 @@ fn crash_again_on(
     if !is_new(alloc, &mut left, seen)? {
         return Ok(0);
     }
-    let found = find_all(alloc, &mut left, reopened.setting)?;
+    let is_alone = is_read_alone(reopened.every, side.moment);
+    let found = find_both(rt, alloc, &mut left, reopened.setting, is_alone)?;
     assert!(rt; are_same(&reopened.found, &found), "{side:?}, {kind:?}");
     Ok(1)
 }
@@ -189,13 +195,15 @@ fn crash_again(rt: &impl Abort, alloc: Global, reopened: &Reopened, kind: Tails)
 fn reopen_found(
     alloc: Global,
     mut env: RecordEnv,
-    setting: Setting,
+    recorded: &Recorded,
     found: Vec<Reply>,
 ) -> Result<Reopened> {
+    let setting = recorded.setting;
     let start = env.moment();
     Engine::open(alloc, "db", &mut env, options_of(setting))?.abandon(&mut env)?;
     Ok(Reopened {
         setting,
+        every: recorded.every,
         env,
         start,
         found,
@@ -216,8 +224,9 @@ fn crash_twice_on(
         return Ok(0);
     }
     let mut left = crash(alloc, &recorded.env, side, kinds.0)?;
-    let found = find_all(alloc, &mut left, recorded.setting)?;
-    let reopened = reopen_found(alloc, env, recorded.setting, found)?;
+    let is_alone = is_read_alone(recorded.every, side.moment);
+    let found = find_both(rt, alloc, &mut left, recorded.setting, is_alone)?;
+    let reopened = reopen_found(alloc, env, recorded, found)?;
     crash_again(rt, alloc, &reopened, kinds.1)
 }
 
@@ -312,8 +321,11 @@ fn reopen_at_the_end(rt: &impl Abort, alloc: Global, recorded: &mut Recorded) ->
     let mut slow = judge_all(alloc, &recorded.calls)?;
     slow.opened()?;
     let maps = slow.maps(&DefaultCmp)?;
+    let alone = find_alone(rt, alloc, &mut recorded.env, recorded.setting)?;
     let is_right = match find_all(alloc, &mut recorded.env, recorded.setting) {
-        Ok(found) => is_any_map(&maps, &found),
+        Ok(found) => {
+            is_any_map(&maps, &found) && alone.is_none_or(|alone| are_same(&alone, &found))
+        }
         Err(status) => status.code == StatusCode::LockError,
     };
     assert!(rt; is_right);

@@ -98,7 +98,8 @@ fn ends_with<E: Env>(alloc: Global, env: &mut E, name: &str, end: &[u8]) -> Resu
     Ok(file_bytes(alloc, env, name)?.ends_with(end))
 }
 
-fn change<E: Env>(alloc: Global, env: &mut E, act: &Act) -> Result<()> {
+/// Does what is to be done.
+pub fn change<E: Env>(alloc: Global, env: &mut E, act: &Act) -> Result<()> {
     match act {
         Act::Open(setting) => reopen(alloc, env, options_of(*setting)),
         Act::Put(setting, pairs) => put_all(alloc, env, options_of(*setting), pairs),

@@ -41,6 +41,10 @@ mod openings;
 #[cfg(test)]
 mod outputs;
 #[cfg(test)]
+mod read_alone;
+#[cfg(test)]
+mod readers;
+#[cfg(test)]
 mod real_folders;
 #[cfg(test)]
 mod refusals;

@@ -39,20 +39,31 @@ fn random_batch(
     Ok(batch)
 }
 
-/// The bytes of a log of so many batches.
-fn random_log(alloc: Global, random: &mut Random, batches: u64, lengths: u64) -> Result<Vec<u8>> {
+/// The bytes of a log of so many batches from this number on, and the number after them.
+pub fn random_log_from(
+    alloc: Global,
+    random: &mut Random,
+    batches: u64,
+    lengths: u64,
+    first: u64,
+) -> Result<(Vec<u8>, u64)> {
     let mut writer = LogWriter::new(alloc, Vec::new(alloc));
-    let mut sequence = 1;
+    let mut sequence = first;
     for _ in 0..batches {
         let batch = random_batch(alloc, random, sequence, lengths)?;
         sequence += u64::from(batch.count());
         writer.add_record(batch.contents())?;
     }
-    Ok(writer.sink)
+    Ok((writer.sink, sequence))
+}
+
+/// The bytes of a log of so many batches.
+fn random_log(alloc: Global, random: &mut Random, batches: u64, lengths: u64) -> Result<Vec<u8>> {
+    Ok(random_log_from(alloc, random, batches, lengths, 1)?.0)
 }
 
 /// Cuts the bytes, or makes one of them another, or does neither.
-fn damage(bytes: &mut Vec<u8>, random: &mut Random) {
+pub fn damage(bytes: &mut Vec<u8>, random: &mut Random) {
     let at = random.below(bytes.len() as u64 + 1) as usize;
     match random.below(3) {
         0 => bytes.truncate(at),

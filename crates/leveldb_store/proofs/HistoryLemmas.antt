@@ -26,7 +26,7 @@ use Rattle.leveldb_store.specs.Written.{HasLiveTables, IsWritten, KeepsStore, Sh
 -- ---- what is shown
 
 -- tables of files, one for each, in their order
-tables_for : (P : LiveTable → Type 0) (files : List NewFile)
+pub tables_for : (P : LiveTable → Type 0) (files : List NewFile)
     → ((file : NewFile) → Contains files file
     → (table : LiveTable) × P table × (table.file ≡ file))
     → (tables : List LiveTable)

@@ -56,6 +56,8 @@ mod LogSourceLemmas
 mod LogReplayLemmas
 mod ReadBatchLemmas
 mod ReplayStoreLemmas
+mod ReadLogsLemmas
+mod ReadAloneLemmas
 pub mod HistoryLemmas
 mod SyncBatchLemmas
 mod LogBatchLemmas

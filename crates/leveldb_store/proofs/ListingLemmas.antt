@@ -1,5 +1,6 @@
 -- The files of a store among the names of its folder.
 use Rattle.std.specs.Prelude.{All, Any, Contains, IfErr, IfOk, codes, string_bytes, ◌↔◌}
+use Rattle.std.specs.BTreeSet.{BTreeSet}
 use Rattle.std.specs.Global.{Global}
 use Rattle.std.proofs.Common.{◌≡◌, ◌⊎◌, inl, inr, ⊎_elim, ℕ, ◌<◌, ◌≤◌, ◌+◌, List, [], ◌∷◌, ◌++◌, length, take, get_or, Result, Ok, Err, Vec, refl, sym, ◌∙◌, subst, arith}
 use Rattle.std.proofs.lemmas.List.{map-append, take_all, take_more}
@@ -13,10 +14,11 @@ use Rattle.leveldb_base.specs.declared.error.Status.{Status}
 use Rattle.leveldb_base.specs.declared.types.FileType.{FileType}
 use Rattle.leveldb_base.specs.declared.types.FileType.TheVariants.{Current, Log, Table}
 use Rattle.leveldb_env.specs.declared.env.Env.{Ghosts}
-use Rattle.leveldb_version.specs.VersionSetValue.{VersionSetValue}
+use Rattle.leveldb_version.proofs.RecoverLemmas.{cause_of_error}
+use Rattle.leveldb_version.specs.VersionSetValue.{AreFileNumbersUsedUp, VersionSetValue}
 use Rattle.leveldb_store.specs.Listing.{AddsFile, AreFilesIn, AreFilesOf, AreNamesIn, MatchesName, names_of}
 use Rattle.leveldb_store.specs.ReplayLog.{HasCauseOr}
-use Rattle.leveldb_store.specs.OpeningSteps.{AreReplayedLogs, HasMisnamedLog, HasNumber, HasTableOrLog, MarksNames}
+use Rattle.leveldb_store.specs.OpeningSteps.{AreReplayedLogs, ChecksSet, HasMisnamedLog, HasNumber, HasTableOrLog, MarksNames, WhyUnchecked}
 use Rattle.leveldb_store.specs.declared.opening.listing.ListedFile.{ListedFile}
 
 abbrev name_text : ListedFile → List ℕ
@@ -134,6 +136,13 @@ module _ (names : List (List ℕ)) (files : List ListedFile) (are : AreFilesOf n
   pub number_listed : (n : ℕ) → HasNumber (names_of files) n → HasNumber names n
   number_listed n (name, kind, c, is) = (name, kind, are.there name c, is)
 
+  -- no set has the names of these files
+  pub numbers_listed : (shown : List ListedFile) (status : Status) → shown ≡ files
+      → IsOutOfMemory status ⊎ ((n : ℕ) × HasNumber (names_of shown) n × AreFileNumbersUsedUp n status)
+      → IsOutOfMemory status ⊎ ((n : ℕ) × HasNumber names n × AreFileNumbersUsedUp n status)
+  numbers_listed shown status same (inl memory) = inl memory
+  numbers_listed shown status same (inr used) = inr (used.0, number_listed used.0 (subst (λ fs. HasNumber (names_of fs) used.0) same used.1), used.2)
+
   pub marks_listed : (old new : VersionSetValue) → MarksNames old (names_of files) new → MarksNames old names new
   marks_listed old new marks = record {
     gives = marks.gives;
@@ -161,6 +170,31 @@ module _ (names : List (List ℕ)) (files : List ListedFile) (are : AreFilesOf n
       replayed = it.replayed;
       misnamed = it.misnamed;
     }
+
+-- ---- a set that is checked
+
+module _ {E F : Type 0} (env : Ghosts E F) (store : List ℕ) (names : List (List ℕ)) (files : List ListedFile) (are : AreFilesOf names files) (set : VersionSetValue) (from : E) where
+  why_listed : (status : Status) → WhyUnchecked env store set (names_of files) from status → WhyUnchecked env store set names from status
+  why_listed status (code, inl missing) = (code, inl missing)
+  why_listed status (code, inr (inl not)) = (code, inr (inl not))
+  why_listed status (code, inr (inr misnamed)) = (code, inr (inr (misnamed_listed names files are set.log_number set.previous_log misnamed)))
+
+  -- by the names of listed files it is checked by all
+  pub checks_listed : (result : Result (BTreeSet ℕ) Status) (to : E) → ChecksSet env store set (names_of files) from result to → ChecksSet env store set names from result to
+  checks_listed (Ok logs) to checks = record {
+    ok = record { tables = checks.ok.tables; given = checks.ok.given; fits = checks.ok.fits; logs_are = logs_listed names files are set.log_number set.previous_log logs.keys checks.ok.logs_are };
+    still = checks.still;
+    locks = checks.locks;
+    cause = record { later = checks.cause.later; ok = checks.cause.ok; uncounted = tt; cause = tt };
+  }
+  checks_listed (Err status) to checks = record {
+    ok = tt;
+    still = checks.still;
+    locks = checks.locks;
+    cause = cause_of_error status
+        (λ why. ⊎_elim (λ memory. inl memory) (λ it. inr (why_listed status it.0, it.1)) why)
+        (λ why. ⊎_elim (λ memory. inl (inl memory)) (λ it. inr it.1) why) checks.cause;
+  }
 
 -- ---- a listing
 

@@ -41,7 +41,7 @@ use Rattle.leveldb_store.specs.KeptBytes.{HasNewNumbers}
 use Rattle.leveldb_store.specs.OpenStore.{HasOwnManifest}
 use Rattle.leveldb_store.proofs.FoundNumbersLemmas.{edits_after}
 use Rattle.leveldb_store.specs.FoundLogs.{BeginsWithBatches, LogBeginsWith}
-use Rattle.leveldb_store.specs.OpeningSteps.{AreDamagedLogs, ComesAfterFound, IsRecoveredSet, with_logs_kept}
+use Rattle.leveldb_store.specs.OpeningSteps.{AreDamagedLogs, AreLogs, ComesAfterFound, IsRecoveredSet, with_logs_kept}
 use Rattle.leveldb_store.specs.OpensStore.{AreTablesThere, IsSound}
 
 not_none : {A : Type 0} (o : Option A) → IsSome o → o ≢ None
@@ -181,7 +181,7 @@ module _ {E F : Type 0} (env : Ghosts E F) (format : Format) (reuse : Bool) (lim
     log_below = ⊎_elim (λ (it : GoesOn). subst (λ (s : VersionSetValue). s.log_number ≤ s.next_file) (sym it.1) (omega arith))
         (λ (it : StartsAnew). subst (λ (s : VersionSetValue). s.log_number ≤ s.next_file) (sym it.1) (omega arith)) outcome
 
-    last_is : (live_after edits_read).last_sequence ≡ Some set.last_sequence
+    pub last_is : (live_after edits_read).last_sequence ≡ Some set.last_sequence
     last_is = ⊎_elim (λ (it : GoesOn). some_of_number (live_after edits_read).last_sequence set.last_sequence r.recovers.usable.last_is (sym (ap (λ (s : VersionSetValue). s.last_sequence) it.1)))
         (λ (it : StartsAnew). some_of_number (live_after edits_read).last_sequence set.last_sequence r.recovers.usable.last_is (sym (ap (λ (s : VersionSetValue). s.last_sequence) it.1))) outcome
 
@@ -268,14 +268,14 @@ module _ {E F : Type 0} (env : Ghosts E F) (format : Format) (reuse : Bool) (lim
           (log_replayed (live_after edits_read) set.log_number set.previous_log set_numbers n replayed)).1
 
       -- by the manifest's edits these are its logs, however its keys are ordered and its tables are read
-      pub logs_read : (cmp : List ℕ → List ℕ → Ordering) (IsTable : List ℕ → List Pair → Type 0) (contents : Contents) → IsManagedBy store cmp IsTable first edits_read contents
-          → AreDamagedLogs store last logs → ⊥
-      logs_read cmp IsTable contents m damaged = damaged m.logs (record {
+      pub logs_are : (cmp : List ℕ → List ℕ → Ordering) (IsTable : List ℕ → List Pair → Type 0) (contents : Contents) (m : IsManagedBy store cmp IsTable first edits_read contents)
+          → AreLogs store first logs m.logs
+      logs_are cmp IsTable contents m = record {
         numbers_are = numbers_are m.logs logs m.has_logs.rising r.logs_are.rising has to_log;
-        each = λ log c. log_on store cmp IsTable first last log (last_text (log_path store log.number)) (m.has_logs.each log c).0;
+        each = λ log c. (m.has_logs.each log c).0;
         in_order = m.fit.rise;
         ends = bad_ends_end m.logs m.has_logs.rising m.fit.ends;
-      })
+      }
         where
           has : (log : ReplayedLog) → Contains m.logs log → Contains logs log.number
           has log c =
@@ -288,6 +288,17 @@ module _ {E F : Type 0} (env : Ghosts E F) (format : Format) (reuse : Bool) (lim
               let it = r.logs_are.each n c in
               (m.has_logs.all (file_name Log n) n (made_name Log n it.2) (replayed_log (live_after edits_read) set.log_number set.previous_log set_numbers n it.0)
               (not_none (first (log_path store n)) (first_there n c))).1
+
+      pub logs_read : (cmp : List ℕ → List ℕ → Ordering) (IsTable : List ℕ → List Pair → Type 0) (contents : Contents) → IsManagedBy store cmp IsTable first edits_read contents
+          → AreDamagedLogs store last logs → ⊥
+      logs_read cmp IsTable contents m damaged =
+          let are = logs_are cmp IsTable contents m in
+          damaged m.logs (record {
+            numbers_are = are.numbers_are;
+            each = λ log c. log_on store cmp IsTable first last log (last_text (log_path store log.number)) (are.each log c);
+            in_order = are.in_order;
+            ends = are.ends;
+          })
 
       -- ---- the store
 

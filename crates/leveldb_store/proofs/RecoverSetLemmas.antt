@@ -1,6 +1,6 @@
 -- How a version set is recovered at an opening, a step at a time.
-use Rattle.std.specs.Prelude.{All, ◌≢◌, ◌≤◌, ◌^◌, Contains, IfOk, IfSome, IsSomeAnd, IsTrue, codes, fold, length}
-use Rattle.std.proofs.Common.{◌≡◌, ◌⊎◌, inl, inr, ⊎_elim, ℕ, ◌<◌, Bool, true, List, [], Option, None, Some, Ok, Err, Result, refl, sym, ◌∙◌, ap, subst, arith}
+use Rattle.std.specs.Prelude.{All, ◌≢◌, ◌≤◌, ◌^◌, Contains, IfErr, IfOk, IfSome, IsSomeAnd, IsTrue, codes, fold, length}
+use Rattle.std.proofs.Common.{◌≡◌, ◌⊎◌, inl, inr, ⊎_elim, ℕ, ◌<◌, Bool, true, false, List, [], Option, None, Some, Ok, Err, Result, refl, sym, ◌∙◌, ap, subst, arith}
 use Rattle.std.specs.BTreeSet.{BTreeSet}
 use Rattle.std.specs.Option.{unwrap_or}
 use Rattle.std.specs.declared.cmp.Ordering.{Ordering}
@@ -24,13 +24,13 @@ use Rattle.leveldb_version.specs.Recover.{HasRecordOfNoEdit, IsNamed, IsRead, Is
 use Rattle.leveldb_version.specs.Store.{HasEdits}
 use Rattle.leveldb_version.specs.VersionEdit.{Edit, NewFile, empty_edit}
 use Rattle.leveldb_version.specs.VersionSet.{ListsFiles, level_file, live_after}
-use Rattle.leveldb_version.specs.VersionSetValue.{AreFileNumbersUsedUp, VersionSetValue, new_version_set}
+use Rattle.leveldb_version.specs.VersionSetValue.{AreFileNumbersUsedUp, VersionSetValue, broken, new_version_set, unmade}
 use Rattle.leveldb_version.specs.Format.{Format}
 use Rattle.leveldb_version.specs.Writing.{NumbersAreBelow}
 use Rattle.leveldb_store.specs.OpenStore.{AreNumbersGiven}
 use Rattle.leveldb_store.proofs.GivenNumbersLemmas.{below_later}
 use Rattle.leveldb_store.proofs.FoundNumbersLemmas.{edits_after, few_after_name, few_after_next, names_after}
-use Rattle.leveldb_store.specs.OpeningSteps.{AreReplayedLogs, ComesAfterFound, HasMisnamedLog, HasNumber, IsRecoveredSet, IsUnsupported, LacksTable, MarksNames, RecoversSet, WhyNotRecovered}
+use Rattle.leveldb_store.specs.OpeningSteps.{AreReplayedLogs, ChecksSet, ComesAfterFound, HasMisnamedLog, HasNumber, IsChecked, IsRecoveredSet, IsUnsupported, LacksTable, MarksNames, ReadsSet, RecoversSet, WhyNotRecovered, WhyUnchecked}
 use Rattle.leveldb_store.specs.OpensStore.{AreTablesThere, HasOtherComparator, IsBareFolder, IsDamaged, SameBesideOwn}
 use Rattle.leveldb_store.proofs.OpeningSameLemmas.{naming_spares}
 use Rattle.leveldb_store.specs.ReplayLog.{HasCauseOr}
@@ -217,6 +217,57 @@ left_live : {next : ℕ} (set : VersionSetValue) (edits : List Edit) → HasLeft
 left_live set edits left live are file is_live =
     ((full_of_all edits).added.live file).0 (subst (λ fs. Contains fs file) (are ∙ ap (λ (e : Edit). e.added) left.full) is_live)
 
+-- ---- the set is checked
+
+module _ {E F : Type 0} (env : Ghosts E F) (store : List ℕ) (set : VersionSetValue) (names : List (List ℕ)) (from to : E)
+    (still : IsTrue env.models_disk → Run (FilesUnchanged (env.observed from).disk.files) (env.observed from) (env.observed to)) (locks : SameLocks env.models_disk (env.observed from) (env.observed to)) where
+  abbrev pub Checks : Result (BTreeSet ℕ) Status → Type 0
+  Checks result = ChecksSet env store set names from result to
+
+  -- a table is missing
+  pub tables_missing : {T : Type 0} (live : List NewFile) → live ≡ set.full.added → (status : Status)
+      → HasCauseOr {T = T} (λ e. (e.code ≡ Corruption) × (IsTrue env.models_disk → LacksTable store (env.observed from).disk.files live)) (env.failures from) (env.failures to) (Err status) → Checks (Err status)
+  tables_missing live are status cause = record {
+    ok = tt;
+    still = still;
+    locks = locks;
+    cause = cause_of_error status
+        (λ why. ⊎_elim (λ memory. inl memory) (λ it. inr ((it.0.0, inl (λ modelled. subst (LacksTable store (env.observed from).disk.files) are (it.0.1 modelled))), it.1)) why)
+        (λ why. ⊎_elim (λ memory. inl (inl memory)) (λ it. inr it.1) why) cause;
+  }
+
+  module _ (same : env.failures to ≡ env.failures from) where
+    -- a number isn't given
+    pub numbers_ungiven : (status : Status) → (status.code ≡ Corruption) × (AreNumbersGiven set set.full.added → ⊥) → Checks (Err status)
+    numbers_ungiven status why = record {
+      ok = tt;
+      still = still;
+      locks = locks;
+      cause = record { later = omega (arith, same); ok = tt; uncounted = λ excused. same; cause = inl (inr ((why.0, inr (inl why.1)), same)) };
+    }
+
+    -- the logs are found, or one has another name
+    pub logs_checked : (live : List NewFile) → live ≡ set.full.added → (IsTrue env.models_disk → AreTablesThere store (env.observed from).disk.files live) → AreNumbersGiven set set.full.added → set.next_file < 2 ^ 64
+        → (result : Result (BTreeSet ℕ) Status) → IfOk result (λ logs. AreReplayedLogs names set.log_number set.previous_log logs.keys)
+        → IfErr result (λ status. IsOutOfMemory status ⊎ ((status.code ≡ Corruption) × HasMisnamedLog names set.log_number set.previous_log)) → Checks result
+    logs_checked live are there given fits (Ok logs) found why = record {
+      ok = record { tables = λ modelled. subst (AreTablesThere store (env.observed from).disk.files) are (there modelled); given = given; fits = fits; logs_are = found };
+      still = still;
+      locks = locks;
+      cause = record { later = omega (arith, same); ok = same; uncounted = tt; cause = tt };
+    }
+    logs_checked live are there given fits (Err status) found why = record {
+      ok = tt;
+      still = still;
+      locks = locks;
+      cause = record {
+        later = omega (arith, same);
+        ok = tt;
+        uncounted = λ excused. same;
+        cause = inl (⊎_elim (λ memory. inl memory) (λ it. inr ((it.0, inr (inr it.1)), same)) why);
+      };
+    }
+
 -- ---- the steps
 
 module _ {E F : Type 0} (env : Ghosts E F) (format : Format) (exact : IsExactOrder format.order) (reuse : Bool) (limit : ℕ) (store : List ℕ) (from mid : E)
@@ -251,12 +302,12 @@ module _ {E F : Type 0} (env : Ghosts E F) (format : Format) (exact : IsExactOrd
       (λ excused. ⊎_elim (λ memory. inl (inl memory)) (λ it. inr it.1) excused) cause)
 
   module _ (uncounted : env.failures mid ≡ env.failures from) where
-    pub out_of_memory : (status : Status) → IsOutOfMemory status → Recovered (Err status) mid
+    out_of_memory : (status : Status) → IsOutOfMemory status → Recovered (Err status) mid
     out_of_memory status memory = not_begun status (record { later = omega (arith, uncounted); ok = tt; uncounted = λ why. uncounted; cause = inl (inl memory) })
 
     module _ (names : List (List ℕ)) (lists : IsTrue env.models_disk → ListsChildren (env.observed from).disk.files store names) where
       -- a name's number is the last one
-      pub numbers_used_up : (status : Status) → (n : ℕ) × HasNumber names n × AreFileNumbersUsedUp n status → Recovered (Err status) mid
+      numbers_used_up : (status : Status) → (n : ℕ) × HasNumber names n × AreFileNumbersUsedUp n status → Recovered (Err status) mid
       numbers_used_up status (n, has, used) = not_begun status (record {
         later = omega (arith, uncounted);
         ok = tt;
@@ -266,6 +317,11 @@ module _ {E F : Type 0} (env : Ghosts E F) (format : Format) (exact : IsExactOrd
           uncounted,
         ));
       })
+
+      -- no set has these names: memory is out, or a name's number is the last one
+      pub unnumbered : (status : Status) → IsOutOfMemory status ⊎ ((n : ℕ) × HasNumber names n × AreFileNumbersUsedUp n status) → Recovered (Err status) mid
+      unnumbered status (inl memory) = out_of_memory status memory
+      unnumbered status (inr used) = numbers_used_up status used
 
     module _ (names : List (List ℕ)) (lists : IsTrue env.models_disk → ListsChildren (env.observed from).disk.files store names)
         (marked : VersionSetValue) (marks : MarksNames (new_version_set store format.order_name) names marked) (then : E) where
@@ -320,43 +376,37 @@ module _ {E F : Type 0} (env : Ghosts E F) (format : Format) (exact : IsExactOrd
         set_damaged : (IsTrue env.models_disk → HasLeft marked.next_file set edits → IsDamaged store format (env.observed from).disk.files) → IsTrue env.models_disk → IsDamaged store format (env.observed from).disk.files
         set_damaged by modelled meaning order contents for is = not_left marked (env.observed mid) anew set (env.observed then) made.ok (λ left. by modelled left meaning order contents for is)
 
-        -- a table is missing
-        pub tables_missing : {T : Type 0} (status : Status) (live : List NewFile) → live ≡ set.full.added
-            → HasCauseOr {T = T} (λ e. (e.code ≡ Corruption) × (IsTrue env.models_disk → LacksTable store (env.observed then).disk.files live)) (env.failures then) (env.failures to) (Err status)
-            → Recovered (Err status) to
-        tables_missing status live are cause = done (Err status) tt
+        -- what is in the folder has numbers below the next one
+        below : IsTrue env.models_disk → NumbersAreBelow store (env.observed from).disk.files marked.next_file
+        below modelled name n kind is some = marks.used name n kind (listed store (env.observed from).disk.files names (lists modelled) name (no_slash_in_name name n kind is) some) is
+
+        -- files that were there are there
+        still_there : IsTrue env.models_disk → (path : List ℕ) → (env.observed from).disk.files path ≢ None → (env.observed then).disk.files path ≢ None
+        still_there modelled path some = leaves_there env.models_disk format reuse limit marked (env.observed mid) (env.observed then) (made.files modelled) path
+            (subst (λ (f : Files). f path ≢ None) (sym (same_files modelled)) some)
+
+        -- the set isn't one of these files
+        pub unchecked : {T : Type 0} (status : Status) → HasCauseOr {T = T} (WhyUnchecked env store set names then) (env.failures then) (env.failures to) (Err status) → Recovered (Err status) to
+        unchecked status cause = done (Err status) tt
             (subst (λ f. HasCauseOr {T = RecoveredSet E F} Why f (env.failures to) (Err status)) (made.cause.ok ∙ uncounted)
             (cause_of_error status
-            (λ why. ⊎_elim (λ memory. inl memory)
-            (λ it. inr (inr (inr (inl (it.0.0, set_damaged (λ modelled left. table_missing store format (env.observed from).disk.files edits (has_edits modelled) (env.observed then).disk.files (there modelled) live (left_live set edits left live are) (it.0.1 modelled))))), it.1))
-            why)
+            (λ why. ⊎_elim (λ memory. inl memory) (λ it. inr (inr (inr (inl (it.0.0, set_damaged (λ modelled left. by modelled left it.0.1)))), it.1)) why)
             (λ why. ⊎_elim (λ memory. inl (inl memory)) (λ it. inr it.1) why) cause))
           where
-            there : IsTrue env.models_disk → (path : List ℕ) → (env.observed from).disk.files path ≢ None → (env.observed then).disk.files path ≢ None
-            there modelled path some = leaves_there env.models_disk format reuse limit marked (env.observed mid) (env.observed then) (made.files modelled) path
-                (subst (λ (f : Files). f path ≢ None) (sym (same_files modelled)) some)
+            -- the table of a live file is missing, or its number isn't given, or a log has another name
+            by : IsTrue env.models_disk → HasLeft marked.next_file set edits
+                → (IsTrue env.models_disk → LacksTable store (env.observed then).disk.files set.full.added) ⊎ (AreNumbersGiven set set.full.added → ⊥)
+                ⊎ HasMisnamedLog names set.log_number set.previous_log → IsDamaged store format (env.observed from).disk.files
+            by modelled left (inl missing) = table_missing store format (env.observed from).disk.files edits (has_edits modelled) (env.observed then).disk.files (still_there modelled) set.full.added
+                (left_live set edits left set.full.added refl) (missing modelled)
+            by modelled left (inr (inl not)) = number_unlisted store format (env.observed from).disk.files edits (has_edits modelled) marked.next_file (below modelled) set.full.added
+                (left_live set edits left set.full.added refl) (λ given. not (below_later marked.next_file set.next_file left.least set.full.added given))
+            by modelled left (inr (inr misnamed)) = log_misnamed store format (env.observed from).disk.files edits (has_edits modelled) made.ok.usable.log_is names (lists modelled)
+                (subst (λ n. HasMisnamedLog names n (unwrap_or (live_after edits).previous_log 0)) left.log (subst (HasMisnamedLog names set.log_number) left.previous misnamed))
 
         module _ (last : env.failures to ≡ env.failures then) where
           counted_none : env.failures to ≡ env.failures from
           counted_none = last ∙ made.cause.ok ∙ uncounted
-
-          -- a log has another name than its number's
-          pub logs_misnamed : (status : Status) → IsOutOfMemory status ⊎ ((status.code ≡ Corruption) × HasMisnamedLog names set.log_number set.previous_log) → Recovered (Err status) to
-          logs_misnamed status why = done (Err status) tt (record {
-            later = omega (arith, counted_none);
-            ok = tt;
-            uncounted = λ excused. counted_none;
-            cause = inl (⊎_elim (λ memory. inl memory)
-                (λ it. inr (
-                  inr (inr (inl (
-                    it.0,
-                    set_damaged (λ modelled left. log_misnamed store format (env.observed from).disk.files edits (has_edits modelled) made.ok.usable.log_is names (lists modelled)
-                        (subst (λ n. HasMisnamedLog names n (unwrap_or (live_after edits).previous_log 0)) left.log (subst (HasMisnamedLog names set.log_number) left.previous it.1))),
-                  ))),
-                  counted_none,
-                ))
-                why);
-          })
 
           -- the set has the files that its edits leave
           full_is : set.full ≡ fold full_after empty_edit edits
@@ -364,26 +414,6 @@ module _ {E F : Type 0} (env : Ghosts E F) (format : Format) (exact : IsExactOrd
               (λ (reusable : IsReusable reuse limit made.ok.manifest). ap (λ (s : VersionSetValue). s.full) (made.ok.goes_on reusable).1)
               (λ (not : IsReusable reuse limit made.ok.manifest → ⊥). ap (λ (s : VersionSetValue). s.full) (made.ok.starts_anew not).1)
               (reuse_or_not reuse limit made.ok.manifest)
-
-          -- what is in the folder has numbers below the next one
-          below : IsTrue env.models_disk → NumbersAreBelow store (env.observed from).disk.files marked.next_file
-          below modelled name n kind is some = marks.used name n kind (listed store (env.observed from).disk.files names (lists modelled) name (no_slash_in_name name n kind is) some) is
-
-          -- a live table has a number that isn't given
-          pub number_not_given : (status : Status) → (status.code ≡ Corruption) × (AreNumbersGiven set set.full.added → ⊥) → Recovered (Err status) to
-          number_not_given status why = done (Err status) tt (record {
-            later = omega (arith, counted_none);
-            ok = tt;
-            uncounted = λ excused. counted_none;
-            cause = inl (inr (
-              inr (inr (inl (
-                why.0,
-                set_damaged (λ modelled left. number_unlisted store format (env.observed from).disk.files edits (has_edits modelled) marked.next_file (below modelled) set.full.added
-                    (left_live set edits left set.full.added refl) (λ given. why.1 (below_later marked.next_file set.next_file left.least set.full.added given))),
-              ))),
-              counted_none,
-            ));
-          })
 
           recovers_here : Recovers env.models_disk format.order format.order_name reuse limit marked (env.observed from) anew set (env.observed to)
           recovers_here = record {
@@ -396,24 +426,61 @@ module _ {E F : Type 0} (env : Ghosts E F) (format : Format) (exact : IsExactOrd
           }
 
           -- the set is recovered, and its logs are found
-          pub is_recovered : (logs : BTreeSet ℕ) → AreReplayedLogs names set.log_number set.previous_log logs.keys → AreNumbersGiven set set.full.added → set.next_file < 2 ^ 64
-              → (live : List NewFile) → live ≡ set.full.added → (IsTrue env.models_disk → AreTablesThere store (env.observed then).disk.files live)
+          pub is_recovered : (logs : BTreeSet ℕ) → IsChecked env store set names then logs.keys
               → Recovered (Ok (record { versions = set; is_anew = anew; logs = logs })) to
-          is_recovered logs are given fits live live_are there = done (Ok (record { versions = set; is_anew = anew; logs = logs })) (record {
+          is_recovered logs checked = done (Ok (record { versions = set; is_anew = anew; logs = logs })) (record {
             marked = marked;
             gives = marks.gives;
             below = below;
             after_names = after_names;
             recovers = recovers_here;
-            fits = fits;
-            given = given;
+            fits = checked.fits;
+            given = checked.given;
             levels = usable_levels env.models_disk format.order (exact_total exact) format.order_name edits made.ok.usable set.full.added
                 (subst (λ (full : Edit). ListsFiles (live_after edits) full.added) (sym full_is) (full_of_all edits).added)
                 (λ modelled. let read = has_edits modelled in
                 subst (λ (full : Edit). All (λ (file : NewFile). file.level < 7) full.added) (sym full_is) (read_levels read.is.records edits read.is.each));
-            tables = λ modelled. subst (λ (f : Files). AreTablesThere store f set.full.added) (sym (later_still modelled).has)
-                (subst (AreTablesThere store (env.observed then).disk.files) live_are (there modelled));
+            tables = λ modelled. subst (λ (f : Files). AreTablesThere store f set.full.added) (sym (later_still modelled).has) (checked.tables modelled);
             names = names;
             lists = lists;
-            logs_are = are;
+            logs_are = checked.logs_are;
           }) (record { later = omega (arith, counted_none); ok = counted_none; uncounted = tt; cause = tt })
+
+-- ---- the set is read alone
+
+-- calls after each other that change no file
+pub still_twice : {E F : Type 0} (env : Ghosts E F) (a b c : E) → (IsTrue env.models_disk → Run (FilesUnchanged (env.observed a).disk.files) (env.observed a) (env.observed b))
+    → (IsTrue env.models_disk → Run (FilesUnchanged (env.observed b).disk.files) (env.observed b) (env.observed c))
+    → IsTrue env.models_disk → Run (FilesUnchanged (env.observed a).disk.files) (env.observed a) (env.observed c)
+still_twice env a b c one two modelled = let first = one modelled in Run-trans first (λ files same. same ∙ first.has) (two modelled)
+
+pub still_thrice : {E F : Type 0} (env : Ghosts E F) (a b c d : E) → (IsTrue env.models_disk → Run (FilesUnchanged (env.observed a).disk.files) (env.observed a) (env.observed b))
+    → (IsTrue env.models_disk → Run (FilesUnchanged (env.observed b).disk.files) (env.observed b) (env.observed c))
+    → (IsTrue env.models_disk → Run (FilesUnchanged (env.observed c).disk.files) (env.observed c) (env.observed d))
+    → IsTrue env.models_disk → Run (FilesUnchanged (env.observed a).disk.files) (env.observed a) (env.observed d)
+still_thrice env a b c d one two three modelled = still_twice env a c d (still_twice env a b c one two) three modelled
+
+module _ {E F : Type 0} (env : Ghosts E F) (format : Format) (exact : IsExactOrder format.order) (store : List ℕ) (from : E) where
+  abbrev AsRecovered : Result (RecoveredSet E F) Status → E → Type 0
+  AsRecovered = RecoversSet env format false 0 store from
+
+  -- it isn't read, for the causes for which it isn't recovered
+  pub set_unread : (to : E) (status : Status) → (IsTrue env.models_disk → Run (FilesUnchanged (env.observed from).disk.files) (env.observed from) (env.observed to))
+      → SameLocks env.models_disk (env.observed from) (env.observed to) → AsRecovered (Err status) to → ReadsSet env format store from (Err status) to
+  set_unread to status still locks recovers = record {
+    ok = tt;
+    still = still;
+    locks = locks;
+    cause = record { later = recovers.cause.later; ok = tt; uncounted = recovers.cause.uncounted; cause = recovers.cause.cause };
+  }
+
+  -- it is read, and is recovered but for its manifest
+  pub set_read : (to : E) (set : VersionSetValue) (logs : BTreeSet ℕ) → (IsTrue env.models_disk → Run (FilesUnchanged (env.observed from).disk.files) (env.observed from) (env.observed to))
+      → SameLocks env.models_disk (env.observed from) (env.observed to) → set.manifest ≡ broken
+      → AsRecovered (Ok (record { versions = record set { manifest = unmade }; is_anew = true; logs = logs })) to → ReadsSet env format store from (Ok (set, logs)) to
+  set_read to set logs still locks is_broken recovers = record {
+    ok = record { broken_is = is_broken; recovered = recovers.ok };
+    still = still;
+    locks = locks;
+    cause = record { later = recovers.cause.later; ok = recovers.cause.ok; uncounted = tt; cause = tt };
+  }

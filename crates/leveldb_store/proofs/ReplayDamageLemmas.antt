@@ -1,6 +1,6 @@
 -- The logs of numbers in order: there is one list of them, and no list where one is damaged.
 use Rattle.std.specs.Prelude.{◌≢◌, Contains, codes, get_or, max, reverse}
-use Rattle.std.proofs.Common.{◌≡◌, ◌∙◌, ⊎_elim, ◌<◌, ℕ, List, [], ◌∷◌, ◌++◌, ap, append_assoc, arith, drop, map, refl, subst, sym}
+use Rattle.std.proofs.Common.{◌≡◌, ◌∙◌, ⊎_elim, ◌<◌, ℕ, List, [], ◌∷◌, ◌++◌, ap, append-nil, append_assoc, arith, drop, map, refl, subst, sym}
 use Rattle.std.proofs.lemmas.List.{append_cancel_left, reverse-append}
 use Rattle.std.proofs.lemmas.List.Elements.{Contains-append_right, Contains-push_cases}
 use Rattle.leveldb_base.proofs.HistoryLemmas.{in_front, in_none, in_rest}
@@ -97,6 +97,20 @@ begin_with store files (log ∷ logs) (other ∷ all) more numbers each every =
       numbers = more_of.numbers;
     }
 
+-- logs of the same numbers are the same
+pub one_list : (store : List ℕ) (files : Files) (numbers : List ℕ) (logs others : List StoreLog)
+    → AreLogs store files numbers logs → AreLogs store files numbers others → others ≡ logs
+one_list store files numbers logs others these those = begun.is ∙ ap (λ rest. logs ++ rest) (none begun.rest begun.numbers) ∙ append-nil logs
+  where
+    begun : BeginWith logs others []
+    begun = begin_with store files logs others []
+        (those.numbers_are ∙ sym these.numbers_are
+        ∙ sym (append-nil (map (λ (log : StoreLog). log.number) logs))) these.each those.each
+
+    none : (rest : List StoreLog) → map (λ (log : StoreLog). log.number) rest ≡ [] → rest ≡ []
+    none [] is = refl
+    none (log ∷ rest) is = absurd (cc)
+
 order_front : (low : ℕ) (batches more : List Batch) → AreInOrder low (batches ++ more)
     → AreInOrder low batches
 order_front low [] more order = tt
@@ -156,13 +170,11 @@ module _ (store : List ℕ) (files : Files) (numbers : List ℕ) (logs : List St
       never next.log next.number_is next.has_log next.in_order
 
   -- one of them ends badly, and the next one isn't empty
-  pub after_bad_end : (one : StoreLog) → Contains logs one → one.end ≡ bad → (log : StoreLog)
-      → log.number ≡ number → HasLog store files log → 0 < log.size
+  pub filled_after_bad_end : (one : StoreLog) → Contains logs one → one.end ≡ bad
+      → ((log : StoreLog) → log.number ≡ number → HasLog store files log → 0 < log.size)
       → AreDamagedLogs store files (numbers ++ number ∷ later)
-  after_bad_end one there is_bad log number_is has some all every =
+  filled_after_bad_end one there is_bad some all every =
       let next = next_of all every in
-      let same : next.log ≡ log = one_there store files next.log log (next.number_is ∙ sym number_is)
-      next.has_log has in
       let split = splits_at logs one there in
       let parts : all ≡ split.earlier ++ one ∷ (split.later ++ next.log ∷ next.rest) =
       next.all_is ∙ ap (λ ls. ls ++ next.log ∷ next.rest) split.parts
@@ -170,5 +182,14 @@ module _ (store : List ℕ) (files : Files) (numbers : List ℕ) (logs : List St
       let none = every.ends split.earlier one (split.later ++ next.log ∷ next.rest) parts is_bad
       next.log (Contains-append_right split.later (next.log ∷ next.rest) next.log
       (in_front next.log next.rest)) in
-      let size = ap (λ (l : StoreLog). l.size) same in
-      omega (arith, none, size, some)
+      let size = some next.log next.number_is next.has_log in
+      omega (arith, none, size)
+
+  pub after_bad_end : (one : StoreLog) → Contains logs one → one.end ≡ bad → (log : StoreLog)
+      → log.number ≡ number → HasLog store files log → 0 < log.size
+      → AreDamagedLogs store files (numbers ++ number ∷ later)
+  after_bad_end one there is_bad log number_is has some = filled_after_bad_end one there is_bad
+      (λ other other_is has_other.
+      let same = ap (λ (l : StoreLog). l.size)
+      (one_there store files other log (other_is ∙ sym number_is) has_other has) in
+      omega (arith, some, same))

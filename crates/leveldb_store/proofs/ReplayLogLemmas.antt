@@ -181,7 +181,7 @@ IsMadeTable-stays cmp meaning store set now before after table is_store below sa
 
 -- ---- batches
 
-all_more : (batches : List Batch) (batch : Batch)
+pub all_more : (batches : List Batch) (batch : Batch)
     → all_entries (batches ++ batch ∷ []) ≡ all_entries batches ++ batch_entries batch
 all_more batches batch = all_append batches (batch ∷ [])
     ∙ ap (λ es. all_entries batches ++ es) (append-nil (batch_entries batch))
@@ -234,6 +234,24 @@ last_more batches old new batch was gains grows = record {
             omega (arith, long, size, grows.memory, was.grows.memory);
       });
 }
+
+-- entries of all batches: of none, and with a batch more
+pub all_of_none : (entries : List Entry) → entries ≡ [] → IsUnion [] [] entries × GrowsByAll [] [] entries
+all_of_none entries none = (
+  subst (λ es. IsUnion [] [] es) (sym none) (λ entry. (λ c. c, λ c. c)),
+  subst (λ es. GrowsByAll [] [] es) (sym none) (record { count = refl; memory = refl }),
+)
+
+pub all_of_more : (batches : List Batch) (old new : List Entry) (batch : Batch)
+    → IsUnion [] (all_entries batches) old → GrowsByAll [] (all_entries batches) old
+    → IsUnion old (batch_entries batch) new → GrowsByAll old (batch_entries batch) new
+    → IsUnion [] (all_entries (batches ++ batch ∷ [])) new
+    × GrowsByAll [] (all_entries (batches ++ batch ∷ [])) new
+unfolding last_more
+all_of_more batches old new batch are all gains grows =
+    let more = last_more batches old new batch
+    (record { front = []; last = batches; parts = refl; are = are; grows = all }) gains grows in
+    (more.are, more.grows)
 
 -- entries are full with others before or after them, if they are by themselves
 full_before : (limit : ℕ) (xs ys : List Entry) → AreFull limit xs → AreFull limit (xs ++ ys)

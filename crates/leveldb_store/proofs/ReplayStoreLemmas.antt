@@ -37,7 +37,7 @@ use Rattle.leveldb_store.proofs.ReplayLogLemmas.{HasReplayed-none, full_more, re
 -- ---- damage
 
 -- a file that is no log of batches is a damaged log's
-no_log_damaged : (store : List ℕ) (files : Files) (number last : ℕ) (path : List ℕ)
+pub no_log_damaged : (store : List ℕ) (files : Files) (number last : ℕ) (path : List ℕ)
     → path ≡ log_path store number → IsNoLog (files path) → IsDamagedLog store files number last
 no_log_damaged store files number last path path_is never log number_is has order = never log (
   has.0,
@@ -46,7 +46,7 @@ no_log_damaged store files number last path path_is never log number_is has orde
 )
 
 -- so is one with a batch that doesn't follow
-unfollowed_damaged : (store : List ℕ) (files : Files) (number last now : ℕ) {models_disk : Bool}
+pub unfollowed_damaged : (store : List ℕ) (files : Files) (number last now : ℕ) {models_disk : Bool}
     {log : LogReplayState} (batches : List Batch) (batch : Batch)
     → log.path ≡ log_path store number → now ≡ max last (greatest (all_entries batches))
     → HasReadBatches models_disk files log (batches ++ batch ∷ []) → IsTrue models_disk

@@ -68,6 +68,13 @@ pub record IsBatchTooLarge (batches : List Batch) (status : Status) : Type 0 whe
   pub too_large : 2 ^ 31 ≤ memory_of_entries (all_entries kept)
       + (64 * length batch.items + bytes_in batch.items)
 
+-- the logs of these numbers, in rising order, begin with batches that are too large for one memtable
+pub record AreLogsTooLarge (models_disk : Bool) (store : List ℕ) (files : Files) (numbers : List ℕ)
+    (status : Status) : Type 0 where
+  pub batches : List Batch
+  pub begin : IsTrue models_disk → LogsBeginWith store files numbers batches
+  pub too_large : IsBatchTooLarge batches status
+
 module _ {C FP : Type 0} {order : CmpGhosts C} {filters : FilterGhosts FP}
     (choices : TableChoices order filters) where
   -- no table is built of the entries of the last of the batches

@@ -29,3 +29,5 @@ pub mod LoggedEdits
 pub mod RoomSteps
 pub mod Compact
 pub mod EndsOpening
+pub mod ReadLogs
+pub mod OpensToRead

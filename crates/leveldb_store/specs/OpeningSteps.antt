@@ -1,5 +1,6 @@
 -- What each step of an opening returns and leaves of a store's files, and why it fails.
 use Rattle.std.specs.Prelude.{◌≡◌, ◌≢◌, ◌≤◌, ◌<◌, ◌⊎◌, ◌+◌, ◌%◌, ◌^◌, ℕ, Bool, false, true, List, [], ◌∷◌, ◌++◌, map, Contains, Option, None, Some, IsSome, IfNone, IfSome, Result, OnErr, OnOk, IfOk, IsErrAnd, IsTrue, length}
+use Rattle.std.specs.BTreeSet.{BTreeSet}
 use Rattle.std.specs.List.Sorted.{IsStrictlySortedBy}
 use Rattle.std.specs.Ordering.{nat_cmp}
 use Rattle.std.specs.declared.cmp.Ordering.{Ordering}
@@ -30,7 +31,7 @@ use Rattle.leveldb_version.specs.Paths.{current_path, log_path, table_path}
 use Rattle.leveldb_version.specs.Recover.{LeavesFiles, Recovers}
 use Rattle.leveldb_version.specs.Store.{HasLog, HasNoStore, ReplayedLog as StoreLog, SameEntries, log_batches, log_entries}
 use Rattle.leveldb_version.specs.VersionEdit.{IsEncodable, NewFile, new_file_of}
-use Rattle.leveldb_version.specs.VersionSetValue.{AreFileNumbersUsedUp, OpenManifest, VersionSetValue, broken, in_use, new_version_set, with_number_given}
+use Rattle.leveldb_version.specs.VersionSetValue.{AreFileNumbersUsedUp, OpenManifest, VersionSetValue, broken, in_use, new_version_set, unmade, with_number_given}
 use Rattle.leveldb_version.specs.Writing.{NumbersAreBelow}
 use Rattle.leveldb_store.specs.BuildTable.{TableChoices}
 use Rattle.leveldb_version.specs.Format.{Agrees, Format, Meaning}
@@ -439,6 +440,34 @@ module _ {E F : Type 0} (env : Ghosts E F) where
 
 -- ---- the version set
 
+module _ {E F : Type 0} (env : Ghosts E F) (store : List ℕ) (set : VersionSetValue)
+    (names : List (List ℕ)) (from : E) where
+  -- why a set isn't one of these files: the table of a live one is missing, or its number isn't given;
+  -- or a log has another name than its number's
+  abbrev pub WhyUnchecked : Status → Type 0
+  WhyUnchecked status = (status.code ≡ Corruption) × ((IsTrue env.models_disk
+      → LacksTable store (env.observed from).disk.files set.full.added)
+      ⊎ (AreNumbersGiven set set.full.added → ⊥)
+      ⊎ HasMisnamedLog names set.log_number set.previous_log)
+
+  -- The live tables of the set are there, their numbers were given, the next one fits into 64 bits, and
+  -- these are the numbers of the logs that are replayed.
+  pub record IsChecked (logs : List ℕ) : Type 0 where
+    pub tables : IsTrue env.models_disk
+        → AreTablesThere store (env.observed from).disk.files set.full.added
+    pub given : AreNumbersGiven set set.full.added
+    pub fits : set.next_file < 2 ^ 64
+    pub logs_are : AreReplayedLogs names set.log_number set.previous_log logs
+
+  -- what checking the set returns, by the names in the folder
+  pub record ChecksSet (result : Result (BTreeSet ℕ) Status) (to : E) : Type 0 where
+    pub ok : IfOk result (λ logs. IsChecked logs.keys)
+    pub still : IsTrue env.models_disk
+        → Run (FilesUnchanged (env.observed from).disk.files) (env.observed from)
+        (env.observed to)
+    pub locks : SameLocks env.models_disk (env.observed from) (env.observed to)
+    pub cause : HasCauseOr WhyUnchecked (env.failures from) (env.failures to) result
+
 -- a number is found at or past the one before this
 abbrev pub ComesAfterFound : List ℕ → Files → ℕ → Type 0
 ComesAfterFound store files next =
@@ -500,6 +529,25 @@ module _ {E F : Type 0} (env : Ghosts E F) (format : Format) (reuse : Bool) (lim
         (env.observed to)
     pub locks : SameLocks env.models_disk (env.observed from) (env.observed to)
     pub cause : HasCauseOr WhyNotRecovered (env.failures from) (env.failures to) result
+
+module _ {E F : Type 0} (env : Ghosts E F) (format : Format) (store : List ℕ) (from : E) where
+  -- The set is read alone: but for its manifest, which is broken, it is recovered as where no manifest
+  -- is used on, and so without a change of a file. These are the numbers of its logs.
+  pub record IsSetToRead (set : VersionSetValue) (logs : List ℕ) (to : E) : Type 0 where
+    pub broken_is : set.manifest ≡ broken
+    pub recovered : IsRecoveredSet env format false 0 store from true
+        (record set { manifest = unmade }) logs to
+
+  -- what reading the set alone returns
+  pub record ReadsSet (result : Result (VersionSetValue × BTreeSet ℕ) Status) (to : E)
+      : Type 0 where
+    pub ok : IfOk result (λ it. IsSetToRead it.0 it.1.keys to)
+    pub still : IsTrue env.models_disk
+        → Run (FilesUnchanged (env.observed from).disk.files) (env.observed from)
+        (env.observed to)
+    pub locks : SameLocks env.models_disk (env.observed from) (env.observed to)
+    pub cause : HasCauseOr (WhyNotRecovered env format false 0 store from) (env.failures from)
+        (env.failures to) result
 
 -- ---- the store
 

@@ -12,11 +12,13 @@ mod find;
 mod listing;
 mod log_to_write;
 mod logs;
+mod read_logs;
 mod recover;
 mod recovered_set;
 mod replay;
 pub(crate) mod replay_log;
 mod sync;
+mod to_read;
 
 use crate::open_store::OpenStore;
 use begin::begin_writing;

@@ -11,9 +11,9 @@ use Rattle.leveldb_mem.specs.Log.{log_block_size}
 use Rattle.leveldb_mem.specs.Log.Writer.{new_writer}
 use Rattle.leveldb_version.specs.Current.{IsCurrentText}
 use Rattle.leveldb_version.specs.Paths.{current_path}
-use Rattle.leveldb_version.specs.Recover.{IsNamed, IsRead, IsReusable, LeavesFiles, ReadManifest, RecoverResult, WhyUnrecovered, set_going_on, set_starting_anew, unread}
+use Rattle.leveldb_version.specs.Recover.{IsNamed, IsRead, IsReusable, LeavesFiles, ReadManifest, ReadSetResult, RecoverResult, WhyUnrecovered, lost, no_edit, set_going_on, set_read_alone, set_starting_anew, too_long, unread, unusable, used_up}
 use Rattle.leveldb_version.specs.RecoverSteps.{IsPlan, set_settled}
-use Rattle.leveldb_version.specs.VersionSetValue.{ManifestState, OpenManifest, VersionSetValue, in_use, unmade}
+use Rattle.leveldb_version.specs.VersionSetValue.{ManifestState, OpenManifest, VersionSetValue, broken, in_use, unmade}
 use Rattle.leveldb_version.specs.declared.version_set.recover.Plan.{Plan}
 use Rattle.leveldb_version.proofs.RecoverLemmas.{some_and, and_some, why_memory, cause_of_error}
 
@@ -44,7 +44,7 @@ module _ (models_disk : Bool) (cmp : List ℕ → List ℕ → Ordering) (compar
       (record { later = omega (arith, same); ok = tt; uncounted = λ why. same; cause = inl (unread (inl (inl memory))) })
 
   module _ (plan : Plan) (is : IsPlan models_disk cmp comparator reuse limit old before.disk.files plan) where
-    starting_anew : set_settled old plan.left (plan.next_file + 1) plan.next_file unmade ≡ set_starting_anew old is.manifest
+    pub starting_anew : set_settled old plan.left (plan.next_file + 1) plan.next_file unmade ≡ set_starting_anew old is.manifest
     starting_anew = λ i. record old {
       full = is.left.full i;
       next_file = is.next_file i + 1;
@@ -142,3 +142,71 @@ module _ (models_disk : Bool) (cmp : List ℕ → List ℕ → Ordering) (compar
             locks = λ modelled. more_locks modelled ∙ locks modelled;
             cause = cause_of_error status (λ memory. unread (inl (inl memory))) (λ why. why_memory models_disk cmp comparator reuse limit old before f0 f2 status why) (subst P same cause);
           }
+
+-- ---- a set that is read alone
+
+-- the causes are the same whichever manifests are used on
+pub why_as_well : {models_disk : Bool} {cmp : List ℕ → List ℕ → Ordering} {comparator : List ℕ} {reuse : Bool} {limit : ℕ} {old : VersionSetValue} {before : Observed} {f0 f1 : ℕ} {status : Status} (other : Bool) (most : ℕ)
+    → WhyUnrecovered models_disk cmp comparator reuse limit old before f0 f1 status → WhyUnrecovered models_disk cmp comparator other most old before f0 f1 status
+why_as_well other most (unread why) = unread why
+why_as_well other most (lost name n named why) = lost name n named why
+why_as_well other most (too_long name n same named huge) = too_long name n same named huge
+why_as_well other most (no_edit name n same code it) = no_edit name n same code it
+why_as_well other most (unusable manifest same read why) = unusable manifest same read why
+why_as_well other most (used_up manifest same code read many) = used_up manifest same code read many
+
+module _ (models_disk : Bool) (cmp : List ℕ → List ℕ → Ordering) (comparator : List ℕ) (old : VersionSetValue) (before after : Observed) (f0 f1 : ℕ)
+    (still : IsTrue models_disk → Run (FilesUnchanged before.disk.files) before after) (locks : SameLocks models_disk before after) where
+  -- nothing was planned
+  pub set_unread : {T : Type 0} (reuse : Bool) (limit : ℕ) (status : Status) → HasCause {T = T} (WhyUnrecovered models_disk cmp comparator reuse limit old before f0 f1) f0 f1 (Err status)
+      → ReadSetResult models_disk cmp comparator old before f0 (Err status) old after f1
+  set_unread reuse limit status cause = record {
+    ok = tt;
+    err = refl;
+    still = still;
+    locks = locks;
+    cause = cause_of_error status (λ why. why_as_well false 0 why) (λ why. inl (why_as_well reuse limit why)) cause;
+  }
+
+  -- what was planned is read
+  pub set_read : (reuse : Bool) (limit : ℕ) (plan : Plan) → IsPlan models_disk cmp comparator reuse limit old before.disk.files plan → f1 ≡ f0
+      → (set new : VersionSetValue) → set ≡ set_settled old plan.left (plan.next_file + 1) plan.next_file unmade → new ≡ record set { manifest = broken }
+      → ReadSetResult models_disk cmp comparator old before f0 (Ok tt) new after f1
+  set_read reuse limit plan is same set new set_is new_is = record {
+    ok = record {
+      manifest = is.manifest;
+      read = is.read;
+      usable = is.usable;
+      set = new_is ∙ ap (λ (s : VersionSetValue). record s { manifest = broken }) (set_is ∙ starting_anew models_disk cmp comparator reuse limit old new before plan is);
+    };
+    err = tt;
+    still = still;
+    locks = locks;
+    cause = record { later = omega (arith, same); ok = same; uncounted = tt; cause = tt };
+  }
+
+-- what is read alone is recovered as where no manifest is used on
+pub read_is_recovered : (models_disk : Bool) (cmp : List ℕ → List ℕ → Ordering) (comparator : List ℕ) (old : VersionSetValue) (before : Observed) (f0 : ℕ) (set : VersionSetValue) (after : Observed) (f1 : ℕ)
+    → ReadSetResult models_disk cmp comparator old before f0 (Ok tt) set after f1
+    → RecoverResult models_disk cmp comparator false 0 old before f0 (Ok true) (record set { manifest = unmade }) after f1
+read_is_recovered models_disk cmp comparator old before f0 set after f1 reads = record {
+  ok = record {
+    manifest = reads.ok.manifest;
+    read = reads.ok.read;
+    usable = reads.ok.usable;
+    goes_on = λ reusable. absurd (let never : false ≡ true = reusable.wanted in cc);
+    starts_anew = λ not. (refl, ap (λ (s : VersionSetValue). record s { manifest = unmade }) reads.ok.set, λ modelled. (reads.still modelled).has);
+  };
+  err = tt;
+  files = λ modelled. record { manifest = []; number = 0; run = Run-mono (λ files e. inl e) (reads.still modelled); synced_named = inl (reads.still modelled); unusable = λ none. reads.still modelled };
+  locks = reads.locks;
+  cause = record { later = reads.cause.later; ok = reads.cause.ok; uncounted = tt; cause = tt };
+}
+
+-- or neither is
+pub unread_is_unrecovered : (models_disk : Bool) (cmp : List ℕ → List ℕ → Ordering) (comparator : List ℕ) (old : VersionSetValue) (before : Observed) (f0 : ℕ) (status : Status) (set : VersionSetValue) (after : Observed) (f1 : ℕ)
+    → ReadSetResult models_disk cmp comparator old before f0 (Err status) set after f1
+    → RecoverResult models_disk cmp comparator false 0 old before f0 (Err status) old after f1
+unread_is_unrecovered models_disk cmp comparator old before f0 status set after f1 reads =
+    nothing_recovered models_disk cmp comparator false 0 old old before after f0 f1 status reads.still reads.locks refl
+    (record { later = reads.cause.later; ok = tt; uncounted = reads.cause.uncounted; cause = reads.cause.cause })

@@ -1,5 +1,5 @@
 -- What reading a store's manifest makes of a version set, and why it is refused.
-use Rattle.std.specs.Prelude.{◌≡◌, ◌≢◌, ◌≤◌, ◌<◌, ◌+◌, ◌%◌, ◌^◌, ◌⊎◌, ℕ, Bool, false, true, List, fold, length, max, IfOk, IsSome, IsSomeAnd, IsTrue, OnErr, None, Some, Result, Contains}
+use Rattle.std.specs.Prelude.{◌≡◌, ◌≢◌, ◌≤◌, ◌<◌, ◌+◌, ◌%◌, ◌^◌, ◌⊎◌, ℕ, Bool, false, true, List, fold, length, max, IfOk, IsSome, IsSomeAnd, IsTrue, OnErr, OnOk, None, Some, Result, Contains}
 use Rattle.std.specs.Option.{unwrap_or}
 use Rattle.std.specs.declared.cmp.Ordering.{Ordering}
 use Rattle.std.specs.declared.cmp.Ordering.TheVariants.{Less}
@@ -19,7 +19,7 @@ use Rattle.leveldb_version.specs.Paths.{current_path}
 use Rattle.leveldb_version.specs.Store.{HasEdits, LastNumbersFit}
 use Rattle.leveldb_version.specs.VersionEdit.{Edit, NewFile, IsEdit, empty_edit}
 use Rattle.leveldb_version.specs.VersionSet.{FileSet, IsKeyRange, level_file, live_after}
-use Rattle.leveldb_version.specs.VersionSetValue.{VersionSetValue, in_use, unmade}
+use Rattle.leveldb_version.specs.VersionSetValue.{VersionSetValue, broken, in_use, unmade}
 
 -- ---- which edits a store may begin with
 
@@ -142,6 +142,10 @@ set_starting_anew old manifest = record (set_left old manifest.edits) {
   manifest = unmade;
 }
 
+-- the set that is read alone: its next edit would begin a new manifest, but no edit is logged
+abbrev pub set_read_alone : VersionSetValue → ReadManifest → VersionSetValue
+set_read_alone old manifest = record (set_starting_anew old manifest) { manifest = broken }
+
 -- ---- what the call returns and leaves
 
 -- `CURRENT` names this manifest, which was read to its first bad end
@@ -237,3 +241,26 @@ module _ (models_disk : Bool) (cmp : List ℕ → List ℕ → Ordering) (compar
     pub files : IsTrue models_disk → LeavesFiles old before after
     pub locks : SameLocks models_disk before after
     pub cause : HasCause (WhyUnrecovered old before failed now_failed) failed now_failed result
+
+module _ (models_disk : Bool) (cmp : List ℕ → List ℕ → Ordering) (comparator : List ℕ) where
+  -- The manifest that was read has edits that a store may begin with, and the set is what they
+  -- leave, to be read alone.
+  pub record IsSetRead (old : VersionSetValue) (before : Observed) (new : VersionSetValue)
+      : Type 0 where
+    pub manifest : ReadManifest
+    pub read : IsTrue models_disk → IsRead old.store before.disk.files manifest
+    pub usable : IsUsable cmp comparator manifest.edits
+    pub set : new ≡ set_read_alone old manifest
+
+  -- What reading a set alone returns. No file changes at any moment, nor does a lock. It fails for
+  -- the causes that recovering has, whatever is used on, and leaves the set as it was then.
+  pub record ReadSetResult (old : VersionSetValue) (before : Observed) (failed : ℕ)
+      (result : Result (Unit {0}) Status) (new : VersionSetValue) (after : Observed)
+      (now_failed : ℕ) : Type 0 where
+    pub ok : OnOk result (IsSetRead old before new)
+    pub err : OnErr result (new ≡ old)
+    pub still : IsTrue models_disk → Run (FilesUnchanged before.disk.files) before after
+    pub locks : SameLocks models_disk before after
+    pub cause : HasCause
+        (WhyUnrecovered models_disk cmp comparator false 0 old before failed now_failed) failed
+        now_failed result

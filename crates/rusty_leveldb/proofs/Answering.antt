@@ -13,10 +13,10 @@ use Rattle.rusty_leveldb.specs.Language.{reply_lines}
 use Rattle.leveldb_env.specs.Compressor.{Codings, plain_codings}
 use Rattle.leveldb_env.specs.Options.{Boxed, OptionsOf, HasDefaultChoices}
 use Rattle.rusty_leveldb.specs.Engine.{is_size_within, are_within_limits}
-use Rattle.rusty_leveldb.specs.Shell.{HasRun}
 use Rattle.rusty_leveldb.specs.declared.shell.program.Fault.{Fault}
 use Rattle.rusty_leveldb.specs.declared.shell.program.Fault.TheVariants as fault
-use Rattle.rusty_leveldb.specs.Program.{status_of, ldb_opening, IsPlayed}
+use Rattle.rusty_leveldb.specs.declared.shell.program.Way.{Way}
+use Rattle.rusty_leveldb.specs.Program.{status_of, ldb_opening, HasRunBy, IsPlayed}
 
 -- a fault's status isn't 0
 pub some_status : (one : Fault) → (1 ≤ status_of one) × (status_of one ≤ 2)
@@ -31,26 +31,34 @@ one_word [] word some few is = absurd (omega (arith, some))
 one_word (first ∷ []) word some few is = ap (λ (w : String Global). w ∷ []) (sym is)
 one_word (first ∷ second ∷ others) word some few is = absurd (omega (arith, few))
 
+-- a list of two
+pub two_words : (words : List (String Global)) (first second : String Global) → 2 ≤ length words → length words < 3 → first ≡ get_or words 0 first → second ≡ get_or words 1 second
+    → words ≡ first ∷ second ∷ []
+two_words [] first second some few is then = absurd (omega (arith, some))
+two_words (a ∷ []) first second some few is then = absurd (omega (arith, some))
+two_words (a ∷ b ∷ []) first second some few is then = ap (λ (w : String Global). w ∷ b ∷ []) (sym is) ∙ ap (λ (w : String Global). first ∷ w ∷ []) (sym then)
+two_words (a ∷ b ∷ c ∷ others) first second some few is then = absurd (omega (arith, few))
+
 -- a run, whether it went through or not
-pub has_run : {E F : Type 0} (env : Ghosts E F) (folder : List ℕ) (commands : List Command) (from to : E) (given : List Reply) (wanted : Opening) (ended : Result (Unit {0}) Status) → wanted ≡ ldb_opening
-    → HasRun env folder wanted commands from given ended to
-    → (given : List Reply) × (ended : Result (Unit {0}) Status) × HasRun env folder ldb_opening commands from given ended to
-has_run env folder commands from to given wanted ended asks run =
-    (given, ended, subst (λ (o : Opening). HasRun env folder o commands from given ended to) asks run)
+pub has_run : {E F : Type 0} (env : Ghosts E F) (one : Way) (folder : List ℕ) (commands : List Command) (from to : E) (given : List Reply) (wanted : Opening) (ended : Result (Unit {0}) Status) → wanted ≡ ldb_opening
+    → HasRunBy env one folder wanted commands from given ended to
+    → (given : List Reply) × (ended : Result (Unit {0}) Status) × HasRunBy env one folder ldb_opening commands from given ended to
+has_run env one folder commands from to given wanted ended asks run =
+    (given, ended, subst (λ (o : Opening). HasRunBy env one folder o commands from given ended to) asks run)
 
 -- a run that went through, whose replies were written
-pub played : {E F : Type 0} (env : Ghosts E F) (folder : List ℕ) (commands : List Command) (from to : E) (held holds : Option (List ℕ)) (old new told : List Reply) (wanted : Opening)
+pub played : {E F : Type 0} (env : Ghosts E F) (one : Way) (folder : List ℕ) (commands : List Command) (from to : E) (held holds : Option (List ℕ)) (old new told : List Reply) (wanted : Opening)
     (ended : Unit {0}) (r : Result (Unit {0}) Status) → old ≡ [] → wanted ≡ ldb_opening → told ≡ new
-    → HasRun env folder wanted commands from (drop (length old) new) (Ok ended) to
+    → HasRunBy env one folder wanted commands from (drop (length old) new) (Ok ended) to
     → ((given : List Reply) × (new ≡ old ++ given) × (length given ≡ length commands))
     → OnOk r (Appends held holds (reply_lines told))
-    → OnOk r (IsPlayed env folder commands from to held holds)
-played env folder commands from to held holds old new told wanted ended (Err status) none asks same run behind appends = tt
-played env folder commands from to held holds old new told wanted ended (Ok done) none asks same run behind appends =
+    → OnOk r (IsPlayed env one folder commands from to held holds)
+played env one folder commands from to held holds old new told wanted ended (Err status) none asks same run behind appends = tt
+played env one folder commands from to held holds old new told wanted ended (Ok done) none asks same run behind appends =
     let given = behind.0 in
     let replies : drop (length old) new ≡ given = ap (drop (length old)) behind.1 ∙ drop-append_seam old given in
-    let P : List Reply → Type 0 = λ list. HasRun env folder wanted commands from list (Ok tt) to in
-    let Q : Opening → Type 0 = λ o. HasRun env folder o commands from given (Ok tt) to in
+    let P : List Reply → Type 0 = λ list. HasRunBy env one folder wanted commands from list (Ok tt) to in
+    let Q : Opening → Type 0 = λ o. HasRunBy env one folder o commands from given (Ok tt) to in
     let T : List Reply → Type 0 = λ list. Appends held holds (reply_lines list) in (
       given,
       behind.2,

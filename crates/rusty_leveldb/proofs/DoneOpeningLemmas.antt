@@ -30,11 +30,12 @@ use Rattle.rusty_leveldb.specs.Boxes.{EngineOf, InternalOrder}
 use Rattle.rusty_leveldb.specs.Calls.{EngineOpens}
 use Rattle.rusty_leveldb.specs.Engine.{AnswersAs, formats_of, HasOwnTables, IsOpening, IsStoreName, Recalls, no_engine, options_in, scene, tables_by}
 use Rattle.rusty_leveldb.specs.Frame.{IsOwn, Spares}
-use Rattle.rusty_leveldb.specs.Serves.{Goes, IsSpared, Represents}
+use Rattle.rusty_leveldb.specs.Machine.{Opens}
+use Rattle.rusty_leveldb.specs.Serves.{AreReadAs, Goes, IsSpared, Represents}
 use Rattle.rusty_leveldb.specs.State.{Opening, State, done, open_mode, open_store}
 use Rattle.rusty_leveldb.proofs.LateOpeningLemmas.{made_bytes}
 use Rattle.rusty_leveldb.proofs.MachineLemmas.{risk_opening}
-use Rattle.rusty_leveldb.proofs.OpeningLemmas.{contents, fits_or_not, is_sound, lock_spares, opened_goes, other_lacks}
+use Rattle.rusty_leveldb.proofs.OpeningLemmas.{contents, fits_or_not, is_sound, lock_spares, opened_found, opened_goes, other_lacks}
 use Rattle.rusty_leveldb.proofs.ReadsLemmas.{IsNamed}
 use Rattle.rusty_leveldb.proofs.RowLemmas.{open_row}
 use Rattle.rusty_leveldb.proofs.UnderLockLemmas.{IsTaken, LooksNoFurther, but, late_spares, never_here}
@@ -218,6 +219,41 @@ module _ {E C FP F P : Type 0} {B : Boxed} {keys : InternalOrder C} {key_filters
         (subst IsTrue (sym (ap (λ (o : Opening). o.compresses) is.same)) well.2) later early_run
         bytes_end (lock_held modelled) (spares modelled)
 
+    -- and the files were read as the history that it has then
+    abbrev Found : Type 0
+    Found = (last : State) × Represents store meaning (Recalls keys env formats store meaning)
+        (Some engine) (env.observed to).disk last × Opens old opening last
+        × AreReadAs store meaning (env.observed from).disk.files last.history last.last
+
+    finds : IsNamed opening.format.order_name old.store → Found
+    finds fits =
+        let same_but = but env store asked from taken took modelled in
+        let found = contents store meaning opening agrees (env.observed from) old was.disk_is fits
+        (env.observed taken) same_but bytes_taken in
+        let sound = is_sound store meaning opening agrees (env.observed from) old was.disk_is fits
+        (env.observed taken) same_but bytes_taken in
+        opened_found env formats store meaning opening agrees from old was fits (env.observed taken)
+        same_but bytes_taken value (env.observed opened) opens.path
+        (opens_so.keeps modelled meaning agrees found sound)
+        (opens_so.opens modelled meaning agrees found sound) engine to ends.ok kept.rest.store
+        kept.rest.last value.set.last_sequence ended (took modelled).was_free allowed
+        mode unheld lock (format ∙ sym same_format) (tables modelled) (is.fits.1 (well.0, well.1))
+        (subst IsTrue (sym (ap (λ (o : Opening). o.compresses) is.same)) well.2)
+        bytes_end (lock_held modelled)
+
+    -- a store of another comparator isn't opened
+    other_never : (name : List ℕ) × (old.store ≡ made (Some name))
+        × (name ≢ opening.format.order_name) → ⊥
+    other_never differs = may modelled (inr (inr (subst (λ (f : Format). LacksUsableEdits store f here)
+        same_format (other_lacks store meaning opening agrees (env.observed from) old was.disk_is here
+        (but env store asked from taken took modelled) differs.0 differs.1 differs.2))))
+
+    pub done_found : Found
+    done_found = ⊎_elim finds
+        (λ (differs : (name : List ℕ) × (old.store ≡ made (Some name))
+        × (name ≢ opening.format.order_name)). absurd (other_never differs))
+        (fits_or_not store meaning opening agrees (env.observed from) old was.disk_is)
+
     pub done_goes : Goes store meaning (Recalls keys env formats store meaning)
         (scene env (no_engine {E = E} {C = C} {FP = FP} {F = F} {B = B}
         engine.options) from)
@@ -225,9 +261,7 @@ module _ {E C FP F P : Type 0} {B : Boxed} {keys : InternalOrder C} {key_filters
     done_goes = ⊎_elim goes
         (λ (differs : (name : List ℕ) × (old.store ≡ made (Some name))
         × (name ≢ opening.format.order_name)).
-        absurd (may modelled (inr (inr (subst (λ (f : Format). LacksUsableEdits store f here)
-        same_format (other_lacks store meaning opening agrees (env.observed from) old was.disk_is here
-        (but env store asked from taken took modelled) differs.0 differs.1 differs.2))))))
+        absurd (other_never differs))
         (fits_or_not store meaning opening agrees (env.observed from) old was.disk_is)
 
   -- the step, if the options say of names and ids what they mean
@@ -242,6 +276,8 @@ module _ {E C FP F P : Type 0} {B : Boxed} {keys : InternalOrder C} {key_filters
     ok = λ opening is meaning agrees. open_row keys env formats store opening meaning from to engine
         (stepped opening is meaning agrees);
     err = tt;
+    found = λ opening is meaning agrees modelled old was.
+        done_found modelled opening is meaning agrees old was;
     opened = record {
       mode = mode;
       options = tells_in;

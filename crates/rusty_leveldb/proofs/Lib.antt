@@ -53,6 +53,11 @@ pub mod WalkCallLemmas
 mod IteratorLemmas
 mod IteratorLawsLemmas
 mod IteratingLemmas
+pub mod ReadAloneLemmas
+mod ReaderIteratingLemmas
+pub mod ReaderOpeningLemmas
+pub mod RunAloneLemmas
+mod ReadAloneLawsLemmas
 mod ScanLemmas
 pub mod WriteCallLemmas
 pub mod CompactCallLemmas

@@ -151,6 +151,7 @@ module _ {E C FP F P : Type 0} {B : Boxed} {keys : InternalOrder C} {key_filters
     ok = tt;
     err = λ opening is meaning agrees. unopened_row keys env formats store opening meaning from to e
         (stepped near later why opening is meaning agrees);
+    found = tt;
     opened = tt;
     ends = tt;
     held = tt;

@@ -29,12 +29,12 @@ use Rattle.rusty_leveldb.specs.Causes.{Disagrees, Misfits, Setting}
 use Rattle.rusty_leveldb.specs.Engine.{HasOwnTables, Recalls, no_engine, options_in, scene}
 use Rattle.rusty_leveldb.specs.Frame.{IsOwn, Spares}
 use Rattle.rusty_leveldb.specs.Machine.{MayOpen, Opens, StaysOr, Step}
-use Rattle.rusty_leveldb.specs.Serves.{Goes, IsSpared, Reads, Represents, StandsFor, setting_between, snapshot_of}
+use Rattle.rusty_leveldb.specs.Serves.{AreReadAs, Goes, IsSpared, Reads, Represents, StandsFor, order_of, setting_between, snapshot_of}
 use Rattle.rusty_leveldb.specs.State as machine
 use Rattle.rusty_leveldb.specs.State.{IsState, Opening, State, done, open_mode, open_store}
 use Rattle.rusty_leveldb.proofs.Bounds.{safe_allow}
 use Rattle.rusty_leveldb.proofs.EngineLemmas.{Stays, held_by_state, holds_allow}
-use Rattle.rusty_leveldb.proofs.LockLemmas.{lock_current, lock_edits, lock_keeps}
+use Rattle.rusty_leveldb.proofs.LockLemmas.{lock_current, lock_edits, lock_keeps, lock_reads}
 use Rattle.rusty_leveldb.proofs.MachineLemmas.{risk_opening, step_fits}
 use Rattle.rusty_leveldb.proofs.Others.{opening_spares}
 use Rattle.leveldb_store.proofs.HistoryLemmas.{written_shows}
@@ -396,7 +396,7 @@ module _ (store : List ℕ) (meaning : Meaning) (opening : Opening)
             by missing e n none = allowed (inr (none, no_current e))
             by (made name) e n differs = differs n
 
-        opens : Opens old opening now
+        pub opens : Opens old opening now
         opens = record {
           free = sym was.locked ∙ was_free;
           may = may;
@@ -485,6 +485,77 @@ module _ {E C FP F : Type 0} {B : Boxed} {keys : InternalOrder C} (env : Ghosts 
         same_last smallest ended).written;
   }
 
+  -- the step of the machine
+  stepped : IsTrue opening.fits → IsTrue opening.compresses
+      → Step old.mode (setting_between meaning (env.failures from) (env.failures to)) old
+      (open_store opening) done new
+  stepped well set =
+      let setting = setting_between meaning (env.failures from) (env.failures to) in
+      subst (λ m. Step m setting old (open_store opening) done new) (sym was.memory_is)
+      (opened_step store meaning opening agrees (env.observed from) old was.disk_is fits taken but
+      bytes value opened path keeps is_opened engine.store (env.observed to) unbroken same_path same_last
+      smallest ended was_free allowed setting well set)
+
+  represented : engine.mode ≡ open_mode → engine.snapshots ≡ record { held = []; given = 0 }
+      → engine.lock ≡ lock_path store
+      → formats (options_in engine) ≡ opening.format
+      → HasOwnTables keys env formats engine (env.observed to).disk.files
+      → IsTrue opening.fits → IsTrue opening.compresses
+      → AppendedAreBytes (env.observed to).disk.files
+      → (env.observed to).disk.locked (lock_path store) ≡ true
+      → Represents store meaning (Recalls keys env formats store meaning) (Some engine)
+      (env.observed to).disk new
+  represented mode unheld lock same tables well set bytes_now locked = record {
+    disk_is = end_stands store meaning opening agrees (env.observed from) old was.disk_is fits
+        taken but bytes value opened path keeps is_opened engine.store (env.observed to)
+        unbroken same_path same_last smallest ended (step_fits
+        (setting_between meaning (env.failures from) (env.failures to)) old new (open_store opening)
+        done was.disk_is.is_state (stepped well set)) bytes_now locked;
+    memory_is = recalled mode unheld lock same tables;
+  }
+
+  -- the files were read as the history that it has then
+  found_as : AreReadAs store meaning (env.observed from).disk.files new.history new.last
+  found_as =
+      let found = finds store meaning opening agrees (env.observed from) old was.disk_is fits taken but
+      bytes in
+      let c = found.carries in
+      let back : SameBut (lock_path store) taken.disk.files (env.observed from).disk.files =
+      λ path apart. sym (but path apart) in (
+        record {
+          contents = c.contents;
+          read = lock_reads store taken.disk.files (env.observed from).disk.files back meaning
+              (order_of meaning c.contents.store) c.contents c.read;
+          matches = record {
+            same = c.matches.same;
+            up_to = c.matches.up_to;
+            reached = c.matches.reached;
+            bounded = omega arith;
+            store = tt;
+          };
+        },
+        refl,
+      )
+
+  pub opened_found : engine.mode ≡ open_mode → engine.snapshots ≡ record { held = []; given = 0 }
+      → engine.lock ≡ lock_path store
+      → formats (options_in engine) ≡ opening.format
+      → HasOwnTables keys env formats engine (env.observed to).disk.files
+      → IsTrue opening.fits → IsTrue opening.compresses
+      → AppendedAreBytes (env.observed to).disk.files
+      → (env.observed to).disk.locked (lock_path store) ≡ true
+      → (last : State) × Represents store meaning (Recalls keys env formats store meaning)
+      (Some engine) (env.observed to).disk last × Opens old opening last
+      × AreReadAs store meaning (env.observed from).disk.files last.history last.last
+  opened_found mode unheld lock same tables well set bytes_now locked = (
+    new,
+    represented mode unheld lock same tables well set bytes_now locked,
+    opens store meaning opening agrees (env.observed from) old was.disk_is fits taken but
+        bytes value opened path keeps is_opened engine.store (env.observed to) unbroken same_path
+        same_last smallest ended was_free allowed,
+    found_as,
+  )
+
   pub opened_goes : engine.mode ≡ open_mode → engine.snapshots ≡ record { held = []; given = 0 }
       → engine.lock ≡ lock_path store
       → formats (options_in engine) ≡ opening.format
@@ -500,23 +571,11 @@ module _ {E C FP F : Type 0} {B : Boxed} {keys : InternalOrder C} (env : Ghosts 
       engine.options) from)
       (open_store opening) done (scene env (Some engine) to) old
   opened_goes mode unheld lock same tables well set later early bytes_now locked spares =
-      let setting = setting_between meaning (env.failures from) (env.failures to) in
-      let step : Step old.mode setting old (open_store opening) done new =
-      subst (λ m. Step m setting old (open_store opening) done new) (sym was.memory_is)
-      (opened_step store meaning opening agrees (env.observed from) old was.disk_is fits taken but
-      bytes value opened path keeps is_opened engine.store (env.observed to) unbroken same_path same_last
-      smallest ended was_free allowed setting well set) in
       record {
         new = new;
-        represents = record {
-          disk_is = end_stands store meaning opening agrees (env.observed from) old was.disk_is fits
-              taken but bytes value opened path keeps is_opened engine.store (env.observed to)
-              unbroken same_path same_last smallest ended (step_fits setting old new (open_store opening) done was.disk_is.is_state step) bytes_now
-              locked;
-          memory_is = recalled mode unheld lock same tables;
-        };
+        represents = represented mode unheld lock same tables well set bytes_now locked;
         later = later;
-        step = step;
+        step = stepped well set;
         moments = end_run store meaning opening agrees (env.observed from) old was.disk_is fits taken
             but bytes value opened path keeps is_opened engine.store (env.observed to) unbroken
             same_path same_last smallest ended early;

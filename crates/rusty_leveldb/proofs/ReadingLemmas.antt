@@ -47,7 +47,7 @@ responds_in machine.closed setting old snapshot key answer usable responds = abs
 -- a store of which the seeks of its files have changed shows what it showed, and is written on
 module _ {C : Type 0} (cmp : List ℕ → List ℕ → Ordering) (meaning : Meaning)
     (value : OpenStoreValue C) (current : VersionValue C) (files : Files) where
-  shows_read : (history : History) (since : ℕ) → Shows cmp meaning value files history since
+  pub shows_read : (history : History) (since : ℕ) → Shows cmp meaning value files history since
       → Shows cmp meaning (record value { current = current }) files history since
   shows_read history since shown = record {
     tables = shown.tables;

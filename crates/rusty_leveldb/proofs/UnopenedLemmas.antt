@@ -120,7 +120,7 @@ comparator_there store meaning files there found edits has name is =
 
 -- ---- causes
 
-not_true : (b : Bool) → (IsTrue b → ⊥) → b ≡ false
+pub not_true : (b : Bool) → (IsTrue b → ⊥) → b ≡ false
 not_true true never = absurd (never refl)
 not_true false never = refl
 

@@ -4,6 +4,7 @@ use Rattle.leveldb_base.specs.declared.cmp.internal.InternalKeyCmp.{InternalKeyC
 use Rattle.leveldb_env.specs.Options.{Boxed, OptionsOf}
 use Rattle.leveldb_version.specs.declared.table_cache.TableCache.{TableCache}
 use Rattle.rusty_leveldb.specs.EngineValue.{EngineValue}
+use Rattle.rusty_leveldb.specs.ReaderValue.{ReaderValue}
 use Rattle.rusty_leveldb.specs.declared.shell.crash_runs.Life.{Life}
 
 -- the order of internal keys over comparators of this type
@@ -13,6 +14,10 @@ InternalOrder C = CmpGhosts (InternalKeyCmp C)
 -- an engine whose options own boxes of these types
 abbrev pub EngineOf : (E C FP F : Type 0) → Boxed → Type 0
 EngineOf E C FP F B = EngineValue C (OptionsOf C FP B) (TableCache E C FP F)
+
+-- an engine that only reads, whose options do
+abbrev pub ReaderOf : (E C FP F : Type 0) → Boxed → Type 0
+ReaderOf E C FP F B = ReaderValue C (OptionsOf C FP B) (TableCache E C FP F)
 
 -- a life whose options do
 abbrev pub LifeOf : Type 0 → Type 0 → Boxed → Type 0

@@ -31,7 +31,7 @@ use Rattle.leveldb_version.specs.Batches.{Each}
 use Rattle.leveldb_version.specs.Format.{Format, IsTableFault, Meaning, Agrees}
 use Rattle.leveldb_version.specs.Overlap.{named_range}
 use Rattle.rusty_leveldb.specs.State.{Opening, Request, Snapshot, State, open_mode, open_store, write, get, get_snapshot, release_snapshot, flush, compact_range, close, abandon}
-use Rattle.rusty_leveldb.specs.Serves.{done_or, found_or, given_engine, snapshot_of, snapshot_or}
+use Rattle.rusty_leveldb.specs.Serves.{AreReadAs, done_or, found_or, given_engine, snapshot_of, snapshot_or}
 use Rattle.rusty_leveldb.specs.Engine.{IsClosed, IsBroken, IsClosedOrBroken, ReadsAt, RefusedByMode, AnswersAs, Answers, WriteExcused, SyncExcused, CloseExcused, CompactExcused, GetExcused, GetFails, SnapshotExcused, ReleaseExcused, WalkExcused, IsStoreName, IsOpening, HasOwnLock, formats_of, holds_lock, options_in, tables_by}
 use Rattle.rusty_leveldb.specs.Frame.{IsOwn, IsSyncing, MayTouchOrLog, SameBytes, Spares}
 use Rattle.rusty_leveldb.specs.Machine.{AllDurable, Closes, Gives, Keeps, Opens, Releases, Writes, risk_of}
@@ -430,6 +430,14 @@ module _ {E C FP F P : Type 0} {B : Boxed} {keys : InternalOrder C} {key_filters
         → (meaning : Meaning) → Agrees opening.format meaning
         → FromStatesOf keys env (formats_of choices) (risk_of (open_store opening)) name meaning None
         from None to (NotOpened opening e))
+    -- and that history is one as which its files were read
+    pub found : IfOk result (λ engine. (opening : Opening) → IsOpening name asked opening
+        → (meaning : Meaning) → Agrees opening.format meaning → IsTrue env.models_disk
+        → (old : State) → RepresentsAt keys env (formats_of choices) name meaning None from old
+        → (new : State)
+        × RepresentsAt keys env (formats_of choices) name meaning (Some engine) to new
+        × Opens old opening new
+        × AreReadAs name meaning (env.observed from).disk.files new.history new.last)
     pub opened : IfOk result (IsOpened env (formats_of choices) name options)
     -- Ok: after its files were opened one compaction was done at most. It is done where the score of
     -- a level asks for it, and takes a file of that level, unless it fails for a cause.

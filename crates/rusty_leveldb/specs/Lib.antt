@@ -1,4 +1,5 @@
 pub mod EngineValue
+pub mod ReaderValue
 pub mod ReadSamples
 pub mod Boxes
 pub mod Frame
@@ -18,8 +19,11 @@ pub mod IteratorLaws
 pub mod Compact
 pub mod Room
 pub mod Calls
+pub mod ReadAlone
+pub mod ReadAloneLaws
 pub mod CompactionLaws
 pub mod Shell
+pub mod RunAlone
 pub mod Lives
 pub mod Language
 pub mod Spelling

@@ -1,5 +1,5 @@
 -- What the program does: it reads commands, runs them, and writes the replies.
-use Rattle.std.specs.Prelude.{◌≡◌, ◌≢◌, ◌⊎◌, ◌<◌, ◌≤◌, ◌^◌, ℕ, List, [], ◌∷◌, length, Option, Result, Ok, IfSome, true, String, string_bytes, false, codes}
+use Rattle.std.specs.Prelude.{◌≡◌, ◌⊎◌, ◌<◌, ◌≤◌, ◌^◌, ℕ, List, [], ◌∷◌, length, map, Option, Result, Ok, IfSome, true, String, string_bytes, false, codes}
 use Rattle.std.specs.Io.KnownBytes.{Appends}
 use Rattle.std.specs.declared.alloc.Global.{Global}
 use Rattle.leveldb_base.specs.Cmp.{bytewise}
@@ -11,9 +11,23 @@ use Rattle.rusty_leveldb.specs.declared.shell.commands.Command.{Command}
 use Rattle.rusty_leveldb.specs.declared.shell.commands.Reply.{Reply}
 use Rattle.rusty_leveldb.specs.declared.shell.program.Fault.{Fault}
 use Rattle.rusty_leveldb.specs.declared.shell.program.Fault.TheVariants as fault
+use Rattle.rusty_leveldb.specs.declared.shell.program.Way.{Way}
+use Rattle.rusty_leveldb.specs.declared.shell.program.Way.TheVariants as way
 use Rattle.rusty_leveldb.specs.Language.{IsScript, IsBadLine, reply_lines}
 use Rattle.rusty_leveldb.specs.State.{Opening}
+use Rattle.rusty_leveldb.specs.RunAlone.{HasReadAlone}
 use Rattle.rusty_leveldb.specs.Shell.{HasRun}
+
+-- The arguments name a folder, and how its store is opened: a single one is the folder, and after
+-- `--read-only` its store is read alone.
+abbrev pub NamesFolder : List (String Global) → Way → List ℕ → Type 0
+NamesFolder args way.Whole folder = map string_bytes args ≡ folder ∷ []
+NamesFolder args way.Alone folder =
+    map string_bytes args ≡ codes "--read-only" ∷ folder ∷ []
+
+-- they name no folder so
+abbrev pub NamesNone : List (String Global) → Type 0
+NamesNone args = (one : Way) (folder : List ℕ) → NamesFolder args one folder → ⊥
 
 -- the status that a fault ends the program with
 abbrev pub status_of : Fault → ℕ
@@ -34,9 +48,9 @@ IsInputFault input (fault.BadLine number) = IfSome input (λ bytes. IsBadLine by
 IsInputFault input fault.TooLong = IfSome input (λ bytes. 2 ^ 26 < length bytes)
 IsInputFault input (fault.Refused status) = Unit {0}
 
--- a fault is the arguments', which aren't one folder, or the input's, or a call was refused
+-- a fault is the arguments', which name no folder, or the input's, or a call was refused
 abbrev pub IsFault : List (String Global) → Option (List ℕ) → Fault → Type 0
-IsFault args input fault.Usage = length args ≢ 1
+IsFault args input fault.Usage = NamesNone args
 IsFault args input (fault.BadLine number) = IsInputFault input (fault.BadLine number)
 IsFault args input fault.TooLong = IsInputFault input fault.TooLong
 IsFault args input (fault.Refused status) = Unit {0}
@@ -68,29 +82,38 @@ ldb_opening = record {
 }
 
 module _ {E F : Type 0} (env : Ghosts E F) where
+  -- a run of commands over the store in a folder, which is opened this way
+  abbrev pub HasRunBy : Way → List ℕ → Opening → List Command → E → List Reply
+      → Result (Unit {0}) Status → E → Type 0
+  HasRunBy way.Whole folder asked commands from given ended to =
+      HasRun env folder asked commands from given ended to
+  HasRunBy way.Alone folder asked commands from given ended to =
+      HasReadAlone env folder asked commands from given ended to
+
   -- the commands were run in a folder, each was replied to, and the output grew by the replies'
   -- lines
-  abbrev pub IsPlayed : List ℕ → List Command → E → E → Option (List ℕ) → Option (List ℕ) → Type 0
-  IsPlayed folder commands from to held holds =
+  abbrev pub IsPlayed : Way → List ℕ → List Command → E → E → Option (List ℕ) → Option (List ℕ)
+      → Type 0
+  IsPlayed one folder commands from to held holds =
       (given : List Reply) × (length given ≡ length commands)
-      × HasRun env folder ldb_opening commands from given (Ok tt) to
+      × HasRunBy one folder ldb_opening commands from given (Ok tt) to
       × Appends held holds (reply_lines given)
 
-  -- the one argument is a folder, and the commands that the input encodes were run in it
+  -- the arguments name a folder, and the commands that the input encodes were run in it
   abbrev pub IsAnswered : List (String Global) → E → E → Option (List ℕ) → Option (List ℕ)
       → Option (List ℕ) → Type 0
   IsAnswered args from to input held holds =
-      (folder : String Global) × (args ≡ folder ∷ [])
+      (one : Way) × (folder : List ℕ) × NamesFolder args one folder
       × (commands : List Command) × IsInput input commands
       × (given : List Reply) × (length given ≡ length commands)
-      × HasRun env (string_bytes folder) ldb_opening commands from given (Ok tt) to
+      × HasRunBy one folder ldb_opening commands from given (Ok tt) to
       × Appends held holds (reply_lines given)
 
   -- the program left the environment as it was, or it ran the commands that the input encodes in
-  -- the folder that is the one argument
+  -- the folder that the arguments name
   abbrev pub IsStopped : List (String Global) → E → E → Option (List ℕ) → Type 0
   IsStopped args from to input = (to ≡ from)
-      ⊎ ((folder : String Global) × (args ≡ folder ∷ [])
+      ⊎ ((one : Way) × (folder : List ℕ) × NamesFolder args one folder
       × (commands : List Command) × IsInput input commands
       × (given : List Reply) × (ended : Result (Unit {0}) Status)
-      × HasRun env (string_bytes folder) ldb_opening commands from given ended to)
+      × HasRunBy one folder ldb_opening commands from given ended to)

@@ -8,6 +8,7 @@ use Rattle.std.specs.declared.cmp.Ordering.{Ordering}
 use Rattle.leveldb_base.specs.Cmp.{bytewise}
 use Rattle.leveldb_base.specs.declared.error.Status.{Status}
 use Rattle.leveldb_base.specs.Error.{text_of}
+use Rattle.leveldb_base.specs.History.{History}
 use Rattle.leveldb_env.specs.Env.{Files, Disk, FilesCrashTo, Observed}
 use Rattle.leveldb_iter.specs.declared.snapshot.Snapshot.{Snapshot as HeldSnapshot}
 use Rattle.leveldb_env.specs.Env as calls
@@ -15,7 +16,7 @@ use Rattle.leveldb_version.specs.Paths.{lock_path}
 use Rattle.leveldb_version.specs.Contents.{Contents, Store, made}
 use Rattle.leveldb_version.specs.Format.{Agrees, IsTableOf, Meaning}
 use Rattle.rusty_leveldb.specs.Frame.{IsOwn, MayTouch, Spares, IsSyncing, SameBytes}
-use Rattle.leveldb_version.specs.Holds.{IsHonest, IsSafe, Holds}
+use Rattle.leveldb_version.specs.Holds.{Carries, IsHonest, IsSafe, Holds}
 use Rattle.leveldb_version.specs.Store.{IsStore}
 use Rattle.leveldb_version.specs.StoreSteps.{AppendedAreBytes}
 use Rattle.rusty_leveldb.specs.State.{State, IsState, closed, Request, Refusal, Answer, Snapshot, done, found, refused, snapshot}
@@ -33,6 +34,12 @@ abbrev pub Reads : List ℕ → Meaning → Files → Contents → Type 0
 Reads store meaning files contents =
     let cmp = order_of meaning contents.store in
     IsStore store cmp (IsTableOf cmp meaning) files contents
+
+-- the files are read as contents that match this history, and that know of this last number
+abbrev pub AreReadAs : List ℕ → Meaning → Files → History → ℕ → Type 0
+AreReadAs store meaning files history last =
+    (c : Carries store (Reads store meaning) (λ any. Unit {0}) last history files)
+    × (c.contents.last ≡ last)
 
 -- ---- results as answers
 

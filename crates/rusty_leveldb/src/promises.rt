@@ -4,11 +4,14 @@ ghost use Rattle.rusty_leveldb.specs.CompactionLaws.{AreViewsInTables};
 ghost use Rattle.rusty_leveldb.specs.Iterator.{ScanGivesPairs};
 ghost use Rattle.rusty_leveldb.specs.IteratorLaws.{PrevUndoesNext};
 ghost use Rattle.rusty_leveldb.specs.Laws.{OneReading, NothingStands, CrashBetween, CrashInside, CrashSince, RefusalHasCause, StepFits, CrashFits, CrashInsideFits, LivesFit, DurableStays, SyncedStays, EachAnswerParts, HistoryIsAsked, MoreIsAsked, SyncedIsRead, ViewsStay, HeldStays, SnapshotIsRead, ForwardWalkGivesView, PrevUndoesAdvance, SyncedCanBeFound};
+ghost use Rattle.leveldb_store.specs.BuildTable.{choices_of};
+ghost use Rattle.rusty_leveldb.specs.ReadAloneLaws.{ReadingKeepsStates, ReadsWhatOpens};
 
 use leveldb_base::cmp::{Cmp, InternalKeyCmp, UserCmp};
-use leveldb_env::compressor::Compressors;
+use leveldb_env::compressor::{CompressorList, Compressors};
 use leveldb_env::env::Env;
-use leveldb_env::filter::FilterPolicy;
+use leveldb_env::filter::{FilterPolicy, InternalFilterPolicy};
+use leveldb_env::options::Options;
 use leveldb_iter::walk::Walk;
 use leveldb_version::table_cache::{ReadTables, ReadsTables};
 
@@ -18,6 +21,21 @@ pub fn files_have_one_reading()
     ensures one { OneReading }
     ensures none { NothingStands }
 {}
+
+/// What a store shows that is read alone is what an opening finds then, in the history and in the
+/// last number, if it is opened with these options; and after it the disk represents what it did.
+pub fn what_is_read_alone_is_what_an_opening_finds<
+    E: Env,
+    C: UserCmp + Copy,
+    FP: FilterPolicy + Copy,
+>(options: &Options<C, FP>)
+    ensures shows { ReadsWhatOpens E.Env (choices_of C.Cmp FP.FilterPolicy
+        ⟦<InternalKeyCmp<C> as Cmp>⟧ ⟦<InternalFilterPolicy<FP> as FilterPolicy>⟧
+        ⟦<CompressorList as Compressors>⟧.codings) options.now }
+    ensures keeps { ReadingKeepsStates E.Env }
+{
+    let _ = options;
+}
 
 /// Wherever an honest crash comes, between two requests or at a safe moment inside one, it leaves
 /// a store from which the next life begins: a prefix of the batches handed on, whole ones only,

@@ -1,6 +1,7 @@
 //! The calls of a store.
 use leveldb_base::error::Result;
-use rusty_leveldb::{DB, MemEnv, Options};
+use rusty_leveldb::db_impl::open_read_only;
+use rusty_leveldb::{DB, MemEnv, Move, Options};
 
 #[test]
 fn snapshots(rt: HostRuntime) -> Result<()> {
@@ -41,4 +42,22 @@ fn compactions(rt: HostRuntime) -> Result<()> {
     assert!(rt; db.get(b"a")?.is_some() && db.get(b"b")?.is_none());
     db.compact_range(b"", b"")?;
     db.close()
+}
+
+#[test]
+fn reading_alone(rt: HostRuntime) -> Result<()> {
+    let alloc = rt.alloc();
+    let mut env = MemEnv::new(alloc);
+    let mut db = DB::open(alloc, "db", &mut env, Options::default())?;
+    db.put(b"a", b"1")?;
+    db.close()?;
+    db.abandon()?;
+    let mut store = open_read_only(alloc, "db", &mut env, Options::default())?;
+    assert!(rt; store.get(b"a")?.is_some());
+    let mut steps = Vec::new(alloc);
+    store.walk(&[Move::First], &mut steps)?;
+    assert!(rt; steps.len() == 1);
+    let mut it = store.new_iter()?;
+    assert!(rt; it.advance()?);
+    Ok(())
 }

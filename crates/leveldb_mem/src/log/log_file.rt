@@ -5,9 +5,10 @@ ghost use Rattle.leveldb_env.specs.Env.{BeforeOrAfter, ChangesFiles, HasCause, S
 ghost use Rattle.leveldb_env.specs.EnvFile.{Appends, Syncs, opened};
 ghost use Rattle.leveldb_mem.specs.Log.{log_block_size};
 ghost use Rattle.leveldb_mem.specs.Log.LogFile.{AppendsRecord, SyncsRecords};
-ghost use Rattle.leveldb_mem.specs.Log.Writer.{AddsRecord, FailsToAdd, Flushes, IsWriterBroken, new_writer};
+ghost use Rattle.leveldb_mem.specs.Log.Writer.{AddsRecord, FailsToAdd, Flushes, IsWriterBroken, broken_writer, new_writer};
 
 use super::WriterCore;
+use super::writer::refuse_write;
 use leveldb_base::error::Result;
 use leveldb_env::env::whole_files::found;
 use leveldb_env::env::{Env, EnvFile};
@@ -20,19 +21,22 @@ pub struct LogFile<E: Env> {
     alloc: Global,
     // What an error of a call on the file names.
     path: String,
-    file: E::File,
+    // None of a log that is never written: its writer is broken.
+    file: Option<E::File>,
     writer: WriterCore,
 }
 
 impl<E: Env> Model for LogFile<E> {
-    ghost use Rattle.std.specs.Prelude.{◌≡◌, IsTrue, string_bytes};
+    ghost use Rattle.std.specs.Prelude.{◌≡◌, true, IfNone, IfSome, IsTrue, string_bytes};
     ghost use Rattle.leveldb_mem.specs.Log.LogFile.{LogFileState};
 
     ghost Value = { LogFileState };
 
     ghost view = { λ it. record { path = string_bytes it.path; writer = it.writer } };
 
-    ghost invariant = { λ it. IsTrue E.models_disk → E.name_of it.file ≡ string_bytes it.path };
+    ghost invariant = { λ it.
+        IfSome it.file (λ file. IsTrue E.models_disk → E.name_of file ≡ string_bytes it.path)
+        × IfNone it.file (it.writer.broken ≡ true) };
 }
 
 impl<E: Env> LogFile<E> {
@@ -44,8 +48,23 @@ impl<E: Env> LogFile<E> {
         LogFile {
             alloc,
             path,
-            file,
+            file: Some(file),
             writer,
+        }
+    }
+
+    /// A log under this path that is broken from the start. Its file isn't opened, and may be missing.
+    pub fn unopened(alloc: Global, path: String) -> LogFile<E>
+        ensures { result ≡ record {
+          path = string_bytes path;
+          writer = broken_writer (new_writer log_block_size 0);
+        } }
+    {
+        LogFile {
+            alloc,
+            path,
+            file: None,
+            writer: WriterCore::broken(alloc),
         }
     }
 
@@ -94,7 +113,10 @@ impl<E: Env> LogFile<E> {
         requires { text.now ≢ [] }
         ensures { AppendsRecord E.Env self.old env.old text.now result self.new env.new }
     {
-        let added = put_record(&mut self.writer, env, &mut self.file, text);
+        let Some(file) = &mut self.file else {
+            return refuse_write(self.alloc);
+        };
+        let added = put_record(&mut self.writer, env, file, text);
         found(self.alloc, &self.path, added)?;
         Ok(())
     }
@@ -103,7 +125,10 @@ impl<E: Env> LogFile<E> {
     pub fn sync(&mut self, env: &mut E) -> Result<()>
         ensures { SyncsRecords E.Env self.old env.old result self.new env.new }
     {
-        let synced = sync_file(&mut self.writer, env, &mut self.file);
+        let Some(file) = &mut self.file else {
+            return refuse_write(self.alloc);
+        };
+        let synced = sync_file(&mut self.writer, env, file);
         found(self.alloc, &self.path, synced)
     }
 }

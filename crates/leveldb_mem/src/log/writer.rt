@@ -1,10 +1,10 @@
 //! The writer of a log: it frames records and puts each into its sink in one piece.
 ghost use Rattle.std.specs.Prelude.{◌≡◌, ◌≢◌, ◌%◌, ◌<◌, ◌≤◌, ◌++◌, true, false, [], length, OnOk};
-ghost use Rattle.std.specs.Prelude.{IfErr};
+ghost use Rattle.std.specs.Prelude.{IfErr, IsErrAnd};
 ghost use Rattle.leveldb_base.specs.Error.{IsOutOfMemory};
 ghost use Rattle.leveldb_mem.specs.Log.{IsBlockSize, log_block_size, filler, room, checksum};
 ghost use Rattle.leveldb_mem.specs.Log.{fragment_bytes, fragment_at, framed_record, fragment_of};
-ghost use Rattle.leveldb_mem.specs.Log.Writer.{IsWriterBroken, AddRecordResult, FlushResult, new_writer};
+ghost use Rattle.leveldb_mem.specs.Log.Writer.{IsWriterBroken, AddRecordResult, FlushResult, broken_writer, new_writer};
 
 use super::{BLOCK_SIZE, HEADER_SIZE, type_of};
 use leveldb_base::crc::{digest, mask_crc};
@@ -54,6 +54,18 @@ impl WriterCore {
             block_size: BLOCK_SIZE,
             offset: off % BLOCK_SIZE,
             broken: false,
+            frame: Vec::new(alloc),
+        }
+    }
+
+    /// For a log that is never written: it is broken from the start.
+    pub fn broken(alloc: Global) -> WriterCore
+        ensures { result ≡ broken_writer (new_writer log_block_size 0) }
+    {
+        WriterCore {
+            block_size: BLOCK_SIZE,
+            offset: 0,
+            broken: true,
             frame: Vec::new(alloc),
         }
     }
@@ -120,14 +132,17 @@ impl WriterCore {
         ensures err { IfErr result (λ status. (self.now.broken ≡ true) × IsWriterBroken status) }
     {
         if self.broken {
-            return err(
-                *self.frame.allocator(),
-                StatusCode::IOError,
-                "reopen the store",
-            );
+            return refuse_write(*self.frame.allocator());
         }
         Ok(())
     }
+}
+
+// The error of each call once one has failed.
+pub(super) fn refuse_write<T>(alloc: Global) -> Result<T>
+    ensures { IsErrAnd result IsWriterBroken }
+{
+    err(alloc, StatusCode::IOError, "reopen the store")
 }
 
 // Appends the framing of a record at this offset.

@@ -1,19 +1,20 @@
 //! The version set that a store's manifest leaves, with the logs that are replayed.
-ghost use Rattle.std.specs.Prelude.{◌≡◌, ◌<◌, ◌↔◌, ℕ, All, IfErr, IfOk, IfSome, IsTrue, OnOk, map};
+ghost use Rattle.std.specs.Prelude.{◌≡◌, ◌⊎◌, ◌<◌, ◌^◌, ◌↔◌, ℕ, All, IfErr, IfOk, IfSome, IsTrue, OnOk, map};
+ghost use Rattle.leveldb_base.specs.Error.{IsOutOfMemory};
 ghost use Rattle.leveldb_base.specs.declared.error.StatusCode.TheVariants.{Corruption};
 ghost use Rattle.leveldb_env.specs.Env.{FilesUnchanged, Run, SameLocks};
 ghost use Rattle.leveldb_version.specs.VersionEdit.{new_file_of};
-ghost use Rattle.leveldb_version.specs.VersionSetValue.{AreFileNumbersUsedUp};
+ghost use Rattle.leveldb_version.specs.VersionSetValue.{AreFileNumbersUsedUp, new_version_set};
 ghost use Rattle.leveldb_version.specs.Format.{format_of};
 ghost use Rattle.leveldb_store.specs.Listing.{AreFilesIn, MatchesName, names_of};
 ghost use Rattle.leveldb_store.specs.OpenStore.{AreNumbersGiven};
-ghost use Rattle.leveldb_store.specs.OpeningSteps.{HasNumber, LacksTable, MarksNames, RecoversSet};
+ghost use Rattle.leveldb_store.specs.OpeningSteps.{ChecksSet, HasNumber, LacksTable, MarksNames, ReadsSet, RecoversSet};
 ghost use Rattle.leveldb_store.specs.OpensStore.{AreTablesThere, IsBareFolder};
 ghost use Rattle.leveldb_store.specs.ReplayLog.{HasCauseOr};
 
 use super::listing::{ListedFile, list_files};
 use super::logs::find_logs;
-use leveldb_base::cmp::UserCmp;
+use leveldb_base::cmp::{Cmp, UserCmp};
 use leveldb_base::error::{Result, StatusCode, err};
 use leveldb_base::names::table_file_name;
 use leveldb_base::types::{FileMetaData, FileNum};
@@ -50,23 +51,73 @@ pub(super) fn recover_set<E: Env, C: UserCmp, FP: FilterPolicy>(
         options.now.reuse_manifest options.now.max_file_size store.now env.old result env.new }
 {
     let files = files_in(alloc, env, store, listed)?;
-    let mut versions = LiveFiles::new(alloc, store, &options.cmp)?;
-    mark_numbers(&mut versions, files.as_slice())?;
+    let mut versions = numbered_set(alloc, store, &options.cmp, files.as_slice())?;
     let is_anew = versions.recover(env, options)?;
-    check_tables(alloc, env, store, versions.files())?;
-    check_numbers(alloc, &versions)?;
-    let logs = find_logs(
-        alloc,
-        store,
-        files.as_slice(),
-        versions.log_num(),
-        versions.prev_log_num(),
-    )?;
+    let logs = logs_to_replay(alloc, env, store, &versions, files.as_slice())?;
     Ok(RecoveredSet {
         versions,
         is_anew,
         logs,
     })
+}
+
+// Reads the set of the manifest that `CURRENT` names, to be read alone, with the numbers of the logs
+// that are replayed. They are checked as those of a set that is recovered.
+pub(super) fn read_set<E: Env, C: UserCmp, FP: FilterPolicy>(
+    alloc: Global,
+    env: &mut E,
+    store: &str,
+    options: &Options<C, FP>,
+) -> Result<(LiveFiles<E>, BTreeSet<FileNum>)>
+    ensures { ReadsSet E.Env (format_of C.Cmp FP.FilterPolicy
+        ⟦<CompressorList as Compressors>⟧.codings options.now) store.now env.old result env.new }
+{
+    let files = list_files(alloc, env, store)?;
+    let mut versions = numbered_set(alloc, store, &options.cmp, files.as_slice())?;
+    versions.read(env, options)?;
+    let logs = logs_to_replay(alloc, env, store, &versions, files.as_slice())?;
+    Ok((versions, logs))
+}
+
+// A set without files for a store whose folder has these files: their numbers are used.
+fn numbered_set<E: Env, C: Cmp>(
+    alloc: Global,
+    store: &str,
+    cmp: &C,
+    files: &[ListedFile],
+) -> Result<LiveFiles<E>>
+    requires { All MatchesName files.now }
+    ensures ok { IfOk result (MarksNames (new_version_set store.now (C.name cmp.now))
+        (names_of files.now)) }
+    ensures cause { IfErr result (λ status. IsOutOfMemory status ⊎ ((n : ℕ)
+        × HasNumber (names_of files.now) n × AreFileNumbersUsedUp n status)) }
+{
+    let mut versions = LiveFiles::new(alloc, store, cmp)?;
+    mark_numbers(&mut versions, files)?;
+    Ok(versions)
+}
+
+// The numbers of the logs that are replayed among these files. The set's live tables are there, and
+// their numbers were given.
+fn logs_to_replay<E: Env>(
+    alloc: Global,
+    env: &mut E,
+    store: &str,
+    versions: &LiveFiles<E>,
+    files: &[ListedFile],
+) -> Result<BTreeSet<FileNum>>
+    requires { All MatchesName files.now }
+    ensures { ChecksSet E.Env store.now versions.now (names_of files.now) env.old result env.new }
+{
+    check_tables(alloc, env, store, versions.files())?;
+    check_numbers(alloc, versions)?;
+    find_logs(
+        alloc,
+        store,
+        files,
+        versions.log_num(),
+        versions.prev_log_num(),
+    )
 }
 
 // The files in the store's folder, which is listed unless it was.
@@ -129,9 +180,10 @@ fn check_tables<E: Env>(
     Ok(())
 }
 
-// Checks that the number of each live table was given.
+// Checks that the number of each live table was given. The next one has 64 bits.
 fn check_numbers<E: Env>(alloc: Global, versions: &LiveFiles<E>) -> Result<()>
     ensures ok { OnOk result (AreNumbersGiven versions.now versions.now.full.added) }
+    ensures fits { versions.now.next_file < 2 ^ 64 }
     ensures cause { IfErr result (λ status. (status.code ≡ Corruption)
         × (AreNumbersGiven versions.now versions.now.full.added → ⊥)) }
 {

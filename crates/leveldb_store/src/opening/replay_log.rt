@@ -21,7 +21,8 @@ use leveldb_mem::write_batch::WriteBatch;
 use leveldb_version::version_set::LiveFiles;
 use std::alloc::Global;
 
-/// What is in memory of a log that was replayed, and the number of the last entry.
+/// What is in memory of a log that was replayed, and the number of the last entry. Where no table is
+/// made, as of a store that is read alone, that is also said of several logs.
 #[derive(Drop)]
 pub(crate) struct ReplayedLog<C: Cmp> {
     /// The tables that were made of it, one after another.
@@ -75,7 +76,7 @@ pub(crate) fn replay_log<E: Env, C: UserCmp + Copy + Drop, FP: FilterPolicy + Co
 
 impl<C: UserCmp + Copy + Drop> ReplayedLog<C> {
     // No record is read of a log of this size.
-    fn begun(alloc: Global, cmp: C, last: SequenceNumber, size: usize) -> ReplayedLog<C>
+    pub(super) fn begun(alloc: Global, cmp: C, last: SequenceNumber, size: usize) -> ReplayedLog<C>
         ensures tables { result.tables.items ≡ [] }
         ensures rest { result.rest.kept.entries ≡ [] }
         ensures places { result.rest.kept.places ≡ 0 }
@@ -120,7 +121,7 @@ impl<C: UserCmp + Copy + Drop> ReplayedLog<C> {
     }
 
     // Adds the entries of a batch to those that are in no table.
-    fn add_batch(&mut self, batch: &WriteBatch) -> Result<()>
+    pub(super) fn add_batch(&mut self, batch: &WriteBatch) -> Result<()>
         requires follows { Follows self.old.last batch.now }
         requires up_to { AreUpTo self.old.last self.old.rest.kept.entries }
         ensures ok { OnOk result (TakesBatch self.old batch.now self.new) }
@@ -161,7 +162,7 @@ impl<C: UserCmp + Copy + Drop> ReplayedLog<C> {
 }
 
 // A batch begins above all entries before it, and its numbers fit.
-fn check_follows(alloc: Global, last: SequenceNumber, batch: &WriteBatch) -> Result<()>
+pub(super) fn check_follows(alloc: Global, last: SequenceNumber, batch: &WriteBatch) -> Result<()>
     ensures ok { OnOk result (Follows last batch.now) }
     ensures cause { IfErr result (λ status.
         (status.code ≡ Corruption) × (Follows last batch.now → ⊥)) }

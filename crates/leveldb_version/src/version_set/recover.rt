@@ -6,7 +6,7 @@ ghost use Rattle.leveldb_base.specs.Error.{IsOutOfMemory};
 ghost use Rattle.leveldb_env.specs.Env.{BeforeOrAfter, ChangesFiles, FilesUnchanged, HasCause, Run, SameLocks, synced};
 ghost use Rattle.leveldb_mem.specs.Log.{bad, clean, log_block_size};
 ghost use Rattle.leveldb_mem.specs.Log.Writer.{new_writer};
-ghost use Rattle.leveldb_version.specs.Recover.{RecoverResult, WhyUnrecovered};
+ghost use Rattle.leveldb_version.specs.Recover.{ReadSetResult, RecoverResult, WhyUnrecovered};
 ghost use Rattle.leveldb_version.specs.RecoverSteps.{CarriesOut, IsFileUnread, IsManifestAt, IsPlan, IsSizedReplay, set_settled};
 ghost use Rattle.leveldb_version.specs.VersionSetValue.{manifest_state};
 
@@ -48,6 +48,20 @@ impl<E: Env> LiveFiles<E> {
     {
         let plan = self.plan(env, options)?;
         self.carry_out(env, plan)
+    }
+
+    /// Becomes the set that the manifest leaves which `CURRENT` names, to be read alone: no edit is
+    /// logged any more, as if a call on its manifest had failed. No file changes.
+    /// Fails where a store can't begin with its edits, and then nothing has changed.
+    pub fn read<C: Cmp, FP>(&mut self, env: &mut E, options: &Options<C, FP>) -> Result<()>
+        ensures { ReadSetResult E.models_disk (C.cmp options.now.cmp) (C.name options.now.cmp)
+            self.old (E.observed env.old) (E.failures env.old)
+            result self.new (E.observed env.new) (E.failures env.new) }
+    {
+        let plan = self.plan(env, options)?;
+        self.settle(plan.left, plan.next_file + 1, plan.next_file, None);
+        self.broken = true;
+        Ok(())
     }
 
     /// What the set is to become, by the manifest that `CURRENT` names.

@@ -83,7 +83,7 @@ impl<E: Env, C: UserCmp + Copy, FP: FilterPolicy + Copy> Engine<E, C, FP> {
 }
 
 // An iterator over the view of an open store at a sequence number.
-fn iter_over<
+pub(super) fn iter_over<
     'a,
     E: Env + 'a,
     C: UserCmp + Copy + 'a,

@@ -30,8 +30,8 @@ use std::alloc::Global;
 /// A store's state beside a borrow of its environment, for as long as the store is used.
 /// To use the state alone, call the engine with the environment.
 pub struct Store<'e, E: Env, S: Drop> {
-    env: &'e mut E,
-    state: S,
+    pub(super) env: &'e mut E,
+    pub(super) state: S,
 }
 
 /// A store that was opened: an ordered map from keys to values, kept in an environment's files.

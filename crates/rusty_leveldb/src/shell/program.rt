@@ -1,19 +1,23 @@
 //! The program: commands in, their replies out.
-ghost use Rattle.std.specs.Prelude.{◌≡◌, ◌≢◌, ◌≤◌, ◌^◌, ℕ, List, Result, length, IfOk, IfErr, IfSome, OnOk, OnErr, IsErrAnd};
+ghost use Rattle.std.specs.Prelude.{◌≡◌, ◌≤◌, ◌^◌, ◌++◌, ℕ, List, Result, drop, length, IfOk, IfErr, IfSome, MatchOption, OnOk, OnErr, IsErrAnd};
 ghost use Rattle.leveldb_base.specs.declared.error.Status.{Status};
 ghost use Rattle.std.specs.Io.KnownBytes.{Appends};
 ghost use Rattle.rusty_leveldb.specs.Language.{reply_lines};
-ghost use Rattle.rusty_leveldb.specs.Program.{status_of, IsInputFault, IsFault, IsMisasked, IsInput, IsPlayed, IsAnswered, IsStopped, ldb_opening};
-ghost use Rattle.rusty_leveldb.specs.Shell.{HasRun};
+ghost use Rattle.rusty_leveldb.specs.Engine.{opening_of};
+ghost use Rattle.rusty_leveldb.specs.Program.{status_of, HasRunBy, IsInputFault, IsFault, IsMisasked, IsInput, IsPlayed, IsAnswered, IsStopped, NamesFolder, NamesNone, ldb_opening};
 ghost use Rattle.rusty_leveldb.specs.declared.shell.commands.Reply.{Reply};
 ghost use Rattle.rusty_leveldb.specs.declared.shell.program.Fault.TheVariants.{Usage};
 
 use super::commands::{Command, Reply};
 use super::language::{Script, parse};
+use super::reading::run_read_only;
 use super::replies::put_replies;
 use super::runs::run;
+use leveldb_base::cmp::UserCmp;
 use leveldb_base::error::Status;
+use leveldb_env::compressor::{CompressorList, Compressors};
 use leveldb_env::env::Env;
+use leveldb_env::filter::FilterPolicy;
 use leveldb_env::infolog::Logger;
 use leveldb_env::options::Options;
 use std::alloc::{AllocError, Global};
@@ -23,10 +27,19 @@ use std::io::{self, Read, Write};
 /// How many bytes of commands are read at most.
 const MOST_INPUT: u64 = 1 << 26;
 
+// How the program opens a store.
+#[derive(Clone, Copy, Debug)]
+enum Way {
+    /// To be read and written to.
+    Whole,
+    /// To be read alone.
+    Alone,
+}
+
 // Why the program stopped.
 #[derive(Drop)]
 enum Fault {
-    /// It was not given one folder.
+    /// It was not given one folder, or that and how its store is opened.
     Usage,
     /// The line of this number, from 1, is no command.
     BadLine(usize),
@@ -39,7 +52,7 @@ enum Fault {
 impl fmt::Display for Fault {
     fn fmt<W: fmt::Write>(&self, f: &mut fmt::Formatter<W>) -> fmt::Result {
         match self {
-            Fault::Usage => f.write_str("usage: ldb DIR"),
+            Fault::Usage => f.write_str("usage: ldb [--read-only] DIR"),
             Fault::BadLine(number) => write!(f, "bad command in line {number}"),
             Fault::TooLong => f.write_str("input too long"),
             Fault::Refused(status) => match &status.err {
@@ -50,10 +63,11 @@ impl fmt::Display for Fault {
     }
 }
 
-/// Runs the commands of `input` over the store in the folder that is the one argument, and writes
-/// their replies to `out`; a fault is told on `err`, and what the store says of its files is a line
-/// for `log`. The status is 0 if all was answered and
-/// written, 2 if the arguments, a line or the length of the input is wrong, and 1 if a call failed.
+/// Runs the commands of `input` over the store in the folder that is the last argument, and writes
+/// their replies to `out`. After `--read-only` the store is read alone (`run_read_only`); a folder
+/// is the only argument else. A fault is told on `err`, and what the store says of its files is a
+/// line for `log`. The status is 0 if all was answered and written, 2 if the arguments, a line or the
+/// length of the input is wrong, and 1 if a call failed.
 pub fn ldb_main<E: Env, I: Read, O: Write, F: Write>(
     alloc: Global,
     env: &mut E,
@@ -68,7 +82,7 @@ pub fn ldb_main<E: Env, I: Read, O: Write, F: Write>(
         (O.contents out.old) (O.contents out.new) }
     ensures untouched { result ≡ 2 → (env.new ≡ env.old) × (out.new ≡ out.old) }
     ensures misasked { result ≡ 2 → IsMisasked args.now (I.remaining input.old) }
-    ensures usage { length args.now ≢ 1 → result ≡ 2 }
+    ensures usage { NamesNone args.now → result ≡ 2 }
     ensures stopped { result ≡ 1
         → IsStopped E.Env args.now env.old env.new (I.remaining input.old) }
     ensures statuses { result ≤ 2 }
@@ -108,37 +122,73 @@ fn serve<E: Env, I: Read, O: Write>(
     ensures stopped { OnErr result
         (IsStopped E.Env args.now env.old env.new (I.remaining input.old)) }
     ensures fault { IfErr result (IsFault args.now (I.remaining input.old)) }
-    ensures usage { length args.now ≢ 1 → IsErrAnd result (λ fault. fault ≡ Usage) }
+    ensures usage { NamesNone args.now → IsErrAnd result (λ fault. fault ≡ Usage) }
 {
-    let [folder] = args else {
+    let Some((way, folder)) = task_of(args) else {
         return Err(Fault::Usage);
     };
     let commands = read_commands(alloc, input)?;
-    Ok(play(alloc, env, folder.as_str(), log, &commands, out)?)
+    Ok(play(alloc, env, way, folder, log, &commands, out)?)
+}
+
+// The folder that the arguments name, and how its store is opened.
+fn task_of(args: &[String]) -> Option<(Way, &str)>
+    ensures { MatchOption result (NamesNone args.now)
+        (λ task. NamesFolder args.now task.0 task.1.now) }
+{
+    match args {
+        [folder] => Some((Way::Whole, folder.as_str())),
+        [option, folder] if option.as_str() == "--read-only" => {
+            Some((Way::Alone, folder.as_str()))
+        }
+        _ => None,
+    }
 }
 
 // Runs the commands, and writes the replies that were given.
 fn play<E: Env, O: Write>(
     alloc: Global,
     env: &mut E,
+    way: Way,
     folder: &str,
     log: Option<Logger>,
     commands: &[Command],
     out: &mut O,
 ) -> Result<(), Status>
-    ensures played { OnOk result (IsPlayed E.Env folder.now commands.now env.old env.new
+    ensures played { OnOk result (IsPlayed E.Env way folder.now commands.now env.old env.new
         (O.contents out.old) (O.contents out.new)) }
     ensures run { (given : List Reply) × (ended : Result (Unit {0}) Status)
-        × HasRun E.Env folder.now ldb_opening commands.now env.old given ended
+        × HasRunBy E.Env way folder.now ldb_opening commands.now env.old given ended
         env.new }
 {
     let mut replies = Vec::new(alloc);
     let mut options = Options::default();
     options.log = log;
-    let played = run(env, folder, options, commands, &mut replies);
+    let played = run_by(way, env, folder, options, commands, &mut replies);
     let printed = print(alloc, out, &replies);
     played?;
     printed
+}
+
+// Runs the commands over a store that is opened this way.
+fn run_by<E: Env, C: UserCmp + Copy, FP: FilterPolicy + Copy>(
+    way: Way,
+    env: &mut E,
+    folder: &str,
+    options: Options<C, FP>,
+    commands: &[Command],
+    replies: &mut Vec<Reply>,
+) -> Result<(), Status>
+    ensures runs { HasRunBy E.Env way folder.now (opening_of C.Cmp FP.FilterPolicy
+        ⟦<CompressorList as Compressors>⟧.codings options) commands.now env.old
+        (drop (length replies.old.items) replies.new.items) result env.new }
+    ensures after { (given : List Reply) × (replies.new.items ≡ replies.old.items ++ given)
+        × OnOk result (length given ≡ length commands.now) }
+{
+    match way {
+        Way::Whole => run(env, folder, options, commands, replies),
+        Way::Alone => run_read_only(env, folder, options, commands, replies),
+    }
 }
 
 // Writes the lines that tell these replies; where memory is refused, those that it has.

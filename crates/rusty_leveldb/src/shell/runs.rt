@@ -116,7 +116,7 @@ fn reply_of(answer: Result<()>) -> Reply
 }
 
 // What was found, or refused.
-fn looked_up(answer: Result<Option<Bytes>>) -> Reply
+pub(super) fn looked_up(answer: Result<Option<Bytes>>) -> Reply
     ensures { (taken : List machine.Snapshot) → IsReplyOf taken result (found_or answer) }
 {
     match answer {

@@ -1,6 +1,6 @@
 -- An opening that ends before its lock is taken, and one that ends under it.
 use Rattle.std.specs.Prelude.{IsTrue, is_some}
-use Rattle.std.proofs.Common.{◌≡◌, ◌∙◌, ⊎_elim, inl, inr, false, true, refl, ap, subst, sym, arith, Option, None, Some}
+use Rattle.std.proofs.Common.{◌≡◌, ◌∙◌, ⊎_elim, inl, inr, false, true, refl, ap, arith, Option, None, Some}
 use Rattle.std.proofs.lemmas.Result.{err_from_is_err_and}
 use Rattle.leveldb_env.proofs.EnvLemmas.{Run-call}
 use Rattle.leveldb_env.specs.contracts.compressor.CompressorListCompressors.TheImpl.{ghosts as compressors}

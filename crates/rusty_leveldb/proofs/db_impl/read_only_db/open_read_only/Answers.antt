@@ -1,0 +1,10 @@
+use Rattle.std.proofs.lemmas.Result.{err_from_is_err_and}
+use Rattle.rusty_leveldb.proofs.db_impl.read_only_db.open_read_only.Goals as goal
+
+pub returns-in_err-engine-clause-opens : goal.returns-in_err-engine-clause-opens
+returns-in_err-engine-clause-opens g c =
+    let p = err_from_is_err_and c.from_residual.result c.from_residual.ensures.1 in
+    rw (p.1, p.2) (c.open.new.env, tt, c.in_err-engine.ensures)
+
+pub returns-clause-opens : goal.returns-clause-opens
+returns-clause-opens g c = (c.open.new.env, c.around.ensures.env, rw c.around.ensures.state c.in_ok-engine.ensures)
