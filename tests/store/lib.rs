@@ -23,6 +23,8 @@ mod engines;
 #[cfg(test)]
 mod failed_openings;
 #[cfg(test)]
+mod few_bytes;
+#[cfg(test)]
 mod iterators;
 #[cfg(test)]
 mod long;

@@ -217,7 +217,8 @@ fn damaged_files(rt: HostRuntime) -> Result<()> {
     let mut torn = with_tables(alloc)?;
     let size = file_bytes(alloc, &mut torn, "MANIFEST-000001")?.len();
     cut_file(alloc, &mut torn, "MANIFEST-000001", size - 1)?;
-    shows(&rt, alloc, torn, Setting::Defaults, "4: a=4 b=2 c=3")?;
+    // That record has the table of c, whose log is gone.
+    shows(&rt, alloc, torn, Setting::Defaults, "4: a=4 b=2")?;
     let mut nameless = with_tables(alloc)?;
     put_file(alloc, &mut nameless, "CURRENT", b"MANIFEST-x\n")?;
     shows(&rt, alloc, nameless, Setting::Defaults, "Corruption")?;
@@ -326,7 +327,7 @@ fn random_logs(rt: HostRuntime) -> Result<()> {
             Setting::Buffer(8_000),
         ][round % 3];
         let whole = shown_both_ways(&rt, alloc, envs.0, setting)?;
-        let few = shown_both_ways(&rt, alloc, ShortReads { env: envs.1 }, setting)?;
+        let few = shown_both_ways(&rt, alloc, ShortReads::new(envs.1), setting)?;
         assert!(rt;
             whole == few,
             "round {round}: {whole}, and over short reads {few}"

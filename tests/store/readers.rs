@@ -155,6 +155,7 @@ const CASES: [Case; 13] = [
     (
         &[
             Act::Put(Setting::Defaults, &[("a", "1")]),
+            Act::Open(Setting::Reuses(false, true)),
             Act::Make("000002.log", b"x"),
             Act::Make("000090.ldb", b"x"),
             Act::Make("MANIFEST-000099", b"x"),
@@ -183,10 +184,7 @@ fn what_an_opening_finds(rt: HostRuntime) -> Result<()> {
     let alloc = rt.alloc();
     for case in &CASES {
         show_case(&rt, alloc, MemEnv::new(alloc), case)?;
-        let short = ShortReads {
-            env: MemEnv::new(alloc),
-        };
-        show_case(&rt, alloc, short, case)?;
+        show_case(&rt, alloc, ShortReads::new(MemEnv::new(alloc)), case)?;
     }
     Ok(())
 }
