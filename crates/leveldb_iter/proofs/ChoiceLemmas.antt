@@ -1,5 +1,5 @@
 -- The choice of the child that is at the first pair.
-use Rattle.std.proofs.Common.{◌≡◌, ◌≢◌, ◌⊎◌, inl, inr, ⊎_elim, ℕ, ◌+◌, ◌<◌, ◌≤◌, Bool, true, List, length, refl, sym, ◌∙◌, ap, subst, arith, Option, Some, None}
+use Rattle.std.proofs.Common.{◌≡◌, ◌≢◌, ◌⊎◌, ⊎_elim, ℕ, ◌+◌, ◌<◌, ◌≤◌, Bool, true, List, length, refl, sym, ◌∙◌, ap, subst, arith, Option, Some, None}
 use Rattle.std.specs.Prelude.{option_and_then}
 use Rattle.std.proofs.lemmas.Bool.{cases_lt}
 use Rattle.std.proofs.lemmas.Option.{slice_get_past, same_Some}
@@ -10,7 +10,7 @@ use Rattle.leveldb_base.specs.Cmp.{IsPreorderOn}
 use Rattle.leveldb_base.specs.Types.{Pair}
 use Rattle.leveldb_base.specs.declared.types.Direction.{Direction}
 use Rattle.leveldb_base.specs.declared.types.Direction.TheVariants.{Forward, Reverse}
-use Rattle.leveldb_iter.specs.Children.{IsFirstOf, IsBest, IsTie, IsJoined, IsBetter, IsBetterOfTwo, best_pair, head_of, order_in}
+use Rattle.leveldb_iter.specs.Children.{IsFirstOf, IsBest, IsTie, IsJoined, IsBetter, best_pair, head_of, order_in}
 use Rattle.leveldb_iter.specs.declared.children.Best.{Best}
 use Rattle.leveldb_iter.specs.declared.children.Tie.{Tie}
 use Rattle.leveldb_iter.specs.declared.children.Tie.TheVariants.{Alone, Shared, Clash}

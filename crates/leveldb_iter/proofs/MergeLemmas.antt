@@ -17,7 +17,7 @@ use Rattle.leveldb_base.specs.declared.types.Direction.{Direction}
 use Rattle.leveldb_base.specs.declared.types.Direction.TheVariants.{Forward, Reverse}
 use Rattle.leveldb_iter.specs.declared.children.Tie.TheVariants.{Alone, Shared, Clash}
 use Rattle.leveldb_iter.specs.Merge.{count_while, beside_cut, HaveOnePairAKey, IsCut, IsMerge, IsPairOf}
-use Rattle.leveldb_iter.specs.Children.{IsFirstOf, IsBest, IsTie, list_at}
+use Rattle.leveldb_iter.specs.Children.{IsFirstOf, IsTie, list_at}
 use Rattle.leveldb_iter.specs.Walk.{KeyOrder}
 use Rattle.leveldb_iter.proofs.CountLemmas.{pair_of_index, before_count, at_count, count-le, count_at, rising_at}
 use Rattle.leveldb_iter.proofs.CutLemmas.{IsFirstBeside, IsOnSide, asym, not_less_trans, within_in, within_past, previous_in, at_some, cut_through, equal_right, equal_turned, first_beside, first_both, first_of_equal, first_trans, in_order, one_pair, same_side}

@@ -1,5 +1,5 @@
 -- Moves of a merge, in two halves: its children come beside a cut, and one of them is chosen.
-use Rattle.std.proofs.Common.{◌≡◌, ◌≢◌, ◌⊎◌, inl, inr, ⊎_elim, ℕ, ◌-◌, ◌<◌, ◌≤◌, Bool, true, false, List, [], length, get_or, refl, sym, ◌∙◌, ap, subst, arith, Option, Some, None, Result, Ok, Err}
+use Rattle.std.proofs.Common.{◌≡◌, ◌≢◌, inl, inr, ⊎_elim, ℕ, ◌-◌, ◌<◌, ◌≤◌, Bool, true, false, List, [], length, get_or, refl, sym, ◌∙◌, ap, subst, arith, Option, Some, None, Result, Ok, Err}
 use Rattle.std.specs.Prelude.{slice_get, option_and_then, is_some, if◌then◌else◌, OnOk, OnErr, IfErr, Contains}
 use Rattle.std.specs.Ordering.{is_lt}
 use Rattle.std.specs.Str.{bytes_eq}
@@ -23,13 +23,13 @@ use Rattle.leveldb_iter.specs.declared.walk.Walk.{Ghosts as WalkGhosts}
 use Rattle.leveldb_iter.specs.declared.merging_iter.MergeCore.{MergeCore}
 use Rattle.leveldb_iter.specs.Walk.{KeyOrder, key_order, Way, WalkLaws, MovesWalk, Resets}
 use Rattle.leveldb_iter.specs.Merge.{HaveOnePairAKey, IsCut, count_while, beside_cut}
-use Rattle.leveldb_iter.specs.Children.{list_at, head_of, same_key, AnyFails, AreOver, AreEachAt, AreEachLedTo, StepsOne, StepsEach, StepsAtKey, StepsCurrent, previous_or_last, IsBest, IsChosen, IsTie}
+use Rattle.leveldb_iter.specs.Children.{list_at, head_of, same_key, AnyFails, AreOver, AreEachAt, AreEachLedTo, StepsOne, StepsEach, StepsAtKey, StepsCurrent, previous_or_last, IsChosen, IsTie}
 use Rattle.leveldb_iter.specs.MergingIter.{AreMerged, AreBesideCut, IsAtMergedPair, IsPlacedAt, IsMergeOfLists, IsMergeOfListsAt, IsMergeOver, IsMergeAt, FailsMerged, merged_here, Readies}
 use Rattle.leveldb_iter.specs.MergingIterLaws.{merged_over_lists}
 use Rattle.leveldb_iter.proofs.CountLemmas.{count-none, count-all, count_before-is, count-le}
 use Rattle.leveldb_iter.proofs.CutLemmas.{IsFirstBeside, within_in, within_past, previous_in}
 use Rattle.leveldb_iter.proofs.MergeLemmas.{IsMergeByNumber, by_number, pair_of_list, past, toward, passed_own, passed_other, cut_past, own_first, head_first, own_before, only_pair, best_is_own, none_is_own, same_unless, no_clash}
-use Rattle.leveldb_iter.proofs.ChildrenLemmas.{same_or, within_some, no_position, one_over, StepsSome, steps_some}
+use Rattle.leveldb_iter.proofs.ChildrenLemmas.{same_or, within_some, no_position, steps_some}
 
 -- ---- positions
 
