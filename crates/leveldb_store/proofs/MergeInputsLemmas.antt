@@ -27,11 +27,12 @@ use Rattle.leveldb_version.proofs.PairwiseLemmas.{each_second}
 use Rattle.leveldb_version.proofs.SearchLemmas.{all_from_contains}
 use Rattle.leveldb_version.proofs.VersionLayersLemmas.{version_iters_are_layers}
 use Rattle.leveldb_version.specs.Batches.{Each}
+use Rattle.leveldb_version.specs.Format.{Meaning}
 use Rattle.leveldb_version.specs.Levels.{LiveTable, table_entries}
 use Rattle.leveldb_version.specs.Store.{IsInternalPair, SameEntries}
 use Rattle.leveldb_version.specs.Version.{AreInVersionOrder, VersionValue, new_files_of}
 use Rattle.leveldb_version.specs.VersionIter.{IsOverTables}
-use Rattle.leveldb_version.specs.VersionIters.{AreOverLayers, AreVersionIters}
+use Rattle.leveldb_version.specs.VersionIters.{AreOverLayers, AreTablesToWalk, AreVersionIters}
 use Rattle.leveldb_version.specs.declared.table_cache.moves.ReadTables.{ReadTables}
 use Rattle.leveldb_version.specs.declared.version_iter.VersionIter.{VersionIter}
 use Rattle.leveldb_store.specs.MergeInputs.{MergesTablesOf, ReadsBelow}

@@ -1,15 +1,10 @@
 -- The view above the merge of walks.
-use Rattle.std.proofs.Common.{◌≡◌, ◌^◌, ◌<◌, ◌⊎◌, ⊎_elim, inl, inr, ℕ, List, Option, None, Some, refl, sym, subst}
+use Rattle.std.proofs.Common.{List, None, refl, ℕ}
 use Rattle.leveldb_base.specs.Entries.{entries_of_pairs}
-use Rattle.leveldb_base.specs.Error.{IsOutOfMemory}
 use Rattle.leveldb_base.specs.Types.{Pair}
 use Rattle.leveldb_base.specs.View.{view_of}
 use Rattle.leveldb_base.specs.declared.cmp.Cmp.{Ghosts as CmpGhosts}
-use Rattle.leveldb_base.specs.declared.error.Status.{Status}
-use Rattle.leveldb_base.specs.declared.error.StatusCode.TheVariants.{Corruption}
-use Rattle.leveldb_base.specs.declared.types.Direction.{Direction}
-use Rattle.leveldb_iter.specs.Children.{AnyFails}
-use Rattle.leveldb_iter.specs.DbIter.{FailsOver, IsViewOf}
+use Rattle.leveldb_iter.specs.DbIter.{IsViewOf}
 use Rattle.leveldb_iter.specs.MergedEntries.{internal_order}
 use Rattle.leveldb_iter.specs.MergingIter.{AreMerged, IsMergeAt, IsMergeOver}
 use Rattle.leveldb_iter.specs.Walk.{KeyOrder}
