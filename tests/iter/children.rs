@@ -43,18 +43,6 @@ pub fn list_of(alloc: Global, keys: &'static str) -> Result<Listed<DefaultCmp>> 
     Ok(Listed::new(DefaultCmp, pairs))
 }
 
-/// A list of these pairs, each of two letters: a key and a value.
-pub fn list_of_letters(alloc: Global, letters: &[u8]) -> Result<Listed<DefaultCmp>> {
-    let mut pairs = Vec::new(alloc);
-    for i in 0..letters.len() / 2 {
-        pairs.push((
-            Bytes::copy_from_slice(alloc, &letters[2 * i..=2 * i])?,
-            Bytes::copy_from_slice(alloc, &letters[2 * i + 1..=2 * i + 1])?,
-        ))?;
-    }
-    Ok(Listed::new(DefaultCmp, pairs))
-}
-
 /// A list of these keys, each with the value "def".
 pub fn list_of_keys(alloc: Global, keys: &[&[u8]]) -> Result<Listed<DefaultCmp>> {
     let mut pairs = Vec::new(alloc);

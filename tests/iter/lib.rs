@@ -6,8 +6,6 @@ mod merges;
 #[cfg(test)]
 mod moves;
 #[cfg(test)]
-mod shared;
-#[cfg(test)]
 mod snapshots;
 #[cfg(test)]
 mod views;
