@@ -1,7 +1,8 @@
-// Times look-ups, walks and seeks in C++ LevelDB over an environment in memory, as db_bench's readrandom, readmissing, readseq, readreverse and
-// seekrandom do here: all entries are in tables, and as much as is timed goes before it.
+// Times look-ups, walks and seeks in C++ LevelDB, as db_bench's readrandom, readmissing, readseq, readreverse and seekrandom do here: all entries
+// are in tables, and as much as is timed goes before it.
 //
-//     theirs COUNT CACHE_SIZE ROUNDS     prints, for each row, its name and the least nanoseconds an operation of the rounds
+//     theirs COUNT CACHE_SIZE ROUNDS [FOLDER]     prints, for each row, its name and the least nanoseconds an operation of the rounds, without
+//                                                 and with checksums verified; in memory, or in a new store in the folder
 #include <algorithm>
 #include <chrono>
 #include <cstdint>
@@ -21,6 +22,9 @@ namespace {
 
 using Clock = std::chrono::steady_clock;
 
+// The folder of the store.
+std::string folder = "/bench";
+
 // A number of sixteen digits.
 std::string KeyOf(uint64_t number) {
   char text[17];
@@ -37,7 +41,7 @@ void Check(const leveldb::Status& status) {
 
 std::unique_ptr<leveldb::DB> Open(const leveldb::Options& options) {
   leveldb::DB* db = nullptr;
-  Check(leveldb::DB::Open(options, "/bench", &db));
+  Check(leveldb::DB::Open(options, folder, &db));
   return std::unique_ptr<leveldb::DB>(db);
 }
 
@@ -52,7 +56,7 @@ void Fill(const leveldb::Options& options, uint64_t count) {
 }
 
 // Nanoseconds a look-up of keys at random, or of keys between them; the first half isn't timed.
-double Get(const leveldb::Options& options, uint64_t count, bool missing) {
+double Get(const leveldb::Options& options, const leveldb::ReadOptions& reading, uint64_t count, bool missing) {
   auto db = Open(options);
   std::mt19937_64 random(17);
   std::string value;
@@ -65,7 +69,7 @@ double Get(const leveldb::Options& options, uint64_t count, bool missing) {
     }
     std::string key = KeyOf(random() % count);
     if (missing) key += '.';
-    if (db->Get(leveldb::ReadOptions(), key, &value).ok()) ++found;
+    if (db->Get(reading, key, &value).ok()) ++found;
   }
   std::chrono::duration<double, std::nano> took = Clock::now() - start;
   if (found != (missing ? 0 : count)) {
@@ -76,9 +80,9 @@ double Get(const leveldb::Options& options, uint64_t count, bool missing) {
 }
 
 // Nanoseconds a pair of a walk over all of them, forward or back; a walk before it isn't timed.
-double Walk(const leveldb::Options& options, uint64_t count, bool back) {
+double Walk(const leveldb::Options& options, const leveldb::ReadOptions& reading, uint64_t count, bool back) {
   auto db = Open(options);
-  std::unique_ptr<leveldb::Iterator> it(db->NewIterator(leveldb::ReadOptions()));
+  std::unique_ptr<leveldb::Iterator> it(db->NewIterator(reading));
   uint64_t bytes = 0;
   auto start = Clock::now();
   for (int turn = 0; turn < 2; ++turn) {
@@ -99,9 +103,9 @@ double Walk(const leveldb::Options& options, uint64_t count, bool back) {
 }
 
 // Nanoseconds a seek of keys at random; the first half isn't timed.
-double Seek(const leveldb::Options& options, uint64_t count) {
+double Seek(const leveldb::Options& options, const leveldb::ReadOptions& reading, uint64_t count) {
   auto db = Open(options);
-  std::unique_ptr<leveldb::Iterator> it(db->NewIterator(leveldb::ReadOptions()));
+  std::unique_ptr<leveldb::Iterator> it(db->NewIterator(reading));
   std::mt19937_64 random(17);
   uint64_t bytes = 0;
   auto start = Clock::now();
@@ -121,35 +125,41 @@ double Seek(const leveldb::Options& options, uint64_t count) {
   return took.count() / static_cast<double>(count);
 }
 
-// The least of as many rounds.
+// The least of as many rounds, without and with checksums verified, in turn.
 template <typename Row>
 void Print(const char* name, int rounds, Row row) {
-  double least = row();
-  for (int round = 1; round < rounds; ++round) least = std::min(least, row());
-  std::printf("%s %.1f\n", name, least);
+  leveldb::ReadOptions plain, verifying;
+  verifying.verify_checksums = true;
+  double least = row(plain), least_verifying = row(verifying);
+  for (int round = 1; round < rounds; ++round) {
+    least = std::min(least, row(plain));
+    least_verifying = std::min(least_verifying, row(verifying));
+  }
+  std::printf("%s %.1f %.1f\n", name, least, least_verifying);
 }
 
 }  // namespace
 
 int main(int argc, char** argv) {
-  if (argc != 4) return 2;
+  if (argc != 4 && argc != 5) return 2;
   uint64_t count = std::strtoull(argv[1], nullptr, 10);
   uint64_t cache_size = std::strtoull(argv[2], nullptr, 10);
   int rounds = std::atoi(argv[3]);
-  std::unique_ptr<leveldb::Env> env(leveldb::NewMemEnv(leveldb::Env::Default()));
+  std::unique_ptr<leveldb::Env> memory(leveldb::NewMemEnv(leveldb::Env::Default()));
   std::unique_ptr<leveldb::Cache> cache(leveldb::NewLRUCache(cache_size));
   std::unique_ptr<const leveldb::FilterPolicy> filter(leveldb::NewBloomFilterPolicy(10));
   leveldb::Options options;
-  options.env = env.get();
+  options.env = argc == 5 ? leveldb::Env::Default() : memory.get();
   options.create_if_missing = true;
   options.compression = leveldb::kNoCompression;
   options.block_cache = cache.get();
   options.filter_policy = filter.get();
+  if (argc == 5) folder = std::string(argv[4]) + "/theirs";
   Fill(options, count);
-  Print("readrandom", rounds, [&] { return Get(options, count, false); });
-  Print("readmissing", rounds, [&] { return Get(options, count, true); });
-  Print("readseq", rounds, [&] { return Walk(options, count, false); });
-  Print("readreverse", rounds, [&] { return Walk(options, count, true); });
-  Print("seekrandom", rounds, [&] { return Seek(options, count); });
+  Print("readrandom", rounds, [&](auto& reading) { return Get(options, reading, count, false); });
+  Print("readmissing", rounds, [&](auto& reading) { return Get(options, reading, count, true); });
+  Print("readseq", rounds, [&](auto& reading) { return Walk(options, reading, count, false); });
+  Print("readreverse", rounds, [&](auto& reading) { return Walk(options, reading, count, true); });
+  Print("seekrandom", rounds, [&](auto& reading) { return Seek(options, reading, count); });
   return 0;
 }
