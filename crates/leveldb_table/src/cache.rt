@@ -1,8 +1,11 @@
 //! Caches: values under keys of 16 bytes, as many as there is room for, of which the least
 //! recently used goes first.
-ghost use Rattle.std.specs.Prelude.{◌≡◌, ◌↔◌, ◌+◌, ◌^◌, ◌<◌, ◌≤◌, [], length, None, Some, nat_eq, IfOk, IfErr, OnErr, OnOk, IsErrAnd, IsTrue, option_copied};
+ghost use Rattle.std.specs.Prelude.{◌≡◌, ◌↔◌, ◌+◌, ◌^◌, ◌<◌, ◌≤◌, ℕ, List, [], ◌∷◌, length, None, Some, nat_eq, IfOk, IfErr, OnErr, OnOk, IsErrAnd, IsTrue, option_copied};
 ghost use Rattle.std.specs.List.{IsDistinct};
 ghost use Rattle.std.specs.Str.{bytes_eq};
+ghost use Rattle.std.specs.Cmp.Lexicographic.{nat_list_eq_equiv, same_text};
+ghost use Rattle.std.specs.Cmp.{partial_equiv_from_equiv};
+ghost use Rattle.std.proofs.Common.{ap, sym};
 ghost use Rattle.std.specs.Map.{keys_of};
 ghost use Rattle.leveldb_base.specs.Error.{IsOutOfMemory};
 ghost use Rattle.leveldb_base.specs.declared.error.StatusCode.TheVariants.{NotSupported};
@@ -11,11 +14,50 @@ ghost use Rattle.leveldb_table.specs.Cache.{value_of, others, put_first};
 use leveldb_base::error::{Result, StatusCode, err};
 use lru::LruCache;
 use std::alloc::Global;
+use std::hash::{Hash, Hasher};
 use std::marker::Model;
 use std::num::NonZeroUsize;
 
 /// What a value is found by: the number of a cache's user and its own number.
 pub type CacheKey = [u8; 16];
+
+// A key as the map below has it. It is hashed in one piece, an array byte by byte.
+#[derive(Clone, Copy)]
+struct WholeKey(CacheKey);
+
+impl Model for WholeKey {
+    ghost Value = { List ℕ };
+
+    ghost view = { λ it. it.0 };
+
+    ghost inverse = { λ bytes. record { 0 = bytes } };
+}
+
+impl PartialEq for WholeKey {
+    ghost eq = { bytes_eq };
+
+    ghost laws = { partial_equiv_from_equiv nat_list_eq_equiv };
+
+    #[inline]
+    fn eq(&self, other: &WholeKey) -> bool {
+        self.0 == other.0
+    }
+}
+
+impl Eq for WholeKey {
+    ghost laws = { nat_list_eq_equiv };
+}
+
+impl Hash for WholeKey {
+    ghost hash_input = { λ key. key ∷ [] };
+
+    ghost respects_eq = { λ a b same. ap (λ key. key ∷ []) (same_text a b (sym same)) };
+
+    #[inline]
+    fn hash<H: Hasher>(&self, state: &mut H) {
+        state.write(&self.0);
+    }
+}
 
 /// A number by which one user of a cache says its keys from those of others.
 pub type CacheID = u64;
@@ -23,7 +65,7 @@ pub type CacheID = u64;
 /// Values under keys, the one that was used last first. A cache with room for none keeps nothing.
 #[derive(Drop)]
 pub struct Cache<T: Drop> {
-    recent: LruCache<CacheKey, T>,
+    recent: LruCache<WholeKey, T>,
 
     // whether there is room for a value; else `recent` isn't used
     keeps: bool,
@@ -121,7 +163,7 @@ impl<T: Drop> Cache<T> {
         if self.cap() == 0 {
             return Ok(());
         }
-        self.recent.put(*key, elem)?;
+        self.recent.put(WholeKey(*key), elem)?;
         Ok(())
     }
 
@@ -133,7 +175,7 @@ impl<T: Drop> Cache<T> {
         if !self.keeps {
             return None;
         }
-        self.recent.get(key)
+        self.recent.get(&WholeKey(*key))
     }
 
     /// The value under a key, which doesn't count as used.
@@ -143,7 +185,7 @@ impl<T: Drop> Cache<T> {
         if !self.keeps {
             return None;
         }
-        self.recent.peek(key)
+        self.recent.peek(&WholeKey(*key))
     }
 
     /// Takes the value under a key out.
@@ -155,6 +197,6 @@ impl<T: Drop> Cache<T> {
         if self.count() == 0 {
             return None;
         }
-        self.recent.pop(key)
+        self.recent.pop(&WholeKey(*key))
     }
 }
