@@ -2,10 +2,11 @@
 use Rattle.std.proofs.Common.{◌≡◌, ℕ, ◌+◌, ◌^◌, ◌<◌, ◌≤◌, true, false, nat_eq, List, [], ◌∷◌, ◌++◌, length, drop, None, sym, ◌∙◌, ap, arith, length-append, length-drop, inl, inr, leb, ◌-◌, Bool, if◌then◌else◌, flat_map, Option, Some, IsSome, refl, subst, append_assoc, ◌*◌, take, get_or, bit_or}
 use Rattle.std.proofs.lemmas.Bool.{cases_lt, lt-leb, eqb-true}
 use Rattle.std.proofs.lemmas.Nat.{le_or_l, le_or_r}
-use Rattle.std.proofs.lemmas.List.{take-append-drop, append-nil, append_cancel_left, nil_from_length, take_at, drop_at, drop-drop, take_all, take_rest, length-take-le}
+use Rattle.std.proofs.lemmas.List.{take-append-drop, take-take, append-nil, append_cancel_left, nil_from_length, take_at, drop_at, drop-drop, take_all, take_rest, length-take-le}
 use Rattle.std.specs.List.{IsSplitAt, All}
 use Rattle.std.proofs.lemmas.List.Elements.{All-nil, All-push, All-drop, All-take}
 use Rattle.std.specs.declared.cmp.Ordering.{Ordering}
+use Rattle.bytes.proofs.Ranges.{drop-take_less}
 use Rattle.byteorder.specs.Endian.{little_number}
 use Rattle.byteorder.specs.Numbers.{little_from-lt, little_number-reads_back}
 use Rattle.leveldb_base.specs.Varint.{varint, little}
@@ -390,6 +391,18 @@ checks_empty accepts cmp bytes points none (Some accepted) some one =
 checks_empty accepts cmp bytes points none None some one = λ entries parts.
     let there = zero_point_only points (parts.marked ∙ ap restart_points (no_entries entries (sym (nil_from_length bytes none) ∙ parts.encoded))) in
     let wrong = one there.0 there.1 in cc
+
+-- The key of an entry, whose front was there already.
+
+-- keys with the same front have each shorter one, too
+pub front_kept : (same kept : ℕ) (next key : List ℕ) → kept ≤ same → take same next ≡ take same key → take kept next ≡ take kept key
+front_kept same kept next key h e = sym (take-take kept same next h) ∙ ap (take kept) e ∙ take-take kept same key h
+
+-- a front, and what is missing of a longer one
+pub front_more : (kept shared : ℕ) (key : List ℕ) → kept ≤ shared → take kept key ++ take (shared - kept) (drop kept key) ≡ take shared key
+front_more kept shared key h =
+    ap (λ z. z ++ take (shared - kept) (drop kept key)) (sym (take-take kept shared key h))
+    ∙ ap (λ z. take kept (take shared key) ++ z) (sym (drop-take_less key kept shared h)) ∙ take-append-drop kept (take shared key)
 
 -- The restart points and their count at a block's end.
 

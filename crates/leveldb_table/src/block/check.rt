@@ -64,49 +64,52 @@ fn check_empty(points: &[u8]) -> Option<bool>
     }
 }
 
-// Makes it the entry's key.
+// Makes it the entry's key. Its first `same` bytes are those of the key before already.
 #[inline]
-fn put_key(next: &mut Vec<u8>, key: &[u8], entry: &EntryParts<'_>) -> Result<()>
+fn put_key(next: &mut Vec<u8>, same: usize, key: &[u8], entry: &EntryParts<'_>) -> Result<()>
+    requires same { take same next.old.items ≡ take same key.now }
+    requires shared { entry.now.shared ≤ length key.now }
     ensures ok { OnOk result
         (next.new.items ≡ take entry.now.shared key.now ++ entry.now.rest.now) }
     ensures memory { IfErr result IsOutOfMemory }
 {
-    let shared = entry.shared.min(key.len());
-    next.clear();
-    next.extend_from_slice(&key[..shared])?;
+    let kept = same.min(entry.shared);
+    next.truncate(kept);
+    if kept < entry.shared {
+        next.extend_from_slice(&key[kept..entry.shared])?;
+    }
     next.extend_from_slice(entry.rest)?;
     Ok(())
 }
 
-// Makes the entry's key the last one, and returns whether the entry may be after the key before
-// it. A key that shares nothing is compared where it is in the block; any other is put together in
-// `spare`, which then changes places with `key`.
+// Makes the entry's key the last one and the last one the one before, and returns whether the entry
+// may be after that. The first `same` bytes of the two are the same: so of the front that keys share,
+// nothing is copied twice.
+#[inline]
 fn take_key<C: Cmp>(
     cmp: &C,
     first: bool,
     restart: bool,
     entry: &EntryParts<'_>,
     key: &mut Vec<u8>,
-    spare: &mut Vec<u8>,
+    before: &mut Vec<u8>,
+    same: usize,
 ) -> Result<bool>
+    requires { take same before.old.items ≡ take same key.old.items }
     ensures follows { IfOk result (λ follows. IsTrue follows ↔ CanFollow (C.cmp cmp.now)
         (key_before first key.old.items) (entry_in restart entry.now)) }
     ensures key { IfOk result (λ follows. follows ≡ true → key.new.items
         ≡ key_of (key_before first key.old.items) (entry_in restart entry.now)) }
+    ensures same { IfOk result (λ follows. follows ≡ true → take entry.now.shared before.new.items
+        ≡ take entry.now.shared key.new.items) }
     ensures memory { IfErr result IsOutOfMemory }
 {
     if !shares_within(first, restart, key.as_slice(), entry) {
         return Ok(false);
     }
-    if entry.shared == 0 {
-        let follows = rises(cmp, first, key.as_slice(), entry.rest);
-        key.clear();
-        key.extend_from_slice(entry.rest)?;
-        return Ok(follows);
-    }
-    put_key(spare, key.as_slice(), entry)?;
-    mem::swap(key, spare);
-    Ok(rises(cmp, first, spare.as_slice(), key.as_slice()))
+    put_key(before, same, key.as_slice(), entry)?;
+    mem::swap(key, before);
+    Ok(rises(cmp, first, before.as_slice(), key.as_slice()))
 }
 
 /// Where the entries of a block end and its restart points begin; `None` where it is too short for
@@ -137,7 +140,8 @@ pub(crate) fn check_parts<C: Cmp>(
         return Ok(check_empty(points));
     }
     let mut key = Vec::new(alloc);
-    let mut spare = Vec::new(alloc);
+    let mut before = Vec::new(alloc);
+    let mut same = 0;
     let mut left = entries;
     let mut points_left = points;
     let mut first = true;
@@ -147,9 +151,10 @@ pub(crate) fn check_parts<C: Cmp>(
             return Ok(None);
         };
         let restart = begins_at(points_left, entries.len() - left.len());
-        if !take_key(cmp, first, restart, &entry, &mut key, &mut spare)? {
+        if !take_key(cmp, first, restart, &entry, &mut key, &mut before, same)? {
             return Ok(None);
         }
+        same = entry.shared;
         accepted = accepts_too(cmp, accepted, key.as_slice());
         first = false;
         left = after;
