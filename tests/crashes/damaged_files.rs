@@ -18,7 +18,7 @@ use slow_store::{Contents, read_store};
 use std::alloc::Global;
 use std::process::Abort;
 
-type DefaultOptions = Options<DefaultCmp, BloomPolicy>;
+pub type DefaultOptions = Options<DefaultCmp, BloomPolicy>;
 
 /// Down over all pairs of either store, past the first.
 const DOWN: &[Move<'static>] = &[
@@ -114,7 +114,7 @@ fn in_order(alloc: Global, contents: &Contents) -> Result<Vec<&Entry>> {
 }
 
 /// The map of what the slow reader read.
-fn map_of(alloc: Global, contents: &Contents) -> Result<Vec<BorrowedPair<'_>>> {
+pub fn map_of(alloc: Global, contents: &Contents) -> Result<Vec<BorrowedPair<'_>>> {
     let entries = in_order(alloc, contents)?;
     view_of(alloc, &DefaultCmp, entries.as_slice(), contents.last)
 }
@@ -261,7 +261,7 @@ fn may_be_made(alloc: Global, is_open: bool, name: &str) -> bool {
 }
 
 /// Whether an opening may have made these files of those.
-fn are_left(alloc: Global, is_open: bool, before: &[File], after: &[File]) -> bool {
+pub fn are_left(alloc: Global, is_open: bool, before: &[File], after: &[File]) -> bool {
     for (name, bytes) in before {
         let left = bytes_in(after, name.as_str());
         if !may_be_left(alloc, is_open, name.as_str(), bytes.as_slice(), left) {
@@ -295,7 +295,7 @@ fn sound_store(alloc: Global, making: Making, steps: &[Step]) -> Result<Sound> {
 }
 
 /// What the slow reader reads, if the files are a store.
-fn read_slowly(alloc: Global, env: &mut MemEnv) -> Result<Option<Contents>> {
+pub fn read_slowly(alloc: Global, env: &mut MemEnv) -> Result<Option<Contents>> {
     let read = read_store(alloc, env, &DefaultCmp, "db");
     match &read {
         Err(status) if status.code == StatusCode::Corruption => Ok(None),
@@ -333,7 +333,7 @@ fn is_allowed(
     }
 }
 
-fn is_free(env: &mut MemEnv) -> Result<bool> {
+pub fn is_free(env: &mut MemEnv) -> Result<bool> {
     env.lock("db/LOCK")?;
     env.unlock("db/LOCK")?;
     Ok(true)

@@ -19,6 +19,8 @@ mod damaged_rows;
 #[cfg(test)]
 mod failed_calls;
 #[cfg(test)]
+mod fuzzed_files;
+#[cfg(test)]
 mod lives;
 #[cfg(test)]
 mod long;
