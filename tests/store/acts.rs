@@ -144,9 +144,7 @@ fn play<E: Env>(
 pub fn play_each(rt: &impl Abort, alloc: Global, all: &[(&str, &[Act])]) -> Result<()> {
     for (what, acts) in all {
         play(rt, alloc, &mut MemEnv::new(alloc), what, acts)?;
-        let mut short = ShortReads {
-            env: MemEnv::new(alloc),
-        };
+        let mut short = ShortReads::new(MemEnv::new(alloc));
         play(rt, alloc, &mut short, what, acts)?;
     }
     Ok(())

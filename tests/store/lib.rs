@@ -21,6 +21,8 @@ mod damage;
 #[cfg(test)]
 mod engines;
 #[cfg(test)]
+mod few_bytes;
+#[cfg(test)]
 mod iterators;
 #[cfg(test)]
 mod long;

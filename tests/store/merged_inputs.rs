@@ -127,9 +127,7 @@ fn tables_are_merged_over_short_reads(rt: HostRuntime) -> Result<()> {
     let mut random = Random(31);
     for round in 0..20 {
         let options = small([1, 150, 400, 3000][round % 4]);
-        let mut env = ShortReads {
-            env: RecordEnv::new(alloc),
-        };
+        let mut env = ShortReads::new(RecordEnv::new(alloc));
         let mut versions = VersionSet::new(alloc, "db", &DefaultCmp)?;
         let inputs = write_inputs(alloc, &mut env, &mut versions, &mut random)?;
         let smallest = random.below(70);

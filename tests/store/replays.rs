@@ -128,9 +128,7 @@ pub fn open_over_short_reads(
             Setting::Buffer(50_000),
         ][round % 4];
         let whole = open_over(alloc, &mut MemEnv::new(alloc), &log, setting)?;
-        let mut short = ShortReads {
-            env: MemEnv::new(alloc),
-        };
+        let mut short = ShortReads::new(MemEnv::new(alloc));
         let few = open_over(alloc, &mut short, &log, setting)?;
         assert!(rt; few == whole, "round {round}: other files or contents");
         assert!(rt; whole.code.is_none(), "round {round}: refused");
@@ -162,9 +160,7 @@ fn record_that_is_no_batch(rt: HostRuntime) -> Result<()> {
         &writer.sink,
         Setting::Defaults,
     )?;
-    let mut short = ShortReads {
-        env: MemEnv::new(alloc),
-    };
+    let mut short = ShortReads::new(MemEnv::new(alloc));
     let few = open_over(alloc, &mut short, &writer.sink, Setting::Defaults)?;
     assert!(rt; whole.code == Some(StatusCode::Corruption));
     assert!(rt; few == whole);

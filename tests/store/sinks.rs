@@ -37,7 +37,7 @@ const RUNS: [&[u8]; 6] = [
     b"put . .\nget .\nwalk now first next seek=.\nflush\n",
 ];
 
-fn commands_of(alloc: Global, text: &[u8]) -> Result<Vec<Command>> {
+pub fn commands_of(alloc: Global, text: &[u8]) -> Result<Vec<Command>> {
     match parse(alloc, text)? {
         Script::Commands(commands) => Ok(commands),
         Script::BadLine(_) => err(alloc, StatusCode::InvalidArgument, "a bad line"),

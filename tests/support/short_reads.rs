@@ -4,16 +4,32 @@ use leveldb_base::error::Result;
 use leveldb_env::env::Env;
 use std::alloc::Global;
 
-/// Gives 1 to 9 bytes a read, by its place or by how many are asked for, and is another environment
-/// otherwise.
+/// Gives few bytes a read, and is another environment otherwise.
 #[derive(Drop)]
 pub struct ShortReads<E> {
     pub env: E,
+    // how many bytes a read gives at most, if that is the same for all reads
+    at_most: Option<usize>,
 }
 
-// At most so many bytes are given, by this number.
-fn most(number: usize, target: &[u8]) -> usize {
-    (1 + number % 9).min(target.len())
+impl<E> ShortReads<E> {
+    /// Gives 1 to 9 bytes a read, by its place or by how many are asked for.
+    pub fn new(env: E) -> ShortReads<E> {
+        ShortReads { env, at_most: None }
+    }
+
+    /// Gives so many bytes a read at most.
+    pub fn at_most(most: usize, env: E) -> ShortReads<E> {
+        ShortReads {
+            env,
+            at_most: Some(most),
+        }
+    }
+
+    // How many bytes a read gives, of those that are asked for, by this number.
+    fn most(&self, number: usize, target: &[u8]) -> usize {
+        self.at_most.unwrap_or(1 + number % 9).min(target.len())
+    }
 }
 
 impl<E: Env> Env for ShortReads<E> {
@@ -56,12 +72,12 @@ impl<E: Env> Env for ShortReads<E> {
     }
 
     fn read(&mut self, file: &mut E::File, target: &mut [u8]) -> Result<usize> {
-        let most = most(target.len(), target);
+        let most = self.most(target.len(), target);
         self.env.read(file, &mut target[..most])
     }
 
     fn read_at(&mut self, file: &E::File, place: usize, target: &mut [u8]) -> Result<usize> {
-        let most = most(place, target);
+        let most = self.most(place, target);
         self.env.read_at(file, place, &mut target[..most])
     }
 

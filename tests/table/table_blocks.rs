@@ -296,9 +296,7 @@ fn block_in_memory(rt: HostRuntime) -> Result<()> {
 /// Blocks whose reads are short.
 #[test]
 fn block_by_short_reads(rt: HostRuntime) -> Result<()> {
-    let mut env = ShortReads {
-        env: MemEnv::new(rt.alloc()),
-    };
+    let mut env = ShortReads::new(MemEnv::new(rt.alloc()));
     check_block(&rt, &mut env)
 }
 
@@ -311,9 +309,7 @@ fn filters_in_memory(rt: HostRuntime) -> Result<()> {
 /// Filters whose reads are short.
 #[test]
 fn filters_by_short_reads(rt: HostRuntime) -> Result<()> {
-    let mut env = ShortReads {
-        env: MemEnv::new(rt.alloc()),
-    };
+    let mut env = ShortReads::new(MemEnv::new(rt.alloc()));
     check_filters(&rt, &mut env)
 }
 

@@ -382,9 +382,7 @@ fn unfiltered(block_size: usize) -> Options<DefaultCmp, NoFilterPolicy> {
 /// Tables without filters, whose reads are short.
 #[test]
 fn by_short_reads(rt: HostRuntime) -> Result<()> {
-    let mut env = ShortReads {
-        env: MemEnv::new(rt.alloc()),
-    };
+    let mut env = ShortReads::new(MemEnv::new(rt.alloc()));
     check_tables(&rt, &mut env, &mut unfiltered(1), false)
 }
 

@@ -89,9 +89,7 @@ fn refuses<E: Env + Drop>(
 }
 
 fn short(alloc: Global) -> ShortReads<MemEnv> {
-    ShortReads {
-        env: MemEnv::new(alloc),
-    }
+    ShortReads::new(MemEnv::new(alloc))
 }
 
 #[test]
