@@ -1,7 +1,7 @@
 //! Compactions of a range: what is found before and after, now and at snapshots, which files are left, and what a failure leaves.
 use crate::stores::{
-    DefaultEngine, DefaultOptions, STORE, count_tables, damage_file, files_of, has_files, one_byte,
-    opened,
+    DefaultEngine, DefaultOptions, STORE, are_whole, count_tables, damage_file, files_of,
+    has_files, one_byte, opened,
 };
 use leveldb_base::cmp::DefaultCmp;
 use leveldb_base::error::{Result, StatusCode};
@@ -172,8 +172,8 @@ impl Trial {
     }
 
     /// Whether the files are a store by its definition.
-    fn is_whole(&mut self) -> bool {
-        read_store(self.alloc, &mut self.env, &DefaultCmp, STORE).is_ok()
+    fn is_whole(&mut self) -> Result<bool> {
+        are_whole(self.alloc, &mut self.env)
     }
 }
 
@@ -181,7 +181,7 @@ impl Trial {
 fn play(rt: &impl Abort, alloc: Global, settings: Settings, acts: &[Act]) -> Result<()> {
     let mut trial = Trial::new(alloc, settings)?;
     trial.play(rt, acts)?;
-    assert!(rt; trial.is_whole());
+    assert!(rt; trial.is_whole()?);
     trial.engine.abandon(&mut trial.env)
 }
 
@@ -312,7 +312,7 @@ fn fail_in_second(rt: &impl Abort, alloc: Global, nth: u64, done: bool) -> Resul
     let has_failed = trial.compact("", "").is_err();
     trial.env.fail(0, false);
     trial.play(rt, BOTH_VIEWS)?;
-    assert!(rt; trial.is_whole(), "call {nth}");
+    assert!(rt; trial.is_whole()?, "call {nth}");
     let is_broken = trial.engine.check_writable().is_err();
     if is_broken {
         trial.play(
@@ -326,9 +326,9 @@ fn fail_in_second(rt: &impl Abort, alloc: Global, nth: u64, done: bool) -> Resul
         trial.play(rt, &[Act::Compact("", ""), Act::Compact("", "")])?;
     }
     trial.play(rt, BOTH_VIEWS)?;
-    assert!(rt; trial.is_whole(), "call {nth}");
+    assert!(rt; trial.is_whole()?, "call {nth}");
     trial.play(rt, &[Act::Reopen, Act::Finds("k", "-")])?;
-    assert!(rt; trial.is_whole(), "call {nth}");
+    assert!(rt; trial.is_whole()?, "call {nth}");
     trial.engine.abandon(&mut trial.env)?;
     Ok(has_failed)
 }
@@ -377,7 +377,7 @@ fn a_manifest_that_is_not_synced(rt: HostRuntime) -> Result<()> {
             Act::Finds("k", "-"),
         ],
     )?;
-    assert!(rt; trial.is_whole());
+    assert!(rt; trial.is_whole()?);
     trial.engine.abandon(&mut trial.env)
 }
 

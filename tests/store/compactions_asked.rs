@@ -1,5 +1,5 @@
 //! Compactions for which a version asks, by its score or by reads, after each switch of the log: which tables are left, and what is found.
-use crate::stores::{DefaultOptions, STORE, count_tables, one_byte};
+use crate::stores::{DefaultOptions, STORE, are_whole, count_tables, one_byte};
 use leveldb_base::cmp::DefaultCmp;
 use leveldb_base::error::Result;
 use leveldb_env::env::Env;
@@ -9,7 +9,7 @@ use leveldb_env::options::Options;
 use leveldb_mem::write_batch::WriteBatch;
 use leveldb_store::open_store::OpenStore;
 use leveldb_version::table_cache::TableCache;
-use slow_store::{has_levels, levels_of, read_store};
+use slow_store::{has_levels, levels_of};
 use std::alloc::Global;
 use std::process::Abort;
 
@@ -88,8 +88,8 @@ impl Trial {
         has_levels(self.alloc, &mut self.env, STORE, wanted)
     }
 
-    fn is_whole(&mut self) -> bool {
-        read_store(self.alloc, &mut self.env, &DefaultCmp, STORE).is_ok()
+    fn is_whole(&mut self) -> Result<bool> {
+        are_whole(self.alloc, &mut self.env)
     }
 }
 
@@ -114,7 +114,7 @@ fn by_score(rt: HostRuntime) -> Result<()> {
             "level 1: 1 files, 177 bytes ([(16, 177)]); level 2: 1 files, 177 bytes ([(5, 177)]); ",
         )?
     );
-    assert!(rt; trial.byte_of(b"a")? == b'7' && trial.is_whole());
+    assert!(rt; trial.byte_of(b"a")? == b'7' && trial.is_whole()?);
     Ok(())
 }
 
@@ -131,7 +131,7 @@ fn tables_after_reads(rt: &impl Abort, alloc: Global, count: usize) -> Result<us
     }
     trial.put(b"a", b"6")?;
     let found = [trial.byte_of(b"a")?, trial.byte_at(1, b"a")?];
-    assert!(rt; found == *b"61" && trial.is_whole());
+    assert!(rt; found == *b"61" && trial.is_whole()?);
     trial.count_tables()
 }
 
@@ -183,7 +183,7 @@ fn a_table_that_moves(rt: HostRuntime) -> Result<()> {
     for letter in b"abcd" {
         assert!(rt; trial.byte_of(&[*letter])? == b'1');
     }
-    assert!(rt; trial.is_whole());
+    assert!(rt; trial.is_whole()?);
     Ok(())
 }
 
@@ -200,7 +200,7 @@ fn many_puts(rt: HostRuntime) -> Result<()> {
         trial.put(&[b'a' + key as u8], &[value])?;
         values[key] = value;
         if step % 20 == 0 {
-            assert!(rt; trial.is_whole(), "step {step}");
+            assert!(rt; trial.is_whole()?, "step {step}");
         }
     }
     for (key, value) in values.iter().enumerate() {

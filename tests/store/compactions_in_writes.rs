@@ -1,11 +1,11 @@
 //! Compactions that a write does once its memtable became a table: those for which the score of a level asks, or else reads.
-use crate::stores::{DefaultEngine, STORE, buffered, count_tables, damage_file, one_byte, opened};
-use leveldb_base::cmp::DefaultCmp;
+use crate::stores::{
+    DefaultEngine, STORE, are_whole, buffered, count_tables, damage_file, one_byte, opened,
+};
 use leveldb_base::error::{Result, StatusCode};
 use leveldb_env::env::Env;
 use leveldb_env::mem_env::MemEnv;
 use rusty_leveldb::Snapshot;
-use slow_store::read_store;
 use std::alloc::Global;
 use std::process::Abort;
 use support::failed_with;
@@ -43,8 +43,8 @@ impl Trial {
     }
 
     /// Whether the files are a store by its definition.
-    fn is_whole(&mut self) -> bool {
-        read_store(self.alloc, &mut self.env, &DefaultCmp, STORE).is_ok()
+    fn is_whole(&mut self) -> Result<bool> {
+        are_whole(self.alloc, &mut self.env)
     }
 }
 
@@ -58,7 +58,7 @@ fn by_score(rt: HostRuntime) -> Result<()> {
     assert!(rt; trial.count_tables()? == 5);
     trial.put(b'7')?;
     assert!(rt; trial.count_tables()? == 2);
-    assert!(rt; trial.byte(None)? == b'7' && trial.is_whole());
+    assert!(rt; trial.byte(None)? == b'7' && trial.is_whole()?);
     trial.engine.abandon(&mut trial.env)
 }
 
@@ -95,7 +95,7 @@ fn tables_after_reads(rt: &impl Abort, alloc: Global, count: usize) -> Result<us
     }
     trial.put(b'6')?;
     let found = [trial.byte(None)?, trial.byte(Some(first))?];
-    assert!(rt; found == *b"61" && trial.is_whole());
+    assert!(rt; found == *b"61" && trial.is_whole()?);
     let tables = trial.count_tables()?;
     trial.engine.abandon(&mut trial.env)?;
     Ok(tables)
@@ -131,6 +131,6 @@ fn many_puts(rt: HostRuntime) -> Result<()> {
         let count = trial.count_tables()?;
         assert!(rt; count <= 12, "step {step}: {count}");
     }
-    assert!(rt; trial.is_whole());
+    assert!(rt; trial.is_whole()?);
     trial.engine.abandon(&mut trial.env)
 }

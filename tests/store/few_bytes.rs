@@ -180,7 +180,7 @@ fn closed_store(alloc: Global, most: usize) -> Result<Device> {
     Ok(device)
 }
 
-/// What a crash at each moment of an opening that makes a new manifest leaves, and what a run then shows; the same only once where it is the same at many moments.
+/// What a crash at each moment of an opening that makes a new manifest leaves, and what a run then shows; once where many moments leave the same.
 fn crash_in_opening(alloc: Global, most: usize) -> Result<Vec<Vec<u8>>> {
     let mut device = closed_store(alloc, most)?;
     let from = device.env.moment();
@@ -188,16 +188,19 @@ fn crash_in_opening(alloc: Global, most: usize) -> Result<Vec<Vec<u8>>> {
     let anew = Setting::Reuses(true, false);
     show(&mut device, anew, b"", &mut last)?;
     let mut all: Vec<Vec<u8>> = Vec::new(alloc);
+    let mut files: Vec<u8> = Vec::new(alloc);
     for moment in from..=device.env.moment() {
         let (tails, after) = (Vec::new(alloc), false);
         let env = device.env.disk_at(alloc, moment, &Pick { tails, after })?;
         let mut left = ShortReads::at_most(most, env);
         let mut shown = Vec::new(alloc);
         show_files(&mut left, &mut shown)?;
-        show(&mut left, anew, LOOK.1, &mut shown)?;
-        if all.last() != Some(&shown) {
-            all.push(shown)?;
+        if shown == files {
+            continue;
         }
+        files = shown.clone()?;
+        show(&mut left, anew, LOOK.1, &mut shown)?;
+        all.push(shown)?;
     }
     Ok(all)
 }

@@ -1,7 +1,7 @@
 //! What several tests do with a store's files: their names and sizes, what they hold, and logs and manifests that are made by hand.
 use bytes::Bytes;
 use leveldb_base::cmp::DefaultCmp;
-use leveldb_base::error::Result;
+use leveldb_base::error::{Result, StatusCode};
 use leveldb_base::types::SequenceNumber;
 use leveldb_env::env::Env;
 use leveldb_env::env::whole_files::read_file;
@@ -134,6 +134,14 @@ pub fn has_files<E: Env>(alloc: Global, env: &mut E, wanted: &str) -> Result<boo
 fn word_of(alloc: Global, entry: &Entry) -> Result<String> {
     let key = std::str::from_utf8(entry.key.as_slice()).unwrap_or("?");
     Ok(format!(in alloc; " {}{key}", entry.sequence)?)
+}
+
+/// Whether the files are a store by its definition. Out of memory is passed on, as a test is to do that tools/refuse runs.
+pub fn are_whole<E: Env>(alloc: Global, env: &mut E) -> Result<bool> {
+    match read_store(alloc, env, &DefaultCmp, STORE) {
+        Err(status) if status.code == StatusCode::OutOfMemory => Err(status),
+        read => Ok(read.is_ok()),
+    }
 }
 
 /// What the slow store reads: the last number, and each number with its key.
