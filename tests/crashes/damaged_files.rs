@@ -235,41 +235,61 @@ fn may_go(alloc: Global, name: &str) -> bool {
 }
 
 /// Whether an opening may leave this of a file: its bytes, and more of them in a manifest; and where it goes on, another manifest's
-/// name in `CURRENT`, or no file.
-fn may_be_left(
-    alloc: Global,
-    is_open: bool,
-    name: &str,
-    before: &[u8],
-    after: Option<&[u8]>,
-) -> bool {
+/// name in `CURRENT`, or no file. The manifest of a new store takes the place of one of its number.
+fn may_be_left(alloc: Global, end: End, name: &str, before: &[u8], after: Option<&[u8]>) -> bool {
     match after {
         Some(bytes) if bytes == before => true,
+        Some(_) if end == End::Made && name == "MANIFEST-000001" => true,
         Some(bytes) if name.starts_with("MANIFEST-") => bytes.starts_with(before),
-        Some(_) => is_open && name == "CURRENT",
-        None => is_open && may_go(alloc, name),
+        Some(_) => end == End::Opened && name == "CURRENT",
+        None => end != End::Failed && may_go(alloc, name),
     }
 }
 
-/// Whether a file that wasn't there may be made by an opening: the lock, or a table, and where it goes on a log or a manifest.
-fn may_be_made(alloc: Global, is_open: bool, name: &str) -> bool {
+/// Whether a file that wasn't there may be made by an opening: the lock, or a table, where it goes on a log or a manifest, and of a new store `CURRENT`.
+fn may_be_made(alloc: Global, end: End, name: &str) -> bool {
     match parse_file_name(alloc, name) {
         Ok((_, FileType::DBLock | FileType::Table)) => true,
-        Ok((_, FileType::Log | FileType::Descriptor)) => is_open,
+        Ok((_, FileType::Log | FileType::Descriptor)) => end != End::Failed,
+        Ok((_, FileType::Current)) => end == End::Made,
         _ => false,
     }
 }
 
+/// How an opening ended.
+#[derive(Clone, Copy, PartialEq, Eq)]
+enum End {
+    Failed,
+    Opened,
+    /// It made a store, since none was there.
+    Made,
+}
+
+/// Whether these files are no store, so that a new one is made beside them: neither `CURRENT` nor a table nor a log is among them.
+fn are_none(alloc: Global, files: &[File]) -> bool {
+    !files.iter().any(|(name, _)| {
+        matches!(
+            parse_file_name(alloc, name.as_str()),
+            Ok((_, FileType::Current | FileType::Table | FileType::Log))
+        )
+    })
+}
+
 /// Whether an opening may have made these files of those.
 pub fn are_left(alloc: Global, is_open: bool, before: &[File], after: &[File]) -> bool {
+    let end = match is_open {
+        false => End::Failed,
+        true if are_none(alloc, before) => End::Made,
+        true => End::Opened,
+    };
     for (name, bytes) in before {
         let left = bytes_in(after, name.as_str());
-        if !may_be_left(alloc, is_open, name.as_str(), bytes.as_slice(), left) {
+        if !may_be_left(alloc, end, name.as_str(), bytes.as_slice(), left) {
             return false;
         }
     }
     after.iter().all(|(name, _)| {
-        bytes_in(before, name.as_str()).is_some() || may_be_made(alloc, is_open, name.as_str())
+        bytes_in(before, name.as_str()).is_some() || may_be_made(alloc, end, name.as_str())
     })
 }
 
@@ -294,12 +314,22 @@ fn sound_store(alloc: Global, making: Making, steps: &[Step]) -> Result<Sound> {
     })
 }
 
-/// What the slow reader reads, if the files are a store.
+fn no_contents(alloc: Global) -> Contents {
+    Contents {
+        comparator: String::new(alloc),
+        entries: Vec::new(alloc),
+        in_tables: 0,
+        last: 0,
+    }
+}
+
+/// What the slow reader reads, if the files are a store. Where none is there, a new one has nothing.
 pub fn read_slowly(alloc: Global, env: &mut MemEnv) -> Result<Option<Contents>> {
-    let read = read_store(alloc, env, &DefaultCmp, "db");
-    match &read {
+    match read_store(alloc, env, &DefaultCmp, "db") {
         Err(status) if status.code == StatusCode::Corruption => Ok(None),
-        _ => read,
+        Err(status) => Err(status),
+        Ok(None) => Ok(Some(no_contents(alloc))),
+        read => read,
     }
 }
 

@@ -12,7 +12,7 @@ use leveldb_env::mem_env::MemEnv;
 use leveldb_env::options::Options;
 use leveldb_mem::log::{LogReader, LogWriter};
 use rusty_leveldb::shell::{Command, Item, Reply, Step as ShellStep, run};
-use slow_history::{BorrowedPair, Move, is_walk};
+use slow_history::{BorrowedPair, Entry, Move, is_walk};
 use slow_store::Contents;
 use std::alloc::Global;
 use std::process::Abort;
@@ -39,6 +39,8 @@ struct Damage {
     said: Vec<String>,
     /// Whether a checksum was made right over what was changed.
     is_forged: bool,
+    /// Whether one of a table's blocks was.
+    is_table_forged: bool,
 }
 
 /// How many stores were damaged, and how many of them the slow reader read, an opening failed on, or a reply failed on.
@@ -342,6 +344,7 @@ impl Fuzz {
         let is_forged = kind > 7 && self.forge(&mut files[at])?;
         let what = if is_forged {
             damage.is_forged = true;
+            damage.is_table_forged = damage.is_table_forged || name.as_str().ends_with(".ldb");
             String::from_str(self.alloc, "has a right checksum")?
         } else if kind == 0 {
             files.remove(at);
@@ -361,6 +364,7 @@ impl Fuzz {
         let mut damage = Damage {
             said: Vec::new(self.alloc),
             is_forged: false,
+            is_table_forged: false,
         };
         for _ in 0..=self.below(3) {
             if !files.is_empty() {
@@ -460,21 +464,41 @@ fn are_put(puts: &[Put], commands: &[Command], replies: &[Reply]) -> bool {
     })
 }
 
-/// Whether a store of this map may reply so. A filter with a right checksum may rule a key out, and a table may be damaged where the slow reader doesn't look.
+/// Whether a look-up may find this where filters rule the key out of some tables: the value of an entry of it, or none, if all of its entries are in tables.
+fn may_find_past_filters(contents: &Contents, key: &str, reply: &Reply) -> bool {
+    let is_of_key = |entry: &Entry| entry.key.as_slice() == key.as_bytes();
+    let (tabled, logged) = contents.entries.split_at(contents.in_tables);
+    !logged.iter().any(is_of_key)
+        && match reply {
+            Reply::Value(value) => tabled.iter().any(|entry| {
+                is_of_key(entry)
+                    && entry
+                        .value
+                        .as_ref()
+                        .is_some_and(|it| it.as_slice() == value.as_slice())
+            }),
+            reply => matches!(reply, Reply::Nothing),
+        }
+}
+
+/// Whether a store of these contents, which have this map, may reply so. Where a checksum of a table was made right, it may be a filter's that rules keys
+/// out; and a table may be damaged where the slow reader doesn't look.
 fn may_reply(
     alloc: Global,
+    contents: &Contents,
     map: &[BorrowedPair<'_>],
     step: &Step,
     reply: &Reply,
-    is_forged: bool,
+    is_table_forged: bool,
 ) -> Result<bool> {
     Ok(match (step, reply) {
-        (Step::Get(key), Reply::Value(_)) => has(map, key, reply),
-        (Step::Get(key), Reply::Nothing) => is_forged || has(map, key, reply),
+        (_, Reply::Refused(_)) => true,
+        (Step::Get(key), _) => {
+            has(map, key, reply) || is_table_forged && may_find_past_filters(contents, key, reply)
+        }
         (Step::Walk(_, moves), Reply::Walk(steps)) => {
             is_walk(&DefaultCmp, map, moves, &landings_of(alloc, steps)?)
         }
-        (_, Reply::Refused(_)) => true,
         _ => false,
     })
 }
@@ -484,14 +508,14 @@ fn may_reply_all(
     alloc: Global,
     contents: &Contents,
     replies: &[Reply],
-    is_forged: bool,
+    damage: &Damage,
 ) -> Result<bool> {
     if contents.last > 10_000 {
-        return Ok(is_forged);
+        return Ok(damage.is_forged);
     }
     let map = map_of(alloc, contents)?;
     for (step, reply) in ASKED.iter().zip(replies) {
-        if !may_reply(alloc, &map, step, reply, is_forged)? {
+        if !may_reply(alloc, contents, &map, step, reply, damage.is_table_forged)? {
             return Ok(false);
         }
     }
@@ -550,7 +574,7 @@ impl Fuzz {
             return Ok(Some("an opening that failed"));
         }
         if let (Ok(()), Some(contents)) = (&opened, &read) {
-            if !may_reply_all(self.alloc, contents, &replies, is_forged)? {
+            if !may_reply_all(self.alloc, contents, &replies, &trial.damage)? {
                 return Ok(Some("the map"));
             }
         }
@@ -628,5 +652,15 @@ fn stores_at_random(rt: HostRuntime) -> Result<()> {
         fuzzed.refused_openings > 20 && fuzzed.read > 10,
         "{fuzzed:?}"
     );
+    Ok(())
+}
+
+/// Seeds where a new store takes the place of a manifest without `CURRENT`, and where a filter that was changed under a right checksum hides the newest entry of a key.
+#[test]
+fn a_new_store_and_a_forged_filter(rt: HostRuntime) -> Result<()> {
+    let alloc = rt.alloc();
+    let made = fuzz_seeds(&rt, alloc, 231, 232)?;
+    let forged = fuzz_seeds(&rt, alloc, 244, 245)?;
+    assert!(rt; made.read > 0 && forged.read > 0, "{made:?} {forged:?}");
     Ok(())
 }

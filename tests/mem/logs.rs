@@ -1,11 +1,11 @@
 //! Logs of known lengths, read in pieces, cut and damaged; and what is read of a log in memory.
 
 use crate::checks::are_records;
-use leveldb_base::error::{Result, StatusCode, err};
+use leveldb_base::error::{Result, Status, StatusCode, err};
 use leveldb_env::env::{Env, Sink, Source};
 use leveldb_env::mem_env::MemEnv;
 use leveldb_mem::log::{LogReader, LogWriter, ReaderCore, WriterCore, read_log_file, read_records};
-use std::alloc::Global;
+use std::alloc::{AllocError, Global};
 use std::process::Abort;
 use support::{change_byte, failed_with};
 
@@ -211,10 +211,11 @@ fn four_kilobytes_a_read(rt: HostRuntime) -> Result<()> {
     Ok(())
 }
 
-// What a status prints where a call failed, and no text where it didn't.
+// What a status prints where a call failed, and no text where it didn't. A status without a text had no memory for it.
 fn error_text<T: Drop>(alloc: Global, answer: Result<T>) -> Result<String> {
     match answer {
         Ok(_) => Ok(String::new(alloc)),
+        Err(status) if status.err.is_none() => Err(Status::from(AllocError)),
         Err(status) => Ok(format!(in alloc; "{status}")?),
     }
 }

@@ -16,12 +16,13 @@ use slow_history::Entry;
 use std::alloc::Global;
 use std::cmp::Ordering;
 
-/// What a store's files hold: the comparator's name, the entries of tables and then those of logs,
-/// and the greatest number that manifest and logs know of.
+/// What a store's files hold: the comparator's name, the entries of tables and then those of logs, how
+/// many of them are tables', and the greatest number that manifest and logs know of.
 #[derive(Debug, Drop)]
 pub struct Contents {
     pub comparator: String,
     pub entries: Vec<Entry>,
+    pub in_tables: usize,
     pub last: SequenceNumber,
 }
 
@@ -292,6 +293,7 @@ fn gather<C: Cmp>(
             entries.push(entry)?;
         }
     }
+    let in_tables = entries.len();
     let mut greatest = last;
     for entry in logged {
         greatest = greatest.max(entry.sequence);
@@ -300,6 +302,7 @@ fn gather<C: Cmp>(
     Ok(Contents {
         comparator,
         entries,
+        in_tables,
         last: greatest,
     })
 }

@@ -18,7 +18,7 @@ use leveldb_table::block_cache::BlockCache;
 use leveldb_table::cache::Cache;
 use leveldb_table::table_block::{read_filter_block, read_table_block};
 use leveldb_table::table_builder::Footer;
-use leveldb_table::table_reader::{Finder, Table, TableIterator};
+use leveldb_table::table_reader::{Finder, Table, TableCore, TableIterator};
 use std::alloc::Global;
 use std::process::Abort;
 use support::{ShortReads, change_byte, failed_with};

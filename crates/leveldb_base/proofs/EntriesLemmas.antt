@@ -90,17 +90,18 @@ module _ (cmp : List ℕ → List ℕ → Ordering) (exact : IsExactOrder cmp) w
   key_between a b c (inl less) second e = both (is_lt (cmp a.key b.key)) (ap is_lt less) (ap (λ x. is_lt (cmp x b.key)) e ∙ key_le b c second)
   key_between a b c (inr same) second e = sym same.0
 
-  pair_before : (p q : Pair) → internal_cmp cmp p.0 q.0 ≡ Less → IsBeforeEntry cmp (entry_of_pair p) (entry_of_pair q)
-  pair_before p q less = ⊎_elim
-      (λ (l : cmp (user_part p.0) (user_part q.0) ≡ Less). inl l)
-      (λ (l : (cmp (user_part p.0) (user_part q.0) ≡ Equal) × (nat_cmp (sequence_part q.0) (sequence_part p.0) ≡ Less)).
-      inr (exact.exact (user_part p.0) (user_part q.0) l.0, number_less (sequence_part q.0) (sequence_part p.0) (nat_cmp (sequence_part q.0) (sequence_part p.0)) refl l.1))
-      (then_parts (cmp (user_part p.0) (user_part q.0)) (nat_cmp (sequence_part q.0) (sequence_part p.0)) less)
+  -- an entry is before another where its key is less, or where of one key its number is greater
+  pub entry_before : (a b : Entry) → ordering_then (cmp a.key b.key) (nat_cmp b.sequence a.sequence) ≡ Less → IsBeforeEntry cmp a b
+  entry_before a b less = ⊎_elim
+      (λ (l : cmp a.key b.key ≡ Less). inl l)
+      (λ (l : (cmp a.key b.key ≡ Equal) × (nat_cmp b.sequence a.sequence ≡ Less)).
+      inr (exact.exact a.key b.key l.0, number_less b.sequence a.sequence (nat_cmp b.sequence a.sequence) refl l.1))
+      (then_parts (cmp a.key b.key) (nat_cmp b.sequence a.sequence) less)
 
   first_before : (p : Pair) (pairs : List Pair) → IsBeforeAll (internal_cmp cmp) p.0 pairs → (o : Entry) → Contains (entries_of_pairs pairs) o → IsBeforeEntry cmp (entry_of_pair p) o
   first_before p [] all o c = absurd (in_none o c)
   first_before p (q ∷ pairs) all o c = ⊎_elim
-      (λ (e : entry_of_pair q ≡ o). subst (λ x. IsBeforeEntry cmp (entry_of_pair p) x) e (pair_before p q all.0))
+      (λ (e : entry_of_pair q ≡ o). subst (λ x. IsBeforeEntry cmp (entry_of_pair p) x) e (entry_before (entry_of_pair p) (entry_of_pair q) all.0))
       (λ (d : Contains (entries_of_pairs pairs) o). first_before p pairs all.1 o d)
       (in_cases (entry_of_pair q) o (entries_of_pairs pairs) c)
 

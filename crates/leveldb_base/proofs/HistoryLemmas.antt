@@ -5,7 +5,7 @@ use Rattle.std.proofs.lemmas.List.Elements.{Contains-append_left, Contains-appen
 use Rattle.std.specs.Str.{bytes_eq}
 use Rattle.std.specs.Cmp.Lexicographic.{bytes_decides}
 use Rattle.std.proofs.lemmas.Bool.{leb-true, leb-false}
-use Rattle.leveldb_base.specs.History.{Entry, RiseAbove, HasValueAt, IsValueAt, IsBeforeAll, AreRising, IsView, OneRisingList, OneView, EachHasView, ViewPasses, SharedViewIsSame, AreUpTo, AreAbove, SameWithMore}
+use Rattle.leveldb_base.specs.History.{Entry, RiseAbove, HasValueAt, IsValueAt, IsBeforeAll, AreRising, IsView, OneRisingList, OneView, SameView, ViewPasses, SharedViewIsSame, AreUpTo, AreAbove, SameWithMore}
 use Rattle.std.specs.declared.cmp.Ordering.{Ordering}
 use Rattle.std.specs.declared.cmp.Ordering.TheVariants.{Less, Equal, Greater}
 use Rattle.std.specs.Ordering.{ordering_reverse, is_lt}
@@ -482,10 +482,28 @@ one_view cmp order entries s these those v w =
     (λ pair c. (w.exactly pair.0 pair.1).1 ((v.exactly pair.0 pair.1).0 c))
     (λ pair c. (v.exactly pair.0 pair.1).1 ((w.exactly pair.0 pair.1).0 c))
 
-pub each_has_view : EachHasView
-each_has_view cmp order entries s rising = (view_from cmp s [] entries, view_from_is_view cmp order entries s rising)
-
 -- ---- views of sets that give the same values
+
+-- what a set shows, each set of the same entries shows
+value_too : (these those : List Entry) → ((entry : Entry) → Contains these entry ↔ Contains those entry)
+    → (s : ℕ) (key value : List ℕ) → HasValueAt these s key value → HasValueAt those s key value
+value_too these those same s key value shows = record {
+  entry = shows.entry;
+  newest = record {
+    there = (same shows.entry).0 shows.newest.there;
+    seen = shows.newest.seen;
+    newest = λ other c k seen. shows.newest.newest other ((same other).1 c) k seen;
+  };
+  key_is = shows.key_is;
+  value_is = shows.value_is;
+}
+
+pub same_sets : (these those : List Entry) → ((entry : Entry) → Contains these entry ↔ Contains those entry)
+    → (s : ℕ) → SameView these those s
+same_sets these those same s key value = (
+  value_too these those same s key value,
+  value_too those these (λ entry. ((same entry).1, (same entry).0)) s key value,
+)
 
 pub view_passes : ViewPasses
 view_passes cmp these those s pairs same v = record {

@@ -13,4 +13,5 @@ pub mod ScanLemmas
 pub mod BackwardLemmas
 pub mod LayersLemmas
 pub mod ThinningLemmas
+pub mod ConsistentLemmas
 pub mod NamesLemmas

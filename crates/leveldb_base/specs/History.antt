@@ -43,6 +43,14 @@ abbrev pub greatest : List Entry → ℕ
 greatest [] = 0
 greatest (entry ∷ entries) = max entry.sequence (greatest entries)
 
+-- every entry is at or below a number
+abbrev pub AreUpTo : ℕ → List Entry → Type 0
+AreUpTo n entries = (entry : Entry) → Contains entries entry → entry.sequence ≤ n
+
+-- every entry is above a number
+abbrev pub AreAbove : ℕ → List Entry → Type 0
+AreAbove n entries = (entry : Entry) → Contains entries entry → n < entry.sequence
+
 -- sequences rise strictly, each above this number
 abbrev pub RiseAbove : ℕ → List Entry → Type 0
 RiseAbove low [] = Unit {0}
@@ -52,12 +60,32 @@ RiseAbove low (entry ∷ entries) = (low < entry.sequence) × RiseAbove entry.se
 abbrev pub IsPlaced : List Entry → Type 0
 IsPlaced entries = (first : ℕ) × (items : List Item) × (entries ≡ placed first items)
 
--- placed batches whose entries rise strictly in sequence, from 1 on; numbers may be left out
-pub record IsHistory (history : History) : Type 0 where
-  -- each batch is placed at some number
-  pub placed : All IsPlaced history
-  -- no number is given twice, and later batches have greater ones
-  pub rising : RiseAbove 0 (entries_of history)
+-- no two different entries have one key and one number
+abbrev pub AreConsistent : List Entry → Type 0
+AreConsistent entries = (entry other : Entry) → Contains entries entry → Contains entries other
+    → entry.key ≡ other.key → entry.sequence ≡ other.sequence → entry ≡ other
+
+-- entries as a repair finds them, in any order; different keys may share a number
+pub record IsFoundSet (entries : List Entry) : Type 0 where
+  -- each number is at least 1
+  pub numbered : AreAbove 0 entries
+  -- a key has at most one entry of a number
+  pub one : AreConsistent entries
+
+-- a history has these as its first entries, and then these batches
+pub record IsHistoryFrom (first : List Entry) (later : History) : Type 0 where
+  -- it begins with a found set; a batch that is placed at 1 or above is one
+  pub begins : IsFoundSet first
+  -- each later batch is placed at some number
+  pub placed : All IsPlaced later
+  -- they rise strictly in sequence, above all of the first; numbers may be left out
+  pub rising : RiseAbove (greatest first) (entries_of later)
+
+-- A history is empty, or has a first batch and later ones. In place of the first it may have one set
+-- of entries that a repair found.
+abbrev pub IsHistory : History → Type 0
+IsHistory [] = Unit {0}
+IsHistory (first ∷ later) = IsHistoryFrom first later
 
 -- a history and one more batch at its end, where there is one
 abbrev pub with_batch : History → Option (List Entry) → History
@@ -146,11 +174,26 @@ OneView = (cmp : List ℕ → List ℕ → Ordering) → IsExactOrder cmp
     → (entries : List Entry) (s : ℕ) (these those : List Pair)
     → IsView cmp entries s these → IsView cmp entries s those → these ≡ those
 
--- entries whose sequences rise have a view at every sequence
+-- consistent entries have a view at every sequence
 abbrev pub EachHasView : Type 0
 EachHasView = (cmp : List ℕ → List ℕ → Ordering) → IsExactOrder cmp
-    → (entries : List Entry) (s : ℕ) → RiseAbove 0 entries
+    → (entries : List Entry) (s : ℕ) → AreConsistent entries
     → (pairs : List Pair) × IsView cmp entries s pairs
+
+-- entries whose sequences rise are consistent
+abbrev pub RisingIsConsistent : Type 0
+RisingIsConsistent = (low : ℕ) (entries : List Entry) → RiseAbove low entries
+    → AreConsistent entries
+
+-- the entries of a history are consistent
+abbrev pub HistoryIsConsistent : Type 0
+HistoryIsConsistent = (history : History) → IsHistory history
+    → AreConsistent (entries_of history)
+
+-- placed batches are a history exactly if their entries rise strictly in sequence, from 1 on
+abbrev pub BatchesAreHistory : Type 0
+BatchesAreHistory = (history : History) → All IsPlaced history
+    → IsHistory history ↔ RiseAbove 0 (entries_of history)
 
 -- a view of one set is a view of every set that gives the same values
 abbrev pub ViewPasses : Type 0
@@ -163,14 +206,6 @@ abbrev pub SharedViewIsSame : Type 0
 SharedViewIsSame = (cmp : List ℕ → List ℕ → Ordering)
     (these those : List Entry) (s : ℕ) (pairs : List Pair)
     → IsView cmp these s pairs → IsView cmp those s pairs → SameView these those s
-
--- every entry is at or below a number
-abbrev pub AreUpTo : ℕ → List Entry → Type 0
-AreUpTo n entries = (entry : Entry) → Contains entries entry → entry.sequence ≤ n
-
--- every entry is above a number
-abbrev pub AreAbove : ℕ → List Entry → Type 0
-AreAbove n entries = (entry : Entry) → Contains entries entry → n < entry.sequence
 
 -- sets that give the same values still do when the same newer entries are added to both
 abbrev pub SameWithMore : Type 0

@@ -9,7 +9,7 @@ ghost use Rattle.leveldb_base.specs.declared.key_types.ValueType.{ValueType};
 ghost use Rattle.leveldb_base.specs.declared.error.Status.{Status};
 ghost use Rattle.leveldb_base.specs.declared.types.FileType.{FileType};
 ghost use Rattle.leveldb_base.specs.Names.{IsFileName, ReadsName, MayHaveNumber, file_name, file_path};
-ghost use Rattle.leveldb_base.specs.History.{OneView, EachHasView, ViewPasses, SharedViewIsSame, SameWithMore, OneRisingList};
+ghost use Rattle.leveldb_base.specs.History.{OneView, EachHasView, RisingIsConsistent, HistoryIsConsistent, BatchesAreHistory, ViewPasses, SharedViewIsSame, SameWithMore, OneRisingList};
 
 pub mod entries;
 pub mod thinning;
@@ -126,11 +126,19 @@ pub fn made_names_differ()
         → MayHaveNumber l n → file_path store k m ≡ file_path store l n → (m ≡ n) × (k ≡ l) }
 {}
 
-/// A set of entries has at most one view at a sequence number, and entries whose sequence numbers
-/// rise have one.
+/// A set of entries has at most one view at a sequence number. It has one where no two different
+/// entries have one key and one number.
 pub fn views_are_unique()
     ensures one { OneView }
     ensures each { EachHasView }
+{}
+
+/// No two different entries have one key and one number where sequence numbers rise, and in a
+/// history. Placed batches are a history exactly if the numbers of their entries rise from 1 on.
+pub fn histories_are_consistent()
+    ensures rising { RisingIsConsistent }
+    ensures history { HistoryIsConsistent }
+    ensures batches { BatchesAreHistory }
 {}
 
 /// Sets of entries have the same view exactly where they give each key the same value.

@@ -1,6 +1,6 @@
 -- Steps of one child of a merge, and of all.
-use Rattle.std.proofs.Common.{◌≡◌, ◌≢◌, ◌⊎◌, ⊎_elim, ℕ, zero, suc, ◌+◌, ◌<◌, ◌≤◌, false, List, [], ◌∷◌, length, get_or, refl, sym, ◌∙◌, ap, subst, arith, Option, Some, None, Result, Ok, Err}
-use Rattle.std.specs.Prelude.{slice_get, OnOk, Any, is_some}
+use Rattle.std.proofs.Common.{◌≡◌, ◌≢◌, ◌⊎◌, inl, inr, ⊎_elim, ℕ, zero, suc, ◌+◌, ◌<◌, ◌≤◌, Bool, true, false, List, [], ◌∷◌, length, get_or, refl, sym, ◌∙◌, ap, subst, arith, Option, Some, None, Result, Ok, Err}
+use Rattle.std.specs.Prelude.{slice_get, option_and_then, if◌then◌else◌, OnOk, IfErr, Any, is_some}
 use Rattle.std.proofs.lemmas.Bool.{cases_order, cases_lt, false≢true}
 use Rattle.std.proofs.lemmas.Option.{slice_get-get_or, slice_get_within, get_or_from_slice_get}
 use Rattle.leveldb_base.specs.Types.{Pair, IsPosition, pair_at}
@@ -9,7 +9,7 @@ use Rattle.leveldb_iter.specs.declared.children.Step.{Step}
 use Rattle.leveldb_iter.specs.declared.children.Step.TheVariants.{First, Last, Next, Prev, PrevOrLast, Seek}
 use Rattle.leveldb_iter.specs.declared.walk.Walk.{Ghosts as WalkGhosts}
 use Rattle.leveldb_iter.specs.Walk.{KeyOrder, Way, WalkLaws, SeeksLast}
-use Rattle.leveldb_iter.specs.Children.{list_at, AnyFails, AreOver, AreEachLedTo, step_from, MovesChild, previous_or_last, StepsOne, StepsEach}
+use Rattle.leveldb_iter.specs.Children.{list_at, head_of, same_key, AnyFails, AreOver, AreEachAt, AreEachLedTo, step_from, step_to, MovesChild, previous_or_last, StepsOne, StepsEach, StepsAtKey, StepsCurrent}
 use Rattle.leveldb_iter.proofs.CutLemmas.{at_some}
 
 -- ---- elements by their index
@@ -179,3 +179,192 @@ module _ {E T I : Type 0} (walk : WalkGhosts I E T) (laws : WalkLaws walk.over w
     cause = tt;
     excuses = some.excuses;
   }
+
+  -- ---- a step of those at one key
+
+  -- a step to the next pair or to the one before begins at any position
+  from_any : (step : Step) → (step ≡ Next) ⊎ (step ≡ Prev) → (world : E × T) (it : I) (order : KeyOrder) (pairs : List Pair) (position : Option ℕ)
+      → walk.is_at world it order pairs position → step_from walk step world it order pairs position
+  from_any step moves world it order pairs position at = ⊎_elim
+      (λ (e : step ≡ Next). subst (λ s. step_from walk s world it order pairs position) (sym e) at)
+      (λ (e : step ≡ Prev). subst (λ s. step_from walk s world it order pairs position) (sym e) at)
+      moves
+
+  -- Of the children before a number, but the one of this other number, those at its key have made
+  -- the step.
+  pub record SteppedAtKey (to : Way) (own : ℕ) (old_world : E × T) (old : List I) (i : ℕ) (world : E × T) (now : List I) : Type 0 where
+    -- there are as many children
+    pub counted : length now ≡ length old
+    -- each of them came to where the step leads, or is where it was
+    pub came : (order : KeyOrder) (lists : List (List Pair)) (position : List Pair → Option ℕ) → AreEachAt walk old_world old order lists position
+        → (k : ℕ) (child : I) → k < i → k ≢ own → slice_get now k ≡ Some child
+        → walk.is_at world child order (list_at lists k) (if same_key (head_of walk old k) (head_of walk old own) then to order (list_at lists k) (position (list_at lists k)) else position (list_at lists k))
+    -- the others are the same
+    pub rest : (k : ℕ) → (k ≡ own) ⊎ (i ≤ k) → slice_get now k ≡ slice_get old k
+    -- each is still over its list
+    pub over : (order : KeyOrder) (lists : List (List Pair)) → AreOver walk old_world old order lists → AreOver walk world now order lists
+    -- this is left of what they read from
+    pub kept : walk.keeps old_world world
+    -- an error that one may have from now on is one that one might have had before
+    pub excuses : (later : E × T) (status : Status) → AnyFails walk world now later status → AnyFails walk old_world old later status
+
+  pub none_at_key : (to : Way) (own : ℕ) (world : E × T) (children : List I) → SteppedAtKey to own world children 0 world children
+  none_at_key to own world children = record {
+    counted = refl;
+    came = λ order lists position each k child lt. absurd (omega (arith, lt));
+    rest = λ k any. refl;
+    over = λ order lists over. over;
+    kept = laws.keeps_itself world;
+    excuses = λ later status any. any;
+  }
+
+  module _ {to : Way} {own : ℕ} {old_world : E × T} {old : List I} {i : ℕ} {world : E × T} {now : List I} (some : SteppedAtKey to own old_world old i world now) where
+    -- the heads of those that haven't made it
+    head_left : (k : ℕ) → (k ≡ own) ⊎ (i ≤ k) → head_of walk now k ≡ head_of walk old k
+    head_left k any = ap (option_and_then walk.here) (some.rest k any)
+
+    -- one more is elsewhere
+    pub one_stays : (i ≡ own) ⊎ (same_key (head_of walk now i) (head_of walk now own) ≡ false) → SteppedAtKey to own old_world old (i + 1) world now
+    one_stays apart = record {
+      counted = some.counted;
+      came = λ order lists position each k child lt other e. same_or i k
+          (λ (at_i : k ≡ i).
+          let list = list_at lists k in
+          let elsewhere : same_key (head_of walk old k) (head_of walk old own) ≡ false = not_there k other at_i in
+          subst (λ b. walk.is_at world child order list (if b then to order list (position list) else position list)) (sym elsewhere)
+          (laws.stays old_world world some.kept child order list (position list) (each k child (sym (some.rest k (inr (omega (arith, at_i)))) ∙ e))))
+          (λ differs. some.came order lists position each k child (below k lt differs) other e);
+      rest = λ k any. some.rest k (⊎_elim (λ (e : k ≡ own). inl e) (λ (ge : i + 1 ≤ k). inr (omega (arith, ge))) any);
+      over = some.over;
+      kept = some.kept;
+      excuses = some.excuses;
+    }
+      where
+        below : (k : ℕ) → k < i + 1 → k ≢ i → k < i
+        below k lt other = ⊎_elim (λ (l : k < i). l) (λ (ge : i ≤ k). absurd (other (omega (arith, lt, ge)))) (cases_lt k i)
+
+        not_there : (k : ℕ) → k ≢ own → k ≡ i → same_key (head_of walk old k) (head_of walk old own) ≡ false
+        not_there k other at_i = ⊎_elim
+            (λ (e : i ≡ own). absurd (other (at_i ∙ e)))
+            (λ (f : same_key (head_of walk now i) (head_of walk now own) ≡ false).
+            ap (λ n. same_key (head_of walk old n) (head_of walk old own)) at_i
+            ∙ ap (λ h. same_key h (head_of walk old own)) (sym (head_left i (inr (omega arith))))
+            ∙ ap (same_key (head_of walk now i)) (sym (head_left own (inl refl))) ∙ f)
+            apart
+
+    module _ {step : Step} {new_world : E × T} {new : List I} (moves : (step ≡ Next) ⊎ (step ≡ Prev)) (leads : step_to step ≡ to) where
+      -- where the child of this number comes to
+      one_came : {k : ℕ} (h : k < length now) (one : StepsOne walk {R = Unit {0}} (step_from walk step) (step_to step) k world now (Ok (tt {0})) new_world new)
+          → (k ≡ own) ⊎ (i ≤ k) → (order : KeyOrder) (lists : List (List Pair)) (position : List Pair → Option ℕ) → AreEachAt walk old_world old order lists position
+          → (child : I) → slice_get new k ≡ Some child → walk.is_at new_world child order (list_at lists k) (to order (list_at lists k) (position (list_at lists k)))
+      one_came {k} h one any order lists position each child e =
+          let was = was_at h one child in
+          let list = list_at lists k in
+          let here = laws.stays old_world world some.kept was.0 order list (position list) (each k was.0 (sym (some.rest k any) ∙ was.1)) in
+          subst (λ (w : Way). walk.is_at new_world child order list (w order list (position list))) leads
+          ((one.step was.0 child was.1 e).ok order list (position list) (from_any step moves world was.0 order list (position list) here))
+
+      -- one more is at the key, and makes the step
+      pub one_more_at_key : i < length now → i ≢ own → same_key (head_of walk now i) (head_of walk now own) ≡ true
+          → StepsOne walk {R = Unit {0}} (step_from walk step) (step_to step) i world now (Ok (tt {0})) new_world new → SteppedAtKey to own old_world old (i + 1) new_world new
+      one_more_at_key h apart there one = record {
+        counted = one.counted ∙ some.counted;
+        came = λ order lists position each k child lt other e. same_or i k
+            (λ (at_i : k ≡ i).
+            let came : walk.is_at new_world child order (list_at lists i) (to order (list_at lists i) (position (list_at lists i))) =
+            one_came h one (inr (omega arith)) order lists position each child (ap (slice_get new) (sym at_i) ∙ e) in
+            let here : same_key (head_of walk old i) (head_of walk old own) ≡ true =
+            ap (λ x. same_key x (head_of walk old own)) (sym (head_left i (inr (omega arith)))) ∙ ap (same_key (head_of walk now i)) (sym (head_left own (inl refl))) ∙ there in
+            subst (λ n. walk.is_at new_world child order (list_at lists n) (if same_key (head_of walk old n) (head_of walk old own) then to order (list_at lists n) (position (list_at lists n)) else position (list_at lists n))) (sym at_i)
+            (subst (λ b. walk.is_at new_world child order (list_at lists i) (if b then to order (list_at lists i) (position (list_at lists i)) else position (list_at lists i))) (sym here) came))
+            (λ differs.
+            let list = list_at lists k in
+            let here = if same_key (head_of walk old k) (head_of walk old own) then to order list (position list) else position list in
+            laws.stays world new_world one.kept child order list here (some.came order lists position each k child (below k lt differs) other (sym (one.rest k differs) ∙ e)));
+        rest = λ k any. one.rest k (not_it k any) ∙ some.rest k (⊎_elim (λ (e : k ≡ own). inl e) (λ (ge : i + 1 ≤ k). inr (omega (arith, ge))) any);
+        over = λ order lists over. one_over h one order lists (some.over order lists over);
+        kept = laws.keeps_on old_world world new_world some.kept one.kept;
+        excuses = λ later status any. some.excuses later status (one_excuses h one later status any);
+      }
+        where
+          below : (k : ℕ) → k < i + 1 → k ≢ i → k < i
+          below k lt other = ⊎_elim (λ (l : k < i). l) (λ (ge : i ≤ k). absurd (other (omega (arith, lt, ge)))) (cases_lt k i)
+
+          not_it : (k : ℕ) → (k ≡ own) ⊎ (i + 1 ≤ k) → k ≢ i
+          not_it k any e = ⊎_elim (λ (q : k ≡ own). apart (sym e ∙ q)) (λ (ge : i + 1 ≤ k). omega (arith, ge, e)) any
+
+      -- or fails
+      pub one_fails_at_key : {k : ℕ} (status : Status) → k < length now → StepsOne walk {R = Unit {0}} (step_from walk step) (step_to step) k world now (Err status) new_world new
+          → StepsAtKey walk to own old_world old (Err status) new_world new
+      one_fails_at_key status h one = record {
+        counted = one.counted ∙ some.counted;
+        ok = λ order lists position each. tt;
+        over = λ order lists over. one_over h one order lists (some.over order lists over);
+        kept = laws.keeps_on old_world world new_world some.kept one.kept;
+        cause = some.excuses new_world status (one_cause h one);
+        excuses = λ later after any. some.excuses later after (one_excuses h one later after any);
+      }
+
+      -- all others have, and at last this one
+      own_at_key : length now ≤ i → own < length now → StepsOne walk {R = Unit {0}} (step_from walk step) (step_to step) own world now (Ok (tt {0})) new_world new
+          → StepsAtKey walk to own old_world old (Ok (tt {0})) new_world new
+      own_at_key all h one = record {
+        counted = one.counted ∙ some.counted;
+        ok = λ order lists position each k child e. (
+          (λ is_own.
+              let came = one_came h one (inl refl) order lists position each child (ap (slice_get new) (sym is_own) ∙ e) in
+              subst (λ n. walk.is_at new_world child order (list_at lists n) (to order (list_at lists n) (position (list_at lists n)))) (sym is_own) came),
+          (λ other.
+              let list = list_at lists k in
+              let here = if same_key (head_of walk old k) (head_of walk old own) then to order list (position list) else position list in
+              laws.stays world new_world one.kept child order list here
+              (some.came order lists position each k child (omega (arith, slice_get_within new k child e, all, one.counted)) other (sym (one.rest k other) ∙ e))),
+        );
+        over = λ order lists over. one_over h one order lists (some.over order lists over);
+        kept = laws.keeps_on old_world world new_world some.kept one.kept;
+        cause = tt;
+        excuses = λ later after any. some.excuses later after (one_excuses h one later after any);
+      }
+
+      pub last_at_key : (result : Result (Unit {0}) Status) → length now ≤ i → own < length now → StepsOne walk (step_from walk step) (step_to step) own world now result new_world new
+          → StepsAtKey walk to own old_world old result new_world new
+      last_at_key (Ok u) all h one = own_at_key all h one
+      last_at_key (Err status) all h one = one_fails_at_key status h one
+
+  -- ---- a step of the current child, or of those at its key
+
+  -- What it leaves, whichever make it.
+  pub record StepsSome (old_world : E × T) (old : List I) (result : Result (Unit {0}) Status) (new_world : E × T) (new : List I) : Type 0 where
+    -- there are as many children
+    pub counted : length new ≡ length old
+    -- each is still over its list
+    pub over : (order : KeyOrder) (lists : List (List Pair)) → AreOver walk old_world old order lists → AreOver walk new_world new order lists
+    -- this is left of what they read from
+    pub kept : walk.keeps old_world new_world
+    -- the error is one that a child may have
+    pub cause : IfErr result (AnyFails walk old_world old new_world)
+    -- and so is each that one may have from now on
+    pub excuses : (later : E × T) (status : Status) → AnyFails walk new_world new later status → AnyFails walk old_world old later status
+
+  pub steps_some : (to : Way) (i : ℕ) (shared : Bool) {old_world : E × T} {old : List I} (result : Result (Unit {0}) Status) {new_world : E × T} {new : List I} → i < length old
+      → StepsCurrent walk to i shared old_world old result new_world new → StepsSome old_world old result new_world new
+  steps_some to i true result h s = record { counted = s.counted; over = s.over; kept = s.kept; cause = s.cause; excuses = s.excuses }
+  steps_some to i false {old_world} {old} result {new_world} {new} h s = record {
+    counted = s.counted;
+    over = one_over h s;
+    kept = s.kept;
+    cause = caused result s;
+    excuses = one_excuses h s;
+  }
+    where
+      caused : (result : Result (Unit {0}) Status) → StepsOne walk walk.is_at to i old_world old result new_world new → IfErr result (AnyFails walk old_world old new_world)
+      caused (Ok u) s = tt
+      caused (Err status) s = one_cause h s
+
+  -- a step to the next pair or to the one before begins at any position
+  pub one_from_any : {R : Type 0} {to : Way} {i : ℕ} {old_world : E × T} {old : List I} {result : Result R Status} {new_world : E × T} {new : List I} (step : Step) → (step ≡ Next) ⊎ (step ≡ Prev)
+      → StepsOne walk (step_from walk step) to i old_world old result new_world new → StepsOne walk walk.is_at to i old_world old result new_world new
+  one_from_any {R} {to} {i} {old_world} {old} {result} {new_world} {new} step moves s = ⊎_elim
+      (λ (e : step ≡ Next). subst (λ x. StepsOne walk (step_from walk x) to i old_world old result new_world new) e s)
+      (λ (e : step ≡ Prev). subst (λ x. StepsOne walk (step_from walk x) to i old_world old result new_world new) e s)
+      moves

@@ -14,9 +14,14 @@ use Rattle.leveldb_base.specs.Types.{Pair, position_within, previous_position, p
 use Rattle.leveldb_base.specs.History.{AreRising}
 use Rattle.leveldb_base.specs.declared.types.Direction.{Direction}
 use Rattle.leveldb_base.specs.declared.types.Direction.TheVariants.{Forward, Reverse}
-use Rattle.leveldb_iter.specs.Merge.{count_while, beside_cut, IsCutThrough}
+use Rattle.leveldb_base.proofs.OrderLemmas.{is_false}
+use Rattle.leveldb_iter.specs.Merge.{IsCut, count_while, beside_cut}
 use Rattle.leveldb_iter.specs.Children.{IsFirstOf}
 use Rattle.leveldb_iter.proofs.CountLemmas.{pair_of_index, index_of, before_count, at_count, count-le, rising_at}
+
+-- a cut parts the pairs of a list
+abbrev pub IsCutThrough : (List ℕ → List ℕ → Ordering) → (List ℕ → Bool) → List Pair → Type 0
+IsCutThrough cmp before pairs = (a b : Pair) → Contains pairs a → Contains pairs b → cmp a.0 b.0 ≡ Less → before b.0 ≡ true → before a.0 ≡ true
 
 -- a key on this side of the cut
 abbrev pub IsOnSide : Direction → (List ℕ → Bool) → List ℕ → Type 0
@@ -74,6 +79,30 @@ module _ {accepts : List ℕ → Bool} {cmp : List ℕ → List ℕ → Ordering
   pub first_both : (d : Direction) (a b : List ℕ) → accepts a ≡ true → accepts b ≡ true → IsFirstOf cmp d a b → IsFirstOf cmp d b a → cmp a b ≡ Equal
   first_both Forward a b p q h k = equal_of_both a b p q k h
   first_both Reverse a b p q h k = equal_of_both a b p q h k
+
+  -- ---- equal keys
+
+  pub equal_turned : (a b : List ℕ) → accepts a ≡ true → accepts b ≡ true → cmp a b ≡ Equal → cmp b a ≡ Equal
+  equal_turned a b p q e = o.turned b a q p ∙ ap ordering_reverse e
+
+  -- every key is compared alike with equal ones
+  pub equal_right : (a b c : List ℕ) → accepts a ≡ true → accepts b ≡ true → accepts c ≡ true → cmp a b ≡ Equal → cmp c a ≡ cmp c b
+  equal_right a b c p q r e = o.turned c a r p ∙ ap ordering_reverse (o.alike a b c p q r e) ∙ sym (o.turned c b r q)
+
+  -- of equal ones each is first
+  pub first_of_equal : (d : Direction) (a b : List ℕ) → accepts a ≡ true → accepts b ≡ true → cmp a b ≡ Equal → IsFirstOf cmp d a b
+  first_of_equal Forward a b p q e = λ l. let f = sym (equal_turned a b p q e) ∙ l in cc
+  first_of_equal Reverse a b p q e = λ l. let f = sym e ∙ l in cc
+
+  -- and on the same side of a cut
+  pub same_side : (before : List ℕ → Bool) → IsCut (record { accepts = accepts; cmp = cmp }) before → (d : Direction) (a b : List ℕ) → accepts a ≡ true → accepts b ≡ true → cmp a b ≡ Equal
+      → IsOnSide d before a → IsOnSide d before b
+  same_side before cut Forward a b p q e f = is_false (before b) (λ t. false≢true (sym f ∙ cut a b p q (first_of_equal Forward a b p q e) t))
+  same_side before cut Reverse a b p q e t = cut b a q p (first_of_equal Reverse a b p q e) t
+
+  -- a cut of the keys parts the pairs of a list
+  pub cut_through : (before : List ℕ → Bool) → IsCut (record { accepts = accepts; cmp = cmp }) before → (pairs : List Pair) → ((pair : Pair) → Contains pairs pair → accepts pair.0 ≡ true) → IsCutThrough cmp before pairs
+  cut_through before cut pairs accepted a b ca cb less t = cut a.0 b.0 (accepted a ca) (accepted b cb) (asym a.0 b.0 (accepted a ca) (accepted b cb) less) t
 
   module _ (pairs : List Pair) (rising : AreRising cmp pairs) (accepted : (pair : Pair) → Contains pairs pair → accepts pair.0 ≡ true) where
     ok : (i : ℕ) → i < length pairs → accepts (pair_of_index pairs i).0 ≡ true

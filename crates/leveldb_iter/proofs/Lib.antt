@@ -3,7 +3,7 @@ mod CutLemmas
 mod MergeLemmas
 mod MergedLemmas
 mod MergedEntriesLemmas
-pub mod MergeCountLemmas
+pub mod LayersMergedLemmas
 mod ChildrenLemmas
 pub mod MovesLemmas
 mod ChoiceLemmas

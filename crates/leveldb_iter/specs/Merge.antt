@@ -1,7 +1,6 @@
--- The merge of sorted lists of pairs, and the positions beside a cut through them.
-use Rattle.std.specs.Prelude.{◌≡◌, ◌≢◌, ◌↔◌, ◌+◌, ℕ, Bool, true, List, [], ◌∷◌, if◌then◌else◌, Option, Some, All, Any, AllPairs, Contains}
+-- The merge of sorted lists of pairs, and the positions beside a cut of the keys.
+use Rattle.std.specs.Prelude.{◌≡◌, ◌≢◌, ◌↔◌, ◌+◌, ℕ, Bool, true, List, [], ◌∷◌, if◌then◌else◌, Option, Some, All, Any, Contains}
 use Rattle.std.specs.Cmp.{IsTotalOrder}
-use Rattle.std.specs.declared.cmp.Ordering.{Ordering}
 use Rattle.std.specs.declared.cmp.Ordering.TheVariants.{Less, Equal}
 use Rattle.leveldb_base.specs.declared.types.Direction.{Direction}
 use Rattle.leveldb_base.specs.declared.types.Direction.TheVariants.{Forward, Reverse}
@@ -10,28 +9,34 @@ use Rattle.leveldb_iter.specs.Walk.{KeyOrder, IsSortedIn}
 
 -- ---- the merge
 
--- no key of one list is equal to a key of the other
-abbrev pub ShareNoKey : (List ℕ → List ℕ → Ordering) → List Pair → List Pair → Type 0
-ShareNoKey cmp these those =
-    (a b : Pair) → Contains these a → Contains those b → cmp a.0 b.0 ≢ Equal
+-- a pair of one of these lists
+abbrev pub IsPairOf : List (List Pair) → Pair → Type 0
+IsPairOf lists pair = Any (λ list. Contains list pair) lists
 
--- The merge of sorted lists that share no keys: exactly their pairs, sorted.
+-- pairs of equal key are the same pair, whichever lists have them
+abbrev pub HaveOnePairAKey : KeyOrder → List (List Pair) → Type 0
+HaveOnePairAKey order lists =
+    (a b : Pair) → IsPairOf lists a → IsPairOf lists b → order.cmp a.0 b.0 ≡ Equal → a ≡ b
+
+-- A merge of sorted lists: sorted, of their pairs alone, and with one of each of their keys. Where
+-- pairs of equal key are the same pair, these are all pairs, each once, and there is no other merge.
 pub record IsMerge (order : KeyOrder) (lists : List (List Pair)) (merged : List Pair) : Type 0 where
   -- each list is sorted
   pub each : All (IsSortedIn order) lists
-  -- and no key is in two of them
-  pub apart : AllPairs (ShareNoKey order.cmp) lists
   -- the merge is sorted
   pub sorted : IsSortedIn order merged
-  -- its pairs are those of the lists
-  pub exactly : (pair : Pair) → Contains merged pair ↔ Any (λ list. Contains list pair) lists
+  -- its pairs are pairs of the lists
+  pub from : (pair : Pair) → Contains merged pair → IsPairOf lists pair
+  -- and each key of the lists is one of its keys
+  pub keys : (pair : Pair) → IsPairOf lists pair
+      → (kept : Pair) × Contains merged kept × (order.cmp kept.0 pair.0 ≡ Equal)
 
 -- ---- cuts
 
--- A cut parts keys: where a key is before the cut, so are those before the key.
-abbrev pub IsCutThrough : (List ℕ → List ℕ → Ordering) → (List ℕ → Bool) → List Pair → Type 0
-IsCutThrough cmp before pairs = (a b : Pair) → Contains pairs a → Contains pairs b
-    → cmp a.0 b.0 ≡ Less → before b.0 ≡ true → before a.0 ≡ true
+-- A cut parts the accepted keys: with a key that is before the cut, so are those at or before it.
+abbrev pub IsCut : KeyOrder → (List ℕ → Bool) → Type 0
+IsCut order before = (a b : List ℕ) → order.accepts a ≡ true → order.accepts b ≡ true
+    → order.cmp b a ≢ Less → before b ≡ true → before a ≡ true
 
 -- how many pairs at the front have a key that is before the cut
 abbrev pub count_while : (List ℕ → Bool) → List Pair → ℕ
@@ -45,14 +50,19 @@ beside_cut Reverse before pairs = previous_position (Some (count_while before pa
 
 -- ---- laws
 
--- sorted lists that share no keys have a merge
+-- sorted lists have a merge
 abbrev pub EachHasMerge : Type 0
 EachHasMerge = (order : KeyOrder) → IsTotalOrder order.cmp → (lists : List (List Pair))
-    → All (IsSortedIn order) lists → AllPairs (ShareNoKey order.cmp) lists
-    → (merged : List Pair) × IsMerge order lists merged
+    → All (IsSortedIn order) lists → (merged : List Pair) × IsMerge order lists merged
 
--- and only one
+-- where pairs of equal key are the same pair, a merge has exactly the pairs of the lists
+abbrev pub MergeIsExact : Type 0
+MergeIsExact = (order : KeyOrder) (lists : List (List Pair)) (merged : List Pair)
+    → IsMerge order lists merged → HaveOnePairAKey order lists
+    → (pair : Pair) → Contains merged pair ↔ IsPairOf lists pair
+
+-- and there is only one
 abbrev pub OneMerge : Type 0
 OneMerge = (order : KeyOrder) → IsTotalOrder order.cmp → (lists : List (List Pair))
     (these those : List Pair) → IsMerge order lists these → IsMerge order lists those
-    → these ≡ those
+    → HaveOnePairAKey order lists → these ≡ those

@@ -8,7 +8,7 @@ use Rattle.leveldb_base.specs.KeyTypes.{internal_cmp}
 use Rattle.leveldb_base.specs.Layers.{AreLayered}
 use Rattle.leveldb_base.specs.Types.{Pair}
 use Rattle.leveldb_iter.specs.Walk.{KeyOrder, IsSortedIn}
-use Rattle.leveldb_iter.specs.Merge.{IsMerge}
+use Rattle.leveldb_iter.specs.Merge.{HaveOnePairAKey, IsMerge}
 
 -- the order of internal keys, by an order of users' keys
 abbrev pub internal_order : KeyOrder → KeyOrder
@@ -26,15 +26,17 @@ pub record MergesEntries (cmp : List ℕ → List ℕ → Ordering) (lists : Lis
 
 -- ---- laws
 
--- a merge in the order of internal keys merges the entries
+-- a merge in the order of internal keys merges the entries, if pairs of equal key are the same pair
 abbrev pub MergeIsOfEntries : Type 0
 MergeIsOfEntries = (order : KeyOrder) → IsExactOrder order.cmp
     → (lists : List (List Pair)) (merged : List Pair)
-    → IsMerge (internal_order order) lists merged → MergesEntries order.cmp lists merged
+    → IsMerge (internal_order order) lists merged
+    → HaveOnePairAKey (internal_order order) lists → MergesEntries order.cmp lists merged
 
--- layers of entries, of which the newer come first, have a merge
+-- layers of entries, of which the newer come first, have a merge, and no two pairs of equal key
 abbrev pub LayersHaveMerge : Type 0
 LayersHaveMerge = (order : KeyOrder) → IsExactOrder order.cmp → (lists : List (List Pair))
     → All (IsSortedIn (internal_order order)) lists
     → AreLayered (map entries_of_pairs lists)
     → (merged : List Pair) × IsMerge (internal_order order) lists merged
+    × HaveOnePairAKey (internal_order order) lists

@@ -4,21 +4,28 @@ ghost use Rattle.std.specs.Option.{ForSome};
 ghost use Rattle.leveldb_base.specs.Types.{Pair};
 ghost use Rattle.leveldb_iter.specs.Walk.{KeyOrder};
 
-use crate::children::{Step, best_of, step_each, step_one};
+use crate::children::{Step, Tie, best_of, step_at_key, step_each, step_one};
 use crate::walk::Walk;
 use crate::walk_iter::WalkIter;
 use leveldb_base::cmp::Cmp;
-use leveldb_base::error::Result;
+use leveldb_base::error::{Result, StatusCode, err};
 use leveldb_base::types::Direction;
 
-/// The merge of walks over sorted lists that share no keys: a walk over all their pairs, in order.
-/// A move in the direction in which it goes makes a step of one child, and a turn one of each. Each
-/// child is then compared once at most. No move takes memory or copies a key.
+/// The merge of walks over sorted lists: a walk over all their pairs, in order, each once. Where
+/// two lists have different pairs of equal key, a move to that key fails with `Corruption`. A seek
+/// by a key that the order doesn't accept leads to no position.
+///
+/// A move in the direction in which it goes makes a step of each child that is at the pair, mostly
+/// one, and a turn one of each. Each child is then compared once at most. No move copies a key or
+/// takes memory, but for the text of that error.
 #[derive(Drop)]
 pub struct MergeCore<C, I> {
     cmp: C,
     children: Vec<I>,
     current: Option<usize>,
+
+    // Whether other children are at the current one's pair.
+    shared: bool,
     direction: Direction,
     ghost within: { ForSome current (λ i. i < length children.items) },
 }
@@ -28,39 +35,43 @@ pub type MergingIter<'a, E, T, C, I> = WalkIter<'a, E, T, MergeCore<C, I>>;
 
 impl<C: Cmp, I> MergeCore<C, I> {
     ghost use Rattle.leveldb_base.specs.declared.error.Status.{Status};
-    ghost use Rattle.leveldb_iter.specs.Children.{AnyFails};
-    ghost use Rattle.leveldb_iter.specs.MergingIter.{AreMerged, IsMergeAt, FailsMerged, merged_here};
+    ghost use Rattle.leveldb_iter.specs.MergingIter.{AreMerged, IsMergeAt, FailsMerged, FailsOrClashes, merged_here};
 
     /// The merge of these walks, at no position. They may be at any.
     pub fn new<E, T>(cmp: C, children: Vec<I>) -> MergeCore<C, I>
     where
         I: Walk<E, T>,
-        ensures is_at { (world : E × T) (order : KeyOrder) (pairs : List Pair)
-            → AreMerged I.Walk C.Cmp world cmp children.items order pairs
+        ensures is_at { (world : E × T) (order : KeyOrder) (lists : List (List Pair))
+            (pairs : List Pair)
+            → AreMerged I.Walk C.Cmp world cmp children.items order lists pairs
             → IsMergeAt I.Walk C.Cmp world result order pairs None }
         ensures none { merged_here I.Walk result ≡ None }
         ensures fails { (world later : E × T) (status : Status)
-            → FailsMerged I.Walk world result later status
-            → AnyFails I.Walk world children.items later status }
+            → FailsMerged I.Walk C.Cmp world result later status
+            → FailsOrClashes I.Walk C.Cmp world cmp children.items later status }
     {
         MergeCore {
             cmp,
             children,
             current: None,
+            shared: false,
             direction: Direction::Forward,
         }
     }
 }
 
 impl<C: Cmp, I> MergeCore<C, I> {
-    ghost use Rattle.std.specs.Prelude.{◌≡◌, true, ℕ, Some};
+    ghost use Rattle.std.specs.Prelude.{◌≡◌, ◌<◌, ◌⊎◌, true, ℕ, Some, IfErr, OnErr};
+    ghost use Rattle.leveldb_base.specs.declared.error.StatusCode.TheVariants.{Corruption};
     ghost use Rattle.leveldb_base.specs.declared.types.Direction.TheVariants.{Forward, Reverse};
     ghost use Rattle.leveldb_base.specs.Types.{Pair, position_within, next_position, previous_position, last_position, seek_position};
-    ghost use Rattle.leveldb_iter.specs.Children.{IsBest, head_of};
-    ghost use Rattle.leveldb_iter.specs.MergingIter.{Readies, IsMergeOver, IsMergeAt};
+    ghost use Rattle.leveldb_iter.specs.Children.{IsChosen, StepsCurrent, head_of, step_to};
+    ghost use Rattle.leveldb_iter.specs.MergingIter.{Readies, IsMergeOfLists, IsMergeOfListsAt};
+    ghost use Rattle.leveldb_iter.specs.declared.children.Step.TheVariants.{Next, Prev};
 
-    // Takes the child that is at the first pair in this direction as the current one.
-    fn choose<E, T>(&mut self, direction: Direction)
+    // Makes the child that is at the first pair in this direction the current one, if one is at a
+    // pair. Fails where another is at a different pair of its key, and then none is the current one.
+    fn choose<E, T>(&mut self, direction: Direction) -> Result<()>
     where
         I: Walk<E, T>,
         ensures cmp { self.new.cmp ≡ self.old.cmp }
@@ -68,17 +79,58 @@ impl<C: Cmp, I> MergeCore<C, I> {
         ensures direction { self.new.direction ≡ direction }
         ensures best { let heads = head_of I.Walk self.old.children.items in
             ((k : ℕ) (pair : Pair) → heads k ≡ Some pair → C.accepts self.old.cmp pair.0 ≡ true)
-            → IsBest (C.cmp self.old.cmp) direction heads self.new.current }
+            → IsChosen (C.cmp self.old.cmp) direction heads result self.new.current
+            self.new.shared }
+        ensures none { OnErr result (self.new.current ≡ None) }
+        ensures cause { IfErr result (λ status. status.code ≡ Corruption) }
     {
         self.direction = direction;
-        self.current = best_of(&self.cmp, direction, self.children.as_slice());
+        self.current = None;
+        let Some((i, tie)) = best_of(&self.cmp, direction, self.children.as_slice()) else {
+            return Ok(());
+        };
+        self.shared = match tie {
+            Tie::Alone => false,
+            Tie::Shared => true,
+            Tie::Clash => {
+                let alloc = *self.children.allocator();
+                return err(alloc, StatusCode::Corruption, "two pairs have one key");
+            }
+        };
+        self.current = Some(i);
+        Ok(())
+    }
+
+    // The current child makes a step, and with it the others that are at its pair.
+    fn step_current<E, T>(
+        &mut self,
+        env: &mut E,
+        tables: &mut T,
+        i: usize,
+        step: Step,
+    ) -> Result<()>
+    where
+        I: Walk<E, T>,
+        requires index { i < length self.old.children.items }
+        requires moves { (step ≡ Next) ⊎ (step ≡ Prev) }
+        ensures steps { StepsCurrent I.Walk (step_to step.entry) i self.old.shared
+            (env.old, tables.old) self.old.children.items result (env.new, tables.new)
+            self.new.children.items }
+        ensures cmp { self.new.cmp ≡ self.old.cmp }
+        ensures current { self.new.current ≡ self.old.current }
+    {
+        if self.shared {
+            step_at_key(&mut self.children, env, tables, i, step)
+        } else {
+            step_one(&mut self.children, env, tables, i, step)
+        }
     }
 
     // The first half of a move to the next pair.
     fn to_next<E, T>(&mut self, env: &mut E, tables: &mut T) -> Result<()>
     where
         I: Walk<E, T>,
-        ensures { Readies I.Walk C.Cmp (IsMergeAt I.Walk C.Cmp) (λ _. next_position) Forward
+        ensures { Readies I.Walk C.Cmp (IsMergeOfListsAt I.Walk C.Cmp) (λ _. next_position) Forward
             (env.old, tables.old) self.old result (env.new, tables.new) self.new.cmp
             self.new.children.items self.new.current }
     {
@@ -87,7 +139,7 @@ impl<C: Cmp, I> MergeCore<C, I> {
         match current {
             None => step_each(&mut self.children, env, tables, Step::First),
             Some(i) => match self.direction {
-                Direction::Forward => step_one(&mut self.children, env, tables, i, Step::Next),
+                Direction::Forward => self.step_current(env, tables, i, Step::Next),
                 Direction::Reverse => step_each(&mut self.children, env, tables, Step::Next),
             },
         }
@@ -98,14 +150,14 @@ impl<C: Cmp, I> MergeCore<C, I> {
     where
         I: Walk<E, T>,
         requires { self.old.current ≡ Some i }
-        ensures { Readies I.Walk C.Cmp (IsMergeAt I.Walk C.Cmp) (λ _ _. previous_position) Reverse
+        ensures { Readies I.Walk C.Cmp (IsMergeOfListsAt I.Walk C.Cmp) (λ _ _. previous_position) Reverse
             (env.old, tables.old) self.old result (env.new, tables.new) self.new.cmp
             self.new.children.items self.new.current }
     {
         self.current = None;
         match self.direction {
             Direction::Forward => step_each(&mut self.children, env, tables, Step::PrevOrLast),
-            Direction::Reverse => step_one(&mut self.children, env, tables, i, Step::Prev),
+            Direction::Reverse => self.step_current(env, tables, i, Step::Prev),
         }
     }
 
@@ -113,10 +165,10 @@ impl<C: Cmp, I> MergeCore<C, I> {
     fn to_first<E, T>(&mut self, env: &mut E, tables: &mut T) -> Result<()>
     where
         I: Walk<E, T>,
-        ensures { Readies I.Walk C.Cmp (λ world it order pairs _.
-            IsMergeOver I.Walk C.Cmp world it order pairs) (λ _ pairs _. position_within pairs 0)
-            Forward (env.old, tables.old) self.old result (env.new, tables.new) self.new.cmp
-            self.new.children.items self.new.current }
+        ensures { Readies I.Walk C.Cmp (λ world it order lists pairs _.
+            IsMergeOfLists I.Walk C.Cmp world it order lists pairs) (λ _ pairs _.
+            position_within pairs 0) Forward (env.old, tables.old) self.old result
+            (env.new, tables.new) self.new.cmp self.new.children.items self.new.current }
     {
         self.current = None;
         step_each(&mut self.children, env, tables, Step::First)
@@ -126,8 +178,8 @@ impl<C: Cmp, I> MergeCore<C, I> {
     fn to_last<E, T>(&mut self, env: &mut E, tables: &mut T) -> Result<()>
     where
         I: Walk<E, T>,
-        ensures { Readies I.Walk C.Cmp (λ world it order pairs _.
-            IsMergeOver I.Walk C.Cmp world it order pairs) (λ _ pairs _. last_position pairs)
+        ensures { Readies I.Walk C.Cmp (λ world it order lists pairs _.
+            IsMergeOfLists I.Walk C.Cmp world it order lists pairs) (λ _ pairs _. last_position pairs)
             Reverse (env.old, tables.old) self.old result (env.new, tables.new) self.new.cmp
             self.new.children.items self.new.current }
     {
@@ -139,8 +191,8 @@ impl<C: Cmp, I> MergeCore<C, I> {
     fn to_key<E, T>(&mut self, env: &mut E, tables: &mut T, key: &[u8]) -> Result<()>
     where
         I: Walk<E, T>,
-        ensures { Readies I.Walk C.Cmp (λ world it order pairs _.
-            IsMergeOver I.Walk C.Cmp world it order pairs × (order.accepts key.now ≡ true))
+        ensures { Readies I.Walk C.Cmp (λ world it order lists pairs _.
+            IsMergeOfLists I.Walk C.Cmp world it order lists pairs × (order.accepts key.now ≡ true))
             (λ order pairs _. seek_position order.cmp pairs key.now) Forward
             (env.old, tables.old) self.old result (env.new, tables.new) self.new.cmp
             self.new.children.items self.new.current }
@@ -160,13 +212,13 @@ impl<E, T, C: Cmp, I: Walk<E, T>> Walk<E, T> for MergeCore<C, I> {
 
     ghost here = { merged_here I.Walk };
 
-    ghost fails = { FailsMerged I.Walk };
+    ghost fails = { FailsMerged I.Walk C.Cmp };
 
     ghost keeps = { I.keeps };
 
     fn advance(&mut self, env: &mut E, tables: &mut T) -> Result<bool> {
         self.to_next(env, tables)?;
-        self.choose::<E, T>(Direction::Forward);
+        self.choose::<E, T>(Direction::Forward)?;
         Ok(Walk::<E, T>::valid(self))
     }
 
@@ -175,26 +227,27 @@ impl<E, T, C: Cmp, I: Walk<E, T>> Walk<E, T> for MergeCore<C, I> {
             return Ok(false);
         };
         self.to_previous(env, tables, i)?;
-        self.choose::<E, T>(Direction::Reverse);
+        self.choose::<E, T>(Direction::Reverse)?;
         Ok(Walk::<E, T>::valid(self))
     }
 
     fn seek(&mut self, env: &mut E, tables: &mut T, key: &[u8]) -> Result<()> {
+        if !self.cmp.accepts(key) {
+            self.current = None;
+            return Ok(());
+        }
         self.to_key(env, tables, key)?;
-        self.choose::<E, T>(Direction::Forward);
-        Ok(())
+        self.choose::<E, T>(Direction::Forward)
     }
 
     fn seek_to_first(&mut self, env: &mut E, tables: &mut T) -> Result<()> {
         self.to_first(env, tables)?;
-        self.choose::<E, T>(Direction::Forward);
-        Ok(())
+        self.choose::<E, T>(Direction::Forward)
     }
 
     fn seek_to_last(&mut self, env: &mut E, tables: &mut T) -> Result<()> {
         self.to_last(env, tables)?;
-        self.choose::<E, T>(Direction::Reverse);
-        Ok(())
+        self.choose::<E, T>(Direction::Reverse)
     }
 
     fn reset(&mut self) {

@@ -11,7 +11,7 @@ use Rattle.leveldb_env.specs.Compressor.{Codings}
 use Rattle.leveldb_env.specs.declared.env.Env.{Ghosts as EnvGhosts}
 use Rattle.leveldb_env.specs.declared.filter.FilterPolicy.{Ghosts as FilterGhosts}
 use Rattle.leveldb_iter.specs.MergingIter.{FailsMerged, IsMergeAt, IsMergeOver}
-use Rattle.leveldb_iter.specs.MergingIterLaws.{merged_stays, merged_stays_over}
+use Rattle.leveldb_iter.specs.MergingIterLaws.{merged_excuses, merged_stays}
 use Rattle.leveldb_iter.specs.Walk.{KeyOrder}
 use Rattle.leveldb_iter.specs.declared.merging_iter.MergeCore.{MergeCore}
 use Rattle.leveldb_iter.specs.declared.walk.Walk.{Ghosts as WalkGhosts}
@@ -77,7 +77,7 @@ pub record IsMergeOf {E T I C : Type 0} (child : WalkGhosts I E T) (cmp : CmpGho
       (position : Option ℕ) → merge.is_at world it order pairs position
       ↔ IsMergeAt child cmp world it order pairs position
   pub fails_is : (world : E × T) (it : MergeCore C I) (later : E × T) (status : Status)
-      → merge.fails world it later status ↔ FailsMerged child world it later status
+      → merge.fails world it later status ↔ FailsMerged child cmp world it later status
   pub keeps : (at to : E × T) → merge.keeps at to → child.keeps at to
 
 module _ {E F T I C : Type 0} (env : EnvGhosts E F) {child : WalkGhosts I E T} {cmp : CmpGhosts C}
@@ -90,17 +90,20 @@ module _ {E F T I C : Type 0} (env : EnvGhosts E F) {child : WalkGhosts I E T} {
       let borne = bears at to tables next given changes in
       record {
         given = borne.given;
-        stays_over = λ it order pairs was. (is.over_is (to, tables) it order pairs).1
-            (merged_stays_over (at, tables) (to, tables) borne.stays_over it.cmp it.children.items
-            order pairs ((is.over_is (at, tables) it order pairs).0 was));
+        stays_over = λ it order pairs was.
+            let over = (is.over_is (at, tables) it order pairs).0 was in
+            (is.over_is (to, tables) it order pairs).1 (
+              over.0,
+              merged_stays (at, tables) (to, tables) borne.stays_over borne.stays_at it order pairs
+                  over.0 over.1,
+            );
         stays_at = λ it order pairs position was.
             (is.at_is (to, tables) it order pairs position).1
             (merged_stays (at, tables) (to, tables) borne.stays_over borne.stays_at it order pairs
             position ((is.at_is (at, tables) it order pairs position).0 was));
-        excuses = λ it later status failed.
-            let any = (is.fails_is (to, tables) it later status).0 failed in
-            (is.fails_is (at, tables) it later status).1
-            (any.0, any.1, any.2, any.3, borne.excuses any.1 later status any.4);
+        excuses = λ it later status failed. (is.fails_is (at, tables) it later status).1
+            (merged_excuses (at, tables) (to, tables) borne.stays_over borne.stays_at borne.excuses
+            it later status ((is.fails_is (to, tables) it later status).0 failed));
       }
 
   pub merge_moves : MovesKeep env child store first Given → MovesKeep env merge store first Given

@@ -1,11 +1,11 @@
-mod BuildTableLemmas
+pub mod BuildTableLemmas
 mod StopsLemmas
 mod TableFileLemmas
 mod WriteTableLemmas
 mod OutputsLemmas
 mod MergingLemmas
 mod MergeLoopLemmas
-mod BearingLemmas
+pub mod BearingLemmas
 mod NewNumbersLemmas
 mod NewTablesLemmas
 mod CompactKeepsLemmas
@@ -15,8 +15,8 @@ mod CompactCallLemmas
 mod MergeInputsLemmas
 mod MergedOpenLemmas
 mod MergedInputsLemmas
-mod MergedFilesLemmas
-mod MergedMadeLemmas
+pub mod MergedFilesLemmas
+pub mod MergedMadeLemmas
 mod MergedCausesLemmas
 mod MergeFilesLemmas
 mod MovedFileLemmas

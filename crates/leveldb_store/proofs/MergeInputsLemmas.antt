@@ -1,6 +1,6 @@
 -- The walk that merges the tables of files.
 use Rattle.std.specs.Prelude.{All, Contains}
-use Rattle.std.proofs.Common.{◌≡◌, ◌<◌, ◌^◌, ◌∙◌, ⊎_elim, ℕ, List, [], ◌∷◌, None, length, sym, ap, subst}
+use Rattle.std.proofs.Common.{◌≡◌, ◌<◌, ◌^◌, ◌∙◌, inl, inr, ⊎_elim, ℕ, List, [], ◌∷◌, None, length, sym, ap, subst}
 use Rattle.std.proofs.lemmas.Option.{get_or_from_slice_get}
 use Rattle.std.specs.declared.cmp.Ordering.{Ordering}
 use Rattle.leveldb_base.proofs.HistoryLemmas.{in_cases, in_front, in_none, in_rest}
@@ -15,11 +15,11 @@ use Rattle.leveldb_base.specs.declared.error.Status.{Status}
 use Rattle.leveldb_env.specs.Compressor.{Codings}
 use Rattle.leveldb_env.specs.declared.env.Env.{Ghosts as EnvGhosts}
 use Rattle.leveldb_env.specs.declared.filter.FilterPolicy.{Ghosts as FilterGhosts}
-use Rattle.leveldb_iter.proofs.MergeCountLemmas.{layers_merged}
+use Rattle.leveldb_iter.proofs.LayersMergedLemmas.{layers_merged}
 use Rattle.leveldb_iter.specs.Children.{AnyFails, AreOver}
+use Rattle.leveldb_iter.specs.Merge.{HaveOnePairAKey}
 use Rattle.leveldb_iter.specs.MergedEntries.{internal_order}
-use Rattle.leveldb_iter.specs.MergingIter.{AreMerged, FailsMerged, IsMergeAt}
-use Rattle.leveldb_iter.specs.MergingIterLaws.{merged_over_list}
+use Rattle.leveldb_iter.specs.MergingIter.{AreMerged, FailsMerged, FailsOrClashes, IsMergeAt}
 use Rattle.leveldb_iter.specs.Walk.{IsSortedIn, KeyOrder, key_order}
 use Rattle.leveldb_iter.specs.declared.merging_iter.MergeCore.{MergeCore}
 use Rattle.leveldb_iter.specs.declared.walk.Walk.{Ghosts as WalkGhosts}
@@ -27,11 +27,12 @@ use Rattle.leveldb_version.proofs.PairwiseLemmas.{each_second}
 use Rattle.leveldb_version.proofs.SearchLemmas.{all_from_contains}
 use Rattle.leveldb_version.proofs.VersionLayersLemmas.{version_iters_are_layers}
 use Rattle.leveldb_version.specs.Batches.{Each}
+use Rattle.leveldb_version.specs.Format.{Meaning}
 use Rattle.leveldb_version.specs.Levels.{LiveTable, table_entries}
 use Rattle.leveldb_version.specs.Store.{IsInternalPair, SameEntries}
 use Rattle.leveldb_version.specs.Version.{AreInVersionOrder, VersionValue, new_files_of}
 use Rattle.leveldb_version.specs.VersionIter.{IsOverTables}
-use Rattle.leveldb_version.specs.VersionIters.{AreOverLayers, AreVersionIters}
+use Rattle.leveldb_version.specs.VersionIters.{AreOverLayers, AreTablesToWalk, AreVersionIters}
 use Rattle.leveldb_version.specs.declared.table_cache.moves.ReadTables.{ReadTables}
 use Rattle.leveldb_version.specs.declared.version_iter.VersionIter.{VersionIter}
 use Rattle.leveldb_store.specs.MergeInputs.{MergesTablesOf, ReadsBelow}
@@ -129,7 +130,8 @@ module _ {E F C FP K : Type 0} {keys : CmpGhosts (InternalKeyCmp C)} (env : EnvG
 
   pub inputs_merged : (pairs : List Pair)
       × AreMerged child keys world (record { 0 = compares }) iters
-      (key_order keys (record { 0 = compares })) pairs
+      (key_order keys (record { 0 = compares })) over.lists pairs
+      × HaveOnePairAKey (key_order keys (record { 0 = compares })) over.lists
       × AreRising (internal_cmp (cmp.cmp compares)) pairs
       × SameEntries (entries_of_pairs pairs) (table_entries tables)
       × AreInternal pairs
@@ -138,22 +140,22 @@ module _ {E F C FP K : Type 0} {keys : CmpGhosts (InternalKeyCmp C)} (env : EnvG
       (any_in_order (cmp.cmp compares)) exact (sym (keys_are compares)) world iters over.lists
       over.counted are_over sorted over.layered in (
         has.0,
-        subst (λ o. AreMerged child keys world (record { 0 = compares }) iters o has.0)
+        subst (λ o. AreMerged child keys world (record { 0 = compares }) iters o over.lists has.0)
             (sym (keys_are compares)) (record {
-              lists = has.1.lists;
               counted = has.1.counted;
               over = λ k it at. (has.1.over k it at).0;
               merge = has.1.merge;
               ordered = has.1.ordered;
             }),
+        subst (λ o. HaveOnePairAKey o over.lists) (sym (keys_are compares)) has.3,
         has.1.merge.sorted.rising,
         λ entry. (
           λ there. (over.exactly entry).0 ((has.2.exactly entry).0 there),
           λ there. (has.2.exactly entry).1 ((over.exactly entry).1 there),
         ),
         pairs_internal has.0 (λ pair there.
-            let any = (has.1.merge.exactly pair).0 there in
-            let from = list_over has.1.lists has.1.counted has.1.over any.1 (any.0, any.2, any.3) in
+            let any = has.1.merge.from pair there in
+            let from = list_over over.lists has.1.counted has.1.over any.1 (any.0, any.2, any.3) in
             pair_internal any.1 from pair any.4),
       )
     where
@@ -184,41 +186,47 @@ module _ {E F C FP K : Type 0} {keys : CmpGhosts (InternalKeyCmp C)} (env : EnvG
     pub tables_merged : {inputs : VersionValue C} {compares : C} {iters : List (VersionIter C)}
         {it : MergeCore (InternalKeyCmp C) (VersionIter C)} → AreVersionIters inputs iters
         → AreInVersionOrder (cmp.cmp inputs.cmp) (new_files_of inputs)
-        → ((world : E × ReadTables E C FP K F) (order : KeyOrder) (pairs : List Pair)
-        → AreMerged child keys world (record { 0 = compares }) iters order pairs
+        → ((world : E × ReadTables E C FP K F) (order : KeyOrder) (lists : List (List Pair))
+        (pairs : List Pair)
+        → AreMerged child keys world (record { 0 = compares }) iters order lists pairs
         → IsMergeAt child keys world it order pairs None)
         → ((world later : E × ReadTables E C FP K F) (status : Status)
-        → FailsMerged child world it later status → AnyFails child world iters later status)
+        → FailsMerged child keys world it later status
+        → FailsOrClashes child keys world (record { 0 = compares }) iters later status)
         → IsTableWalk keys env cmp filters codings child → IsMergeOf child keys walk
         → MergesTablesOf keys env cmp filters codings walk inputs compares it
     tables_merged {inputs} {compares} {iters} {it} are in_order made fails is merges = record {
       in_order = in_order;
       over = λ world meaning tables there same.
-          let read = world.1.cmp in
-          let layers = version_iters_are_layers keys env cmp filters codings inputs iters are world
-          (exact read) (orders_keys cmp read (keys_are read)) meaning tables there in
-          let all = inputs_merged env cmp filters codings keys_are is compares (exact compares)
-          iters world (sym there.order_is ∙ sym same) tables layers in
+          let all = merged world meaning tables there same in
+          let layers = layers_there world meaning tables there in
           let order = key_order keys (record { 0 = compares }) in (
             all.0,
             (merges.over_is world it order all.0).1
-                (merged_over_list world it order all.0 None (made world order all.0 all.1)),
-            all.2,
+                (None, made world order layers.lists all.0 all.1),
             all.3,
             all.4,
+            all.5,
           );
-      lacks = λ world meaning tables there later status failed.
+      lacks = λ world meaning tables there same later status failed. ⊎_elim
+          (λ (any : AnyFails child world iters later status).
           let read = world.1.cmp in
-          let any = fails world later status ((merges.fails_is world it later status).0 failed) in
           let those = tables_there env cmp filters codings inputs world (exact read)
           (orders_keys cmp read (keys_are read)) meaning tables there iters are any.1
           (any.0, any.2, any.3) in
           fails_between env counts cmp filters codings world later status
-          (((is.fails_is world any.1 later status).0 any.4).lacks meaning those.0 those.1);
-      fault = λ world now later status failed.
-          let any = (merges.fails_is world now later status).0 failed in
+          (((is.fails_is world any.1 later status).0 any.4).lacks meaning those.0 those.1))
+          (λ clash.
+          let all = merged world meaning tables there same in
+          let layers = layers_there world meaning tables there in
+          absurd (clash.1 (key_order keys (record { 0 = compares })) layers.lists all.0 all.1 all.2))
+          (fails world later status ((merges.fails_is world it later status).0 failed));
+      fault = λ world now later status failed. ⊎_elim
+          (λ (any : AnyFails child world now.children.items later status).
           fails_between env counts cmp filters codings world later status
-          ((is.fails_is world any.1 later status).0 any.4).fault;
+          ((is.fails_is world any.1 later status).0 any.4).fault)
+          (λ clash. inr (inr (inl clash.0)))
+          ((merges.fails_is world now later status).0 failed);
       leaves = λ from to kept. is.keeps from to (merges.keeps from to kept);
       bears = λ store first world reads.
           bears_new_tables env walk store first (ReadsBelow store first)
@@ -227,3 +235,27 @@ module _ {E F C FP K : Type 0} {keys : CmpGhosts (InternalKeyCmp C)} (env : EnvG
           (merge_borne env store first (ReadsBelow store first) merges
           (tables_borne keys env cmp filters codings store first is)) world reads;
     }
+      where
+        layers_there : (world : E × ReadTables E C FP K F) (meaning : Meaning)
+            (tables : List LiveTable)
+            → AreTablesToWalk keys env cmp filters codings inputs meaning world tables
+            → AreOverLayers keys env cmp filters codings world iters tables
+        layers_there world meaning tables there =
+            let read = world.1.cmp in
+            version_iters_are_layers keys env cmp filters codings inputs iters are world
+            (exact read) (orders_keys cmp read (keys_are read)) meaning tables there
+
+        merged : (world : E × ReadTables E C FP K F) (meaning : Meaning) (tables : List LiveTable)
+            (there : AreTablesToWalk keys env cmp filters codings inputs meaning world tables)
+            → cmp.cmp compares ≡ cmp.cmp inputs.cmp → (pairs : List Pair)
+            × AreMerged child keys world (record { 0 = compares }) iters
+            (key_order keys (record { 0 = compares }))
+            (layers_there world meaning tables there).lists pairs
+            × HaveOnePairAKey (key_order keys (record { 0 = compares }))
+            (layers_there world meaning tables there).lists
+            × AreRising (internal_cmp (cmp.cmp compares)) pairs
+            × SameEntries (entries_of_pairs pairs) (table_entries tables)
+            × AreInternal pairs
+        merged world meaning tables there same = inputs_merged env cmp filters codings keys_are is
+            compares (exact compares) iters world (sym there.order_is ∙ sym same) tables
+            (layers_there world meaning tables there)

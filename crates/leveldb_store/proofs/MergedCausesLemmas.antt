@@ -156,6 +156,11 @@ module _ {E F C FP K P : Type 0} {keys : CmpGhosts (InternalKeyCmp C)}
             (subst (λ (o : TableOptions C FP). Agrees o.format meaning) (sym m.reads) w.agrees)
             w.written w.has_live
 
+        -- it compares as the tables were sorted
+        order_is : cmp.cmp choices.cmp.0 ≡ cmp.cmp it.inputs.cmp
+        order_is = sym m.own ∙ m.same
+            ∙ sym (ap cmp.cmp (m.inputs_cmp ∙ ap (λ v. v.cmp) m.of.version_is ∙ m.of.current.cmp_is))
+
         -- the list that the walk is over
         pub record IsRead (pairs : List Pair) : Type 0 where
           pub over : walk.over start walked (key_order keys choices.cmp) pairs
@@ -165,9 +170,7 @@ module _ {E F C FP K P : Type 0} {keys : CmpGhosts (InternalKeyCmp C)}
 
         pub listed : (pairs : List Pair) × IsRead pairs
         listed =
-            let over = m.merges.over start meaning taken to_walk
-            (sym m.own ∙ m.same ∙ sym (ap cmp.cmp
-            (m.inputs_cmp ∙ ap (λ v. v.cmp) m.of.version_is ∙ m.of.current.cmp_is))) in (
+            let over = m.merges.over start meaning taken to_walk order_is in (
               over.0,
               record {
                 over = over.1;
@@ -242,8 +245,8 @@ module _ {E F C FP K P : Type 0} {keys : CmpGhosts (InternalKeyCmp C)}
                   subst (λ (o : TableOptions C FP). LacksCompressor o.format meaning)
                       m.reads lacks.1,
                 )))
-                (m.merges.lacks start meaning (taken meaning live w) (to_walk meaning live w) end
-                status (from_start (bears_new w.has_open)));
+                (m.merges.lacks start meaning (taken meaning live w) (to_walk meaning live w)
+                (order_is meaning live w) end status (from_start (bears_new w.has_open)));
           })))))
           (counted_or_not (env.failures start.0) (env.failures end.0) (m.counts start.0)))
           (memory_or_not status)

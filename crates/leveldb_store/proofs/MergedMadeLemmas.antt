@@ -221,7 +221,7 @@ module _ {C FP : Type 0} {order : CmpGhosts C} {filters : FilterGhosts FP}
   output : (table : LiveTable) → Contains merged_outputs table → IsOutput table
   output table there = output_is next_level Is files merges.tables finished table there
 
-  each_output : (table : LiveTable) → Contains merged_outputs table
+  pub each_output : (table : LiveTable) → Contains merged_outputs table
       → HasTable merge.store cmp T disk table
       × IsKept (disk (table_path merge.store table.file.number)) × (table.file.level ≡ next_level)
       × (table.file.number < 2 ^ 64)
@@ -236,7 +236,7 @@ module _ {C FP : Type 0} {order : CmpGhosts C} {filters : FilterGhosts FP}
         of.holds.number,
       )
 
-  outputs_apart : (a b : LiveTable) → Contains merged_outputs a → Contains merged_outputs b
+  pub outputs_apart : (a b : LiveTable) → Contains merged_outputs a → Contains merged_outputs b
       → a.file.number ≢ b.file.number → AreDisjoint cmp a.file b.file
   outputs_apart a b a_there b_there differ =
       let of = output a a_there in

@@ -19,7 +19,7 @@ use Rattle.leveldb_base.specs.declared.types.LdbIterator.{Ghosts as IteratorGhos
 use Rattle.leveldb_env.specs.Compressor.{Codings}
 use Rattle.leveldb_env.specs.declared.env.Env.{Ghosts as EnvGhosts}
 use Rattle.leveldb_env.specs.declared.filter.FilterPolicy.{Ghosts as FilterGhosts}
-use Rattle.leveldb_iter.proofs.MergeCountLemmas.{layers_merged}
+use Rattle.leveldb_iter.proofs.LayersMergedLemmas.{layers_merged}
 use Rattle.leveldb_iter.specs.Children.{AreOver}
 use Rattle.leveldb_iter.specs.MergedEntries.{MergesEntries, internal_order}
 use Rattle.leveldb_iter.specs.Walk.{IsSortedIn, KeyOrder, key_order}
@@ -245,7 +245,9 @@ module _ {E F C FP K M : Type 0} {keys : CmpGhosts (InternalKeyCmp C)} (env : En
         has.0,
         record {
           is_merge = record {
+            lists = lists;
             merged = has.1;
+            one = has.3;
             exact = exact;
             accepts = λ key. refl;
           };

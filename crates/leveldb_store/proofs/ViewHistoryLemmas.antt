@@ -81,16 +81,18 @@ module _ (cmp : List ℕ → List ℕ → Ordering) (exact : IsExactOrder cmp) (
 -- ---- errors
 
 module _ {E F T : Type 0} (env : Ghosts E F) where
-  -- the errors of a merge are counted where its children's are
-  pub merged_counts : {I C : Type 0} (fails : E × T → I → E × T → Status → Type 0) → CountsErrors env fails
-      → CountsErrors env (λ world (it : MergeCore C I) later status. Any (λ child. fails world child later status) it.children.items)
-  merged_counts fails counts from to it status any = ⊎_elim
+  -- the errors of a merge are counted where its children's are, but a clash, which may come at any time
+  pub merged_counts : {I C : Type 0} (fails : E × T → I → E × T → Status → Type 0) (clashes : E × T → MergeCore C I → Status → Type 0) → CountsErrors env fails
+      → CountsErrors env (λ world (it : MergeCore C I) later status. Any (λ child. fails world child later status) it.children.items ⊎ clashes world it status)
+  merged_counts fails clashes counts from to it status = ⊎_elim
+      (λ (any : Any (λ child. fails from child to status) it.children.items). ⊎_elim
       (λ (out : IsOutOfMemory status). inl out)
       (⊎_elim
       (λ (failed : HasFailed (env.failures from.0) (env.failures to.0)). inr (inl failed))
       (λ (ever : (other : E × T) → fails from any.1 other status).
-      inr (inr (λ other. (any.0, any.1, any.2, any.3, ever other)))))
-      (counts from to any.1 status any.4)
+      inr (inr (λ other. inl (any.0, any.1, any.2, any.3, ever other)))))
+      (counts from to any.1 status any.4))
+      (λ (clash : clashes from it status). inr (inr (λ other. inr clash)))
 
   -- and those of a view where the walk below has such
   pub view_counts : {M : Type 0} (walk : WalkGhosts M E T) → CountsErrors env walk.fails → CountsErrors env (FailsView walk)

@@ -55,6 +55,7 @@ module _ {E F C FP K : Type 0} (keys : CmpGhosts (InternalKeyCmp C)) (env : EnvG
       -- and a move fails since the format lacks a compressor, if memory and failures don't explain it
       pub lacks : (world : E × ReadTables E C FP K F) (meaning : Meaning) (tables : List LiveTable)
           → AreTablesToWalk keys env cmp filters codings inputs meaning world tables
+          → cmp.cmp compares ≡ cmp.cmp inputs.cmp
           → (later : E × ReadTables E C FP K F) (status : Status)
           → walk.fails world it later status → FailsBetween env world later (IsOfNoCompressor
           (options_in env cmp filters codings world).format meaning) status

@@ -18,6 +18,7 @@ use Rattle.leveldb_env.specs.Compressor.{Codings}
 use Rattle.leveldb_env.specs.declared.env.Env.{Ghosts}
 use Rattle.leveldb_env.specs.declared.filter.FilterPolicy.{Ghosts as FilterGhosts}
 use Rattle.leveldb_iter.specs.Children.{AnyFails}
+use Rattle.leveldb_iter.specs.Merge.{HaveOnePairAKey}
 use Rattle.leveldb_iter.specs.MergedEntries.{internal_order}
 use Rattle.leveldb_iter.specs.MergingIter.{AreMerged}
 use Rattle.leveldb_iter.specs.Moves.{IsRefusedFor, LandsAt, SeeksLongKey}
@@ -200,7 +201,10 @@ pub record WalksStore {E F C FP : Type 0} (keys : CmpGhosts (InternalKeyCmp C)) 
 pub record IsMergeToView {E T I C : Type 0} (child : WalkGhosts I E T) (cmp : CmpGhosts C)
     (compares : C) (children : List I) (world : E × T) (order : KeyOrder) (below : List Pair)
     : Type 0 where
-  pub merged : AreMerged child cmp world compares children (internal_order order) below
+  pub lists : List (List Pair)
+  pub merged : AreMerged child cmp world compares children (internal_order order) lists below
+  -- pairs of equal key are the same pair
+  pub one : HaveOnePairAKey (internal_order order) lists
   pub exact : IsExactOrder order.cmp
   pub accepts : (key : List ℕ) → order.accepts key ≡ true
 
@@ -216,7 +220,8 @@ pub record ViewsMerge {E T I C : Type 0} (child : WalkGhosts I E T) (cmp : CmpGh
   pub none : walk.here it ≡ None
   -- what holds of walks holds of this one
   pub laws : WalkLaws walk.over walk.is_at walk.here walk.fails walk.keeps
-  -- its errors are those of a child, of memory, and of pairs that are no entries
+  -- its errors are those of a child, of memory, and of pairs that are no entries or that differ
+  -- though they have one key
   pub fails : (world later : E × T) (status : Status) → walk.fails world it later status
       → AnyFails child world children later status ⊎ IsOutOfMemory status
       ⊎ ((status.code ≡ Corruption) × ((order : KeyOrder) (below : List Pair)

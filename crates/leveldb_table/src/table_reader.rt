@@ -296,7 +296,8 @@ impl<E: Env, C: Cmp + Copy + Drop, FP: FilterPolicy> Table<E, C, FP> {
         }
     }
 
-    // The block at a handle, from the cache or from the file; that is put into the cache then.
+    // The block at a handle, from the cache or from the file; that is put into the cache then, if
+    // `fills` says so.
     fn read_block(
         &self,
         alloc: Global,
@@ -304,6 +305,7 @@ impl<E: Env, C: Cmp + Copy + Drop, FP: FilterPolicy> Table<E, C, FP> {
         cache: &mut BlockCache<C>,
         compressors: &CompressorList,
         handle: BlockHandle,
+        fills: bool,
     ) -> Result<Block<C>>
         ensures reads { let codings = ⟦<CompressorList as Compressors>⟧.codings compressors.now in
             ReadsFile E.Env (IsLackError E.Env codings (λ bytes.
@@ -323,6 +325,9 @@ impl<E: Env, C: Cmp + Copy + Drop, FP: FilterPolicy> Table<E, C, FP> {
             return Ok(found);
         }
         let block = read_table_block(alloc, self.cmp, env, &self.file, compressors, handle)?;
+        if !fills {
+            return Ok(block);
+        }
         let copy = block.clone()?;
         cache.insert(
             &cache_key(self.id, handle.offset()),

@@ -120,3 +120,7 @@ mod BaseLevelLemmas
 mod SamplingLemmas
 pub mod AmongLemmas
 mod CutLemmas
+pub mod FoundLemmas
+pub mod RepairingLemmas
+pub mod RepairingKeepsLemmas
+pub mod RepairingFoundLemmas

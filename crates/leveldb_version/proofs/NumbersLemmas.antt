@@ -1,10 +1,11 @@
 -- Histories and the numbers in them.
+use Rattle.leveldb_base.proofs.ConsistentLemmas.{rise_both, rise_front, rise_placed, rising_is_found}
 use Rattle.leveldb_base.proofs.HistoryLemmas.{in_cases, in_none}
 use Rattle.leveldb_base.specs.History.{AreAbove, AreUpTo, Entry, History, IsHistory, IsPlaced, IsPrefixAtLeast, Item, RiseAbove, entries_of, greatest, placed}
-use Rattle.std.proofs.Common.{◌++◌, ◌+◌, ◌<◌, ◌∙◌, ◌∷◌, ◌≡◌, ◌≤◌, List, [], ap, append-nil, arith, drop, length, refl, subst, suc, sym, take, ℕ, ⊎_elim}
+use Rattle.std.proofs.Common.{◌++◌, ◌+◌, ◌<◌, ◌∙◌, ◌∷◌, ◌≡◌, ◌≤◌, List, [], ap, append-nil, arith, drop, length, refl, subst, suc, sym, take, zero, ℕ, ⊎_elim}
 use Rattle.std.proofs.lemmas.List.{take-append-drop}
 use Rattle.std.proofs.lemmas.List.Concat.{flat_map-append}
-use Rattle.std.proofs.lemmas.List.Elements.{All-append, All-take}
+use Rattle.std.proofs.lemmas.List.Elements.{All-append, All-nil, All-take}
 use Rattle.std.specs.Prelude.{All, Contains, max}
 
 -- ---- the greatest number
@@ -54,16 +55,12 @@ pub entries_more : (history : History) (batch : List Entry)
 entries_more history batch = flat_map-append (λ b. b) history (batch ∷ [])
     ∙ ap (λ es. entries_of history ++ es) (append-nil batch)
 
-rise_placed : (low first : ℕ) (items : List Item) → low < first → RiseAbove low (placed first items)
-rise_placed low first [] lt = tt
-rise_placed low first (item ∷ items) lt = (lt, rise_placed first (first + 1) items (omega arith))
-
 rise_more : (low last : ℕ) (entries : List Entry) (items : List Item) → low ≤ last
     → greatest entries ≤ last → RiseAbove low entries
     → RiseAbove low (entries ++ placed (last + 1) items)
-rise_more low last [] items a b r = rise_placed low (last + 1) items (omega arith)
-rise_more low last (entry ∷ entries) items a b r =
-    (r.0, rise_more entry.sequence last entries items (omega arith) (omega arith) r.1)
+rise_more low last entries items a b r =
+    rise_both low entries (placed (last + 1) items) r
+    (rise_placed (max low (greatest entries)) (last + 1) items (omega (arith, a, b)))
 
 -- the batch after it is one placed batch
 one_placed : (last : ℕ) (items : List Item) → All IsPlaced (placed (last + 1) items ∷ [])
@@ -73,18 +70,24 @@ one_placed last items k d lt = let at : k ≡ 0 = omega arith in rw at (last + 1
 pub history_more : (history : History) (last : ℕ) (items : List Item)
     → greatest (entries_of history) ≤ last → IsHistory history
     → IsHistory (history ++ placed (last + 1) items ∷ [])
-history_more history last items reached is = record {
-  placed =
-      All-append IsPlaced history (placed (last + 1) items ∷ []) is.placed (one_placed last items);
-  rising =
-      subst (λ es. RiseAbove 0 es) (sym (entries_more history (placed (last + 1) items)))
-      (rise_more 0 last (entries_of history) items (omega arith) reached is.rising);
+history_more [] last items reached is = record {
+  begins =
+      rising_is_found (placed (last + 1) items) (rise_placed 0 (last + 1) items (omega arith));
+  placed = All-nil IsPlaced;
+  rising = tt;
 }
-
-rise_front : (low : ℕ) (front rest : List Entry) → RiseAbove low (front ++ rest)
-    → RiseAbove low front
-rise_front low [] rest r = tt
-rise_front low (entry ∷ front) rest r = (r.0, rise_front entry.sequence front rest r.1)
+history_more (first ∷ later) last items reached is = record {
+  begins = is.begins;
+  placed =
+      All-append IsPlaced later (placed (last + 1) items ∷ []) is.placed (one_placed last items);
+  rising =
+      subst (RiseAbove (greatest first)) (sym (entries_more later (placed (last + 1) items)))
+      (rise_more (greatest first) last (entries_of later) items (omega (arith, both))
+      (omega (arith, both)) is.rising);
+}
+  where
+    both : max (greatest first) (greatest (entries_of later)) ≤ last
+    both = subst (λ n. n ≤ last) (greatest_append first (entries_of later)) reached
 
 -- a prefix and what is after it
 pub entries_split : (n : ℕ) (history : History)
@@ -93,16 +96,21 @@ entries_split n history = ap entries_of (sym (take-append-drop n history))
     ∙ flat_map-append (λ b. b) (take n history) (drop n history)
 
 -- a prefix of a history is one
+history_front : (n : ℕ) (history : History) → IsHistory history → IsHistory (take n history)
+history_front zero history is = tt
+history_front (suc n) [] is = tt
+history_front (suc n) (first ∷ later) is = record {
+  begins = is.begins;
+  placed = All-take IsPlaced n later is.placed;
+  rising =
+      rise_front (greatest first) (entries_of (take n later)) (entries_of (drop n later))
+      (subst (RiseAbove (greatest first)) (entries_split n later) is.rising);
+}
+
 pub history_part : (least : ℕ) (whole part : History) → IsHistory whole
     → IsPrefixAtLeast least whole part → IsHistory part
-history_part least whole part is prefix = record {
-  placed =
-      subst (λ h. All IsPlaced h) (sym prefix.first)
-      (All-take IsPlaced prefix.count whole is.placed);
-  rising = subst (λ h. RiseAbove 0 (entries_of h)) (sym prefix.first)
-      (rise_front 0 (entries_of (take prefix.count whole)) (entries_of (drop prefix.count whole))
-      (subst (λ es. RiseAbove 0 es) (entries_split prefix.count whole) is.rising));
-}
+history_part least whole part is prefix =
+    subst IsHistory (sym prefix.first) (history_front prefix.count whole is)
 
 -- its numbers go no further
 pub greatest_part : (least : ℕ) (whole part : History) → IsPrefixAtLeast least whole part

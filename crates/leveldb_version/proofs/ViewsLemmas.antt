@@ -1,33 +1,14 @@
 -- Sets of entries: the same elements show the same; the greatest number.
+pub use Rattle.leveldb_base.proofs.HistoryLemmas.{same_sets}
 use Rattle.leveldb_base.proofs.HistoryLemmas.{in_cases, in_front, in_none, in_rest, same_with_more}
-use Rattle.leveldb_base.specs.History.{AreUpTo, Entry, HasValueAt, SameView, greatest}
+use Rattle.leveldb_base.specs.History.{AreUpTo, Entry, SameView, greatest}
 use Rattle.leveldb_version.specs.Store.{SameEntries}
 use Rattle.std.proofs.Common.{◌++◌, ◌<◌, ◌∷◌, ◌≡◌, ◌≤◌, List, [], ap, arith, ℕ, ⊎_elim}
 use Rattle.std.proofs.lemmas.List.Elements.{Contains-append_cases, Contains-append_left, Contains-append_right}
 use Rattle.std.specs.Prelude.{Contains}
 
-value_too : (these those : List Entry) → SameEntries these those → (t : ℕ) (key value : List ℕ)
-    → HasValueAt these t key value → HasValueAt those t key value
-value_too these those same t key value s = record {
-  entry = s.entry;
-  newest = record {
-    there = (same s.entry).0 s.newest.there;
-    seen = s.newest.seen;
-    newest = λ other c k seen. s.newest.newest other ((same other).1 c) k seen;
-  };
-  key_is = s.key_is;
-  value_is = s.value_is;
-}
-
 pub turned : (these those : List Entry) → SameEntries these those → SameEntries those these
 turned these those same entry = ((same entry).1, (same entry).0)
-
-pub same_sets : (these those : List Entry) → SameEntries these those → (t : ℕ)
-    → SameView these those t
-same_sets these those same t key value = (
-  value_too these those same t key value,
-  value_too those these (turned these those same) t key value,
-)
 
 pub view_trans : (a b c : List Entry) (t : ℕ) → SameView a b t → SameView b c t → SameView a c t
 view_trans a b c t p q key value =

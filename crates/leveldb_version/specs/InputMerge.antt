@@ -4,8 +4,7 @@ use Rattle.leveldb_base.specs.Types.{Pair}
 use Rattle.leveldb_base.specs.declared.cmp.Cmp.{Ghosts as CmpGhosts}
 use Rattle.leveldb_base.specs.declared.cmp.internal.InternalKeyCmp.{InternalKeyCmp}
 use Rattle.leveldb_base.specs.declared.error.Status.{Status}
-use Rattle.leveldb_iter.specs.Children.{AnyFails}
-use Rattle.leveldb_iter.specs.MergingIter.{AreMerged, FailsMerged, IsMergeAt, merged_here}
+use Rattle.leveldb_iter.specs.MergingIter.{AreMerged, FailsMerged, FailsOrClashes, IsMergeAt, merged_here}
 use Rattle.leveldb_iter.specs.Walk.{KeyOrder}
 use Rattle.leveldb_iter.specs.declared.merging_iter.MergeCore.{MergeCore}
 use Rattle.leveldb_iter.specs.declared.walk.Walk.{Ghosts as WalkGhosts}
@@ -22,10 +21,10 @@ pub record MergesTablesOf {E T C : Type 0} (walk : WalkGhosts (VersionIter C) E 
   pub walks : List (VersionIter C)
   pub over_tables : AreVersionIters version walks
   -- in each world in which they are over lists, it is over the merge of these, at no position
-  pub is_at : (world : E × T) (by : KeyOrder) (pairs : List Pair)
-      → AreMerged walk order world (record { 0 = cmp }) walks by pairs
+  pub is_at : (world : E × T) (by : KeyOrder) (lists : List (List Pair)) (pairs : List Pair)
+      → AreMerged walk order world (record { 0 = cmp }) walks by lists pairs
       → IsMergeAt walk order world merge by pairs None
   pub none : merged_here walk merge ≡ None
-  -- it fails for no other cause than one of them
-  pub fails : (from to : E × T) (status : Status) → FailsMerged walk from merge to status
-      → AnyFails walk from walks to status
+  -- it fails for no other cause than one of them, or that two of them have different pairs of a key
+  pub fails : (from to : E × T) (status : Status) → FailsMerged walk order from merge to status
+      → FailsOrClashes walk order from (record { 0 = cmp }) walks to status

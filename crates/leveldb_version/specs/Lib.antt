@@ -37,6 +37,8 @@ pub mod Opening
 pub mod WritingLaws
 pub mod OpeningLaws
 pub mod Format
+pub mod Found
+pub mod Repairing
 pub mod TableCache
 pub mod TableMoves
 pub mod VersionIter

@@ -1,4 +1,4 @@
--- The manifest with which a store begins that isn't there yet.
+-- A manifest of one edit, such as that with which a store begins that isn't there yet.
 use Rattle.std.specs.Prelude.{ℕ, Bool, List, [], ◌∷◌, Some, Result, IsTrue}
 use Rattle.leveldb_base.specs.declared.error.Status.{Status}
 use Rattle.leveldb_env.specs.Env.{AppendedAreBytes, ChangesFiles, HasCause, Observed, SameLocks}
@@ -21,17 +21,23 @@ first_edit comparator = record empty_edit {
 abbrev pub first_manifest : List ℕ → List ℕ
 first_manifest comparator = manifest_bytes (edit_bytes (first_edit comparator) ∷ [])
 
--- What making a new store returns and leaves: its manifest is made and `CURRENT` names it, or a
--- call of the environment failed. Then `CURRENT` may name it, too.
-pub record MakeStoreResult (models_disk : Bool) (store comparator : List ℕ) (before : Observed)
-    (failed : ℕ) (result : Result (Unit {0}) Status) (after : Observed) (now_failed : ℕ)
-    : Type 0 where
+-- What making a manifest of this number with one edit, which `CURRENT` then names, returns and
+-- leaves: it is made, or a call of the environment failed. Then `CURRENT` may name it, too.
+pub record MakesManifest (models_disk : Bool) (store : List ℕ) (n : ℕ) (edit : Edit)
+    (before : Observed) (failed : ℕ) (result : Result (Unit {0}) Status) (after : Observed)
+    (now_failed : ℕ) : Type 0 where
   pub does : IsTrue models_disk → ChangesFiles models_disk
-      (with_manifest store 1 (first_manifest comparator))
-      (MakingManifest store 1 (first_manifest comparator)) before after result
+      (with_manifest store n (manifest_bytes (edit_bytes edit ∷ [])))
+      (MakingManifest store n (manifest_bytes (edit_bytes edit ∷ []))) before after result
   -- what is appended to files are bytes, also where the call fails
   pub bytes : IsTrue models_disk → AppendedAreBytes before.disk.files
       → AppendedAreBytes after.disk.files
   pub locks : SameLocks models_disk before after
-  pub cause : HasCause (IsLostUnobserved models_disk (temp_path store 1) failed now_failed)
+  pub cause : HasCause (IsLostUnobserved models_disk (temp_path store n) failed now_failed)
       failed now_failed result
+
+-- the same of a new store's manifest
+abbrev pub MakeStoreResult : Bool → List ℕ → List ℕ → Observed → ℕ → Result (Unit {0}) Status
+    → Observed → ℕ → Type 0
+MakeStoreResult models_disk store comparator =
+    MakesManifest models_disk store 1 (first_edit comparator)

@@ -11,6 +11,7 @@ pub mod compactions;
 pub mod iters;
 pub mod levels;
 pub mod opening;
+pub mod repairing;
 pub mod stores;
 pub mod table_caches;
 pub mod version_sets;

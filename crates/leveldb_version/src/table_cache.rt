@@ -23,7 +23,7 @@ use std::alloc::Global;
 
 mod moves;
 
-pub use moves::{ReadTables, ReadsTables};
+pub use moves::{ReadOnce, ReadTables, ReadsTables};
 
 // How many files a store has open that are no tables.
 const OTHER_FILES: usize = 10;

@@ -123,6 +123,7 @@ impl<'a, C: UserCmp + Copy + Drop> VersionIter<'a, C> {
             number,
             &mut self.core,
             to,
+            true,
         )
     }
 

@@ -31,7 +31,7 @@ pub use current::{current_text, parse_current_text};
 pub use current_file::{read_current_file, set_current_file};
 pub use leveldb_base::names::manifest_file_name;
 pub use live_files::LiveFiles;
-pub use new_store::make_store;
+pub use new_store::{make_manifest_of, make_store};
 pub use set::VersionSet;
 pub(crate) use summary::summary_of;
 

@@ -11,7 +11,7 @@ use Rattle.rusty_leveldb.specs.State.{State, closed}
 use Rattle.rusty_leveldb.specs.Machine.{Risk, Crashes}
 use Rattle.rusty_leveldb.specs.Serves.{Reads, StandsFor, IsSpared}
 use Rattle.rusty_leveldb.proofs.Bounds.{carries_more, carries_just}
-use Rattle.rusty_leveldb.proofs.Histories.{history_part, greatest_part}
+use Rattle.leveldb_version.proofs.NumbersLemmas.{history_part, greatest_part}
 use Rattle.rusty_leveldb.proofs.ReadsLemmas.{crash_bytes}
 use Rattle.leveldb_version.specs.Format.{Meaning}
 

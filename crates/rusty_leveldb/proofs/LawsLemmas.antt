@@ -3,7 +3,8 @@ use Rattle.std.proofs.Common.{◌≡◌, ◌≢◌, ◌≤◌, ◌<◌, ◌+◌,
 use Rattle.std.proofs.lemmas.List.{take-append-drop, map-append}
 use Rattle.std.proofs.lemmas.List.Concat.{flat_map-append}
 use Rattle.std.proofs.lemmas.List.Elements.{All-nil, All-head, All-tail, Contains-append_right, Contains-append_cases}
-use Rattle.leveldb_base.specs.History.{Item, Entry, History, entries_of, greatest, with_batch, HasValueAt, IsValueAt}
+use Rattle.leveldb_base.proofs.ConsistentLemmas.{batches_are_history}
+use Rattle.leveldb_base.specs.History.{Item, Entry, History, IsPlaced, entries_of, greatest, with_batch, HasValueAt, IsValueAt}
 use Rattle.leveldb_base.proofs.HistoryLemmas.{in_none, in_front, in_rest, in_cases}
 use Rattle.leveldb_base.proofs.EntriesLemmas.{map_in}
 use Rattle.leveldb_version.specs.Format.{Format, Meaning}
@@ -11,16 +12,16 @@ use Rattle.rusty_leveldb.specs.State.{Mode, open_mode, broken, closed, State, Is
 use Rattle.rusty_leveldb.specs.Causes.{Setting}
 use Rattle.rusty_leveldb.specs.Machine.{Gets, Step}
 use Rattle.rusty_leveldb.specs.Runs.{Event, setting_of, Run, CrashBefore, last_moment, StopsAt, Ending, goes_on, crashes, Life, Lives, new_state}
-use Rattle.rusty_leveldb.specs.Laws.{LivesFit, MakesDurable, DurableStays, SyncedStays, IsInTime, EachAnswerParts, items_of, batches_of, IsSubsequence, asked_in, HistoryIsAsked, MoreIsAsked, NoneHasKey, SyncedIsRead}
-use Rattle.rusty_leveldb.proofs.Histories.{up_to, up_to_greatest, entries_more}
-use Rattle.rusty_leveldb.proofs.MachineLemmas.{none_pending, step_fits}
-use Rattle.rusty_leveldb.proofs.RunsLemmas.{Since, since_lives, some_all, some_front, without}
+use Rattle.rusty_leveldb.specs.Laws.{LivesFit, MakesDurable, DurableStays, SyncedStays, IsInTime, EachAnswerParts, items_of, batches_of, IsSubsequence, asked_in, HistoryIsAsked, HistoryIsPlaced, MoreIsAsked, NoneHasKey, SyncedIsRead}
+use Rattle.leveldb_version.proofs.NumbersLemmas.{up_to, up_to_greatest, entries_more}
+use Rattle.rusty_leveldb.proofs.MachineLemmas.{before_pending, none_pending, step_fits}
+use Rattle.rusty_leveldb.proofs.RunsLemmas.{Since, all_front, since_lives, some_all, some_front, without}
 
 -- ---- what is durable
 
 -- any state is one since its durable part
 since_state : (old : State) → IsState old
-    → Since (take old.durable old.history) (batches_of (with_batch
+    → Since ⊥ (take old.durable old.history) (batches_of (with_batch
     (drop old.durable old.history) old.pending)) old
 since_state old is = record {
   is = is;
@@ -28,18 +29,19 @@ since_state old is = record {
   history = sym (take-append-drop old.durable old.history);
   durable = let l = length-take old.durable old.history in omega arith;
   some = some_all (batches_of (with_batch (drop old.durable old.history) old.pending));
+  placed = λ never. absurd never;
 }
 
 pub lives_fit : LivesFit
 lives_fit meaning lives before after old new is leads =
-    let since = since_lives meaning (take old.durable old.history) (batches_of (with_batch
+    let since = since_lives meaning ⊥ (take old.durable old.history) (batches_of (with_batch
     (drop old.durable old.history) old.pending)) before old lives after new
     (since_state old is) leads in
     since.is
 
 pub durable_stays : DurableStays
 durable_stays meaning lives before after old last is leads =
-    let since = since_lives meaning (take old.durable old.history) (batches_of (with_batch
+    let since = since_lives meaning ⊥ (take old.durable old.history) (batches_of (with_batch
     (drop old.durable old.history) old.pending)) before old lives after last
     (since_state old is) leads in
     (since.more, since.history)
@@ -73,7 +75,7 @@ module _ (setting : Setting) (old new : State)
 
   -- what is done so is a new beginning
   since_done : (request : Request) (answer : Answer) → Step old.mode setting old request answer new
-      → MakesDurable request answer → Since new.history [] new
+      → MakesDurable request answer → Since (Unit {0}) new.history [] new
   since_done request answer step by =
       let now = durable_in old.mode request answer refl by step in
       record {
@@ -82,24 +84,35 @@ module _ (setting : Setting) (old new : State)
         history = sym (append-nil new.history);
         durable = let c = now.0 in omega arith;
         some = subst (λ p. IsSubsequence (batches_of (with_batch [] p)) []) (sym now.1) tt;
+        placed = λ always. subst (λ p. All IsPlaced (with_batch [] p)) (sym now.1) (All-nil IsPlaced);
       }
 
 -- ---- what a history is made of
 
--- what comes after a part was asked for, also without the pending batch
-asked_alone : (part : History) (asked : List (List Item)) (state : State)
-    (since : Since part asked state) → IsSubsequence (batches_of since.more) asked
-asked_alone part asked state since =
-    let rest = without since.more state.pending in
-    some_front (batches_of since.more) (batches_of rest.0) asked
-    (subst (λ batches. IsSubsequence batches asked) (ap batches_of rest.1
-    ∙ map-append items_of since.more rest.0) since.some)
+-- what comes after a part was asked for and is placed, also without the pending batch
+module _ (part : History) (asked : List (List Item)) (state : State)
+    (since : Since (Unit {0}) part asked state) where
+  asked_alone : IsSubsequence (batches_of since.more) asked
+  asked_alone =
+      let rest = without since.more state.pending in
+      some_front (batches_of since.more) (batches_of rest.0) asked
+      (subst (λ batches. IsSubsequence batches asked) (ap batches_of rest.1
+      ∙ map-append items_of since.more rest.0) since.some)
+
+  placed_alone : All IsPlaced since.more
+  placed_alone =
+      let rest = without since.more state.pending in
+      all_front IsPlaced since.more rest.0 (subst (All IsPlaced) rest.1 (since.placed tt))
 
 pub more_is_asked : MoreIsAsked
 more_is_asked meaning setting old next last request answer lives before after is step by leads =
-    let since = since_lives meaning next.history [] before next lives after last
-    (since_done setting old next is request answer step by) leads in
-    (since.more, since.history, asked_alone next.history (asked_in lives) last since)
+    let since = since_lives meaning (Unit {0}) next.history [] before next lives after last
+    (since_done setting old next is request answer step by) leads in (
+      since.more,
+      since.history,
+      asked_alone next.history (asked_in lives) last since,
+      placed_alone next.history (asked_in lives) last since,
+    )
 
 pub synced_stays : SyncedStays
 synced_stays meaning setting old next last request answer lives before after is step by leads =
@@ -109,7 +122,7 @@ synced_stays meaning setting old next last request answer lives before after is 
 
 new_is_state : (format : Format) → IsState (new_state format)
 new_is_state format = record {
-  history = record { placed = All-nil _; rising = tt };
+  history = tt;
   reached = omega arith;
   pending = omega arith;
   durable = omega arith;
@@ -117,18 +130,34 @@ new_is_state format = record {
   mode = record { held = refl; given = refl };
 }
 
-pub history_is_asked : HistoryIsAsked
-history_is_asked meaning format lives after last leads =
-    let since = since_lives meaning [] [] 0 (new_state format) lives after last (record {
-      is =
-          new_is_state format;
+-- since the machine was new
+since_new : (meaning : Meaning) (format : Format) (lives : List Life) (after : ℕ) (last : State)
+    → Lives meaning 0 (new_state format) lives after last
+    → Since (Unit {0}) [] (asked_in lives) last
+since_new meaning format lives after last leads =
+    since_lives meaning (Unit {0}) [] [] 0 (new_state format) lives after last (record {
+      is = new_is_state format;
       more = [];
       history = refl;
       durable = omega arith;
       some = tt;
-    }) leads in
+      placed = λ always. All-nil IsPlaced;
+    }) leads
+
+pub history_is_asked : HistoryIsAsked
+history_is_asked meaning format lives after last leads =
+    let since = since_new meaning format lives after last leads in
     subst (λ h. IsSubsequence (batches_of h) (asked_in lives)) (sym since.history) (asked_alone []
     (asked_in lives) last since)
+
+pub history_is_placed : HistoryIsPlaced
+history_is_placed meaning format lives after last leads =
+    let since = since_new meaning format lives after last leads in
+    let each = subst (All IsPlaced) (sym since.history) (placed_alone [] (asked_in lives) last since) in (
+      each,
+      (batches_are_history last.history each).0
+          (before_pending last.history last.pending since.is.history),
+    )
 
 -- ---- the states at the answers of lives
 
@@ -375,7 +404,7 @@ synced_is_read meaning setting later old next last new key value lives before af
     item = record { key = key; value = Some value }
 
     since : (more : History) × (last.history ≡ next.history ++ more)
-        × IsSubsequence (batches_of more) (asked_in lives)
+        × IsSubsequence (batches_of more) (asked_in lives) × All IsPlaced more
     since = more_is_asked meaning setting old next last (write
         (item ∷ []) true) done lives before after is step refl leads
 

@@ -1,4 +1,3 @@
-pub mod Histories
 pub mod MachineLemmas
 pub mod RunsLemmas
 pub mod LawsLemmas

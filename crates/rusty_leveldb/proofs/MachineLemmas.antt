@@ -8,7 +8,7 @@ use Rattle.rusty_leveldb.specs.State.{Mode, open_mode, broken, closed, Snapshot,
 use Rattle.rusty_leveldb.specs.Causes.{Setting, Cause, device_failed, IsClosedRefusal, IsBrokenRefusal}
 use Rattle.rusty_leveldb.specs.Machine.{MayGrow, Keeps, added_batch, Writes, AllDurable, Breaks, Gives, Releases, Closes, Abandons, Opens, StaysClosed, MayBreak, KeepsOrBreaks, Succeeds, LeavesRefused, Responds, Rejects, Step, Risk, risk_between, risk_of, Crashes}
 use Rattle.rusty_leveldb.specs.Laws.{asked_by, StepFits, CrashFits, CrashInsideFits}
-use Rattle.rusty_leveldb.proofs.Histories.{entries_more, greatest_append, placed_greatest, placed_length, history_more, history_part, greatest_part}
+use Rattle.leveldb_version.proofs.NumbersLemmas.{entries_more, greatest_append, placed_greatest, placed_length, history_more, history_part, greatest_part}
 
 -- ---- the ways in which a request changes the state
 

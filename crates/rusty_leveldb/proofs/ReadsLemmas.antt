@@ -492,10 +492,7 @@ nothing_stands store meaning format disk bare bytes free =
     let nothing = matches_nothing is_missing refl 0 in
     record {
       is_state = record {
-        history = record {
-          placed = λ k d lt. absurd (let never : ⊥ = omega arith in never);
-          rising = tt;
-        };
+        history = tt;
         reached = omega arith;
         pending = omega arith;
         durable = omega arith;

@@ -1,10 +1,10 @@
 -- What runs and lives keep of a history that is durable, and what they add to it.
 use Rattle.std.proofs.Common.{◌≡◌, ◌≤◌, ◌<◌, ◌+◌, ◌-◌, ◌⊎◌, ⊎_elim, inl, inr, ℕ, Bool, true, false, List, [], ◌∷◌, ◌++◌, length, flat_map, take, drop, refl, sym, ◌∙◌, ap, subst, arith, Option, Some, None, All, append-nil, append_assoc, length-append, nat_le, if◌then◌else◌, le-leb, leb-true}
-use Rattle.std.proofs.Math.Seq.{take-append-add}
+use Rattle.std.proofs.Math.Seq.{take-append-add, take-append_seam}
 use Rattle.std.proofs.lemmas.List.{take-append-drop, map-append}
 use Rattle.std.proofs.lemmas.List.Concat.{flat_map-append}
-use Rattle.std.proofs.lemmas.List.Elements.{All-head, All-tail}
-use Rattle.leveldb_base.specs.History.{Item, Entry, History, IsPrefixAtLeast, placed, with_batch}
+use Rattle.std.proofs.lemmas.List.Elements.{All-head, All-push, All-tail, All-take}
+use Rattle.leveldb_base.specs.History.{Item, Entry, History, IsPlaced, IsPrefixAtLeast, placed, with_batch}
 use Rattle.leveldb_version.specs.Format.{Meaning}
 use Rattle.rusty_leveldb.specs.State.{open_mode, State, IsState, Request, Answer}
 use Rattle.rusty_leveldb.specs.Causes.{Setting}
@@ -43,6 +43,12 @@ some_front (x ∷ some) rest (y ∷ whole) (inr later) = inr (some_front (x ∷ 
 
 -- ---- the batches that were asked for
 
+-- what holds of each of a list holds of each of its first ones
+pub all_front : {A : Type 0} (P : A → Type 0) (front rest : List A) → All P (front ++ rest)
+    → All P front
+all_front P front rest all = subst (All P) (take-append_seam front rest)
+    (All-take P (length front) (front ++ rest) all)
+
 items_placed : (first : ℕ) (items : List Item) → items_of (placed first items) ≡ items
 items_placed first [] = refl
 items_placed first (item ∷ items) = ap (λ rest. item ∷ rest) (items_placed (first + 1) items)
@@ -61,21 +67,23 @@ without more (Some batch) = (batch ∷ [], refl)
 -- ---- since a durable part
 
 -- The history begins with the part, which is durable. What comes after it, the pending batch
--- included, was asked for.
-pub record Since (part : History) (asked : List (List Item)) (state : State) : Type 0 where
+-- included, was asked for; where `Placed` holds, it is placed batches.
+pub record Since (Placed : Type 0) (part : History) (asked : List (List Item))
+    (state : State) : Type 0 where
   pub is : IsState state
   pub more : History
   pub history : state.history ≡ part ++ more
   pub durable : length part ≤ state.durable
   pub some : IsSubsequence (batches_of (with_batch more state.pending)) asked
+  pub placed : Placed → All IsPlaced (with_batch more state.pending)
 
-module _ (part : History) (asked : List (List Item)) (old : State)
-    (since : Since part asked old) where
+module _ (Placed : Type 0) (part : History) (asked : List (List Item)) (old : State)
+    (since : Since Placed part asked old) where
   -- no batch is new
   fewer : (new : State) (more rest : History) (others : List (List Item)) → IsState new
       → new.history ≡ part ++ more → length part ≤ new.durable
       → with_batch since.more old.pending ≡ with_batch more new.pending ++ rest
-      → Since part (asked ++ others) new
+      → Since Placed part (asked ++ others) new
   fewer new more rest others is history durable split = record {
     is = is;
     more = more;
@@ -85,13 +93,15 @@ module _ (part : History) (asked : List (List Item)) (old : State)
         (some_front (batches_of (with_batch more new.pending)) (batches_of rest) asked
         (subst (λ batches. IsSubsequence batches asked) (ap batches_of split
         ∙ map-append items_of (with_batch more new.pending) rest) since.some));
+    placed = λ was. all_front IsPlaced (with_batch more new.pending) rest
+        (subst (All IsPlaced) split (since.placed was));
   }
 
   -- one batch is new
   newer : (new : State) (more : History) (first : ℕ) (items : List Item) → IsState new
       → new.history ≡ part ++ more → length part ≤ new.durable
       → with_batch more new.pending ≡ with_batch since.more old.pending ++ placed first items ∷ []
-      → Since part (asked ++ items ∷ []) new
+      → Since Placed part (asked ++ items ∷ []) new
   newer new more first items is history durable split = record {
     is = is;
     more = more;
@@ -102,6 +112,9 @@ module _ (part : History) (asked : List (List Item)) (old : State)
         (placed first items ∷ []) ∙ ap (λ i. batches_of
         (with_batch since.more old.pending) ++ i ∷ []) (items_placed first items)))
         (some_last (batches_of (with_batch since.more old.pending)) asked items since.some);
+    placed = λ was. subst (All IsPlaced) (sym split)
+        (All-push IsPlaced (with_batch since.more old.pending) (placed first items)
+        (since.placed was) (first, items, refl));
   }
 
   part_fits : length part ≤ length old.history
@@ -113,14 +126,14 @@ module _ (part : History) (asked : List (List Item)) (old : State)
 
   -- neither the history nor what is pending has changed
   as_before : (new : State) (others : List (List Item)) → IsState new → new.history ≡ old.history
-      → new.pending ≡ old.pending → length part ≤ new.durable → Since part (asked ++ others) new
+      → new.pending ≡ old.pending → length part ≤ new.durable → Since Placed part (asked ++ others) new
   as_before new others is history pending durable =
       fewer new since.more [] others is (history
       ∙ since.history) durable (ap (λ p. with_batch since.more p) (sym pending)
       ∙ sym (append-nil (with_batch since.more new.pending)))
 
   wrote : (items : List Item) (sync : Bool) (new : State) → IsState new → old.mode ≡ open_mode
-      → Writes old items sync new → Since part (asked ++ items ∷ []) new
+      → Writes old items sync new → Since Placed part (asked ++ items ∷ []) new
   wrote items sync new is m w = newer new (since.more ++ added_batch old items ∷ [])
       (old.last + 1) items is
       (ap (λ (s : State). s.history) w.state
@@ -156,7 +169,7 @@ module _ (part : History) (asked : List (List Item)) (old : State)
 
   opened : (others : List (List Item)) (new : State) → IsState new → new.pending ≡ None
       → length part ≤ new.durable → (new.history ≡ old.history)
-      ⊎ (new.history ≡ with_batch old.history old.pending) → Since part (asked ++ others) new
+      ⊎ (new.history ≡ with_batch old.history old.pending) → Since Placed part (asked ++ others) new
   opened others new is none durable (inl e) =
       let rest = without since.more old.pending in
       fewer new since.more rest.0 others is (e ∙ since.history) durable (rest.1
@@ -179,7 +192,7 @@ module _ (part : History) (asked : List (List Item)) (old : State)
       omega arith
 
   changes : (request : Request) (new : State) → IsState new → Change old request new
-      → Since part (asked ++ asked_by request) new
+      → Since Placed part (asked ++ asked_by request) new
   changes request new is (same e) = as_before new (asked_by request) is (ap
       (λ (s : State). s.history) e) (ap (λ (s : State). s.pending) e) (let c =
       ap (λ (s : State). s.durable) e in let d = since.durable in omega arith)
@@ -196,7 +209,7 @@ module _ (part : History) (asked : List (List Item)) (old : State)
       as_before new (asked_by request) is (ap (λ (s : State). s.history) k.state) (ap
       (λ (s : State). s.pending) k.state) (covers_part new.durable k.durable)
   changes request new is (writes items sync by m w) =
-      subst (λ others. Since part (asked ++ others) new) (sym by) (wrote items sync new is m w)
+      subst (λ others. Since Placed part (asked ++ others) new) (sym by) (wrote items sync new is m w)
   changes request new is (covers c) =
       as_before new (asked_by request) is (ap (λ (s : State). s.history) c.state) (ap
       (λ (s : State). s.pending) c.state) (covers_part new.durable (inr (ap
@@ -206,7 +219,7 @@ module _ (part : History) (asked : List (List Item)) (old : State)
       as_before new (asked_by request) is e.0 (e.1 ∙ sym (none_pending old since.is m)) e.2
   changes request new is (breaks_with items by m b) =
       let e = broke (Some (added_batch old items)) new b in
-      subst (λ others. Since part (asked ++ others) new) (sym by)
+      subst (λ others. Since Placed part (asked ++ others) new) (sym by)
       (newer new since.more (old.last + 1) items is (e.0 ∙ since.history) e.2
       (ap (λ p. with_batch since.more p) e.1
       ∙ sym (ap (λ p. with_batch since.more p ++ added_batch old items ∷ [])
@@ -229,22 +242,22 @@ module _ (part : History) (asked : List (List Item)) (old : State)
       ap (λ (s : State). s.durable) a.state in let d = since.durable in omega arith)
 
   pub since_step : (setting : Setting) (request : Request) (answer : Answer) (new : State)
-      → Step old.mode setting old request answer new → Since part (asked ++ asked_by request) new
+      → Step old.mode setting old request answer new → Since Placed part (asked ++ asked_by request) new
   since_step setting request answer new step =
       changes request new (step_fits setting old new request answer since.is step)
       (change setting old new request answer step)
 
 -- ---- crashes
 
-module _ (part : History) (asked : List (List Item)) where
+module _ (Placed : Type 0) (part : History) (asked : List (List Item)) where
   -- a crash keeps the part, and finds nothing new
-  crash_since : (old : State) (least : ℕ) (risk : History) (new : State) → Since part asked old
+  crash_since : (old : State) (least : ℕ) (risk : History) (new : State) → Since Placed part asked old
       → length part ≤ least → risk ≡ with_batch old.history old.pending → IsState new
       → IsPrefixAtLeast least risk new.history
-      → new.pending ≡ None → new.durable ≡ length new.history → Since part asked new
+      → new.pending ≡ None → new.durable ≡ length new.history → Since Placed part asked new
   crash_since old least risk new since low at is prefix none all_durable =
-      subst (λ all. Since part all new) (append-nil asked)
-      (fewer part asked old since new front rest [] is history durable (sym
+      subst (λ all. Since Placed part all new) (append-nil asked)
+      (fewer Placed part asked old since new front rest [] is history durable (sym
       (take-append-drop count whole) ∙ ap (λ p. with_batch front p ++ rest) (sym none)))
     where
       whole : History
@@ -272,74 +285,75 @@ module _ (part : History) (asked : List (List Item)) where
       durable : length part ≤ new.durable
       durable = let l = ap length history ∙ length-append part front in omega arith
 
-  between_since : (old new : State) → Since part asked old → Crashes old (risk_between old) new
-      → Since part asked new
+  between_since : (old new : State) → Since Placed part asked old → Crashes old (risk_between old) new
+      → Since Placed part asked new
   between_since old new since c = crash_since old old.durable
       (risk_between old).history new since since.durable refl
       (crash_between_fits old new since.is c) c.prefix
       (ap (λ (s : State). s.pending) c.state) (ap (λ (s : State). s.durable) c.state)
 
-module _ (part : History) where
-  more_asked : (asked others : List (List Item)) (new : State) → Since part asked new
-      → Since part (asked ++ others) new
+module _ (Placed : Type 0) (part : History) where
+  more_asked : (asked others : List (List Item)) (new : State) → Since Placed part asked new
+      → Since Placed part (asked ++ others) new
   more_asked asked others new since = record {
     is = since.is;
     more = since.more;
     history = since.history;
     durable = since.durable;
     some = some_more (batches_of (with_batch since.more new.pending)) asked others since.some;
+    placed = since.placed;
   }
 
   inside_since : (asked : List (List Item)) (setting : Setting) (old next new : State)
-      (request : Request) (answer : Answer) → Since part asked old
+      (request : Request) (answer : Answer) → Since Placed part asked old
       → Step old.mode setting old request answer next
-      → Crashes old (risk_of request old next) new → Since part (asked ++ asked_by request) new
+      → Crashes old (risk_of request old next) new → Since Placed part (asked ++ asked_by request) new
   inside_since asked setting old next new request answer since step c =
       let is = crash_inside_fits setting old next new request answer since.is step c in
       let none = ap (λ (s : State). s.pending) c.state in
       let durable = ap (λ (s : State). s.durable) c.state in
       ⊎_elim
       (λ (e : risk_of request old next ≡ risk_between next).
-      crash_since part (asked ++ asked_by request) next old.durable
+      crash_since Placed part (asked ++ asked_by request) next old.durable
       (risk_of request old next).history new
-      (since_step part asked old since setting request answer next step) since.durable
+      (since_step Placed part asked old since setting request answer next step) since.durable
       (ap (λ (r : Risk). r.history) e) is c.prefix none durable)
       (λ (o : (opening : _) × (risk_of request old next ≡ risk_opening opening old)).
       more_asked asked (asked_by request) new
-      (crash_since part asked old old.durable
+      (crash_since Placed part asked old old.durable
       (risk_of request old next).history new since since.durable (ap
       (λ (r : Risk). r.history) o.1) is c.prefix none durable))
       (risk_cases request old next)
 
   -- a crash in a request, whether it had called the device or not
   in_since : (asked : List (List Item)) (setting : Setting) (last_answer moment : ℕ) (inside : Bool)
-      (old next new : State) (request : Request) (answer : Answer) → Since part asked old
+      (old next new : State) (request : Request) (answer : Answer) → Since Placed part asked old
       → Step old.mode setting old request answer next
       → CrashesIn last_answer moment inside old request next new
-      → Since part (asked ++ asked_by request) new
+      → Since Placed part (asked ++ asked_by request) new
   in_since asked setting last_answer moment inside old next new request answer since step (inl none) =
-      more_asked asked (asked_by request) new (between_since part asked old new since none.2)
+      more_asked asked (asked_by request) new (between_since Placed part asked old new since none.2)
   in_since asked setting last_answer moment inside old next new request answer since step (inr some) =
       inside_since asked setting old next new request answer since step some.1
 
 -- ---- runs and lives
 
-module _ (meaning : Meaning) (part : History) where
+module _ (meaning : Meaning) (Placed : Type 0) (part : History) where
   -- the batches that these events' writes asked for
   abbrev asked_of : List Event → List (List Item)
   asked_of events = flat_map (λ event. asked_by event.request) events
 
   run_since : (asked : List (List Item)) (before : ℕ) (old : State) (events : List Event)
-      (after : ℕ) (new : State) → Since part asked old → Run meaning before old events after new
-      → Since part (asked ++ asked_of events) new
+      (after : ℕ) (new : State) → Since Placed part asked old → Run meaning before old events after new
+      → Since Placed part (asked ++ asked_of events) new
   run_since asked before old [] after new since run =
-      subst (λ all. Since part all new) (sym (append-nil asked)) (subst (λ s. Since part asked s)
+      subst (λ all. Since Placed part all new) (sym (append-nil asked)) (subst (λ s. Since Placed part asked s)
       (sym run.1) since)
   run_since asked before old (event ∷ events) after new since run =
-      subst (λ all. Since part all new) (append_assoc asked (asked_by event.request)
+      subst (λ all. Since Placed part all new) (append_assoc asked (asked_by event.request)
       (asked_of events))
       (run_since (asked ++ asked_by event.request) event.failures run.1 events after new
-      (since_step part asked old since (setting_of meaning before event) event.request event.answer run.1
+      (since_step Placed part asked old since (setting_of meaning before event) event.request event.answer run.1
       run.2) run.3)
 
   -- none of these had come, and only the first had begun
@@ -364,29 +378,29 @@ module _ (meaning : Meaning) (part : History) where
 
   cut_since : (asked : List (List Item)) (last_answer moment : ℕ) (inside : Bool) (failures : ℕ)
       (old : State) (undone : List Event) (end : ℕ) (last new : State)
-      → All (λ event. moment < event.moment) undone → Since part asked old
+      → All (λ event. moment < event.moment) undone → Since Placed part asked old
       → CrashBefore meaning last_answer moment inside failures old undone end last new
-      → Since part (asked ++ asked_of (begun_by moment undone)) new
+      → Since Placed part (asked ++ asked_of (begun_by moment undone)) new
   cut_since asked last_answer moment inside failures old [] end last new not_yet since cut =
-      subst (λ all. Since part all new) (sym (append-nil asked))
-      (between_since part asked old new since cut.2)
+      subst (λ all. Since Placed part all new) (sym (append-nil asked))
+      (between_since Placed part asked old new since cut.2)
   cut_since asked last_answer moment inside failures old (event ∷ undone) end last new not_yet since
       cut =
-      subst (λ begun. Since part (asked ++ asked_of begun) new) (sym (begun_none moment event undone
+      subst (λ begun. Since Placed part (asked ++ asked_of begun) new) (sym (begun_none moment event undone
       (All-head (λ event. moment < event.moment) event undone not_yet)))
-      (subst (λ all. Since part (asked ++ all) new) (sym (append-nil (asked_by event.request)))
-      (in_since part asked (setting_of meaning failures event) last_answer moment inside old cut.1 new
+      (subst (λ all. Since Placed part (asked ++ all) new) (sym (append-nil (asked_by event.request)))
+      (in_since Placed part asked (setting_of meaning failures event) last_answer moment inside old cut.1 new
       event.request event.answer since cut.2 cut.4))
 
   life_since : (asked : List (List Item)) (start before : ℕ) (old : State) (events : List Event)
-      (ending : Ending) (after : ℕ) (new : State) → Since part asked old
+      (ending : Ending) (after : ℕ) (new : State) → Since Placed part asked old
       → LifeLeads meaning start before old events ending after new
-      → Since part (asked ++ asked_of (begun_until ending events)) new
+      → Since Placed part (asked ++ asked_of (begun_until ending events)) new
   life_since asked start before old events goes_on after new since leads =
       run_since asked before old events after new since leads
   life_since asked start before old events (crashes moment inside counted) after new since leads =
       let s = leads.0.2 in
-      subst (λ all. Since part all new)
+      subst (λ all. Since Placed part all new)
       (append_assoc asked (asked_of s.done) (asked_of (begun_by moment s.undone))
       ∙ ap (λ all. asked ++ all) (sym (flat_map-append
       (λ (event : Event). asked_by event.request) s.done (begun_by moment s.undone)))
@@ -397,13 +411,13 @@ module _ (meaning : Meaning) (part : History) where
       (run_since asked before old s.done s.failures s.state since s.run) s.crash)
 
   pub since_lives : (asked : List (List Item)) (before : ℕ) (old : State) (lives : List Life)
-      (after : ℕ) (new : State) → Since part asked old → Lives meaning before old lives after new
-      → Since part (asked ++ asked_in lives) new
+      (after : ℕ) (new : State) → Since Placed part asked old → Lives meaning before old lives after new
+      → Since Placed part (asked ++ asked_in lives) new
   since_lives asked before old [] after new since leads =
-      subst (λ all. Since part all new) (sym (append-nil asked)) (subst (λ s. Since part asked s)
+      subst (λ all. Since Placed part all new) (sym (append-nil asked)) (subst (λ s. Since Placed part asked s)
       (sym leads.1) since)
   since_lives asked before old (life ∷ lives) after new since leads =
-      subst (λ all. Since part all new) (append_assoc asked (asked_of
+      subst (λ all. Since Placed part all new) (append_assoc asked (asked_of
       (begun_until life.ending life.events)) (asked_in lives))
       (since_lives (asked ++ asked_of (begun_until life.ending life.events)) leads.0 leads.1
       lives after new

@@ -2,8 +2,9 @@
 use Rattle.std.proofs.Common.{◌≡◌, ◌≤◌, ◌+◌, ◌∙◌, ⊎_elim, ℕ, List, [], ◌∷◌, ◌++◌, refl, sym, ap, subst, arith, Option, Some, None, Contains}
 use Rattle.std.specs.Prelude.{length}
 use Rattle.std.proofs.lemmas.List.Elements.{All-head, All-tail, Contains-append_cases, Contains-append_left, Contains-append_right}
-use Rattle.leveldb_base.proofs.HistoryLemmas.{in_cases, in_none}
-use Rattle.leveldb_base.specs.History.{AreAbove, Entry, HasValueAt, IsValueAt, RiseAbove, SameView, entries_of}
+use Rattle.leveldb_base.proofs.ConsistentLemmas.{history_is_consistent}
+use Rattle.leveldb_base.proofs.HistoryLemmas.{in_cases}
+use Rattle.leveldb_base.specs.History.{AreAbove, AreConsistent, Entry, HasValueAt, IsValueAt, SameView, entries_of}
 use Rattle.leveldb_version.proofs.ViewsLemmas.{view_trans}
 use Rattle.leveldb_version.specs.Format.{Meaning}
 use Rattle.rusty_leveldb.specs.Causes.{Setting, TakesLock}
@@ -11,7 +12,7 @@ use Rattle.rusty_leveldb.specs.Laws.{HeldStays, MayRelease, NoneOpens, SnapshotI
 use Rattle.rusty_leveldb.specs.Machine.{Gets, Gives, Step, added_batch}
 use Rattle.rusty_leveldb.specs.Runs.{Event, Run, setting_of}
 use Rattle.rusty_leveldb.specs.State.{Mode, Request, Snapshot, State, broken, closed, found, get, get_snapshot, open_mode, snapshot}
-use Rattle.rusty_leveldb.proofs.Histories.{entries_more, placed_above}
+use Rattle.leveldb_version.proofs.NumbersLemmas.{entries_more, placed_above}
 use Rattle.rusty_leveldb.proofs.MachineLemmas.{Change, abandons, before_pending, breaks, breaks_with, change, closes, covers, gives, keeps, opens, releases, same, stays, writes}
 
 -- ---- entries past a number aren't seen at it
@@ -181,50 +182,16 @@ held_stays meaning (event ∷ events) before after old last one none run there =
 
 -- ---- one value
 
--- each number rises above those before
-rise_all : (low : ℕ) (entries : List Entry) → RiseAbove low entries → AreAbove low entries
-rise_all low [] r entry c = absurd (in_none entry c)
-rise_all low (first ∷ entries) r entry c = ⊎_elim
-    (λ (e : first ≡ entry).
-    let n : first.sequence ≡ entry.sequence = ap (λ (x : Entry). x.sequence) e in
-    let high = r.0 in omega (arith, n, high))
-    (λ (rest : Contains entries entry).
-    let high = rise_all first.sequence entries r.1 entry rest in
-    let first_high = r.0 in omega (arith, high, first_high))
-    (in_cases first entry entries c)
-
--- so no two have one number
-rising_one : (low : ℕ) (entries : List Entry) → RiseAbove low entries → (a b : Entry)
-    → Contains entries a → Contains entries b → a.sequence ≡ b.sequence → a ≡ b
-rising_one low [] r a b in_a in_b number = absurd (in_none a in_a)
-rising_one low (first ∷ entries) r a b in_a in_b number = ⊎_elim
-    (λ (is_a : first ≡ a). ⊎_elim
-    (λ (is_b : first ≡ b). sym is_a ∙ is_b)
-    (λ (rest : Contains entries b).
-    let n : first.sequence ≡ a.sequence = ap (λ (x : Entry). x.sequence) is_a in
-    let high = rise_all first.sequence entries r.1 b rest in
-    absurd (omega (arith, n, high, number)))
-    (in_cases first b entries in_b))
-    (λ (rest : Contains entries a). ⊎_elim
-    (λ (is_b : first ≡ b).
-    let n : first.sequence ≡ b.sequence = ap (λ (x : Entry). x.sequence) is_b in
-    let high = rise_all first.sequence entries r.1 a rest in
-    absurd (omega (arith, n, high, number)))
-    (λ (others : Contains entries b).
-    rising_one first.sequence entries r.1 a b rest others number)
-    (in_cases first b entries in_b))
-    (in_cases first a entries in_a)
-
 one_value : (entries : List Entry) (s : ℕ) (key : List ℕ) (these those : Option (List ℕ))
-    → RiseAbove 0 entries → IsValueAt entries s key these → IsValueAt entries s key those
+    → AreConsistent entries → IsValueAt entries s key these → IsValueAt entries s key those
     → these ≡ those
-one_value entries s key None None rising a b = refl
-one_value entries s key None (Some value) rising a b = absurd (a value b)
-one_value entries s key (Some value) None rising a b = absurd (b value a)
-one_value entries s key (Some one) (Some other) rising a b =
+one_value entries s key None None one a b = refl
+one_value entries s key None (Some value) one a b = absurd (a value b)
+one_value entries s key (Some value) None one a b = absurd (b value a)
+one_value entries s key (Some value) (Some other) one a b =
     let low = a.newest.newest b.entry b.newest.there (b.key_is ∙ sym a.key_is) b.newest.seen in
     let high = b.newest.newest a.entry a.newest.there (a.key_is ∙ sym b.key_is) a.newest.seen in
-    let is = rising_one 0 entries rising a.entry b.entry a.newest.there b.newest.there
+    let is = one a.entry b.entry a.newest.there b.newest.there (a.key_is ∙ sym b.key_is)
     (omega (arith, low, high)) in
     sym a.value_is ∙ ap (λ (e : Entry). e.value) is ∙ b.value_is
 
@@ -253,7 +220,7 @@ pub snapshot_is_read : SnapshotIsRead
 snapshot_is_read meaning first second later old taken last new one key earlier now events before after
     is looks gives_one none run reads =
     one_value (entries_of old.history) old.last key now earlier
-    (before_pending old.history old.pending is.history).rising
+    (history_is_consistent old.history (before_pending old.history old.pending is.history))
     (value_there (entries_of old.history) (entries_of last.history) old.last key now
     (stays_so.views old.last (omega arith))
     (subst (λ n. IsValueAt (entries_of last.history) n key now) number second_look.looks))

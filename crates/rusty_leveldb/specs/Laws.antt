@@ -1,7 +1,7 @@
 -- What holds of the machine and of disks that hold its history, whatever names in files mean.
 use Rattle.std.specs.Prelude.{◌≡◌, ◌≢◌, ◌≤◌, ◌⊎◌, ℕ, List, [], ◌∷◌, ◌++◌, map, flat_map, take, Option, Some, None, All, Contains, length, replicate, ◌+◌, true, false, IsTrue, nat_le, if◌then◌else◌}
 use Rattle.leveldb_base.specs.Cmp.{IsExactOrder}
-use Rattle.leveldb_base.specs.History.{Item, Entry, History, IsView, SameView, entries_of}
+use Rattle.leveldb_base.specs.History.{Item, Entry, History, IsPlaced, IsView, RiseAbove, SameView, entries_of}
 use Rattle.leveldb_base.specs.Types.{Pair}
 use Rattle.leveldb_env.specs.declared.env.Env.{Ghosts}
 use Rattle.leveldb_env.specs.Env.{Files, Disk, FilesCrashTo, DiskCrashesTo, Since}
@@ -191,14 +191,21 @@ HistoryIsAsked = (meaning : Meaning) (format : Format) (lives : List Life) (afte
     (last : State) → Lives meaning 0 (new_state format) lives after last
     → IsSubsequence (batches_of last.history) (asked_in lives)
 
--- after a synced write, a flush or a close that was done so were all after that answer's history
+-- they are placed batches whose entries rise strictly in sequence, from 1 on
+abbrev pub HistoryIsPlaced : Type 0
+HistoryIsPlaced = (meaning : Meaning) (format : Format) (lives : List Life) (after : ℕ)
+    (last : State) → Lives meaning 0 (new_state format) lives after last
+    → All IsPlaced last.history × RiseAbove 0 (entries_of last.history)
+
+-- After a synced write, a flush or a close that was done all batches after that answer's history
+-- were asked for so, and are placed.
 abbrev pub MoreIsAsked : Type 0
 MoreIsAsked = (meaning : Meaning) (setting : Setting) (old next last : State)
     (request : Request) (answer : Answer) (lives : List Life) (before after : ℕ)
     → IsState old → Step old.mode setting old request answer next → MakesDurable request answer
     → Lives meaning before next lives after last
     → (more : History) × (last.history ≡ next.history ++ more)
-    × IsSubsequence (batches_of more) (asked_in lives)
+    × IsSubsequence (batches_of more) (asked_in lives) × All IsPlaced more
 
 -- ---- a value that was written with a sync
 

@@ -3,7 +3,7 @@
 ghost use Rattle.rusty_leveldb.specs.CompactionLaws.{AreViewsInTables};
 ghost use Rattle.rusty_leveldb.specs.Iterator.{ScanGivesPairs};
 ghost use Rattle.rusty_leveldb.specs.IteratorLaws.{PrevUndoesNext};
-ghost use Rattle.rusty_leveldb.specs.Laws.{OneReading, NothingStands, CrashBetween, CrashInside, CrashSince, RefusalHasCause, StepFits, CrashFits, CrashInsideFits, LivesFit, DurableStays, SyncedStays, EachAnswerParts, HistoryIsAsked, MoreIsAsked, SyncedIsRead, ViewsStay, HeldStays, SnapshotIsRead, ForwardWalkGivesView, PrevUndoesAdvance, SyncedCanBeFound};
+ghost use Rattle.rusty_leveldb.specs.Laws.{OneReading, NothingStands, CrashBetween, CrashInside, CrashSince, RefusalHasCause, StepFits, CrashFits, CrashInsideFits, LivesFit, DurableStays, SyncedStays, EachAnswerParts, HistoryIsAsked, HistoryIsPlaced, MoreIsAsked, SyncedIsRead, ViewsStay, HeldStays, SnapshotIsRead, ForwardWalkGivesView, PrevUndoesAdvance, SyncedCanBeFound};
 ghost use Rattle.leveldb_store.specs.BuildTable.{choices_of};
 ghost use Rattle.rusty_leveldb.specs.ReadAloneLaws.{ReadingKeepsStates, ReadsWhatOpens};
 
@@ -78,9 +78,10 @@ pub fn durable_batches_stay()
 {}
 
 /// Nothing is in a history but batches that writes asked for, whole and in the order in which
-/// they were asked for.
+/// they were asked for. They are placed at numbers that rise strictly, from 1 on.
 pub fn histories_are_made_of_writes()
     ensures all { HistoryIsAsked }
+    ensures placed { HistoryIsPlaced }
     ensures since { MoreIsAsked }
 {}
 

@@ -100,6 +100,36 @@ fn emptied_file(rt: HostRuntime) -> Result<()> {
     assert_cached(&rt, &opened.table, &mut opened.env, &mut cache)
 }
 
+/// Walks over a table, and returns how many pairs it has.
+fn walk(
+    alloc: Global,
+    opened: &mut Opened,
+    cache: &mut BlockCache<DefaultCmp>,
+    fills: bool,
+) -> Result<usize> {
+    let compressors = CompressorList::default();
+    let mut core = TableCore::new(alloc, &opened.table)?.filling(fills);
+    let mut count = 0;
+    while core.advance(&opened.table, &mut opened.env, cache, &compressors)? {
+        count += 1;
+    }
+    Ok(count)
+}
+
+/// A walk that fills no cache still finds the blocks that are there, once the file is empty.
+#[test]
+fn walks_that_fill_no_cache(rt: HostRuntime) -> Result<()> {
+    let mut cache = Cache::new(rt.alloc(), 100)?;
+    let mut opened = Opened::new(&rt, &mut cache, &PAIRS)?;
+    assert!(rt; walk(rt.alloc(), &mut opened, &mut cache, false)? == 12);
+    assert!(rt; cache.count() == 0);
+    assert!(rt; walk(rt.alloc(), &mut opened, &mut cache, true)? == 12);
+    assert!(rt; cache.count() == 12);
+    drop(file_of(&mut opened.env, b"")?);
+    assert!(rt; walk(rt.alloc(), &mut opened, &mut cache, false)? == 12);
+    Ok(())
+}
+
 const ODD: [Given<'static>; 2] = [(b"a", b"1"), (b"b", b"3")];
 
 const EVEN: [Given<'static>; 2] = [(b"a", b"2"), (b"b", b"4")];

@@ -28,7 +28,7 @@ use leveldb_env::filter::{FilterPolicy, InternalFilterPolicy};
 use leveldb_env::options::Options;
 use leveldb_version::compaction::Compaction;
 use leveldb_version::compaction::cut::OutputCut;
-use leveldb_version::table_cache::{ReadTables, ReadsTables, TableCache};
+use leveldb_version::table_cache::{ReadOnce, ReadTables, ReadsTables, TableCache};
 use std::marker::Model;
 
 impl<E: Env, C: UserCmp + Copy + Drop> OpenStore<E, C> {
@@ -60,8 +60,8 @@ impl<E: Env, C: UserCmp + Copy + Drop> OpenStore<E, C> {
             files.push(file.clone()?)?;
             return Ok(files);
         }
-        let compressors = &options.compressor_list;
-        self.merge_by(env, options, compressors, tables, smallest, compaction)
+        let compressors = ReadOnce(&options.compressor_list);
+        self.merge_by(env, options, &compressors, tables, smallest, compaction)
     }
 
     // The file that a compaction only moves, if it takes that one alone, and it isn't turned round.

@@ -40,6 +40,9 @@ pub struct TableCore<C: Cmp> {
 
     // the room for a key of the next block
     room: Vec<u8>,
+
+    // whether blocks that it reads go into the cache
+    fills: bool,
 }
 
 impl<C: Cmp> Model for TableCore<C> {
@@ -108,7 +111,16 @@ impl<C: Cmp + Copy + Drop> TableCore<C> {
             index: BlockWalk::with_room(index, line_room),
             inner: None,
             room,
+            fills: true,
         })
+    }
+
+    /// The same walk, which puts blocks that it reads into the cache only if `fills` says so. In one
+    /// over whole tables they would take the place of those that others look for.
+    pub fn filling(self, fills: bool) -> TableCore<C>
+        ensures { result ≡ self }
+    {
+        TableCore { fills, ..self }
     }
 
     /// Moves to the next pair, from no position to the first, and from the last to no position.
@@ -312,6 +324,7 @@ impl<C: Cmp + Copy + Drop> TableCore<C> {
             index,
             inner,
             room,
+            fills: _,
         } = self;
         let Some(inner) = inner else {
             finder.keep(index.into_key(), room);
@@ -481,7 +494,7 @@ impl<C: Cmp + Copy + Drop> TableCore<C> {
         ensures gathers { GainsBlocksOf C.Cmp E.Env (⟦<CompressorList as Compressors>⟧.codings
             compressors.now) table.now env.old cache.old cache.new }
     {
-        let block = table.read_block(self.alloc, env, cache, compressors, handle)?;
+        let block = table.read_block(self.alloc, env, cache, compressors, handle, self.fills)?;
         let room = mem::replace(&mut self.room, Vec::new(self.alloc));
         self.inner = Some(BlockWalk::with_room(block, room));
         Ok(())

@@ -21,7 +21,8 @@ where
     InternalKeyCmp<C>: Cmp,
 {
     /// Makes a move in the table of this number, which is opened where it isn't open: by the walk, or
-    /// by a new one where there is none yet. Returns whether it is at a pair then.
+    /// by a new one where there is none yet, which puts blocks that it reads into the cache only if
+    /// `fills` says so. Returns whether it is at a pair then.
     fn move_in_table(
         &self,
         env: &mut E,
@@ -31,6 +32,7 @@ where
         number: FileNum,
         core: &mut Option<TableCore<InternalKeyCmp<C>>>,
         to: TableStep,
+        fills: bool,
     ) -> Result<bool>
         ensures { let by = options_by C.Cmp FP.FilterPolicy (Self.codings self.now) cmp policy in
             MovesInNumbered ⟦<InternalKeyCmp<C> as Cmp>⟧ E.Env by number to.entry env.old tables.old
@@ -66,13 +68,46 @@ impl<E: Env, C: UserCmp + Copy + Drop, FP: FilterPolicy + Copy + Drop> ReadsTabl
         number: FileNum,
         core: &mut Option<TableCore<InternalKeyCmp<C>>>,
         to: TableStep,
+        fills: bool,
     ) -> Result<bool> {
-        tables.move_core(env, cmp, policy, self, number, core, to)
+        tables.move_core(env, cmp, policy, self, number, core, to, fills)
+    }
+}
+
+/// The same compressors, for walks over whole tables, such as those of a compaction: blocks that
+/// they read don't go into the cache, where they would take the place of those that others look for.
+#[derive(Drop)]
+pub struct ReadOnce<'k, K>(pub &'k K);
+
+impl<K: Compressors> Compressors for ReadOnce<'_, K> {
+    ghost codings = { λ once. K.codings once.0.now };
+}
+
+impl<
+    E: Env,
+    C: UserCmp + Copy + Drop,
+    FP: FilterPolicy + Copy + Drop,
+    K: ReadsTables<E, C, FP>,
+> ReadsTables<E, C, FP> for ReadOnce<'_, K> {
+    fn move_in_table(
+        &self,
+        env: &mut E,
+        tables: &mut TableCache<E, C, FP>,
+        cmp: C,
+        policy: FP,
+        number: FileNum,
+        core: &mut Option<TableCore<InternalKeyCmp<C>>>,
+        to: TableStep,
+        _fills: bool,
+    ) -> Result<bool> {
+        self.0
+            .move_in_table(env, tables, cmp, policy, number, core, to, false)
     }
 }
 
 impl<E: Env, C: UserCmp + Copy + Drop, FP: FilterPolicy + Copy + Drop> TableCache<E, C, FP> {
-    // Makes a move in the table of this number, which is the one most recently used then.
+    // Makes a move in the table of this number, which is the one most recently used then. A walk that
+    // begins with it puts the blocks that it reads into the cache, if `fills` says so.
     fn move_core(
         &mut self,
         env: &mut E,
@@ -82,6 +117,7 @@ impl<E: Env, C: UserCmp + Copy + Drop, FP: FilterPolicy + Copy + Drop> TableCach
         number: FileNum,
         core: &mut Option<TableCore<InternalKeyCmp<C>>>,
         to: TableStep,
+        fills: bool,
     ) -> Result<bool>
         ensures { let by = options_by C.Cmp FP.FilterPolicy
             (⟦<CompressorList as Compressors>⟧.codings compressors.now) cmp policy in
@@ -101,6 +137,7 @@ impl<E: Env, C: UserCmp + Copy + Drop, FP: FilterPolicy + Copy + Drop> TableCach
                 compressors,
                 core,
                 to,
+                fills,
             );
         }
         match self.open_by(env, cmp, policy, compressors, number) {
@@ -112,6 +149,7 @@ impl<E: Env, C: UserCmp + Copy + Drop, FP: FilterPolicy + Copy + Drop> TableCach
                 compressors,
                 core,
                 to,
+                fills,
             ),
             Err(status) => {
                 reset(core);
@@ -139,6 +177,7 @@ fn step_in<E: Env, C: Cmp + Copy + Drop, FP: FilterPolicy>(
     compressors: &CompressorList,
     core: &mut Option<TableCore<C>>,
     to: TableStep,
+    fills: bool,
 ) -> Result<bool>
     ensures { let codings = ⟦<CompressorList as Compressors>⟧.codings compressors.now in
         StepsInOpen C.Cmp E.Env codings table.now to.entry env.old blocks.old core.old result
@@ -147,7 +186,8 @@ fn step_in<E: Env, C: Cmp + Copy + Drop, FP: FilterPolicy>(
     if let Some(core) = core {
         return core.step(table, env, blocks, compressors, to);
     }
-    let mut fresh = TableCore::new(alloc, table)?;
+    let begun = TableCore::new(alloc, table)?;
+    let mut fresh = begun.filling(fills);
     let there = fresh.step(table, env, blocks, compressors, to);
     *core = Some(fresh);
     there

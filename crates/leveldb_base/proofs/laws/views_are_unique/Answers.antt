@@ -1,4 +1,5 @@
-use Rattle.leveldb_base.proofs.HistoryLemmas.{one_view, each_has_view}
+use Rattle.leveldb_base.proofs.ConsistentLemmas.{each_has_view}
+use Rattle.leveldb_base.proofs.HistoryLemmas.{one_view}
 use Rattle.leveldb_base.proofs.laws.views_are_unique.Goals as goal
 
 pub returns-clause-one : goal.returns-clause-one

@@ -26,4 +26,4 @@ pub returns-in-Some-clause-best : goal.returns-in-Some-clause-best
 returns-in-Some-clause-best g c = λ accepted.
     let heads = head_of g.I.Walk c.args.children.now in
     let found = subst (SoFar (g.C.Cmp.cmp c.args.cmp.now) c.args.direction heads c.loop-i.i) c.in-Some.is (c.loop-i.invariant.best accepted) in
-    best_in_all (g.met.C.Cmp.preorder c.args.cmp.now) c.args.direction heads accepted c.loop-i.i (λ k h. head_past g.I.Walk c.args.children.now k (omega arith)) (Some (c.in-Some.i, c.in-Some.field-0-1)) found
+    best_in_all (g.met.C.Cmp.preorder c.args.cmp.now) c.args.direction heads accepted c.loop-i.i (λ k h. head_past g.I.Walk c.args.children.now k (omega arith)) (Some c.in-Some.best) found

@@ -8,7 +8,7 @@ use Rattle.leveldb_iter.proofs.children.best_of.Given as goal
 abbrev pub invariant-loop-i : goal.invariant-loop-i
 invariant-loop-i g l = record {
   reached : l.i ≤ length l.children;
-  within : ForSome l.best (λ best. best.0 < l.i);
+  within : ForSome l.best (λ best. best.index < l.i);
   best : ((k : ℕ) (pair : Pair) → head_of g.I.Walk l.children k ≡ Some pair → g.C.Cmp.accepts l.cmp pair.0 ≡ true)
       → SoFar (g.C.Cmp.cmp l.cmp) l.direction (head_of g.I.Walk l.children) l.i l.best;
 }

@@ -7,4 +7,4 @@ use Rattle.leveldb_iter.proofs.merging_iter.MergeCore.to_first.Goals as goal
 
 pub returns : goal.returns
 returns g c = ready_each g.I.Walk g.met.I.Walk.laws g.C.Cmp g.met.C.Cmp.preorder c.args.self.now refl c.step_each.ensures refl refl
-    (λ order pairs position s. first_comes g.I.Walk g.met.I.Walk.laws g.C.Cmp g.met.C.Cmp.preorder (step_from g.I.Walk First) (λ _ list _. position_within list 0) s (λ child list over. over) refl)
+    (λ order lists pairs position s. first_comes g.I.Walk g.met.I.Walk.laws g.C.Cmp g.met.C.Cmp.preorder (step_from g.I.Walk First) (λ _ list _. position_within list 0) s (λ child list over. over) refl)

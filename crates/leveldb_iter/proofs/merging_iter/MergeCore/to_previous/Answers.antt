@@ -7,8 +7,8 @@ use Rattle.leveldb_iter.proofs.merging_iter.MergeCore.to_previous.Goals as goal
 
 pub returns-in-Forward : goal.returns-in-Forward
 returns-in-Forward g c = ready_each g.I.Walk g.met.I.Walk.laws g.C.Cmp g.met.C.Cmp.preorder c.args.self.now refl c.step_each.ensures refl refl
-    (λ order pairs position at. reverse_comes g.I.Walk g.met.I.Walk.laws g.C.Cmp g.met.C.Cmp.preorder at (step_from g.I.Walk PrevOrLast) c.args.i c.requires c.in-Forward.is (λ child list q here. here))
+    (λ order lists pairs position at. reverse_comes g.I.Walk g.met.I.Walk.laws g.C.Cmp g.met.C.Cmp.preorder at (step_from g.I.Walk PrevOrLast) c.args.i c.requires c.in-Forward.is (λ child list q here. here))
 
 pub returns-in-Reverse : goal.returns-in-Reverse
 returns-in-Reverse g c = ready_own g.I.Walk g.met.I.Walk.laws g.C.Cmp g.met.C.Cmp.preorder Reverse c.args.i c.args.self.now refl c.requires c.in-Reverse.is
-    (c.args.self.now.within c.args.i c.requires) (λ child order list q at. at) (λ order list q. refl) (λ order list q. refl) c.step_one.ensures refl refl
+    (c.args.self.now.within c.args.i c.requires) (λ order list q. refl) c.step_current.ensures.steps c.step_current.ensures.cmp c.step_current.ensures.current

@@ -1,11 +1,19 @@
 use Rattle.std.proofs.lemmas.Result.{err_from_is_err_and}
-use Rattle.leveldb_iter.proofs.MergingIterLemmas.{refused, arrives}
+use Rattle.leveldb_iter.proofs.MergingIterLemmas.{begins_over, always_over, refused, chooses}
 use Rattle.leveldb_iter.proofs.merging_iter.MergeCoreWalk.seek_to_first.Goals as goal
 
 pub returns-in_err-to_first : goal.returns-in_err-to_first
 returns-in_err-to_first g c =
     let p = err_from_is_err_and c.from_residual.result c.from_residual.ensures.1 in
-    rw p.1 (rw p.2 (record { moves = refused g.I.Walk g.met.I.Walk.laws g.C.Cmp g.met.C.Cmp.preorder c.to_first.new.self c.in_err-to_first.field-0.0 c.in_err-to_first.ensures }))
+    rw p.1 (rw p.2 (record {
+      moves = refused g.I.Walk g.met.I.Walk.laws g.C.Cmp g.met.C.Cmp.preorder _ _ _ _ _ _ _ c.to_first.new.self (begins_over g.I.Walk g.met.I.Walk.laws g.C.Cmp g.met.C.Cmp.preorder (c.args.env.now, c.args.tables.now) c.args.self.now)
+          (always_over g.I.Walk g.met.I.Walk.laws g.C.Cmp g.met.C.Cmp.preorder (c.args.env.now, c.args.tables.now) c.args.self.now) c.in_err-to_first.field-0.0 c.in_err-to_first.ensures;
+    }))
 
 pub returns : goal.returns
-returns g c = record { moves = arrives g.I.Walk g.met.I.Walk.laws g.C.Cmp g.met.C.Cmp.preorder c.to_first.new.self c.choose.new.self c.in_ok-to_first.ensures c.choose.ensures.cmp c.choose.ensures.children c.choose.ensures.direction c.choose.ensures.best tt }
+returns g c =
+    let choice = c.choose.ensures in
+    record {
+      moves = chooses g.I.Walk g.met.I.Walk.laws g.C.Cmp g.met.C.Cmp.preorder _ _ _ _ _ _ _ c.to_first.new.self (begins_over g.I.Walk g.met.I.Walk.laws g.C.Cmp g.met.C.Cmp.preorder (c.args.env.now, c.args.tables.now) c.args.self.now)
+          (always_over g.I.Walk g.met.I.Walk.laws g.C.Cmp g.met.C.Cmp.preorder (c.args.env.now, c.args.tables.now) c.args.self.now) c.choose.new.self c.in_ok-to_first.ensures choice.cmp choice.children choice.direction _ choice.best choice.cause choice.none;
+    }

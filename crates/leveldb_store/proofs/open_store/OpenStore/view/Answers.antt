@@ -20,12 +20,12 @@ returns-clause-views g c =
 
 pub returns-in_err-children-clause-reads : goal.returns-in_err-children-clause-reads
 returns-in_err-children-clause-reads g c = view_reads g.E.Env g.C.Cmp g.FP.FilterPolicy g.K.Compressors.codings _
-    (view_counts g.E.Env _ (merged_counts g.E.Env _ (child_counts _ g.E.Env g.met.E.Env.counts g.C.Cmp g.FP.FilterPolicy g.K.Compressors.codings
+    (view_counts g.E.Env _ (merged_counts g.E.Env _ _ (child_counts _ g.E.Env g.met.E.Env.counts g.C.Cmp g.FP.FilterPolicy g.K.Compressors.codings
     (record { pairs = λ it. []; position = λ it. None; order = λ it a b. Less; fails = λ it after status. ⊥ }))))
     (λ first second keeps. keeps)
 
 pub returns-clause-reads : goal.returns-clause-reads
 returns-clause-reads g c = view_reads g.E.Env g.C.Cmp g.FP.FilterPolicy g.K.Compressors.codings _
-    (view_counts g.E.Env _ (merged_counts g.E.Env _ (child_counts _ g.E.Env g.met.E.Env.counts g.C.Cmp g.FP.FilterPolicy g.K.Compressors.codings
+    (view_counts g.E.Env _ (merged_counts g.E.Env _ _ (child_counts _ g.E.Env g.met.E.Env.counts g.C.Cmp g.FP.FilterPolicy g.K.Compressors.codings
     (record { pairs = λ it. []; position = λ it. None; order = λ it a b. Less; fails = λ it after status. ⊥ }))))
     (λ first second keeps. keeps)

@@ -2,6 +2,7 @@ use Rattle.std.proofs.Common.{⊎_elim, inl, inr}
 use Rattle.leveldb_base.specs.Entries.{entries_of_pairs}
 use Rattle.leveldb_base.specs.View.{view_of}
 use Rattle.leveldb_iter.specs.DbIterLaws.{view_laws}
+use Rattle.leveldb_iter.specs.MergedEntries.{internal_order}
 use Rattle.leveldb_iter.specs.MergingIterLaws.{merged_laws}
 use Rattle.leveldb_store.proofs.ViewMergeLemmas.{view_over}
 use Rattle.leveldb_store.proofs.open_store.view.view_over.Goals as goal
@@ -14,7 +15,13 @@ returns g c =
       none = c.new.ensures.none;
       laws = view_laws (merged_laws g.met.I.Walk.laws);
       fails = λ world later status fails. ⊎_elim
-          (λ own. inl (c.new-merge.ensures.fails world later status own))
+          (λ own. ⊎_elim
+          (λ any. inl any)
+          (λ clash. inr (inr (
+            clash.0,
+            λ order below is. clash.1 (internal_order order) is.lists below is.merged is.one,
+          )))
+          (c.new-merge.ensures.fails world later status own))
           (λ rest. inr (⊎_elim
           (λ out. inl out)
           (λ corrupt. inr (

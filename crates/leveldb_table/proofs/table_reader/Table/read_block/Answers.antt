@@ -39,3 +39,9 @@ returns-clause-gathers g c =
     rw (← c.self.view_is) (GainsBlocks-trans (GainsBlocks-look_up (cache_key c.args.self.now.id c.args.handle.offset) c.cached_block.ensures.cache)
     (GainsBlocks-put c.args.handle.offset held (c.in_ok-insert.ensures.ok ∙ ap (λ key. after_put key held c.cached_block.new.cache) key_is)
     (λ bytes has. IsBlockOfFile-copy c.args.handle c.in_ok-block.block c.in_ok-copy.copy (ap (λ block. block.contents) copied.0) (ap (λ block. block.cmp) copied.0) (ap g.C.Cmp.cmp c.in_ok-block.ensures.order) (c.in_ok-block.ensures.ok bytes has))))
+
+pub returns-then-not-fills-clause-ok : goal.returns-then-not-fills-clause-ok
+returns-then-not-fills-clause-ok g c = rw (← c.self.view_is) (λ bytes has holds. (c.in_ok-block.ensures.ok bytes has, ap g.C.Cmp.cmp c.in_ok-block.ensures.order))
+
+pub returns-then-not-fills-clause-gathers : goal.returns-then-not-fills-clause-gathers
+returns-then-not-fills-clause-gathers g c = GainsBlocks-look_up (cache_key c.args.self.now.id c.args.handle.offset) c.cached_block.ensures.cache

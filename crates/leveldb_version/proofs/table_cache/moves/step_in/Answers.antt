@@ -9,4 +9,6 @@ none_of : {T : Type 0} (o : Option T) → o ≡ None → o ≡ None
 none_of o is = is
 
 pub returns : goal.returns
-returns g c = stepped c.in_ok-fresh.fresh c.step-there.new.self (subst (λ o. IsWalkIn c.args.table.now o c.in_ok-fresh.fresh) (sym (none_of c.args.core.now c.in_default.is)) c.in_ok-fresh.ensures.ok) refl c.step-there.ensures
+returns g c =
+    let begun = subst (λ walk. IsWalkIn c.args.table.now None walk) (sym c.filling-fresh.ensures) c.in_ok-begun.ensures.ok in
+    stepped c.filling-fresh.result c.step-there.new.self (subst (λ o. IsWalkIn c.args.table.now o c.filling-fresh.result) (sym (none_of c.args.core.now c.in_default.is)) begun) refl c.step-there.ensures

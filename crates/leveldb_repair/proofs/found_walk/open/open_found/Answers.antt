@@ -1,0 +1,6 @@
+use Rattle.leveldb_repair.proofs.FoundWalkOpenLemmas.{found_at_path}
+use Rattle.leveldb_repair.proofs.found_walk.open.open_found.Goals as goal
+
+pub returns : goal.returns
+returns g c =
+    found_at_path _ g.E.Env g.C.Cmp _ c.args.cmp c.args.path.now c.args.env.now c.open_file.new.env c.in_ok-file.file c.in_ok-file.size c.open.new.env c.open.result c.in_ok-file.ensures c.open.ensures

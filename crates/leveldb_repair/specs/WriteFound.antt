@@ -1,0 +1,117 @@
+-- How what was found goes to new tables: which tables they are, what changes meanwhile, and why that
+-- stops.
+use Rattle.std.specs.Prelude.{◌≡◌, ◌≢◌, ◌⊎◌, ◌≤◌, ◌<◌, ◌+◌, ◌^◌, ◌++◌, ℕ, true, false, length, List, [], map, All, Contains, Result, IfErr, IfOk, IsTrue}
+use Rattle.std.specs.declared.cmp.Ordering.{Ordering}
+use Rattle.leveldb_base.specs.Entries.{entries_of_pairs}
+use Rattle.leveldb_base.specs.History.{AreRising}
+use Rattle.leveldb_base.specs.KeyTypes.{internal_cmp}
+use Rattle.leveldb_base.specs.Types.{Pair}
+use Rattle.leveldb_base.specs.declared.cmp.Cmp.{Ghosts as CmpGhosts}
+use Rattle.leveldb_base.specs.declared.error.Status.{Status}
+use Rattle.leveldb_base.specs.declared.types.FileMetaData.{FileMetaData}
+use Rattle.leveldb_env.specs.Env.{Files}
+use Rattle.leveldb_env.specs.EnvFile.{failed}
+use Rattle.leveldb_env.specs.declared.env.Env.{Ghosts as EnvGhosts}
+use Rattle.leveldb_env.specs.declared.filter.FilterPolicy.{Ghosts as FilterGhosts}
+use Rattle.leveldb_iter.specs.Walk.{key_order}
+use Rattle.leveldb_iter.specs.declared.walk.Walk.{Ghosts as WalkGhosts}
+use Rattle.leveldb_version.specs.Batches.{Each}
+use Rattle.leveldb_version.specs.Compaction.{AreKnownByNumber, files_of_tables}
+use Rattle.leveldb_version.specs.CurrentVersion.{VersionsValue, new_versions}
+use Rattle.leveldb_version.specs.Format.{Agrees, IsTableOf, Meaning}
+use Rattle.leveldb_version.specs.Levels.{AreDisjoint, LevelOrder, LiveTable, table_entries}
+use Rattle.leveldb_version.specs.Opening.{FitsEdit}
+use Rattle.leveldb_version.specs.Paths.{table_path}
+use Rattle.leveldb_version.specs.Store.{HasTable, IsInternalPair}
+use Rattle.leveldb_version.specs.StoreSteps.{IsKept}
+use Rattle.leveldb_version.specs.VersionEdit.{NewFile, new_file_of}
+use Rattle.leveldb_store.specs.BuildTable.{TableChoices}
+use Rattle.leveldb_store.specs.Merging.{BearsNewTables, ComesOf, FailsOnWay, IsMergeFault, Merge, all_pairs, merge_of}
+use Rattle.leveldb_store.specs.Outputs.{AreTables, ChangesNewTables}
+use Rattle.leveldb_store.specs.TableFile.{FailsToWrite}
+
+-- ---- numbers
+
+-- the versions of a store without files whose next number is the second one above this one
+abbrev pub versions_above : {C : Type 0} → List ℕ → List ℕ → C → ℕ → VersionsValue C
+versions_above store comparator cmp greatest =
+    let new = new_versions store comparator cmp in
+    record new { set = record new.set { next_file = greatest + 2 } }
+
+-- ---- the tables
+
+-- the files as those of level 1
+abbrev pub files_of_level_one : List FileMetaData → List NewFile
+files_of_level_one files = map (λ file. new_file_of (1, file)) files
+
+-- Tables that can be the only ones of a store, all in level 1: they are there and kept, each is known
+-- by its number, and no two have a user key in common.
+pub record AreLevelOne (store : List ℕ) (cmp : List ℕ → List ℕ → Ordering)
+    (IsTableOf : List ℕ → List Pair → Type 0) (files : Files) (tables : List LiveTable) : Type 0
+  where
+    pub each : (table : LiveTable) → Contains tables table
+        → HasTable store cmp IsTableOf files table
+        × IsKept (files (table_path store table.file.number)) × (table.file.level ≡ 1)
+        × (table.file.number < 2 ^ 64)
+    pub known : AreKnownByNumber tables
+    pub apart : (a b : LiveTable) → Contains tables a → Contains tables b
+        → a.file.number ≢ b.file.number → AreDisjoint cmp a.file b.file
+    -- and so their levels are in order
+    pub order : LevelOrder cmp tables
+
+-- ---- writing them
+
+module _ {C FP : Type 0} {order : CmpGhosts C} {filters : FilterGhosts FP}
+    (choices : TableChoices order filters) where
+  -- a merge of which nothing goes: no number is held, no level is known to be the deepest one that has
+  -- a user key, and each user key is among the inputs
+  abbrev pub merge_of_all : List ℕ → Merge order filters
+  merge_of_all store = merge_of choices store 0 (λ user. false) (λ user. true)
+
+  module _ {E F : Type 0} (env : EnvGhosts E F) (store : List ℕ) (first : ℕ) where
+    -- Files are tables of exactly the pairs that were read, in their order; they are cut between user
+    -- keys, and have the numbers from the first on and below the next.
+    pub record HasWritten (read : List Pair) (next : ℕ) (files : List FileMetaData) (to : E)
+        : Type 0 where
+      -- the keys have tags, and rise
+      pub tagged : (pair : Pair) → Contains read pair → 8 ≤ length pair.0
+      pub rising : AreRising (internal_cmp choices.format.order) read
+      -- the pairs of each table
+      pub tables : List (List Pair)
+      pub are_tables : AreTables choices env store first next to files tables
+      pub all : all_pairs tables ≡ read
+      -- without a pair there is no table
+      pub none : read ≡ [] → files ≡ []
+      -- an edit may have the files, in level 1
+      pub fit : All FitsEdit (files_of_level_one files)
+      -- there they are tables of a store with the entries of the pairs, whatever names and ids mean
+      -- besides
+      pub live : IsTrue env.models_disk → (meaning : Meaning) → Agrees choices.format meaning
+          → Each IsInternalPair read (entries_of_pairs read) → (live : List LiveTable)
+          × AreLevelOne store choices.format.order (IsTableOf choices.format.order meaning)
+          (env.observed to).disk.files live
+          × (files_of_tables live ≡ files_of_level_one files)
+          × (table_entries live ≡ entries_of_pairs read)
+
+    -- What writing the pairs of a walk to new tables leaves and returns, whatever it reads; a walk
+    -- that is over a list, and bears new tables, reads that list.
+    pub record WritesFound {T W X : Type 0} (walk : WalkGhosts W E T)
+        (items : X → List FileMetaData) (start : E × T) (it : W) (result : Result X Status)
+        (later : ℕ) (end : E × T) : Type 0 where
+      pub ok : IfOk result (λ files. (read : List Pair)
+          × HasWritten read later (items files) end.0
+          × (BearsNewTables env walk store first start → (pairs : List Pair)
+          → walk.over start it (key_order order choices.cmp) pairs → pairs ≡ read))
+      -- now and at each moment on the way no file changes but tables of numbers that were given
+      pub changes : ChangesNewTables env store first later start.0 end.0
+      -- moves of the walk and new tables lead to where it ends, so that what both keep is kept
+      pub comes : ComesOf env walk store first start end
+      -- A move failed; or, after some pairs were read, at last a call that writes. Where the walk is
+      -- over a list, and bears new tables, they are the first of it.
+      pub cause : IfErr result (λ status. FailsOnWay env walk store first start it end status
+          ⊎ ((mid : ℕ) × (env.failures start.0 ≤ mid) × (read : List Pair)
+          × (BearsNewTables env walk store first start → (pairs : List Pair)
+          → walk.over start it (key_order order choices.cmp) pairs
+          → (rest : List Pair) × (pairs ≡ read ++ rest))
+          × FailsToWrite (IsMergeFault (merge_of_all store) later read) mid
+          (env.failures end.0) (failed status)))

@@ -1,0 +1,248 @@
+-- What a repair makes of the files in a store's folder, and what it leaves as it was: what the
+-- folder holds meanwhile and then, and what is found in it. The statements here are those that the
+-- contracts of module `laws::repairing` name.
+use Rattle.std.specs.Prelude.{◌≡◌, ◌≢◌, ◌⊎◌, ◌<◌, ◌≤◌, ◌+◌, ◌^◌, ◌↔◌, false, ℕ, List, [], ◌∷◌, None, Some, Contains}
+use Rattle.std.specs.Option.{option_map}
+use Rattle.std.specs.Str.{bytes_eq}
+use Rattle.std.specs.declared.cmp.Ordering.{Ordering}
+use Rattle.leveldb_base.specs.History.{Entry}
+use Rattle.leveldb_base.specs.KeyTypes.{greatest_sequence}
+use Rattle.leveldb_base.specs.Names.{IsFileName, file_name}
+use Rattle.leveldb_base.specs.Types.{Pair}
+use Rattle.leveldb_base.specs.declared.types.FileType.TheVariants.{Log, Table}
+use Rattle.leveldb_env.specs.Env.{File, Files, FilesCrashTo, bytes_of, in_folder}
+use Rattle.leveldb_mem.specs.WriteBatch.{Batch}
+use Rattle.leveldb_version.specs.Compaction.{AreKnownByNumber, files_of_tables}
+use Rattle.leveldb_version.specs.Contents.{Contents, Store, made}
+use Rattle.leveldb_version.specs.CurrentFile.{temp_path}
+use Rattle.leveldb_version.specs.Format.{IsTableOf, Meaning}
+use Rattle.leveldb_version.specs.Found.{AreFound, HasNoTableNorLog, IsAnyTable, IsFound, IsFoundLog, IsReadable}
+use Rattle.leveldb_version.specs.Levels.{AreDisjoint, LiveTable, table_entries}
+use Rattle.leveldb_version.specs.NewManifest.{MakingManifest, manifest_bytes, with_manifest}
+use Rattle.leveldb_version.specs.Paths.{IsFilePath, current_path, lock_path, manifest_path, table_path}
+use Rattle.leveldb_version.specs.Store.{HasTable, IsManaged, LogIsReplayed, SameEntries}
+use Rattle.leveldb_version.specs.StoreLaws.{StoreHolds}
+use Rattle.leveldb_version.specs.StoreStays.{HasKeptEdits}
+use Rattle.leveldb_version.specs.StoreSteps.{IsAboveLogs, IsAllKept, IsKept, KeepsHistory}
+use Rattle.leveldb_version.specs.VersionEdit.{Edit, IsEncodable, NewFile, edit_bytes, empty_edit}
+use Rattle.leveldb_version.specs.VersionSet.{FileSet, level_file, live_after}
+use Rattle.leveldb_version.specs.Writing.{NumbersAreBelow}
+
+-- ---- the manifest
+
+-- the one edit of a repair's manifest: the comparator's name, a log number above those of all logs
+-- and no previous log, the last sequence number, and the tables
+abbrev pub repaired_edit : List ℕ → ℕ → ℕ → List NewFile → Edit
+repaired_edit comparator log last added = record empty_edit {
+  comparator = Some comparator;
+  log_number = Some log;
+  previous_log = Some 0;
+  next_file = Some (log + 1);
+  last_sequence = Some last;
+  added = added;
+}
+
+-- the bytes of its manifest
+abbrev pub repaired_manifest : List ℕ → ℕ → ℕ → List NewFile → List ℕ
+repaired_manifest comparator log last added =
+    manifest_bytes (edit_bytes (repaired_edit comparator log last added) ∷ [])
+
+-- the contents of a repaired store: the entries of its tables, up to the last sequence number
+abbrev pub repaired_contents : List ℕ → List LiveTable → ℕ → Contents
+repaired_contents comparator tables last = record {
+  store = made (Some comparator);
+  entries = table_entries tables;
+  last = last;
+}
+
+-- ---- while it is made
+
+-- A repair of the old files is being made: its numbers are above those of all names, and no file
+-- has changed but tables of numbers from the first on and below the next, the manifest with its
+-- temporary file, and `CURRENT`; the lock's file may have been made, where it was missing.
+pub record IsRepairing (store : List ℕ) (manifest first next : ℕ) (old now : Files)
+    : Type 0 where
+  pub numbers : NumbersAreBelow store old manifest
+  pub fits : manifest < 2 ^ 64
+  pub above : manifest ≤ first
+  pub others : (path : List ℕ)
+      → ((n : ℕ) → first ≤ n → n < next → n < 2 ^ 64 → bytes_eq (table_path store n) path ≡ false)
+      → bytes_eq (manifest_path store manifest) path ≡ false
+      → bytes_eq (temp_path store manifest) path ≡ false
+      → bytes_eq (current_path store) path ≡ false → bytes_eq (lock_path store) path ≡ false
+      → now path ≡ old path
+  pub lock : old (lock_path store) ≢ None → now (lock_path store) ≡ old (lock_path store)
+
+-- making the manifest is a part of the repair
+abbrev pub ManifestsGoOn : List ℕ → Type 0
+ManifestsGoOn store = (manifest first next : ℕ) (bytes : List ℕ) (old files now : Files)
+    → IsRepairing store manifest first next old files
+    → MakingManifest store manifest bytes files now
+    → IsRepairing store manifest first next old now
+
+module _ (store : List ℕ) (cmp : List ℕ → List ℕ → Ordering)
+    (IsTableOf : List ℕ → List Pair → Type 0) where
+  -- ---- what it left
+
+  -- The tables of a repair are there and kept, all of them in level 1, no user key is in two of
+  -- them, and their entries have numbers from 1 to the last one; and no log has the log number or a
+  -- greater one.
+  pub record HasRepairedTables (log last : ℕ) (tables : List LiveTable) (files : Files)
+      : Type 0 where
+    pub each : (table : LiveTable) → Contains tables table
+        → HasTable store cmp IsTableOf files table
+        × IsKept (files (table_path store table.file.number)) × (table.file.level ≡ 1)
+        × (table.file.number < 2 ^ 64)
+    pub known : AreKnownByNumber tables
+    pub apart : (a b : LiveTable) → Contains tables a → Contains tables b
+        → a.file.number ≢ b.file.number → AreDisjoint cmp a.file b.file
+    pub numbered : (entry : Entry) → Contains (table_entries tables) entry
+        → (0 < entry.sequence) × (entry.sequence ≤ last)
+    pub last_fits : last ≤ greatest_sequence
+    pub above_logs : IsAboveLogs store files log
+
+  -- the files are what a repair left: these tables, and a kept manifest of the one edit that adds
+  -- them, which `CURRENT` names
+  pub record IsRepaired (comparator : List ℕ) (log last : ℕ) (tables : List LiveTable)
+      (files : Files) : Type 0 where
+    pub edits : HasKeptEdits store files
+        (repaired_edit comparator log last (files_of_tables tables) ∷ [])
+    pub has : HasRepairedTables log last tables files
+
+  -- ---- laws of it
+
+  -- all that is read of what a repair left is kept, and its contents are the tables' entries
+  abbrev pub RepairedIsKept : Type 0
+  RepairedIsKept = (comparator : List ℕ) (log last : ℕ) (tables : List LiveTable) (files : Files)
+      → IsRepaired comparator log last tables files
+      → IsAllKept store cmp IsTableOf files (repaired_contents comparator tables last)
+
+  -- Once the tables are there a manifest of this edit makes them a repaired store: at each moment
+  -- `CURRENT` is as it was, or the files are what a repair leaves, and so they are then.
+  pub record ManifestRepairs (comparator : List ℕ) (manifest log last : ℕ)
+      (tables : List LiveTable) (files : Files) : Type 0 where
+    pub meanwhile : (now : Files)
+        → MakingManifest store manifest
+        (repaired_manifest comparator log last (files_of_tables tables)) files now
+        → (now (current_path store) ≡ files (current_path store))
+        ⊎ IsRepaired comparator log last tables now
+    pub after : IsRepaired comparator log last tables
+        (with_manifest store manifest
+        (repaired_manifest comparator log last (files_of_tables tables)) files)
+
+  -- every such manifest does
+  abbrev pub ManifestsRepair : Type 0
+  ManifestsRepair = (comparator : List ℕ) (manifest log last : ℕ) (tables : List LiveTable)
+      (files : Files) → manifest < 2 ^ 64 → HasRepairedTables log last tables files
+      → IsEncodable (repaired_edit comparator log last (files_of_tables tables))
+      → ManifestRepairs comparator manifest log last tables files
+
+  module _ (allowed : Store → Type 0) where
+    -- what a repair left holds the set of its tables' entries, in whatever list, as one batch that
+    -- is durable
+    abbrev pub RepairedHolds : Type 0
+    RepairedHolds = (comparator : List ℕ) (log last : ℕ) (tables : List LiveTable) (files : Files)
+        → IsRepaired comparator log last tables files → allowed (made (Some comparator))
+        → (found : List Entry) → SameEntries (table_entries tables) found
+        → StoreHolds store cmp IsTableOf allowed files (found ∷ []) last 1 None
+
+    -- until `CURRENT` names the manifest each history is kept, where a table or a log was there
+    abbrev pub RepairsKeep : Type 0
+    RepairsKeep = (manifest first next : ℕ) (old now : Files)
+        → IsRepairing store manifest first next old now
+        → now (current_path store) ≡ old (current_path store)
+        → (HasNoTableNorLog store old → ⊥) → (bound : ℕ)
+        → KeepsHistory store cmp IsTableOf allowed bound old now
+
+-- ---- what is found
+
+-- the tables and logs of the folder have the same bytes, and no others are there
+abbrev pub SameTablesAndLogs : List ℕ → Files → Files → Type 0
+SameTablesAndLogs store old new = (name : List ℕ) (n : ℕ)
+    → (IsFileName name n Table ⊎ IsFileName name n Log)
+    → option_map bytes_of (new (in_folder store name))
+    ≡ option_map bytes_of (old (in_folder store name))
+
+-- the bytes of a log are read as one list of batches
+abbrev pub OneFoundLog : Type 0
+OneFoundLog = (bytes : List ℕ) (these those : List Batch) → IsFoundLog bytes these
+    → IsFoundLog bytes those → these ≡ those
+
+-- those of a readable table are one list of entries
+abbrev pub OneReadableTable : Type 0
+OneReadableTable = (cmp : List ℕ → List ℕ → Ordering) (meaning : Meaning) (bytes : List ℕ)
+    (these those : List Entry) → IsReadable (IsAnyTable cmp meaning) bytes these
+    → IsReadable (IsAnyTable cmp meaning) bytes those → these ≡ those
+
+module _ (store : List ℕ) (IsTableOf : List ℕ → List Pair → Type 0) where
+  -- all that a readable table of a new number has was found before
+  abbrev pub NewTablesHaveFound : ℕ → ℕ → Files → Files → Type 0
+  NewTablesHaveFound first next old now = (n : ℕ) (file : File) (entries : List Entry)
+      (entry : Entry) → first ≤ n → n < next → n < 2 ^ 64
+      → now (table_path store n) ≡ Some file → IsReadable IsTableOf (bytes_of file) entries
+      → Contains entries entry → IsFound store IsTableOf old entry
+
+  -- a crash left no table readable of which it didn't leave all bytes
+  abbrev pub LeavesNoTornTable : Files → Files → Type 0
+  LeavesNoTornTable files left = (path : List ℕ) (file crashed : File) (entries : List Entry)
+      → IsFilePath Table store path → files path ≡ Some file → left path ≡ Some crashed
+      → IsReadable IsTableOf (bytes_of crashed) entries → bytes_of crashed ≡ bytes_of file
+
+  -- ---- laws of it
+
+  -- while a repair is made the same is found
+  abbrev pub FoundStays : Type 0
+  FoundStays = (manifest first next : ℕ) (old now : Files)
+      → IsRepairing store manifest first next old now → NewTablesHaveFound first next old now
+      → (found : List Entry) → AreFound store IsTableOf old found
+      → AreFound store IsTableOf now found
+
+  -- so it is after a crash, where all bytes of the old files were kept
+  abbrev pub CrashesLeaveFound : Type 0
+  CrashesLeaveFound = (manifest first next : ℕ) (old now left : Files)
+      → IsRepairing store manifest first next old now → NewTablesHaveFound first next old now
+      → ((path : List ℕ) → IsKept (old path)) → FilesCrashTo now left → LeavesNoTornTable now left
+      → (found : List Entry) → AreFound store IsTableOf old found
+      → AreFound store IsTableOf left found
+
+  -- what is found is one set, in whatever list
+  abbrev pub OneFoundSet : Type 0
+  OneFoundSet = (files : Files) (these those : List Entry) → AreFound store IsTableOf files these
+      → AreFound store IsTableOf files those ↔ SameEntries these those
+
+  -- it goes by the bytes of the folder's tables and logs alone
+  abbrev pub FoundGoesByBytes : Type 0
+  FoundGoesByBytes = (old new : Files) (found : List Entry) → SameTablesAndLogs store old new
+      → AreFound store IsTableOf old found → AreFound store IsTableOf new found
+
+-- ---- a store's contents
+
+-- each table that is there is live, and each log that is there is replayed
+pub record HasNoOtherFile (store : List ℕ) (set : FileSet) (files : Files) : Type 0 where
+  pub tables : (name : List ℕ) (n : ℕ) → IsFileName name n Table
+      → files (in_folder store name) ≢ None
+      → (file : NewFile) × (set.file (level_file file) ≡ Some file)
+      × (name ≡ file_name Table file.number)
+  pub logs : (name : List ℕ) (n : ℕ) → IsFileName name n Log
+      → files (in_folder store name) ≢ None → LogIsReplayed set n
+
+-- where a table's filters aren't looked at its bytes have its pairs, and no others
+abbrev pub FiltersAreIgnored : Type 0
+FiltersAreIgnored = (cmp : List ℕ → List ℕ → Ordering) (meaning : Meaning) (bytes : List ℕ)
+    (pairs others : List Pair) → IsTableOf cmp meaning bytes pairs
+    → IsAnyTable cmp meaning bytes others ↔ (others ≡ pairs)
+
+-- so a table that is there is readable as its entries alone, if they have numbers from 1 on
+abbrev pub TablesAreReadable : List ℕ → Type 0
+TablesAreReadable store = (cmp : List ℕ → List ℕ → Ordering) (meaning : Meaning) (files : Files)
+    (table : LiveTable) (h : HasTable store cmp (IsTableOf cmp meaning) files table)
+    (entries : List Entry) → IsReadable (IsAnyTable cmp meaning) (bytes_of h.file) entries
+    ↔ ((entries ≡ table.entries)
+    × ((entry : Entry) → Contains table.entries entry → 0 < entry.sequence))
+
+-- of a store with no table and no log beside those that it reads, its contents are found
+abbrev pub StoresAreFound : List ℕ → Type 0
+StoresAreFound store = (cmp : List ℕ → List ℕ → Ordering) (meaning : Meaning) (files : Files)
+    (contents : Contents) (m : IsManaged store cmp (IsTableOf cmp meaning) files contents)
+    → HasNoOtherFile store (live_after m.edits) files → (found : List Entry)
+    → AreFound store (IsAnyTable cmp meaning) files found ↔ SameEntries found contents.entries

@@ -1,0 +1,49 @@
+//! Laws of a repair: what it leaves is a store with the set of entries that was found, each history
+//! is kept until then, and the same is found meanwhile.
+ghost use Rattle.std.specs.Prelude.{ℕ, List};
+ghost use Rattle.leveldb_version.specs.Repairing.{CrashesLeaveFound, FiltersAreIgnored, FoundGoesByBytes, FoundStays, ManifestsGoOn, ManifestsRepair, OneFoundLog, OneFoundSet, OneReadableTable, RepairedHolds, RepairedIsKept, RepairsKeep, StoresAreFound, TablesAreReadable};
+
+use super::stores::StoreFormat;
+
+/// All that is read of what a repair left is kept, and it holds the set of its tables' entries.
+pub fn repaired_stores_hold_a_set<F: StoreFormat>()
+    ensures kept { (store : List ℕ) → RepairedIsKept store F.cmp F.is_table }
+    ensures holds { (store : List ℕ) → RepairedHolds store F.cmp F.is_table F.allowed }
+{}
+
+/// A manifest of the one edit makes such a store of its tables, once `CURRENT` names it; making it
+/// is a part of the repair.
+pub fn manifests_make_repaired_stores<F: StoreFormat>()
+    ensures made { (store : List ℕ) → ManifestsRepair store F.cmp F.is_table }
+    ensures part { (store : List ℕ) → ManifestsGoOn store }
+{}
+
+/// Until then each history is kept, where a table or a log was there.
+pub fn repairs_keep_histories<F: StoreFormat>()
+    ensures { (store : List ℕ) → RepairsKeep store F.cmp F.is_table F.allowed }
+{}
+
+/// What is found stays the same while a repair is made, and after a crash of it where all bytes
+/// were kept before.
+pub fn found_entries_stay<F: StoreFormat>()
+    ensures meanwhile { (store : List ℕ) → FoundStays store F.is_table }
+    ensures crash { (store : List ℕ) → CrashesLeaveFound store F.is_table }
+{}
+
+/// What is found is one set, which goes by the bytes of tables and logs alone: those of a log are
+/// one list of batches, and those of a readable table one list of entries.
+pub fn found_entries_are_a_set<F: StoreFormat>()
+    ensures log { OneFoundLog }
+    ensures table { OneReadableTable }
+    ensures one { (store : List ℕ) → OneFoundSet store F.is_table }
+    ensures bytes { (store : List ℕ) → FoundGoesByBytes store F.is_table }
+{}
+
+/// Of a store with no table and no log beside those that it reads its contents are found, and so it
+/// shows the same after a repair. A table is readable, whatever its filters are, as its entries
+/// alone.
+pub fn stores_are_found()
+    ensures contents { (store : List ℕ) → StoresAreFound store }
+    ensures tables { (store : List ℕ) → TablesAreReadable store }
+    ensures filters { FiltersAreIgnored }
+{}

@@ -1,0 +1,10 @@
+//! The tests of what is found of a store, and of the tables to which it goes.
+
+#[cfg(test)]
+mod found_walks;
+#[cfg(test)]
+mod lists;
+#[cfg(test)]
+mod looks;
+#[cfg(test)]
+mod written;

@@ -1,0 +1,51 @@
+//! Merges of lists of entries in memory.
+use bytes::Bytes;
+use leveldb_base::cmp::{DefaultCmp, InternalKeyCmp};
+use leveldb_base::error::Result;
+use leveldb_base::key_types::{ValueType, tag_bytes};
+use leveldb_iter::merging_iter::MergeCore;
+use leveldb_iter::unlent::Unlent;
+use std::alloc::Global;
+use support::Listed;
+
+/// The letter of a key, its number, and the letter of its value, or none for a deletion.
+pub type Row = (u8, u64, Option<u8>);
+
+pub type List = Unlent<Listed<InternalKeyCmp<DefaultCmp>>>;
+
+pub type Merged = MergeCore<InternalKeyCmp<DefaultCmp>, List>;
+
+/// The internal key and the value of a row.
+pub fn pair_of(alloc: Global, row: &Row) -> Result<(Bytes, Bytes)> {
+    let (letter, number, value) = *row;
+    let mut key = Vec::new(alloc);
+    key.push(letter)?;
+    let kind = match value {
+        None => ValueType::TypeDeletion,
+        Some(_) => ValueType::TypeValue,
+    };
+    key.extend_from_slice(&tag_bytes(number, kind))?;
+    let value = match value {
+        None => Bytes::new(),
+        Some(letter) => Bytes::copy_from_slice(alloc, &[letter])?,
+    };
+    Ok((Bytes::copy_from_slice(alloc, key.as_slice())?, value))
+}
+
+/// A walk over these pairs.
+pub fn list_of(pairs: Vec<(Bytes, Bytes)>) -> List {
+    Unlent(Listed::new(InternalKeyCmp(DefaultCmp), pairs))
+}
+
+/// The merge of lists of these rows.
+pub fn merge_of(alloc: Global, lists: &[&[Row]]) -> Result<Merged> {
+    let mut children = Vec::new(alloc);
+    for rows in lists {
+        let mut pairs = Vec::new(alloc);
+        for row in *rows {
+            pairs.push(pair_of(alloc, row)?)?;
+        }
+        children.push(list_of(pairs))?;
+    }
+    Ok(MergeCore::new::<(), ()>(InternalKeyCmp(DefaultCmp), children))
+}
