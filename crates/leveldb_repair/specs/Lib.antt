@@ -1,4 +1,6 @@
+pub mod FoundLogs
 pub mod LookOver
+pub mod Numbers
 pub mod WriteFound
 pub mod FoundWalkTable
 pub mod FoundWalk

@@ -1,6 +1,8 @@
 //! What is found of a store whose manifest is lost or damaged, and the new tables to which it goes.
 #![tactic(auto)]
 
+pub mod found_logs;
 pub mod found_walk;
 pub mod look_over;
+pub mod numbers;
 pub mod write_found;

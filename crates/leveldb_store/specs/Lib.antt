@@ -6,6 +6,7 @@ pub mod Merging
 pub mod MergeInputs
 pub mod FoundLogs
 pub mod LogReplay
+pub mod NextFound
 pub mod OpenStore
 pub mod OpenTables
 pub mod Write

@@ -45,7 +45,7 @@ pub fn left_out(text: &[u8]) -> Option<LeftOut>
     ensures loses { LosesRecords text.now → IsSomeAnd result (λ left. IsTrue left.has_records) }
     ensures counts { IfSome result (λ left. left.from + left.count ≡ length text.now) }
 {
-    let scan = scan_of(text);
+    let scan = scan_of(text, usize::MAX);
     let rest = &text[scan.end..];
     let has_records = has_end_from(text, scan.end);
     if !has_records && !scan.is_misplaced && is_torn(rest, scan.end % BLOCK_SIZE) {
@@ -58,12 +58,27 @@ pub fn left_out(text: &[u8]) -> Option<LeftOut>
     })
 }
 
-// Goes through the fragments of a log, up to one that isn't whole or can't come there.
-fn scan_of(text: &[u8]) -> Scan
+/// What comes after the first `records` records of these bytes, a log's, or after all that there are
+/// up to its first bad end.
+pub fn left_after(text: &[u8], records: usize) -> LeftOut
+    ensures { result.from + result.count ≡ length text.now }
+{
+    let scan = scan_of(text, records);
+    LeftOut {
+        from: scan.records_end,
+        count: text.len() - scan.records_end,
+        has_records: has_end_from(text, scan.records_end),
+    }
+}
+
+// Goes through the fragments of a log, up to one that isn't whole or can't come there, or to the end
+// of so many records.
+fn scan_of(text: &[u8], records: usize) -> Scan
     ensures whole { AreWholeUpTo text.now result.end }
     ensures within { result.end ≤ length text.now }
     ensures records { result.records_end ≤ result.end }
 {
+    let mut left = records;
     let mut scan = Scan {
         end: 0,
         records_end: 0,
@@ -71,11 +86,15 @@ fn scan_of(text: &[u8]) -> Scan
         is_misplaced: false,
     };
     while let Some(found) = whole_at(&text[scan.end..], scan.end % BLOCK_SIZE) {
+        if left == 0 {
+            return scan;
+        }
         if !scan.may_take(found.kind) {
             scan.is_misplaced = true;
             return scan;
         }
         scan.take(found);
+        left -= usize::from(!scan.is_open);
     }
     scan
 }

@@ -4,11 +4,11 @@
 
 pub mod build;
 pub mod damage;
-pub(crate) mod log_replay;
+pub mod log_replay;
 pub mod merge_inputs;
 pub mod merge_tables;
 pub mod open_store;
-mod opening;
+pub mod opening;
 pub mod outputs;
 pub mod passing;
 mod table_file;

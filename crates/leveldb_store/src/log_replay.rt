@@ -1,6 +1,6 @@
 //! A log of a store, read batch by batch: one record and one batch of it are in memory at a time,
 //! and its file is borrowed for one call.
-ghost use Rattle.std.specs.Prelude.{◌≡◌, ◌<◌, ◌+◌, ◌⊎◌, false, true, IfErr, IfOk, IsErrAnd, IsTrue, OnOk};
+ghost use Rattle.std.specs.Prelude.{◌≡◌, ◌<◌, ◌+◌, ◌⊎◌, false, true, IfErr, IfOk, IsErrAnd, IsTrue, OnOk, string_bytes};
 ghost use Rattle.leveldb_base.specs.Error.{IsOutOfMemory};
 ghost use Rattle.leveldb_base.specs.declared.error.StatusCode.TheVariants.{Corruption};
 ghost use Rattle.leveldb_env.specs.Env.{FilesUnchanged, HasCause, Run, SameLocks};
@@ -11,6 +11,7 @@ ghost use Rattle.leveldb_mem.specs.WriteBatch.{IsBatch};
 ghost use Rattle.leveldb_version.specs.Batches.{IsRecordOf};
 ghost use Rattle.leveldb_version.specs.Paths.{log_path};
 ghost use Rattle.leveldb_store.specs.LogReplay.{IsLogToRead, ReadsBatch};
+ghost use Rattle.leveldb_store.specs.NextFound.{IsFileToRead};
 
 use leveldb_base::error::{Result, StatusCode, err};
 use leveldb_base::names::log_file_name;
@@ -21,6 +22,10 @@ use leveldb_mem::log::{Found, ReaderCore};
 use leveldb_mem::write_batch::WriteBatch;
 use std::alloc::Global;
 use std::marker::Model;
+
+mod next_found;
+
+pub use next_found::NextFound;
 
 /// What comes next in a log.
 #[derive(Clone, Copy, Debug, PartialEq, Eq)]
@@ -35,7 +40,7 @@ pub(crate) enum NextBatch {
 
 /// A log that is read batch by batch. Each call is given the environment.
 #[derive(Drop)]
-pub(crate) struct LogReplay<E: Env> {
+pub struct LogReplay<E: Env> {
     alloc: Global,
     number: FileNum,
     // What an error of a call on the file names.
@@ -87,6 +92,27 @@ impl<E: Env> LogReplay<E> {
             (E.failures env.old) (E.failures env.new) result }
     {
         let path = log_file_name(alloc, store, number)?;
+        LogReplay::open_path(alloc, env, path, number)
+    }
+
+    /// The log of this number in the file at this path, whatever its name is, to be read from its
+    /// start on. `Corruption` where it is missing.
+    pub fn open_path(
+        alloc: Global,
+        env: &mut E,
+        path: String,
+        number: FileNum,
+    ) -> Result<LogReplay<E>>
+        ensures run { IsTrue E.models_disk
+            → Run (FilesUnchanged (E.observed env.old).disk.files) (E.observed env.old)
+            (E.observed env.new) }
+        ensures locks { SameLocks E.models_disk (E.observed env.old) (E.observed env.new) }
+        ensures opens { IfOk result (IsFileToRead E.models_disk (string_bytes path) number
+            (E.observed env.old).disk.files) }
+        ensures cause { HasCause (IsLost E.models_disk (string_bytes path)
+            (E.observed env.old) (E.failures env.old) (E.failures env.new))
+            (E.failures env.old) (E.failures env.new) result }
+    {
         let size = found(alloc, &path, env.size_of(&path))?;
         let file = found(alloc, &path, env.open_sequential_file(&path))?;
         Ok(LogReplay {
@@ -99,6 +125,13 @@ impl<E: Env> LogReplay<E> {
             size,
             left: size,
         })
+    }
+
+    /// The path of its file.
+    pub fn path(&self) -> &str
+        ensures { result.now ≡ self.now.path }
+    {
+        &self.path
     }
 
     /// How many bytes the log has.

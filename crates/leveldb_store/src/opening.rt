@@ -9,7 +9,7 @@ ghost use Rattle.leveldb_store.specs.SoundCall.{BytesAreAppended};
 mod begin;
 mod edit;
 mod find;
-mod listing;
+pub mod listing;
 mod log_to_write;
 mod logs;
 mod read_logs;

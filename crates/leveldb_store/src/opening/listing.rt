@@ -14,17 +14,20 @@ use leveldb_env::env::Env;
 use leveldb_env::env::whole_files::found;
 use std::alloc::Global;
 
-// A file in a store's folder, with the number and the type that its name has.
+/// A file in a store's folder, with the number and the type that its name has.
 #[derive(Drop)]
-pub(super) struct ListedFile {
-    pub(super) name: String,
-    pub(super) number: FileNum,
-    pub(super) kind: FileType,
+pub struct ListedFile {
+    /// Its name, without the folder, however its number is written there.
+    pub name: String,
+    /// The number that its name has, or 0.
+    pub number: FileNum,
+    /// The type that its name has.
+    pub kind: FileType,
 }
 
-// The files in the store's folder, each of whose names is read once. Those whose names aren't of a
-// store's files are left out.
-pub(super) fn list_files<E: Env>(alloc: Global, env: &mut E, store: &str) -> Result<Vec<ListedFile>>
+/// The files in the store's folder, each of whose names is read once. Those whose names aren't of a
+/// store's files are left out. `Corruption` where the folder has no file.
+pub fn list_files<E: Env>(alloc: Global, env: &mut E, store: &str) -> Result<Vec<ListedFile>>
     ensures still { IsTrue E.models_disk
         → Run (FilesUnchanged (E.observed env.old).disk.files) (E.observed env.old)
         (E.observed env.new) }
