@@ -5,6 +5,8 @@ mod found_walks;
 #[cfg(test)]
 mod lists;
 #[cfg(test)]
+mod logs;
+#[cfg(test)]
 mod looks;
 #[cfg(test)]
 mod written;

@@ -1,5 +1,6 @@
 -- The entries of a folder's logs, in memory as far as they are found.
-use Rattle.std.specs.Prelude.{◌≡◌, ◌≢◌, ◌⊎◌, ◌↔◌, ◌≤◌, ◌+◌, ◌*◌, ◌^◌, ℕ, Bool, List, [], ◌∷◌, ◌++◌, All, Contains, IfOk, IsTrue, OnOk, Result, Some, None, flat_map, length, string_bytes}
+use Rattle.std.specs.Prelude.{◌≡◌, ◌≢◌, ◌⊎◌, ◌↔◌, ◌≤◌, ◌+◌, ◌*◌, ◌^◌, ℕ, Bool, List, [], ◌∷◌, ◌++◌, All, Any, Contains, IfOk, IsTrue, OnOk, Result, Some, None, Vec, flat_map, length, string_bytes}
+use Rattle.std.specs.Global.{Global}
 use Rattle.leveldb_base.specs.History.{AreUpTo, Entry, RiseAbove, entries_of, greatest}
 use Rattle.leveldb_base.specs.declared.error.Status.{Status}
 use Rattle.leveldb_base.specs.declared.error.StatusCode.TheVariants.{Corruption, NotSupported}
@@ -107,20 +108,17 @@ module _ (store : List ℕ) (files : Files) where
   IsInLog entry = (name : List ℕ) × (file : File) × (files (in_folder store name) ≡ Some file)
       × LogHas name (bytes_of file) entry
 
-  -- one of the logs is missing
-  abbrev pub LacksLog : List ListedFile → Type 0
-  LacksLog listed = (file : ListedFile) × Contains listed file × (file.kind ≡ Log)
+  -- the file is a log that is missing
+  abbrev pub IsMissingLog : ListedFile → Type 0
+  IsMissingLog file = (file.kind ≡ Log)
       × (files (in_folder store (string_bytes file.name)) ≡ None)
 
-  -- the file of a name begins with batches of which the last is too large for a memtable of its own
-  abbrev pub HasLargeBatch : List ℕ → Type 0
-  HasLargeBatch name = (batches : List Batch) × (batch : Batch)
-      × BeginsAt (files (in_folder store name)) (batches ++ batch ∷ []) × IsLarge batch
-
-  -- one of the logs does
-  abbrev pub HasLargeLog : List ListedFile → Type 0
-  HasLargeLog listed = (file : ListedFile) × Contains listed file × (file.kind ≡ Log)
-      × HasLargeBatch (string_bytes file.name)
+  -- the file is a log that begins with batches of which the last is too large for a memtable of its
+  -- own
+  abbrev pub HasLargeBatch : ListedFile → Type 0
+  HasLargeBatch file = (file.kind ≡ Log) × (batches : List Batch) × (batch : Batch)
+      × BeginsAt (files (in_folder store (string_bytes file.name))) (batches ++ batch ∷ [])
+      × IsLarge batch
 
 -- the entries of batches that are found of files, those of one file after those of another
 abbrev pub found_entries : List (List Batch) → List Entry
@@ -128,22 +126,18 @@ found_entries found = flat_map all_entries found
 
 -- ---- calls
 
--- why a log of this name isn't found, where the device didn't fail, beside out of memory
-abbrev pub WhyLogNotFound : Bool → List ℕ → Files → List ℕ → Status → Type 0
-WhyLogNotFound models_disk store files name status =
-    ((status.code ≡ Corruption) × (IsTrue models_disk → files (in_folder store name) ≡ None))
-    ⊎ ((status.code ≡ NotSupported) × (IsTrue models_disk → HasLargeBatch store files name))
-
--- why the logs aren't found, where the device didn't fail, beside out of memory: one is missing, or
--- a batch is too large
-abbrev pub WhyLogsNotFound : Bool → List ℕ → Files → List ListedFile → Status → Type 0
-WhyLogsNotFound models_disk store files listed status =
-    ((status.code ≡ Corruption) × (IsTrue models_disk → LacksLog store files listed))
-    ⊎ ((status.code ≡ NotSupported) × (IsTrue models_disk → HasLargeLog store files listed))
+-- why what is found of these files doesn't come to memory, where the device didn't fail, beside out of
+-- memory: a log is missing, or a batch is too large
+abbrev pub WhyNotFound : Bool → List ℕ → Files → List ListedFile → Status → Type 0
+WhyNotFound models_disk store files listed status =
+    ((status.code ≡ Corruption)
+    × (IsTrue models_disk → Any (IsMissingLog store files) listed))
+    ⊎ ((status.code ≡ NotSupported)
+    × (IsTrue models_disk → Any (HasLargeBatch store files) listed))
 
 module _ {E F C : Type 0} (env : Ghosts E F) (store : List ℕ) where
-  -- what is found of the log of this name comes to memory
-  pub record FindsLog (name : List ℕ) (old : Memtables C) (from : E)
+  -- what is found of the file, if it is a log, comes to memory
+  pub record FindsLog (file : ListedFile) (old : Memtables C) (from : E)
       (result : Result (Unit {0}) Status) (new : Memtables C) (to : E) : Type 0 where
     -- no file changes, at any moment, and no lock does
     pub still : IsTrue env.models_disk
@@ -152,39 +146,40 @@ module _ {E F C : Type 0} (env : Ghosts E F) (store : List ℕ) where
     pub locks : SameLocks env.models_disk (env.observed from) (env.observed to)
     -- the entries of all its batches came, after those that there were
     pub finds : OnOk result ((batches : List Batch)
-        × (IsTrue env.models_disk → IsFoundAt
-        ((env.observed from).disk.files (in_folder store name)) batches)
+        × (IsTrue env.models_disk
+        → IsFoundIn store (env.observed from).disk.files file batches)
         × ((entries : List Entry) → HaveEntries entries old
         → HaveEntries (entries ++ all_entries batches) new))
     pub up_to : OnOk result (AreUpTo new.last new.open.kept.entries)
     pub cmp : OnOk result (new.cmp ≡ old.cmp)
     -- why it failed
     pub cause : HasCauseOr
-        (WhyLogNotFound env.models_disk store (env.observed from).disk.files name)
+        (WhyNotFound env.models_disk store (env.observed from).disk.files (file ∷ []))
         (env.failures from) (env.failures to) result
 
   -- what is found of the logs among these files of the folder
   pub record FindsLogs (cmp : C) (listed : List ListedFile) (from : E)
-      (result : Result (List (MemTableState C)) Status) (to : E) : Type 0 where
+      (result : Result (Vec (MemTableState C) Global) Status) (to : E) : Type 0 where
     -- no file changes, at any moment, and no lock does
     pub still : IsTrue env.models_disk
         → Run (FilesUnchanged (env.observed from).disk.files) (env.observed from)
         (env.observed to)
     pub locks : SameLocks env.models_disk (env.observed from) (env.observed to)
     -- the memtables are in this order of users' keys
-    pub order : IfOk result (λ tables. All (λ (table : MemTableState C). table.cmp ≡ cmp) tables)
+    pub order : IfOk result (λ tables.
+        All (λ (table : MemTableState C). table.cmp ≡ cmp) tables.items)
     -- they have the entries of what is found of the logs, one log after another, each as often as it
     -- is there
     pub finds : IfOk result (λ tables. (found : List (List Batch))
-        × HaveRuns (found_entries found) tables
+        × HaveRuns (found_entries found) tables.items
         × (IsTrue env.models_disk
         → Each (IsFoundIn store (env.observed from).disk.files) listed found))
     -- so if these are the files of the folder, the memtables have exactly the entries of its logs
     pub exactly : IfOk result (λ tables. IsTrue env.models_disk
         → AreFilesIn env store from listed
-        → (entry : Entry) → HaveEntry tables entry
+        → (entry : Entry) → HaveEntry tables.items entry
         ↔ IsInLog store (env.observed from).disk.files entry)
     -- why it failed
     pub cause : HasCauseOr
-        (WhyLogsNotFound env.models_disk store (env.observed from).disk.files listed)
+        (WhyNotFound env.models_disk store (env.observed from).disk.files listed)
         (env.failures from) (env.failures to) result

@@ -1,5 +1,5 @@
 //! The logs of a store's folder, in memory as far as they are found.
-ghost use Rattle.std.specs.Prelude.{◌≡◌, IsTrue, string_bytes};
+ghost use Rattle.std.specs.Prelude.{IsTrue};
 ghost use Rattle.leveldb_base.specs.History.{AreUpTo};
 ghost use Rattle.leveldb_env.specs.Env.{FilesUnchanged, HasCause, Run, SameLocks};
 ghost use Rattle.leveldb_env.specs.WholeFiles.{IsLost};
@@ -36,19 +36,16 @@ pub fn found_logs<E: Env, C: UserCmp + Copy + Drop>(
     files: &[ListedFile],
     log: &mut Option<Logger>,
 ) -> Result<Vec<MemTable<C>>>
-    ensures { FindsLogs E.Env store.now cmp files.now env.old
-        (result_map (λ tables. tables.items) result) env.new }
+    ensures { FindsLogs E.Env store.now cmp files.now env.old result env.new }
 {
     let mut found = Memtables::new(alloc, cmp);
     for file in files {
-        if file.kind == FileType::Log {
-            find_log(alloc, env, store, file, &mut found, log)?;
-        }
+        find_log(alloc, env, store, file, &mut found, log)?;
     }
     found.into_tables()
 }
 
-// Adds the entries of a log, as far as it is found.
+// Adds the entries of a file, if it is a log, as far as it is found.
 fn find_log<E: Env, C: UserCmp + Copy + Drop>(
     alloc: Global,
     env: &mut E,
@@ -58,9 +55,11 @@ fn find_log<E: Env, C: UserCmp + Copy + Drop>(
     log: &mut Option<Logger>,
 ) -> Result<()>
     requires up_to { AreUpTo found.old.last found.old.open.kept.entries }
-    ensures { FindsLog E.Env store.now (string_bytes file.now.name) found.old env.old result
-        found.new env.new }
+    ensures { FindsLog E.Env store.now file.now found.old env.old result found.new env.new }
 {
+    if file.kind != FileType::Log {
+        return Ok(());
+    }
     let path = format!(in alloc; "{store}/{}", file.name)?;
     let mut reading = LogReplay::open_path(alloc, env, path, file.number)?;
     let mut batch = WriteBatch::new(alloc)?;

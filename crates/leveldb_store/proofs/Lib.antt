@@ -55,6 +55,7 @@ mod ReplayLogLemmas
 mod LogSourceLemmas
 mod LogReplayLemmas
 mod ReadBatchLemmas
+pub mod NextFoundLemmas
 mod ReplayStoreLemmas
 mod ReadLogsLemmas
 mod ReadAloneLemmas

@@ -224,6 +224,19 @@ module _ {models_disk : Bool} {files : Files} {old : LogReplayState} {batches : 
           file = new_file;
         }
 
+        -- the file begins with the record, after those before it
+        pub next_in_file : IsTrue models_disk → (file : File) × (files old.path ≡ Some file)
+            × (front : List ℕ) × (rest : List ℕ) × (bytes_of file ≡ front ++ rest)
+            × IsLogFile front (has.records ++ text ∷ []) clean
+        next_in_file modelled = let file = new_file modelled in (
+          file.0,
+          ap files (sym same_path) ∙ file.1,
+          more.front,
+          new.reader.unread ++ drop new.offset (bytes_of file.0),
+          file.2.parts,
+          more.log,
+        )
+
         -- a record that is no batch isn't one of a log of batches
         pub no_log : IsTrue models_disk → (IsBatch text → ⊥) → IsNoLog (files old.path)
         no_log modelled never log (found, there, is) =

@@ -9,7 +9,7 @@ use Rattle.leveldb_env.proofs.EnvLemmas.{begun}
 use Rattle.leveldb_env.proofs.WholeFilesLemmas.{found_cause}
 use Rattle.leveldb_env.specs.Env.{FilesUnchanged, HasCause, Run, SameLocks}
 use Rattle.leveldb_env.specs.EnvFile.{IsFurther, Opened, Reads, opened}
-use Rattle.leveldb_env.specs.WholeFiles.{IsFoundOr}
+use Rattle.leveldb_env.specs.WholeFiles.{IsFoundOr, IsLost}
 use Rattle.leveldb_env.specs.declared.env.Env.{Ghosts}
 use Rattle.leveldb_mem.specs.Log.Reader.{FindsEnd, FindsRecord, FindsWrongChecksum, HoldsOfRest, IsTorn, ReaderState, StopsReading, at_end, whatever_follows}
 use Rattle.leveldb_mem.specs.WriteBatch.{Batch, IsBatch}
@@ -178,73 +178,99 @@ module _ {E F : Type 0} (env : Ghosts E F) (number : ℕ) (path : List ℕ) (siz
 
     -- ---- an error of a read
 
-    abbrev Fails : Status → Type 0
-    Fails = FailsToReadBatch env.models_disk path (env.observed from) (env.failures from)
-        (env.failures to)
+    abbrev Lost : Status → Type 0
+    Lost = IsLost env.models_disk path (env.observed from) (env.failures from) (env.failures to)
 
-    stopped_cause : (batches : List Batch)
-        → HasReadBatches env.models_disk (env.observed from).disk.files old batches
-        → (status error : Status)
-        → StopsReading (Reads env) (opened from file) status until
-        → IsFoundOr {T = Found} path (Err status) (Err error)
-        → HasCause {T = NextBatch} Fails (env.failures from) (env.failures to) (Err error)
-    stopped_cause batches has status error (inl up) found = cause_of_error error
-        (λ lost. inl lost)
-        (λ why. ⊎_elim (λ lost. inl lost) (λ other. inr other.1) why)
-        (found_cause path (Err status) (Err error)
-        (λ gone modelled. ap (env.observed from).disk.files (sym (named modelled)) ∙ gone modelled)
-        (found_refused path status error found) (IsGivenUp-given env up).cause)
-    stopped_cause batches has status error (inr much) found =
-        let further = IsFurther-given env much.given_before in
-        record {
-          later = omega (arith, further.counted);
-          ok = tt;
-          uncounted = λ excused. further.counted;
-          cause = inl (inr (
-            inr (
+    -- more is read than a file of a disk that is modelled has
+    abbrev TooMuch : Status → Type 0
+    TooMuch status = (status.code ≡ NotSupported) × (IsTrue env.models_disk → ⊥)
+        × (env.failures to ≡ env.failures from)
+
+    module _ {T : Type 0} {Fails : Status → Type 0} (lost : (s : Status) → Lost s → Fails s)
+        (too_much : (s : Status) → TooMuch s → Fails s)
+        (uncounted : (s : Status) → Fails s → Lost s ⊎ (env.failures to ≡ env.failures from)) where
+      -- the cause of an error of a read, among others
+      pub stopped_cause : (batches : List Batch)
+          → HasReadBatches env.models_disk (env.observed from).disk.files old batches
+          → (status error : Status)
+          → StopsReading (Reads env) (opened from file) status until
+          → IsFoundOr {T = Found} path (Err status) (Err error)
+          → HasCause {T = T} Fails (env.failures from) (env.failures to) (Err error)
+      stopped_cause batches has status error (inl up) found =
+          cause_of_error error (lost error) (uncounted error)
+          (found_cause path (Err status) (Err error)
+          (λ gone modelled. ap (env.observed from).disk.files (sym (named modelled)) ∙ gone modelled)
+          (found_refused path status error found) (IsGivenUp-given env up).cause)
+      stopped_cause batches has status error (inr much) found =
+          let further = IsFurther-given env much.given_before in
+          record {
+            later = omega (arith, further.counted);
+            ok = tt;
+            uncounted = λ excused. further.counted;
+            cause = inl (too_much error (
               found_code path status error (λ code. absurd (cc (sym much.code ∙ code))) found
                   ∙ much.code,
               never_too_much env refl named has much.given_before much.many,
-            ),
-            further.counted,
-          ));
-        }
+              further.counted,
+            ));
+          }
 
-    -- whatever the reader was
+      -- whatever the reader was
+      pub refused_cause : (answer : Result Found Status) (error : Status)
+          → (core.failed ≡ false
+          → IfErr answer (λ status. StopsReading (Reads env) (opened from file) status until))
+          → IsFoundOr path answer (Err error) → (batches : List Batch)
+          → HasReadBatches env.models_disk (env.observed from).disk.files old batches
+          → HasCause {T = T} Fails (env.failures from) (env.failures to) (Err error)
+      refused_cause (Ok value) error stops found batches has =
+          absurd (let never : Err error ≡ Ok value = found in cc)
+      refused_cause (Err status) error stops found batches has = stopped_cause batches has status
+          error (stops (ap (λ (r : ReaderState). r.failed) has.reader)) found
+
+    -- no file changes meanwhile, and no lock
+    pub stopped_still : (answer : Result Found Status) (error : Status)
+        → (core.failed ≡ false
+        → IfErr answer (λ status. StopsReading (Reads env) (opened from file) status until))
+        → (core.failed ≡ true → (to ≡ from) × (after ≡ file)) → IsFoundOr path answer (Err error)
+        → (IsTrue env.models_disk
+        → Run (FilesUnchanged (env.observed from).disk.files) (env.observed from)
+        (env.observed to)) × SameLocks env.models_disk (env.observed from) (env.observed to)
+    stopped_still (Ok value) error stops failed found =
+        absurd (let never : Err error ≡ Ok value = found in cc)
+    stopped_still (Err status) error stops failed found = by core.failed refl
+      where
+        abbrev Still : Type 0
+        Still = (IsTrue env.models_disk
+            → Run (FilesUnchanged (env.observed from).disk.files) (env.observed from)
+            (env.observed to)) × SameLocks env.models_disk (env.observed from) (env.observed to)
+
+        of_stop : StopsReading (Reads env) (opened from file) status until → Still
+        of_stop (inl up) = let is = IsGivenUp-given env up in (is.still, is.locks)
+        of_stop (inr much) = let is = IsFurther-given env much.given_before in (is.still, is.locks)
+
+        by : (b : Bool) → core.failed ≡ b → Still
+        by false is = of_stop (stops is)
+        by true is = (
+          λ modelled. subst (λ t. Run (FilesUnchanged (env.observed from).disk.files)
+              (env.observed from) (env.observed t)) (sym (failed is).0)
+              (begun (env.observed from) refl),
+          λ modelled. ap (λ t. (env.observed t).disk.locked) (failed is).0,
+        )
+
     pub reads_stopped : (answer : Result Found Status) (error : Status)
         → (core.failed ≡ false
         → IfErr answer (λ status. StopsReading (Reads env) (opened from file) status until))
         → (core.failed ≡ true → (to ≡ from) × (after ≡ file))
         → IsFoundOr path answer (Err error)
         → ReadsBatch env old from (Err error) batch (log_at next after left) to
-    reads_stopped (Ok value) error stops failed found =
-        absurd (let never : Err error ≡ Ok value = found in cc)
-    reads_stopped (Err status) error stops failed found = record {
-      run = λ modelled. still core.failed refl modelled;
-      locks = same_locks core.failed refl;
-      same = refl;
-      finds = λ batches has. tt;
-      fewer = λ more. absurd (cc);
-      cause = λ batches has. stopped_cause batches has status error
-          (stops (ap (λ (r : ReaderState). r.failed) has.reader)) found;
-    }
-      where
-        of_stop : StopsReading (Reads env) (opened from file) status until
-            → (IsTrue env.models_disk
-            → Run (FilesUnchanged (env.observed from).disk.files) (env.observed from)
-            (env.observed to)) × SameLocks env.models_disk (env.observed from) (env.observed to)
-        of_stop (inl up) = let is = IsGivenUp-given env up in (is.still, is.locks)
-        of_stop (inr much) = let is = IsFurther-given env much.given_before in (is.still, is.locks)
-
-        still : (b : Bool) → core.failed ≡ b → IsTrue env.models_disk
-            → Run (FilesUnchanged (env.observed from).disk.files) (env.observed from)
-            (env.observed to)
-        still false is modelled = (of_stop (stops is)).0 modelled
-        still true is modelled = subst (λ t. Run (FilesUnchanged (env.observed from).disk.files)
-            (env.observed from) (env.observed t)) (sym (failed is).0)
-            (begun (env.observed from) refl)
-
-        same_locks : (b : Bool) → core.failed ≡ b → IsTrue env.models_disk
-            → (env.observed to).disk.locked ≡ (env.observed from).disk.locked
-        same_locks false is modelled = (of_stop (stops is)).1 modelled
-        same_locks true is modelled = ap (λ t. (env.observed t).disk.locked) (failed is).0
+    reads_stopped answer error stops failed found =
+        let still = stopped_still answer error stops failed found in
+        record {
+          run = still.0;
+          locks = still.1;
+          same = refl;
+          finds = λ batches has. tt;
+          fewer = λ more. absurd (cc);
+          cause = refused_cause (λ s lost. inl lost) (λ s much. inr (inr (much.0, much.1), much.2))
+              (λ s why. ⊎_elim (λ lost. inl lost) (λ other. inr other.1) why) answer error stops found;
+        }
