@@ -1,7 +1,7 @@
 -- Entries of logs in memtables that are filled one after another.
 use Rattle.std.specs.Prelude.{◌↔◌, All, Any, Contains, IfErr, IfOk, IsTrue, OnOk, flat_map, max, string_bytes, sum_by}
 use Rattle.std.proofs.Common.{◌≡◌, ◌∙◌, ◌⊎◌, inl, inr, ⊎_elim, ◌<◌, ◌≤◌, ◌+◌, ℕ, List, [], ◌∷◌, ◌++◌, None, Some, Ok, Err, Result, ap, append-nil, append_assoc, arith, length, length-append, refl, subst, sym, take}
-use Rattle.std.proofs.lemmas.List.Concat.{flat_map-append}
+use Rattle.std.proofs.lemmas.List.Sums.{sum_by-append}
 use Rattle.std.proofs.lemmas.List.Elements.{All-cons, All-contains, All-nil, All-push, Contains-append_cases, Contains-append_left, Contains-append_right}
 use Rattle.leveldb_base.proofs.ConsistentLemmas.{rise_both, rise_placed}
 use Rattle.leveldb_base.proofs.HistoryLemmas.{in_cases, in_front, in_none, in_rest}
@@ -50,6 +50,11 @@ pub last_of_placed : (first : ℕ) (items : List Item) → 0 < length items
 last_of_placed first [] some = absurd (omega (arith, some))
 last_of_placed first (item ∷ items) some =
     let is = greatest_placed first item items in omega (arith, is)
+
+-- no entry is past a number where there is none
+pub up_to_none : {n : ℕ} (entries : List Entry) → entries ≡ [] → AreUpTo n entries
+up_to_none entries none entry c =
+    absurd (in_none entry (subst (λ es. Contains es entry) none c))
 
 -- no items have no entries
 pub none_placed : (first : ℕ) (items : List Item) → length items ≡ 0 → placed first items ≡ []

@@ -1,4 +1,7 @@
 mod OneMergeLemmas
+mod FoundLogsLemmas
+mod FindLogsLemmas
+mod NumbersLemmas
 mod LookOverLemmas
 mod MergedListsLemmas
 mod NoneGoesLemmas

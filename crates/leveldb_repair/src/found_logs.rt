@@ -1,7 +1,8 @@
 //! The logs of a store's folder, in memory as far as they are found.
-ghost use Rattle.std.specs.Prelude.{IsTrue};
+ghost use Rattle.std.specs.Prelude.{◌≡◌, IfErr, IfOk, IsTrue, string_bytes};
+ghost use Rattle.leveldb_base.specs.Error.{IsOutOfMemory};
 ghost use Rattle.leveldb_base.specs.History.{AreUpTo};
-ghost use Rattle.leveldb_env.specs.Env.{FilesUnchanged, HasCause, Run, SameLocks};
+ghost use Rattle.leveldb_env.specs.Env.{FilesUnchanged, HasCause, Run, SameLocks, in_folder};
 ghost use Rattle.leveldb_env.specs.WholeFiles.{IsLost};
 ghost use Rattle.leveldb_repair.specs.FoundLogs.{FindsLog, FindsLogs};
 
@@ -60,7 +61,7 @@ fn find_log<E: Env, C: UserCmp + Copy + Drop>(
     if file.kind != FileType::Log {
         return Ok(());
     }
-    let path = format!(in alloc; "{store}/{}", file.name)?;
+    let path = path_in(alloc, store, &file.name)?;
     let mut reading = LogReplay::open_path(alloc, env, path, file.number)?;
     let mut batch = WriteBatch::new(alloc)?;
     'batches: loop {
@@ -78,6 +79,14 @@ fn find_log<E: Env, C: UserCmp + Copy + Drop>(
         }
         found.add(alloc, &batch)?;
     }
+}
+
+// The path of a file in a folder.
+fn path_in(alloc: Global, folder: &str, name: &str) -> Result<String>
+    ensures ok { IfOk result (λ path. string_bytes path ≡ in_folder folder.now name.now) }
+    ensures memory { IfErr result IsOutOfMemory }
+{
+    Ok(format!(in alloc; "{folder}/{name}")?)
 }
 
 // Tells what is left out of the log at this path, after so many batches of it. The log is read whole

@@ -23,7 +23,7 @@ mod MovedFileLemmas
 pub mod WriteLemmas
 pub mod KeptBytesLemmas
 mod OpeningNamesLemmas
-mod ListingLemmas
+pub mod ListingLemmas
 mod OpeningCausesLemmas
 mod OpeningSyncsLemmas
 pub mod SwitchLemmas
@@ -65,7 +65,7 @@ mod LogBatchLemmas
 mod BatchHistoryLemmas
 mod WriteBatchLemmas
 mod SoundWriteLemmas
-mod OpeningFindLemmas
+pub mod OpeningFindLemmas
 pub mod FoundLogsLemmas
 mod ReplayAllLemmas
 mod ReplayDamageLemmas

@@ -30,6 +30,7 @@ impl<C: UserCmp + Copy + Drop> Memtables<C> {
     // One memtable, without entries.
     pub(super) fn new(alloc: Global, cmp: C) -> Memtables<C>
         ensures none { HaveEntries [] result }
+        ensures empty { result.open.kept.entries ≡ [] }
         ensures cmp { result.cmp ≡ cmp }
     {
         Memtables {
