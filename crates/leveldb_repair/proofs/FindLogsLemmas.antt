@@ -51,6 +51,15 @@ alone_is P file (k, other, inside, is, has) = ⊎_elim
     (λ (none : Contains [] other). absurd (in_none other none))
     (in_cases file other [] (k, inside, is))
 
+-- a file was read, and no file changed
+pub record Tells {E F : Type 0} (env : Ghosts E F) (path : List ℕ) (from : E)
+    (result : Result (Unit {0}) Status) (to : E) : Type 0 where
+  pub run : IsTrue env.models_disk → Run (FilesUnchanged (env.observed from).disk.files)
+      (env.observed from) (env.observed to)
+  pub locks : SameLocks env.models_disk (env.observed from) (env.observed to)
+  pub cause : HasCause (IsLost env.models_disk path (env.observed from) (env.failures from)
+      (env.failures to)) (env.failures from) (env.failures to) result
+
 module _ {E F C : Type 0} (env : Ghosts E F) (store : List ℕ) (file : ListedFile)
     (old : Memtables C) (from : E) where
   abbrev files : Files
@@ -81,7 +90,7 @@ module _ {E F C : Type 0} (env : Ghosts E F) (store : List ℕ) (file : ListedFi
     pub found : HasFoundBatches env.models_disk files read batches
     pub have : (entries : List Entry) → HaveEntries entries old
         → HaveEntries (entries ++ all_entries batches) memory
-    pub up_to : AreUpTo memory.last memory.open.kept.entries
+    pub up_to : AreUpTo memory.last memory.latest.kept.entries
     pub cmp : memory.cmp ≡ old.cmp
 
   -- ---- it fails
@@ -183,7 +192,7 @@ module _ {E F C : Type 0} (env : Ghosts E F) (store : List ℕ) (file : ListedFi
       {T = LogReplayState} status cause)
 
   -- it is no log
-  pub FindsLog-other : file.kind ≢ Log → AreUpTo old.last old.open.kept.entries
+  pub FindsLog-other : file.kind ≢ Log → AreUpTo old.last old.latest.kept.entries
       → FindsLog env store file old from (Ok tt) old from
   FindsLog-other other up_to = record {
     still = λ modelled. begun (env.observed from) refl;
@@ -202,7 +211,7 @@ module _ {E F C : Type 0} (env : Ghosts E F) (store : List ℕ) (file : ListedFi
   pub FindingLog-none : file.kind ≡ Log → (read : LogReplayState) (at : E) → Still at → SameLock at
       → env.failures at ≡ env.failures from → (p : List ℕ) (number : ℕ) → p ≡ path
       → IsFileToRead env.models_disk p number files read
-      → AreUpTo old.last old.open.kept.entries → FindingLog old read at
+      → AreUpTo old.last old.latest.kept.entries → FindingLog old read at
   FindingLog-none is_log read at still locks counted p number p_is opens up_to = record {
     still = still;
     locks = locks;
@@ -330,30 +339,45 @@ module _ {E F C : Type 0} (env : Ghosts E F) (store : List ℕ) (file : ListedFi
         cause = record { later = omega (arith, counted); ok = counted; uncounted = tt; cause = tt };
       }
 
-      -- between two records
-      pub FindsLog-clean : FindsLog env store file old from (Ok tt) memory to
-      FindsLog-clean = ended to (still_found finds) (locks_found finds) counted_then
+      -- where nothing is left out
+      whole : FindsLog env store file old from (Ok tt) memory to
+      whole = ended to (still_found finds) (locks_found finds) counted_then
 
-      -- before what is left out, of which something is told
-      pub FindsLog-told : (result : Result (Unit {0}) Status) (later : E) (p : List ℕ)
-          → p ≡ next.path
-          → (IsTrue env.models_disk → Run (FilesUnchanged (env.observed to).disk.files)
-          (env.observed to) (env.observed later))
-          → SameLocks env.models_disk (env.observed to) (env.observed later)
-          → HasCause (IsLost env.models_disk p (env.observed to) (env.failures to)
-          (env.failures later)) (env.failures to) (env.failures later) result
-          → FindsLog env store file old from result memory later
-      FindsLog-told (Ok tt) later p p_is run locks cause = ended later
+      -- or something is told of what is
+      told : (result : Result (Unit {0}) Status) (later : E) (p : List ℕ) → p ≡ next.path
+          → Tells env p to result later → FindsLog env store file old from result memory later
+      told (Ok tt) later p p_is tells = ended later
           (λ modelled. let first = still_found finds modelled in
-          Run-trans first (λ now is. is ∙ first.has) (run modelled))
-          (λ modelled. locks modelled ∙ locks_found finds modelled) (cause.ok ∙ counted_then)
-      FindsLog-told (Err status) later p p_is run locks cause = failed status memory later
+          Run-trans first (λ now is. is ∙ first.has) (tells.run modelled))
+          (λ modelled. tells.locks modelled ∙ locks_found finds modelled)
+          (tells.cause.ok ∙ counted_then)
+      told (Err status) later p p_is tells = failed status memory later
           (λ modelled. let first = still_found finds modelled in
-          Run-trans first (λ now is. is ∙ first.has) (run modelled))
-          (λ modelled. locks modelled ∙ locks_found finds modelled)
+          Run-trans first (λ now is. is ∙ first.has) (tells.run modelled))
+          (λ modelled. tells.locks modelled ∙ locks_found finds modelled)
           (lost_cause so_far.is_log (still_found finds) counted_then
           (p_is ∙ ap (λ (r : LogReplayState). r.path) finds.same ∙ so_far.path_is)
-          {T = Unit {0}} status cause)
+          {T = Unit {0}} status tells.cause)
+
+    -- between two records
+    pub FindsLog-clean : {batch : Batch} {next : LogReplayState} {to : E}
+        → FindsNextBatch env read at (Ok CleanEnd) batch next to
+        → FindsLog env store file old from (Ok tt) memory to
+    FindsLog-clean finds = whole finds (finds.finds so_far.batches found_now).0
+
+    -- at a bad end
+    pub FindsLog-bad : {batch : Batch} {next : LogReplayState} {to : E}
+        → FindsNextBatch env read at (Ok BadEnd) batch next to
+        → (result : Result (Unit {0}) Status) (later : E) (p : List ℕ) → p ≡ next.path
+        → Tells env p to result later → FindsLog env store file old from result memory later
+    FindsLog-bad finds = told finds (finds.finds so_far.batches found_now).0
+
+    -- at a record that is no batch
+    pub FindsLog-no_batch : {batch : Batch} {next : LogReplayState} {to : E}
+        → FindsNextBatch env read at (Ok NoBatch) batch next to
+        → (result : Result (Unit {0}) Status) (later : E) (p : List ℕ) → p ≡ next.path
+        → Tells env p to result later → FindsLog env store file old from result memory later
+    FindsLog-no_batch finds = told finds (finds.finds so_far.batches found_now)
 
 -- ---- exactly the entries of a folder's logs
 
@@ -444,11 +468,11 @@ module _ {E F C : Type 0} (env : Ghosts E F) (store : List ℕ) (cmp : C)
     pub found : List (List Batch)
     pub each : IsTrue env.models_disk → Each (IsFoundIn store files) (take count listing) found
     pub have : HaveEntries (found_entries found) memory
-    pub up_to : AreUpTo memory.last memory.open.kept.entries
+    pub up_to : AreUpTo memory.last memory.latest.kept.entries
     pub cmp_is : memory.cmp ≡ cmp
 
   pub FindingLogs-none : (memory : Memtables C) → HaveEntries [] memory → memory.cmp ≡ cmp
-      → AreUpTo memory.last memory.open.kept.entries → FindingLogs 0 memory from
+      → AreUpTo memory.last memory.latest.kept.entries → FindingLogs 0 memory from
   FindingLogs-none memory have cmp_is up_to = record {
     still = λ modelled. begun (env.observed from) refl;
     locks = λ modelled. refl;

@@ -6,7 +6,7 @@ use Rattle.std.proofs.lemmas.List.Elements.{All-cons, All-contains, All-nil, All
 use Rattle.leveldb_base.proofs.ConsistentLemmas.{rise_both, rise_placed}
 use Rattle.leveldb_base.proofs.HistoryLemmas.{in_cases, in_front, in_none, in_rest}
 use Rattle.leveldb_base.specs.History.{AreUpTo, Entry, Item, RiseAbove, entries_of, greatest, placed}
-use Rattle.leveldb_mem.specs.MemTable.{GrowsByAll, IsUnion, MemTableState, entry_key, memory_of_entries}
+use Rattle.leveldb_mem.specs.MemTable.{AddsAll, GrowsByAll, IsUnion, MemTableState, entry_key, memory_of_entries}
 use Rattle.leveldb_mem.specs.WriteBatch.{Batch}
 use Rattle.leveldb_version.proofs.BatchesLemmas.{each_more}
 use Rattle.leveldb_version.proofs.NumbersLemmas.{entries_more, greatest_append, up_to_greatest}
@@ -145,7 +145,7 @@ module _ {C : Type 0} where
   HasOrder cmp table = table.cmp ≡ cmp
 
   pub HaveEntries-none : (memory : Memtables C) → memory.full.items ≡ []
-      → memory.open.kept.entries ≡ [] → memory.last ≡ 0 → memory.open.cmp ≡ memory.cmp
+      → memory.latest.kept.entries ≡ [] → memory.last ≡ 0 → memory.latest.cmp ≡ memory.cmp
       → HaveEntries [] memory
   HaveEntries-none memory full none last cmp = record {
     before = [];
@@ -153,10 +153,10 @@ module _ {C : Type 0} where
     parts = refl;
     full = subst (λ tables. HaveRuns [] tables) (sym full)
         (record { runs = []; parts = refl; each = tt });
-    open = HasRun-none memory.open none;
+    latest = HasRun-none memory.latest none;
     last = last;
     cmp_full = subst (All (HasOrder memory.cmp)) (sym full) (All-nil (HasOrder memory.cmp));
-    cmp_open = cmp;
+    cmp_latest = cmp;
   }
 
   HaveEntries-kept : (old new : Memtables C) → KeepsEntries old new → (entries : List Entry)
@@ -167,10 +167,10 @@ module _ {C : Type 0} where
         run = have.run;
         parts = have.parts;
         full = have.full;
-        open = HasRun-same have.run old.open new.open keeps.entries have.open;
+        latest = HasRun-same have.run old.latest new.latest keeps.entries have.latest;
         last = have.last;
         cmp_full = have.cmp_full;
-        cmp_open = keeps.order ∙ have.cmp_open;
+        cmp_latest = keeps.order ∙ have.cmp_latest;
       })
 
   module _ (old new : Memtables C) (batch : Batch) (inserts : InsertsBatch old batch new)
@@ -184,24 +184,24 @@ module _ {C : Type 0} where
           parts = ap (λ es. es ++ batch_entries batch) have.parts
               ∙ append_assoc have.before have.run (batch_entries batch);
           full = have.full;
-          open = HasRun-more have.run (batch_entries batch) old.open new.open have.open
+          latest = HasRun-more have.run (batch_entries batch) old.latest new.latest have.latest
               (rise_placed (greatest have.run) batch.first batch.items
               (subst (λ n. n < batch.first) have.last above)) inserts.gains inserts.grows;
           last = inserts.last ∙ ap (λ n. max n (greatest (batch_entries batch))) have.last
               ∙ sym (greatest_append have.run (batch_entries batch));
           cmp_full = have.cmp_full;
-          cmp_open = inserts.order ∙ have.cmp_open;
+          cmp_latest = inserts.order ∙ have.cmp_latest;
         })
 
-    up_to_inserted : AreUpTo old.last old.open.kept.entries
-        → AreUpTo new.last new.open.kept.entries
+    up_to_inserted : AreUpTo old.last old.latest.kept.entries
+        → AreUpTo new.last new.latest.kept.entries
     up_to_inserted before entry c = ⊎_elim
-        (λ (was : Contains old.open.kept.entries entry).
+        (λ (was : Contains old.latest.kept.entries entry).
         let least = before entry was in let last = inserts.last in omega (arith, least, last))
         (λ (come : Contains (batch_entries batch) entry).
         let least = up_to_greatest (batch_entries batch) entry come in
         let last = inserts.last in omega (arith, least, last))
-        (Contains-append_cases old.open.kept.entries (batch_entries batch) entry
+        (Contains-append_cases old.latest.kept.entries (batch_entries batch) entry
         ((inserts.gains entry).0 c))
 
   HaveEntries-next : (old new : Memtables C) → BeginsNext old new → (entries : List Entry)
@@ -211,21 +211,51 @@ module _ {C : Type 0} where
     run = [];
     parts = sym (append-nil entries);
     full = subst (HaveRuns entries) (sym begins.full)
-        (subst (λ es. HaveRuns es (old.full.items ++ old.open ∷ [])) (sym have.parts)
-        (HaveRuns-more have.before have.run old.full.items old.open have.full have.open));
-    open = HasRun-none new.open begins.none;
+        (subst (λ es. HaveRuns es (old.full.items ++ old.latest ∷ [])) (sym have.parts)
+        (HaveRuns-more have.before have.run old.full.items old.latest have.full have.latest));
+    latest = HasRun-none new.latest begins.none;
     last = begins.last;
     cmp_full = subst (All (HasOrder new.cmp)) (sym begins.full)
-        (subst (λ cmp. All (HasOrder cmp) (old.full.items ++ old.open ∷ [])) (sym begins.cmp)
-        (All-push (HasOrder old.cmp) old.full.items old.open have.cmp_full have.cmp_open));
-    cmp_open = begins.order ∙ sym begins.cmp;
+        (subst (λ cmp. All (HasOrder cmp) (old.full.items ++ old.latest ∷ [])) (sym begins.cmp)
+        (All-push (HasOrder old.cmp) old.full.items old.latest have.cmp_full have.cmp_latest));
+    cmp_latest = begins.order ∙ sym begins.cmp;
   }
 
   -- ---- a batch is added
 
+  -- a batch came into the last memtable
+  pub InsertsBatch-some : (old : Memtables C) (batch : Batch) (table : MemTableState C)
+      (first last : ℕ) → first ≡ batch.first → 0 < length batch.items → old.last < batch.first
+      → AddsAll old.latest.kept (placed first batch.items) table.kept
+      → table.cmp ≡ old.latest.cmp → last + 1 ≡ batch.first + length batch.items
+      → InsertsBatch old batch (record old { latest = table; last = last })
+  InsertsBatch-some old batch table first last is_first some above adds order last_is = record {
+    gains = subst (λ n. IsUnion old.latest.kept.entries (placed n batch.items) table.kept.entries)
+        is_first adds.gains;
+    grows = subst (λ n. GrowsByAll old.latest.kept.entries (placed n batch.items) table.kept.entries)
+        is_first adds.grows;
+    last = let most = last_of_placed batch.first batch.items some in
+        omega (arith, most, last_is, above, some);
+    order = order;
+    others = refl;
+  }
+
+  -- nothing was done yet
+  pub KeepsEntries-same : (memory : Memtables C) → KeepsEntries memory memory
+  KeepsEntries-same memory = record { entries = refl; order = refl; others = refl }
+
+  last_kept : (old mid : Memtables C) → KeepsEntries old mid → mid.last ≡ old.last
+  last_kept old mid keeps = ap (λ (m : Memtables C). m.last) keeps.others
+
+  pub up_to_kept : (old mid : Memtables C) → KeepsEntries old mid
+      → AreUpTo old.last old.latest.kept.entries → AreUpTo mid.last mid.latest.kept.entries
+  up_to_kept old mid keeps up_to = subst (λ n. AreUpTo n mid.latest.kept.entries)
+      (sym (last_kept old mid keeps))
+      (subst (λ es. AreUpTo old.last es) (sym keeps.entries) up_to)
+
   -- of no entry
   pub AddsBatch-none : (memory : Memtables C) (batch : Batch) → length batch.items ≡ 0
-      → AreUpTo memory.last memory.open.kept.entries → AddsBatch memory batch memory
+      → AreUpTo memory.last memory.latest.kept.entries → AddsBatch memory batch memory
   AddsBatch-none memory batch none up_to = record {
     have = λ entries have. subst (λ es. HaveEntries es memory) (sym (
         ap (λ es. entries ++ es) (none_placed batch.first batch.items none) ∙ append-nil entries))
@@ -236,50 +266,60 @@ module _ {C : Type 0} where
 
   -- into the last memtable
   pub AddsBatch-here : (old mid new : Memtables C) (batch : Batch) → KeepsEntries old mid
-      → InsertsBatch mid batch new → mid.last < batch.first
-      → AreUpTo mid.last mid.open.kept.entries → AddsBatch old batch new
+      → InsertsBatch mid batch new → old.last < batch.first
+      → AreUpTo old.last old.latest.kept.entries → AddsBatch old batch new
   AddsBatch-here old mid new batch keeps inserts above up_to = record {
-    have = λ entries have. HaveEntries-insert mid new batch inserts above entries
+    have = λ entries have. HaveEntries-insert mid new batch inserts mid_above entries
         (HaveEntries-kept old mid keeps entries have);
-    up_to = up_to_inserted mid new batch inserts above up_to;
-    cmp = ap (λ (m : Memtables C). m.cmp) inserts.others ∙ ap (λ (m : Memtables C). m.cmp) keeps.others;
+    up_to = up_to_inserted mid new batch inserts mid_above (up_to_kept old mid keeps up_to);
+    cmp = ap (λ (m : Memtables C). m.cmp) inserts.others
+        ∙ ap (λ (m : Memtables C). m.cmp) keeps.others;
   }
+    where
+      mid_above : mid.last < batch.first
+      mid_above = subst (λ n. n < batch.first) (sym (last_kept old mid keeps)) above
 
   -- into another
-  pub AddsBatch-next : (old mid begun made new : Memtables C) (batch : Batch)
-      → KeepsEntries old mid → BeginsNext mid begun → KeepsEntries begun made
-      → InsertsBatch made batch new → made.last < batch.first
-      → AreUpTo made.last made.open.kept.entries → AddsBatch old batch new
-  AddsBatch-next old mid begun made new batch keeps begins makes inserts above up_to = record {
+  pub AddsBatch-next : (old mid begun : Memtables C) (table : MemTableState C)
+      (new : Memtables C) (batch : Batch) → KeepsEntries old mid → BeginsNext mid begun
+      → table.kept.entries ≡ begun.latest.kept.entries → table.cmp ≡ begun.latest.cmp
+      → 0 < batch.first → InsertsBatch (record begun { latest = table }) batch new
+      → AddsBatch old batch new
+  AddsBatch-next old mid begun table new batch keeps begins same order from_one inserts = record {
     have = λ entries have. HaveEntries-insert made new batch inserts above entries
         (HaveEntries-kept begun made makes entries
         (HaveEntries-next mid begun begins entries (HaveEntries-kept old mid keeps entries have)));
-    up_to = up_to_inserted made new batch inserts above up_to;
-    cmp = ap (λ (m : Memtables C). m.cmp) inserts.others
-        ∙ ap (λ (m : Memtables C). m.cmp) makes.others ∙ begins.cmp
+    up_to = up_to_inserted made new batch inserts above
+        (up_to_none table.kept.entries (same ∙ begins.none));
+    cmp = ap (λ (m : Memtables C). m.cmp) inserts.others ∙ begins.cmp
         ∙ ap (λ (m : Memtables C). m.cmp) keeps.others;
   }
+    where
+      made : Memtables C
+      made = record begun { latest = table }
 
-  -- nothing was done yet
-  pub KeepsEntries-same : (memory : Memtables C) → KeepsEntries memory memory
-  KeepsEntries-same memory = record { entries = refl; order = refl; others = refl }
+      makes : KeepsEntries begun made
+      makes = record { entries = same; order = order; others = refl }
+
+      above : begun.last < batch.first
+      above = subst (λ n. n < batch.first) (sym begins.last) from_one
 
   -- ---- all of them
 
   pub AreAllTables-both : (memory : Memtables C)
-      → AreAllTables memory (memory.full.items ++ memory.open ∷ [])
+      → AreAllTables memory (memory.full.items ++ memory.latest ∷ [])
   AreAllTables-both memory entries have = (
-    subst (λ es. HaveRuns es (memory.full.items ++ memory.open ∷ [])) (sym have.parts)
-        (HaveRuns-more have.before have.run memory.full.items memory.open have.full have.open),
-    All-push (HasOrder memory.cmp) memory.full.items memory.open have.cmp_full have.cmp_open,
+    subst (λ es. HaveRuns es (memory.full.items ++ memory.latest ∷ [])) (sym have.parts)
+        (HaveRuns-more have.before have.run memory.full.items memory.latest have.full have.latest),
+    All-push (HasOrder memory.cmp) memory.full.items memory.latest have.cmp_full have.cmp_latest,
   )
 
-  pub AreAllTables-full : (memory : Memtables C) → length memory.open.kept.entries ≡ 0
+  pub AreAllTables-full : (memory : Memtables C) → length memory.latest.kept.entries ≡ 0
       → AreAllTables memory memory.full.items
   AreAllTables-full memory none entries have = (
     subst (λ es. HaveRuns es memory.full.items)
         (sym (append-nil have.before)
-        ∙ ap (λ es. have.before ++ es) (sym (none_in_run have.run memory.open have.open none))
+        ∙ ap (λ es. have.before ++ es) (sym (none_in_run have.run memory.latest have.latest none))
         ∙ sym have.parts) have.full,
     have.cmp_full,
   )

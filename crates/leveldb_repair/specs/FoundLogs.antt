@@ -1,5 +1,5 @@
 -- The entries of a folder's logs, in memory as far as they are found.
-use Rattle.std.specs.Prelude.{◌≡◌, ◌≢◌, ◌⊎◌, ◌↔◌, ◌≤◌, ◌+◌, ◌*◌, ◌^◌, ℕ, Bool, List, [], ◌∷◌, ◌++◌, All, Any, Contains, IfOk, IsTrue, OnOk, Result, Some, None, Vec, flat_map, length, string_bytes}
+use Rattle.std.specs.Prelude.{◌≡◌, ◌≢◌, ◌⊎◌, ◌↔◌, ◌≤◌, ◌+◌, ◌*◌, ◌^◌, ℕ, Bool, List, [], ◌∷◌, ◌++◌, All, Any, Contains, IfOk, IsTrue, OnOk, Result, Some, None, Vec, flat_map, length, max, string_bytes}
 use Rattle.std.specs.Global.{Global}
 use Rattle.leveldb_base.specs.History.{AreUpTo, Entry, RiseAbove, entries_of, greatest}
 use Rattle.leveldb_base.specs.declared.error.Status.{Status}
@@ -45,31 +45,31 @@ module _ {C : Type 0} where
     pub run : List Entry
     pub parts : entries ≡ before ++ run
     pub full : HaveRuns before memory.full.items
-    pub open : HasRun run memory.open
+    pub latest : HasRun run memory.latest
     pub last : memory.last ≡ greatest run
     pub cmp_full : All (λ (table : MemTableState C). table.cmp ≡ memory.cmp) memory.full.items
-    pub cmp_open : memory.open.cmp ≡ memory.cmp
+    pub cmp_latest : memory.latest.cmp ≡ memory.cmp
 
   -- the entries stay where they are
   pub record KeepsEntries (old new : Memtables C) : Type 0 where
-    pub entries : new.open.kept.entries ≡ old.open.kept.entries
-    pub order : new.open.cmp ≡ old.open.cmp
-    pub others : new ≡ record old { open = new.open }
+    pub entries : new.latest.kept.entries ≡ old.latest.kept.entries
+    pub order : new.latest.cmp ≡ old.latest.cmp
+    pub others : new ≡ record old { latest = new.latest }
 
   -- a batch's entries are in the last memtable
   pub record InsertsBatch (old : Memtables C) (batch : Batch) (new : Memtables C) : Type 0 where
-    pub gains : IsUnion old.open.kept.entries (batch_entries batch) new.open.kept.entries
-    pub grows : GrowsByAll old.open.kept.entries (batch_entries batch) new.open.kept.entries
-    pub last : new.last ≡ greatest (batch_entries batch)
-    pub order : new.open.cmp ≡ old.open.cmp
-    pub others : new ≡ record old { open = new.open; last = new.last }
+    pub gains : IsUnion old.latest.kept.entries (batch_entries batch) new.latest.kept.entries
+    pub grows : GrowsByAll old.latest.kept.entries (batch_entries batch) new.latest.kept.entries
+    pub last : new.last ≡ max old.last (greatest (batch_entries batch))
+    pub order : new.latest.cmp ≡ old.latest.cmp
+    pub others : new ≡ record old { latest = new.latest; last = new.last }
 
   -- the last memtable is one that has no entry, after all that there were
   pub record BeginsNext (old new : Memtables C) : Type 0 where
-    pub full : new.full.items ≡ old.full.items ++ old.open ∷ []
-    pub none : new.open.kept.entries ≡ []
-    pub places : new.open.kept.places ≡ 0
-    pub order : new.open.cmp ≡ old.cmp
+    pub full : new.full.items ≡ old.full.items ++ old.latest ∷ []
+    pub none : new.latest.kept.entries ≡ []
+    pub places : new.latest.kept.places ≡ 0
+    pub order : new.latest.cmp ≡ old.cmp
     pub last : new.last ≡ 0
     pub cmp : new.cmp ≡ old.cmp
 
@@ -77,7 +77,7 @@ module _ {C : Type 0} where
   pub record AddsBatch (old : Memtables C) (batch : Batch) (new : Memtables C) : Type 0 where
     pub have : (entries : List Entry) → HaveEntries entries old
         → HaveEntries (entries ++ batch_entries batch) new
-    pub up_to : AreUpTo new.last new.open.kept.entries
+    pub up_to : AreUpTo new.last new.latest.kept.entries
     pub cmp : new.cmp ≡ old.cmp
 
   -- these are all memtables that have entries
@@ -150,7 +150,7 @@ module _ {E F C : Type 0} (env : Ghosts E F) (store : List ℕ) where
         → IsFoundIn store (env.observed from).disk.files file batches)
         × ((entries : List Entry) → HaveEntries entries old
         → HaveEntries (entries ++ all_entries batches) new))
-    pub up_to : OnOk result (AreUpTo new.last new.open.kept.entries)
+    pub up_to : OnOk result (AreUpTo new.last new.latest.kept.entries)
     pub cmp : OnOk result (new.cmp ≡ old.cmp)
     -- why it failed
     pub cause : HasCauseOr

@@ -1,7 +1,8 @@
 //! The logs of a store's folder, in memory as far as they are found.
-ghost use Rattle.std.specs.Prelude.{◌≡◌, IfErr, IfOk, IsTrue, string_bytes};
+ghost use Rattle.std.specs.Prelude.{◌≡◌, ◌↔◌, IfErr, IfOk, IsTrue, string_bytes};
 ghost use Rattle.leveldb_base.specs.Error.{IsOutOfMemory};
 ghost use Rattle.leveldb_base.specs.History.{AreUpTo};
+ghost use Rattle.leveldb_base.specs.declared.types.FileType.TheVariants.{Log};
 ghost use Rattle.leveldb_env.specs.Env.{FilesUnchanged, HasCause, Run, SameLocks, in_folder};
 ghost use Rattle.leveldb_env.specs.WholeFiles.{IsLost};
 ghost use Rattle.leveldb_repair.specs.FoundLogs.{FindsLog, FindsLogs};
@@ -55,10 +56,10 @@ fn find_log<E: Env, C: UserCmp + Copy + Drop>(
     found: &mut Memtables<C>,
     log: &mut Option<Logger>,
 ) -> Result<()>
-    requires up_to { AreUpTo found.old.last found.old.open.kept.entries }
+    requires up_to { AreUpTo found.old.last found.old.latest.kept.entries }
     ensures { FindsLog E.Env store.now file.now found.old env.old result found.new env.new }
 {
-    if file.kind != FileType::Log {
+    if !is_log(file.kind) {
         return Ok(());
     }
     let path = path_in(alloc, store, &file.name)?;
@@ -78,6 +79,16 @@ fn find_log<E: Env, C: UserCmp + Copy + Drop>(
             }
         }
         found.add(alloc, &batch)?;
+    }
+}
+
+// Whether the type is a log's.
+fn is_log(kind: FileType) -> bool
+    ensures { IsTrue result ↔ (kind ≡ Log) }
+{
+    match kind {
+        FileType::Log => true,
+        _ => false,
     }
 }
 

@@ -239,7 +239,7 @@ module _ {E F : Type 0} (env : Ghosts E F) (number : ℕ) (path : List ℕ) (siz
         absurd (let never : Err error ≡ Ok value = found in cc)
     stopped_still (Err status) error stops failed found = by core.failed refl
       where
-        abbrev Still : Type 0
+        Still : Type 0
         Still = (IsTrue env.models_disk
             → Run (FilesUnchanged (env.observed from).disk.files) (env.observed from)
             (env.observed to)) × SameLocks env.models_disk (env.observed from) (env.observed to)

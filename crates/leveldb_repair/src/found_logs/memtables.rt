@@ -1,5 +1,5 @@
 //! Memtables that are filled one after another, with batches whose numbers may fall.
-ghost use Rattle.std.specs.Prelude.{◌≡◌, ◌≢◌, ◌<◌, ◌⊎◌, [], All, IfErr, IfOk, IsTrue, OnOk, length};
+ghost use Rattle.std.specs.Prelude.{◌≡◌, ◌<◌, ◌⊎◌, [], IfErr, IfOk, IsTrue, OnOk, length};
 ghost use Rattle.leveldb_base.specs.Error.{IsOutOfMemory};
 ghost use Rattle.leveldb_base.specs.History.{AreUpTo};
 ghost use Rattle.leveldb_mem.specs.MemTable.{HasRoom};
@@ -21,7 +21,7 @@ pub(super) struct Memtables<C: UserCmp + Copy + Drop> {
     // those to which no more entries come
     pub(super) full: Vec<MemTable<C>>,
     // the last one
-    pub(super) open: MemTable<C>,
+    pub(super) latest: MemTable<C>,
     // the greatest number of an entry of the last one, or 0
     pub(super) last: SequenceNumber,
 }
@@ -30,13 +30,13 @@ impl<C: UserCmp + Copy + Drop> Memtables<C> {
     // One memtable, without entries.
     pub(super) fn new(alloc: Global, cmp: C) -> Memtables<C>
         ensures none { HaveEntries [] result }
-        ensures empty { result.open.kept.entries ≡ [] }
+        ensures empty { result.latest.kept.entries ≡ [] }
         ensures cmp { result.cmp ≡ cmp }
     {
         Memtables {
             cmp,
             full: Vec::new(alloc),
-            open: MemTable::new(alloc, cmp),
+            latest: MemTable::new(alloc, cmp),
             last: 0,
         }
     }
@@ -44,7 +44,7 @@ impl<C: UserCmp + Copy + Drop> Memtables<C> {
     // Adds the entries of a batch to the last memtable, if they are above all entries there and fit
     // beside these, and else to a new one.
     pub(super) fn add(&mut self, alloc: Global, batch: &WriteBatch) -> Result<()>
-        requires up_to { AreUpTo self.old.last self.old.open.kept.entries }
+        requires up_to { AreUpTo self.old.last self.old.latest.kept.entries }
         requires numbered { HasEntryNumbers batch.now }
         ensures adds { OnOk result (AddsBatch self.old batch.now self.new) }
         ensures cause { IfErr result (λ status. IsOutOfMemory status
@@ -58,7 +58,7 @@ impl<C: UserCmp + Copy + Drop> Memtables<C> {
             return Ok(());
         }
         self.begin_next(alloc)?;
-        self.open.prepare(batch)?;
+        self.latest.prepare(batch)?;
         self.insert(batch);
         Ok(())
     }
@@ -66,10 +66,10 @@ impl<C: UserCmp + Copy + Drop> Memtables<C> {
     // Takes the memory for a batch in the last memtable. Returns whether it fits there.
     fn has_made_room(&mut self, batch: &WriteBatch) -> Result<bool>
         ensures keeps { KeepsEntries self.old self.new }
-        ensures room { IfOk result (λ fits. IsTrue fits → HasRoom self.new.open.kept batch.now.items) }
+        ensures room { IfOk result (λ fits. IsTrue fits → HasRoom self.new.latest.kept batch.now.items) }
         ensures memory { IfErr result IsOutOfMemory }
     {
-        match self.open.prepare(batch) {
+        match self.latest.prepare(batch) {
             Ok(()) => Ok(true),
             Err(status) if status.code == StatusCode::NotSupported => Ok(false),
             Err(status) => Err(status),
@@ -78,14 +78,14 @@ impl<C: UserCmp + Copy + Drop> Memtables<C> {
 
     // Inserts a batch into the last memtable, which has room for it and whose entries are below it.
     fn insert(&mut self, batch: &WriteBatch)
-        requires up_to { AreUpTo self.old.last self.old.open.kept.entries }
+        requires up_to { AreUpTo self.old.last self.old.latest.kept.entries }
         requires above { self.old.last < batch.now.first }
         requires numbered { HasEntryNumbers batch.now }
-        requires some { batch.now.items ≢ [] }
-        requires room { HasRoom self.old.open.kept batch.now.items }
+        requires some { 0 < length batch.now.items }
+        requires room { HasRoom self.old.latest.kept batch.now.items }
         ensures { InsertsBatch self.old batch.now self.new }
     {
-        self.open.insert_prepared(batch.sequence(), batch);
+        self.latest.insert_prepared(batch.sequence(), batch);
         self.last = batch.sequence() + u64::from(batch.count() - 1);
     }
 
@@ -95,7 +95,7 @@ impl<C: UserCmp + Copy + Drop> Memtables<C> {
         ensures memory { IfErr result IsOutOfMemory }
     {
         let next = MemTable::new(alloc, self.cmp);
-        self.full.push(replace(&mut self.open, next))?;
+        self.full.push(replace(&mut self.latest, next))?;
         self.last = 0;
         Ok(())
     }
@@ -105,10 +105,10 @@ impl<C: UserCmp + Copy + Drop> Memtables<C> {
         ensures all { IfOk result (λ tables. AreAllTables self tables.items) }
         ensures memory { IfErr result IsOutOfMemory }
     {
-        let Memtables { full, open, .. } = self;
+        let Memtables { full, latest, .. } = self;
         let mut tables = full;
-        if open.len() > 0 {
-            tables.push(open)?;
+        if latest.len() > 0 {
+            tables.push(latest)?;
         }
         Ok(tables)
     }
