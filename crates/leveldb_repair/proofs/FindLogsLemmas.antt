@@ -127,14 +127,12 @@ module _ {E F C : Type 0} (env : Ghosts E F) (store : List ℕ) (file : ListedFi
 
   -- ---- its file
 
-  module _ (is_log : file.kind ≡ Log) {at to : E} (still : Still at)
-      (counted : env.failures at ≡ env.failures from) {p : List ℕ} (p_is : p ≡ path)
-      {T : Type 0} (status : Status) where
-    abbrev Lost : Status → Type 0
-    Lost = IsLost env.models_disk p (env.observed at) (env.failures from) (env.failures to)
-
+  module _ (is_log : file.kind ≡ Log) (at to : E) (still : Still at)
+      (counted : env.failures at ≡ env.failures from) (p : List ℕ) (p_is : p ≡ path)
+      (status : Status) where
     -- the file is missing
-    lost_why : Lost status → IsOutOfMemory status ⊎ (Why status × (env.failures to ≡ env.failures from))
+    lost_why : IsLost env.models_disk p (env.observed at) (env.failures from) (env.failures to) status
+        → IsOutOfMemory status ⊎ (Why status × (env.failures to ≡ env.failures from))
     lost_why (inl memory) = inl memory
     lost_why (inr missing) = inr (
       inl (
@@ -147,37 +145,37 @@ module _ {E F C : Type 0} (env : Ghosts E F) (store : List ℕ) (file : ListedFi
     )
 
     lost_or_not : IsOutOfMemory status ⊎ (Why status × (env.failures to ≡ env.failures from))
-        → Lost status ⊎ (env.failures to ≡ env.failures from)
+        → IsLost env.models_disk p (env.observed at) (env.failures from) (env.failures to) status
+        ⊎ (env.failures to ≡ env.failures from)
     lost_or_not (inl memory) = inl (inl memory)
     lost_or_not (inr other) = inr other.1
 
-    lost_cause : HasCause {T = T} (IsLost env.models_disk p (env.observed at) (env.failures at)
-        (env.failures to)) (env.failures at) (env.failures to) (Err status)
+    lost_cause : {T : Type 0} → HasCause {T = T} (IsLost env.models_disk p (env.observed at)
+        (env.failures at) (env.failures to)) (env.failures at) (env.failures to) (Err status)
         → HasCauseOr {T = Unit {0}} Why (env.failures from) (env.failures to) (Err status)
-    lost_cause cause = cause_of_error {T = T} status lost_why lost_or_not
+    lost_cause {T} cause = cause_of_error {T = T} status lost_why lost_or_not
         (subst (λ n. HasCause {T = T} (IsLost env.models_disk p (env.observed at) n
         (env.failures to)) n (env.failures to) (Err status)) counted cause)
 
-    abbrev Fails : Status → Type 0
-    Fails = FailsToFindBatch env.models_disk p (env.observed at) (env.failures from)
-        (env.failures to)
-
     -- or it isn't one of a disk that is modelled
-    batch_why : Fails status
+    batch_why : FailsToFindBatch env.models_disk p (env.observed at) (env.failures from)
+        (env.failures to) status
         → IsOutOfMemory status ⊎ (Why status × (env.failures to ≡ env.failures from))
     batch_why (inl lost) = lost_why lost
     batch_why (inr (inl code, never, same)) = inr (inl (code, λ modelled. absurd (never modelled)), same)
     batch_why (inr (inr code, never, same)) = inr (inr (code, λ modelled. absurd (never modelled)), same)
 
     batch_or_not : IsOutOfMemory status ⊎ (Why status × (env.failures to ≡ env.failures from))
-        → Fails status ⊎ (env.failures to ≡ env.failures from)
+        → FailsToFindBatch env.models_disk p (env.observed at) (env.failures from)
+        (env.failures to) status ⊎ (env.failures to ≡ env.failures from)
     batch_or_not (inl memory) = inl (inl (inl memory))
     batch_or_not (inr other) = inr other.1
 
-    batch_cause : HasCause {T = T} (FailsToFindBatch env.models_disk p (env.observed at)
-        (env.failures at) (env.failures to)) (env.failures at) (env.failures to) (Err status)
+    batch_cause : {T : Type 0} → HasCause {T = T} (FailsToFindBatch env.models_disk p
+        (env.observed at) (env.failures at) (env.failures to)) (env.failures at) (env.failures to)
+        (Err status)
         → HasCauseOr {T = Unit {0}} Why (env.failures from) (env.failures to) (Err status)
-    batch_cause cause = cause_of_error {T = T} status batch_why batch_or_not
+    batch_cause {T} cause = cause_of_error {T = T} status batch_why batch_or_not
         (subst (λ n. HasCause {T = T} (FailsToFindBatch env.models_disk p (env.observed at) n
         (env.failures to)) n (env.failures to) (Err status)) counted cause)
 
@@ -188,8 +186,8 @@ module _ {E F C : Type 0} (env : Ghosts E F) (store : List ℕ) (file : ListedFi
       (env.failures from) (env.failures to)) (env.failures from) (env.failures to) (Err status)
       → FindsLog env store file old from (Err status) old to
   FindsLog-unopened is_log status to still locks p p_is cause = failed status old to still locks
-      (lost_cause is_log {at = from} (λ modelled. begun (env.observed from) refl) refl p_is
-      {T = LogReplayState} status cause)
+      (lost_cause is_log from to (λ modelled. begun (env.observed from) refl) refl p p_is status
+      {T = LogReplayState} cause)
 
   -- it is no log
   pub FindsLog-other : file.kind ≢ Log → AreUpTo old.last old.latest.kept.entries
@@ -249,8 +247,8 @@ module _ {E F C : Type 0} (env : Ghosts E F) (store : List ℕ) (file : ListedFi
         → FindsNextBatch env read at (Err status) batch next to
         → FindsLog env store file old from (Err status) memory to
     FindsLog-stopped status {to = to} finds = failed status memory to (still_found finds)
-        (locks_found finds) (batch_cause so_far.is_log so_far.still so_far.counted so_far.path_is
-        {T = NextFound} status (finds.cause so_far.batches found_now))
+        (locks_found finds) (batch_cause so_far.is_log at to so_far.still so_far.counted read.path
+        so_far.path_is status {T = NextFound} (finds.cause so_far.batches found_now))
 
     -- a batch is read
     module _ {batch : Batch} {next : LogReplayState} {to : E}
@@ -355,9 +353,9 @@ module _ {E F C : Type 0} (env : Ghosts E F) (store : List ℕ) (file : ListedFi
           (λ modelled. let first = still_found finds modelled in
           Run-trans first (λ now is. is ∙ first.has) (tells.run modelled))
           (λ modelled. tells.locks modelled ∙ locks_found finds modelled)
-          (lost_cause so_far.is_log (still_found finds) counted_then
+          (lost_cause so_far.is_log to later (still_found finds) counted_then p
           (p_is ∙ ap (λ (r : LogReplayState). r.path) finds.same ∙ so_far.path_is)
-          {T = Unit {0}} status tells.cause)
+          status {T = Unit {0}} tells.cause)
 
     -- between two records
     pub FindsLog-clean : {batch : Batch} {next : LogReplayState} {to : E}

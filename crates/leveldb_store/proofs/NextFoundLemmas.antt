@@ -1,5 +1,5 @@
 -- A log that is read as far as it is found.
-use Rattle.std.specs.Prelude.{All, Contains, IfErr, IfOk, IsTrue}
+use Rattle.std.specs.Prelude.{◌↔◌, All, Contains, IfErr, IfOk, IsTrue}
 use Rattle.std.proofs.Common.{◌≡◌, ◌∙◌, ◌⊎◌, inl, inr, ⊎_elim, ◌<◌, ◌≤◌, ◌+◌, ℕ, Bool, false, true, List, [], ◌∷◌, ◌++◌, Some, Ok, Err, Result, ap, append-nil, append_assoc, arith, drop, refl, subst, sym}
 use Rattle.std.proofs.lemmas.List.Elements.{All-append, All-contains, All-cons, All-nil, All-push}
 use Rattle.leveldb_base.proofs.HistoryLemmas.{in_front, in_rest}
@@ -15,12 +15,13 @@ use Rattle.leveldb_mem.proofs.LawsLemmas.{each_reads, logs_append, usual_size}
 use Rattle.leveldb_mem.specs.Log.{End, IsLogFile, bad, clean, log_block_size, offset_after}
 use Rattle.leveldb_mem.specs.Log.Reader.{FindsRecord, ReaderState, StopsReading}
 use Rattle.leveldb_mem.specs.WriteBatch.{Batch}
+use Rattle.leveldb_mem.specs.WriteBatchLaws.{BatchOf-one}
 use Rattle.leveldb_mem.specs.declared.log.reader.Found.{Found}
 use Rattle.leveldb_version.specs.Batches.{Each, IsRecordOf}
 use Rattle.leveldb_version.specs.Found.{IsFoundLog, IsNumberedBatch}
 use Rattle.leveldb_version.specs.Paths.{log_path}
 use Rattle.leveldb_store.specs.LogReplay.{HasReadBatches, IsLogAt, IsLogToRead, IsReadOutAs, LogReplayState, ReadsBatch}
-use Rattle.leveldb_store.specs.NextFound.{AreAllFound, BeginsAt, FailsToFindBatch, FindsAfter, FindsNextBatch, HasEntryNumbers, HasFoundBatches, IsFileToRead, IsFoundAt}
+use Rattle.leveldb_store.specs.NextFound.{AreAllFound, BeginsAt, FailsToFindBatch, FindsAfter, FindsNextBatch, HasEntryNumbers, HasFoundBatches, IsFileToRead, IsFoundAt, TellsNumbered}
 use Rattle.leveldb_store.specs.declared.log_replay.NextBatch.{NextBatch}
 use Rattle.leveldb_store.specs.declared.log_replay.NextBatch.TheVariants.{BadEnd as ReadBadEnd, CleanEnd as ReadCleanEnd, More as ReadMore}
 use Rattle.leveldb_store.specs.declared.log_replay.next_found.NextFound.{NextFound}
@@ -93,6 +94,16 @@ has_numbers text batch is = record {
   fits = is.fits;
 }
 
+-- by one test it is told whether a record is such a batch
+pub tells_numbered : (text : List ℕ) (batch : Batch) (told : Bool) → IsRecordOf text batch
+    → IsTrue told ↔ HasEntryNumbers batch → TellsNumbered text batch told
+tells_numbered text batch true is both = numbered_by text batch is (both.0 refl)
+tells_numbered text batch false is both = λ any other.
+    let one = BatchOf-one text any.first batch.first any.items batch.items other.record_is is in
+    let same : any ≡ batch = λ i. record { first = one.0 i; items = one.1 i } in
+    let never : false ≡ true = both.1 (subst HasEntryNumbers same (has_numbers text any other)) in
+    cc
+
 -- records of batches with such numbers
 each_numbered : (records : List (List ℕ)) (batches : List Batch) → Each IsRecordOf records batches
     → ((batch : Batch) → Contains batches batch → HasEntryNumbers batch)
@@ -113,10 +124,10 @@ all_numbered records batches each numbered = each_numbered records batches each
 -- ---- the end
 
 -- batches that are all of the log up to its end are all that is found of it
-all_found : {models_disk : Bool} {files : Files} {log : LogReplayState} {batches : List Batch}
-    {end : End} → IsReadOutAs models_disk files log batches end → All HasEntryNumbers batches
+all_found : (models_disk : Bool) (files : Files) (log : LogReplayState) (batches : List Batch)
+    (end : End) → IsReadOutAs models_disk files log batches end → All HasEntryNumbers batches
     → AreAllFound models_disk files log batches
-all_found {batches = batches} {end = end} out numbered modelled = let at = out modelled in (
+all_found models_disk files log batches end out numbered modelled = let at = out modelled in (
   at.0,
   at.1,
   record {
@@ -152,21 +163,19 @@ found_up_to bytes front rest text records batches parts read each none =
 
 -- ---- calls
 
-module _ {E F : Type 0} (env : Ghosts E F) {old : LogReplayState} {from : E} {batch : Batch}
-    {new : LogReplayState} {to : E} where
+module _ {E F : Type 0} (env : Ghosts E F) (old : LogReplayState) (from : E) (batch : Batch)
+    (new : LogReplayState) (to : E) where
   abbrev files : Files
   files = (env.observed from).disk.files
 
-  abbrev HasFound : List Batch → Type 0
-  HasFound batches = HasFoundBatches env.models_disk files old batches
-
   -- what is read is what is found
-  as_found : {found : NextFound} {read : NextBatch} → ReadsBatch env old from (Ok read) batch new to
-      → ((batches : List Batch) → HasFound batches
+  as_found : (found : NextFound) (read : NextBatch)
+      → ReadsBatch env old from (Ok read) batch new to
+      → ((batches : List Batch) → HasFoundBatches env.models_disk files old batches
       → FindsAfter env.models_disk files old batches found batch new)
       → (found ≡ More → read ≡ ReadMore)
       → FindsNextBatch env old from (Ok found) batch new to
-  as_found {found} reads finds more = record {
+  as_found found read reads finds more = record {
     run = reads.run;
     locks = reads.locks;
     same = reads.same;
@@ -178,19 +187,21 @@ module _ {E F : Type 0} (env : Ghosts E F) {old : LogReplayState} {from : E} {ba
 
   pub finds_clean : ReadsBatch env old from (Ok ReadCleanEnd) batch new to
       → FindsNextBatch env old from (Ok CleanEnd) batch new to
-  finds_clean reads = as_found reads
-      (λ batches has. let out = reads.finds batches has.read in (all_found out has.numbered, out))
+  finds_clean reads = as_found CleanEnd ReadCleanEnd reads
+      (λ batches has. let out = reads.finds batches has.read in
+      (all_found env.models_disk files old batches clean out has.numbered, out))
       (λ more. absurd (cc))
 
   pub finds_bad : ReadsBatch env old from (Ok ReadBadEnd) batch new to
       → FindsNextBatch env old from (Ok BadEnd) batch new to
-  finds_bad reads = as_found reads
-      (λ batches has. let out = reads.finds batches has.read in (all_found out has.numbered, out))
+  finds_bad reads = as_found BadEnd ReadBadEnd reads
+      (λ batches has. let out = reads.finds batches has.read in
+      (all_found env.models_disk files old batches bad out has.numbered, out))
       (λ more. absurd (cc))
 
   pub finds_more : HasEntryNumbers batch → ReadsBatch env old from (Ok ReadMore) batch new to
       → FindsNextBatch env old from (Ok More) batch new to
-  finds_more numbered reads = as_found reads
+  finds_more numbered reads = as_found More ReadMore reads
       (λ batches has. record {
         read = reads.finds batches has.read;
         numbered = All-push HasEntryNumbers batches batch has.numbered numbered;

@@ -3,7 +3,7 @@ use Rattle.std.specs.Prelude.{◌<◌, IfErr, IfOk, IsTrue}
 use Rattle.std.proofs.Common.{◌≡◌, ◌∙◌, ◌⊎◌, inl, inr, ⊎_elim, ℕ, ◌+◌, true, false, Bool, List, Result, Ok, Err, ap, arith, refl, subst, sym}
 use Rattle.leveldb_base.specs.Error.{IsOutOfMemory}
 use Rattle.leveldb_base.specs.declared.error.Status.{Status}
-use Rattle.leveldb_base.specs.declared.error.StatusCode.TheVariants.{Corruption, NotFound}
+use Rattle.leveldb_base.specs.declared.error.StatusCode.TheVariants.{Corruption, NotFound, NotSupported}
 use Rattle.leveldb_env.proofs.EnvFileLemmas.{IsFurther-given, IsGivenUp-given, IsReadOut-given}
 use Rattle.leveldb_env.proofs.EnvLemmas.{begun}
 use Rattle.leveldb_env.proofs.WholeFilesLemmas.{found_cause}

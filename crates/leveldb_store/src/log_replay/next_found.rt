@@ -71,6 +71,9 @@ fn has_entry_numbers(batch: &WriteBatch) -> bool
     ensures { IsTrue result ↔ HasEntryNumbers batch.now }
 {
     let first = batch.sequence();
+    if first == 0 {
+        return false;
+    }
     let count = u64::from(batch.count());
-    0 < first && first <= MAX_SEQUENCE_NUMBER && first + count <= MAX_SEQUENCE_NUMBER + 1
+    first <= MAX_SEQUENCE_NUMBER && first + count <= MAX_SEQUENCE_NUMBER + 1
 }
