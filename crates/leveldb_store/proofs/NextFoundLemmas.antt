@@ -1,15 +1,15 @@
 -- A log that is read as far as it is found.
 use Rattle.std.specs.Prelude.{◌↔◌, All, Contains, IfErr, IfOk, IsTrue}
-use Rattle.std.proofs.Common.{◌≡◌, ◌∙◌, ◌⊎◌, inl, inr, ⊎_elim, ◌<◌, ◌≤◌, ◌+◌, ℕ, Bool, false, true, List, [], ◌∷◌, ◌++◌, Some, Ok, Err, Result, ap, append-nil, append_assoc, arith, drop, refl, subst, sym}
-use Rattle.std.proofs.lemmas.List.Elements.{All-append, All-contains, All-cons, All-nil, All-push}
+use Rattle.std.proofs.Common.{◌≡◌, ◌∙◌, inl, inr, ⊎_elim, ℕ, Bool, false, true, List, [], ◌∷◌, ◌++◌, Ok, Err, Result, ap, append-nil, append_assoc, arith, drop, refl, subst, sym}
+use Rattle.std.proofs.lemmas.List.Elements.{All-contains, All-nil, All-push}
 use Rattle.leveldb_base.proofs.HistoryLemmas.{in_front, in_rest}
 use Rattle.leveldb_base.specs.Error.{IsOutOfMemory}
 use Rattle.leveldb_base.specs.declared.error.Status.{Status}
-use Rattle.leveldb_base.specs.declared.error.StatusCode.TheVariants.{Corruption, NotSupported}
+use Rattle.leveldb_base.specs.declared.error.StatusCode.TheVariants.{Corruption}
 use Rattle.leveldb_env.proofs.EnvFileLemmas.{IsFurther-given}
-use Rattle.leveldb_env.specs.Env.{File, Files, HasCause, bytes_of}
-use Rattle.leveldb_env.specs.EnvFile.{IsFurther, Opened, Reads, opened}
-use Rattle.leveldb_env.specs.WholeFiles.{IsFoundOr, IsLost}
+use Rattle.leveldb_env.specs.Env.{Files, bytes_of}
+use Rattle.leveldb_env.specs.EnvFile.{IsFurther, Reads, opened}
+use Rattle.leveldb_env.specs.WholeFiles.{IsFoundOr}
 use Rattle.leveldb_env.specs.declared.env.Env.{Ghosts}
 use Rattle.leveldb_mem.proofs.LawsLemmas.{each_reads, logs_append, usual_size}
 use Rattle.leveldb_mem.specs.Log.{End, IsLogFile, bad, clean, log_block_size, offset_after}
@@ -20,8 +20,8 @@ use Rattle.leveldb_mem.specs.declared.log.reader.Found.{Found}
 use Rattle.leveldb_version.specs.Batches.{Each, IsRecordOf}
 use Rattle.leveldb_version.specs.Found.{IsFoundLog, IsNumberedBatch}
 use Rattle.leveldb_version.specs.Paths.{log_path}
-use Rattle.leveldb_store.specs.LogReplay.{HasReadBatches, IsLogAt, IsLogToRead, IsReadOutAs, LogReplayState, ReadsBatch}
-use Rattle.leveldb_store.specs.NextFound.{AreAllFound, BeginsAt, FailsToFindBatch, FindsAfter, FindsNextBatch, HasEntryNumbers, HasFoundBatches, IsFileToRead, IsFoundAt, TellsNumbered}
+use Rattle.leveldb_store.specs.LogReplay.{HasReadBatches, IsLogToRead, IsReadOutAs, LogReplayState, ReadsBatch}
+use Rattle.leveldb_store.specs.NextFound.{AreAllFound, BeginsAt, FailsToFindBatch, FindsAfter, FindsNextBatch, HasEntryNumbers, HasFoundBatches, IsFileToRead, TellsNumbered}
 use Rattle.leveldb_store.specs.declared.log_replay.NextBatch.{NextBatch}
 use Rattle.leveldb_store.specs.declared.log_replay.NextBatch.TheVariants.{BadEnd as ReadBadEnd, CleanEnd as ReadCleanEnd, More as ReadMore}
 use Rattle.leveldb_store.specs.declared.log_replay.next_found.NextFound.{NextFound}
