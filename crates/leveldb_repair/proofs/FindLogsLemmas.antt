@@ -131,8 +131,8 @@ module _ {E F C : Type 0} (env : Ghosts E F) (store : List ℕ) (file : ListedFi
       (counted : env.failures at ≡ env.failures from) (p : List ℕ) (p_is : p ≡ path)
       (status : Status) where
     -- the file is missing
-    lost_why : IsLost env.models_disk p (env.observed at) (env.failures from) (env.failures to) status
-        → IsOutOfMemory status ⊎ (Why status × (env.failures to ≡ env.failures from))
+    lost_why : IsLost env.models_disk p (env.observed at) (env.failures from) (env.failures to)
+        status → IsOutOfMemory status ⊎ (Why status × (env.failures to ≡ env.failures from))
     lost_why (inl memory) = inl memory
     lost_why (inr missing) = inr (
       inl (
@@ -162,8 +162,10 @@ module _ {E F C : Type 0} (env : Ghosts E F) (store : List ℕ) (file : ListedFi
         (env.failures to) status
         → IsOutOfMemory status ⊎ (Why status × (env.failures to ≡ env.failures from))
     batch_why (inl lost) = lost_why lost
-    batch_why (inr (inl code, never, same)) = inr (inl (code, λ modelled. absurd (never modelled)), same)
-    batch_why (inr (inr code, never, same)) = inr (inr (code, λ modelled. absurd (never modelled)), same)
+    batch_why (inr (inl code, never, same)) =
+        inr (inl (code, λ modelled. absurd (never modelled)), same)
+    batch_why (inr (inr code, never, same)) =
+        inr (inr (code, λ modelled. absurd (never modelled)), same)
 
     batch_or_not : IsOutOfMemory status ⊎ (Why status × (env.failures to ≡ env.failures from))
         → FailsToFindBatch env.models_disk p (env.observed at) (env.failures from)
@@ -379,7 +381,7 @@ module _ {E F C : Type 0} (env : Ghosts E F) (store : List ℕ) (file : ListedFi
 
 -- ---- exactly the entries of a folder's logs
 
-module _ {E F C : Type 0} (env : Ghosts E F) (store : List ℕ) (from : E)
+module _ {E F : Type 0} (env : Ghosts E F) (store : List ℕ) (from : E)
     (modelled : IsTrue env.models_disk) (listing : List ListedFile) (found : List (List Batch))
     (each : Each (IsFoundIn store (env.observed from).disk.files) listing found)
     (are : AreFilesIn env store from listing) where
@@ -397,12 +399,14 @@ module _ {E F C : Type 0} (env : Ghosts E F) (store : List ℕ) (from : E)
         string_bytes file.0.name,
         log.1.0,
         log.1.1,
-        file.0.number,
-        subst (λ kind. IsFileName (string_bytes file.0.name) file.0.number kind) log.0
-            (All-contains MatchesName listing file.0 are.2.named file.1),
-        batches.0,
-        log.1.2,
-        batches.2,
+        (
+          file.0.number,
+          subst (λ kind. IsFileName (string_bytes file.0.name) file.0.number kind) log.0
+              (All-contains MatchesName listing file.0 are.2.named file.1),
+          batches.0,
+          log.1.2,
+          batches.2,
+        ),
       ))
       (λ (other : (file.0.kind ≢ Log) × (batches.0 ≡ [])). absurd (in_none entry
       (subst (λ bs. Contains (all_entries bs) entry) other.1 batches.2)))
@@ -423,8 +427,9 @@ module _ {E F C : Type 0} (env : Ghosts E F) (store : List ℕ) (from : E)
 
   -- and so what is found of it
   is_found : (entry : Entry) → IsInLog store disk entry → Contains (found_entries found) entry
-  is_found entry (name, file, there, n, is, batches, found_log, c) =
-      let at = log_listed name n is (λ none. let never : Some file ≡ None = sym there ∙ none in cc) in
+  is_found entry (name, file, there, has) =
+      let at = log_listed name has.0 has.1
+      (λ none. let never : Some file ≡ None = sym there ∙ none in cc) in
       let some = each_left (IsFoundIn store disk) listing found each at.0 at.1 in
       ⊎_elim
       (λ (log : (at.0.kind ≡ Log)
@@ -432,16 +437,16 @@ module _ {E F C : Type 0} (env : Ghosts E F) (store : List ℕ) (from : E)
       let here : Some log.1.0 ≡ Some file =
       sym log.1.1 ∙ ap (λ t. disk (in_folder store t)) at.3 ∙ there in
       let same_file : log.1.0 ≡ file = cc in
-      let same : some.0 ≡ batches = one_found_log (bytes_of file) some.0 batches
-      (subst (λ f. IsFoundLog (bytes_of f) some.0) same_file log.1.2) found_log in
+      let same : some.0 ≡ has.2 = one_found_log (bytes_of file) some.0 has.2
+      (subst (λ f. IsFoundLog (bytes_of f) some.0) same_file log.1.2) has.3 in
       flat_in all_entries found some.0 entry some.1
-      (subst (λ bs. Contains (all_entries bs) entry) (sym same) c))
+      (subst (λ bs. Contains (all_entries bs) entry) (sym same) has.4))
       (λ (other : (at.0.kind ≢ Log) × (some.0 ≡ [])). absurd (other.0 at.2))
       some.2
 
-  pub exactly_in_logs : (tables : List (MemTableState C)) → HaveRuns (found_entries found) tables
+  pub exactly_in_logs : {C : Type 0} (tables : List (MemTableState C)) → HaveRuns (found_entries found) tables
       → (entry : Entry) → HaveEntry tables entry ↔ IsInLog store disk entry
-  exactly_in_logs tables have entry =
+  exactly_in_logs {C} tables have entry =
       let both = have_entry (found_entries found) tables have entry in (
         λ has. is_in_log entry (both.0 has),
         λ is. both.1 (is_found entry is),
@@ -451,20 +456,20 @@ module _ {E F C : Type 0} (env : Ghosts E F) (store : List ℕ) (from : E)
 
 module _ {E F C : Type 0} (env : Ghosts E F) (store : List ℕ) (cmp : C)
     (listing : List ListedFile) (from : E) where
-  abbrev files : Files
-  files = (env.observed from).disk.files
+  abbrev listed_files : Files
+  listed_files = (env.observed from).disk.files
 
-  abbrev Why : Status → Type 0
-  Why = WhyNotFound env.models_disk store files listing
+  abbrev WhyAny : Status → Type 0
+  WhyAny = WhyNotFound env.models_disk store listed_files listing
 
-  -- of the first of the files all that is found is in memory
+  -- of the first of the listed_files all that is found is in memory
   pub record FindingLogs (count : ℕ) (memory : Memtables C) (at : E) : Type 0 where
     pub still : IsTrue env.models_disk
-        → Run (FilesUnchanged files) (env.observed from) (env.observed at)
+        → Run (FilesUnchanged listed_files) (env.observed from) (env.observed at)
     pub locks : SameLocks env.models_disk (env.observed from) (env.observed at)
     pub counted : env.failures at ≡ env.failures from
     pub found : List (List Batch)
-    pub each : IsTrue env.models_disk → Each (IsFoundIn store files) (take count listing) found
+    pub each : IsTrue env.models_disk → Each (IsFoundIn store listed_files) (take count listing) found
     pub have : HaveEntries (found_entries found) memory
     pub up_to : AreUpTo memory.last memory.latest.kept.entries
     pub cmp_is : memory.cmp ≡ cmp
@@ -487,7 +492,7 @@ module _ {E F C : Type 0} (env : Ghosts E F) (store : List ℕ) (cmp : C)
     module _ {result : Result (Unit {0}) Status} {new : Memtables C} {to : E}
         (finds : FindsLog env store file memory at result new to) where
       still_then : IsTrue env.models_disk
-          → Run (FilesUnchanged files) (env.observed from) (env.observed to)
+          → Run (FilesUnchanged listed_files) (env.observed from) (env.observed to)
       still_then modelled = let first = so_far.still modelled in
           Run-trans first (λ now same. same ∙ first.has) (finds.still modelled)
 
@@ -503,9 +508,9 @@ module _ {E F C : Type 0} (env : Ghosts E F) (store : List ℕ) (cmp : C)
       counted = finds.cause.ok ∙ so_far.counted;
       found = so_far.found ++ finds.finds.0 ∷ [];
       each = λ modelled. subst
-          (λ fs. Each (IsFoundIn store files) fs (so_far.found ++ finds.finds.0 ∷ []))
+          (λ fs. Each (IsFoundIn store listed_files) fs (so_far.found ++ finds.finds.0 ∷ []))
           (sym (take_more listing i file inside ∙ ap (λ f. take i listing ++ f ∷ []) (sym is)))
-          (each_more (IsFoundIn store files) (take i listing) so_far.found file finds.finds.0
+          (each_more (IsFoundIn store listed_files) (take i listing) so_far.found file finds.finds.0
           (so_far.each modelled)
           (subst (λ fs. IsFoundIn store fs file finds.finds.0) (so_far.still modelled).has
           (finds.finds.1 modelled)));
@@ -519,7 +524,7 @@ module _ {E F C : Type 0} (env : Ghosts E F) (store : List ℕ) (cmp : C)
 
     -- or why not
     one_of : (P : Files → ListedFile → Type 0) → IsTrue env.models_disk
-        → Any (P (env.observed at).disk.files) (file ∷ []) → Any (P files) listing
+        → Any (P (env.observed at).disk.files) (file ∷ []) → Any (P listed_files) listing
     one_of P modelled some = (
       i,
       file,
@@ -531,7 +536,7 @@ module _ {E F C : Type 0} (env : Ghosts E F) (store : List ℕ) (cmp : C)
 
     why_one : (status : Status)
         → WhyNotFound env.models_disk store (env.observed at).disk.files (file ∷ []) status
-        → Why status
+        → WhyAny status
     why_one status (inl missing) = inl (
       missing.0,
       λ modelled. one_of (λ fs. IsMissingLog store fs) modelled (missing.1 modelled),
@@ -581,8 +586,8 @@ module _ {E F C : Type 0} (env : Ghosts E F) (store : List ℕ) (cmp : C)
     };
   }
     where
-      each : IsTrue env.models_disk → Each (IsFoundIn store files) listing so_far.found
-      each modelled = subst (λ fs. Each (IsFoundIn store files) fs so_far.found)
+      each : IsTrue env.models_disk → Each (IsFoundIn store listed_files) listing so_far.found
+      each modelled = subst (λ fs. Each (IsFoundIn store listed_files) fs so_far.found)
           (take_all i listing past) (so_far.each modelled)
   FindsLogs-done i {memory} {at} so_far past (Err status) all out = record {
     still = so_far.still;

@@ -125,8 +125,8 @@ module _ {C : Type 0} where
   }
 
   -- an entry that one of them has is one of all, and the other way round
-  pub have_entry : (entries : List Entry) (tables : List (MemTableState C)) → HaveRuns entries tables
-      → (entry : Entry) → HaveEntry tables entry ↔ Contains entries entry
+  pub have_entry : (entries : List Entry) (tables : List (MemTableState C))
+      → HaveRuns entries tables → (entry : Entry) → HaveEntry tables entry ↔ Contains entries entry
   have_entry entries tables have entry = (
     λ has.
         let run = each_right HasRun have.runs tables have.each has.0 has.1 in
@@ -232,7 +232,8 @@ module _ {C : Type 0} where
   InsertsBatch-some old batch table first last is_first some above adds order last_is = record {
     gains = subst (λ n. IsUnion old.latest.kept.entries (placed n batch.items) table.kept.entries)
         is_first adds.gains;
-    grows = subst (λ n. GrowsByAll old.latest.kept.entries (placed n batch.items) table.kept.entries)
+    grows = subst
+        (λ n. GrowsByAll old.latest.kept.entries (placed n batch.items) table.kept.entries)
         is_first adds.grows;
     last = let most = last_of_placed batch.first batch.items some in
         omega (arith, most, last_is, above, some);

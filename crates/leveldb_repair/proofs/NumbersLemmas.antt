@@ -30,7 +30,8 @@ pub IsGreatestOf-more : (listing : List ListedFile) (i : ℕ) (file : ListedFile
     → IsGreatestOf listing (i + 1) now
 IsGreatestOf-more listing i file inside is before has now now_is = record {
   above = all_more (λ (file : ListedFile). file.number ≤ now) listing i file inside is
-      (λ k d lt. let least = has.above k d lt in omega (arith, least, now_is)) (omega (arith, now_is));
+      (λ k d lt. let least = has.above k d lt in omega (arith, least, now_is))
+      (omega (arith, now_is));
   some = ⊎_elim
       (λ (here : now ≡ file.number). inr (i, file, inside, sym is, sym here))
       (λ (old : now ≡ before). ⊎_elim

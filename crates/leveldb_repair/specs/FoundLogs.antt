@@ -126,8 +126,8 @@ found_entries found = flat_map all_entries found
 
 -- ---- calls
 
--- why what is found of these files doesn't come to memory, where the device didn't fail, beside out of
--- memory: a log is missing, or a batch is too large
+-- why what is found of these files doesn't come to memory, where the device didn't fail, beside out
+-- of memory: a log is missing, or a batch is too large
 abbrev pub WhyNotFound : Bool → List ℕ → Files → List ListedFile → Status → Type 0
 WhyNotFound models_disk store files listed status =
     ((status.code ≡ Corruption)
@@ -168,8 +168,8 @@ module _ {E F C : Type 0} (env : Ghosts E F) (store : List ℕ) where
     -- the memtables are in this order of users' keys
     pub order : IfOk result (λ tables.
         All (λ (table : MemTableState C). table.cmp ≡ cmp) tables.items)
-    -- they have the entries of what is found of the logs, one log after another, each as often as it
-    -- is there
+    -- they have the entries of what is found of the logs, one log after another, each as often as
+    -- it is there
     pub finds : IfOk result (λ tables. (found : List (List Batch))
         × HaveRuns (found_entries found) tables.items
         × (IsTrue env.models_disk

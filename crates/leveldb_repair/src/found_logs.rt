@@ -24,9 +24,9 @@ mod memtables;
 
 use memtables::Memtables;
 
-/// The entries of the logs among these files of a store's folder, one log after another, each as far
-/// as it is found: up to its first bad end, or its first record that is no batch with numbers from 1
-/// to the greatest. What is left out of a log is a line for `log`.
+/// The entries of the logs among these files of a store's folder, one log after another, each as
+/// far as it is found: up to its first bad end, or its first record that is no batch with numbers
+/// from 1 to the greatest. What is left out of a log is a line for `log`.
 /// Another memtable begins with a batch that isn't above the entries before it, or doesn't fit
 /// beside them. `NotSupported` where one is too large for a memtable of its own, `Corruption` where
 /// a log is missing.
@@ -100,8 +100,8 @@ fn path_in(alloc: Global, folder: &str, name: &str) -> Result<String>
     Ok(format!(in alloc; "{folder}/{name}")?)
 }
 
-// Tells what is left out of the log at this path, after so many batches of it. The log is read whole
-// for this, but not where there is no sink.
+// Tells what is left out of the log at this path, after so many batches of it. The log is read
+// whole for this, but not where there is no sink.
 fn tell_left_out<E: Env>(
     alloc: Global,
     env: &mut E,

@@ -4,8 +4,8 @@ ghost use Rattle.leveldb_repair.specs.Numbers.{IsGreatestNumber};
 use leveldb_base::types::FileNum;
 use leveldb_store::opening::listing::ListedFile;
 
-/// The greatest number that the name of one of these files has, of whatever type it is; 0 where there
-/// is none. The numbers of a repair's files are above it.
+/// The greatest number that the name of one of these files has, of whatever type it is; 0 where
+/// there is none. The numbers of a repair's files are above it.
 pub fn greatest_number(files: &[ListedFile]) -> FileNum
     ensures { IsGreatestNumber files.now result }
 {

@@ -66,7 +66,8 @@ impl<C: UserCmp + Copy + Drop> Memtables<C> {
     // Takes the memory for a batch in the last memtable. Returns whether it fits there.
     fn has_made_room(&mut self, batch: &WriteBatch) -> Result<bool>
         ensures keeps { KeepsEntries self.old self.new }
-        ensures room { IfOk result (λ fits. IsTrue fits → HasRoom self.new.latest.kept batch.now.items) }
+        ensures room { IfOk result (λ fits.
+            IsTrue fits → HasRoom self.new.latest.kept batch.now.items) }
         ensures memory { IfErr result IsOutOfMemory }
     {
         match self.latest.prepare(batch) {

@@ -9,9 +9,6 @@ loop-file-init g c =
     let new = c.new-found.ensures in
     FindingLogs-none g.E.Env c.args.store.now c.args.cmp c.args.files.now c.args.env.now _ new.none new.cmp (up_to_none _ new.empty)
 
-pub find_log-requires : goal.find_log-requires
-find_log-requires g c = c.loop-file.invariant.up_to
-
 pub loop-file-preserved : goal.loop-file-preserved
 loop-file-preserved g c =
     FindingLogs-more g.E.Env c.args.store.now c.args.cmp c.args.files.now c.args.env.now c.loop-file.file-index c.loop-file.invariant c.file-item.result c.loop-file-test.true c.file-item.is c.in_ok-find_log.ensures

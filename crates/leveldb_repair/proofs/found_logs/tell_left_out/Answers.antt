@@ -8,7 +8,7 @@ pub returns-then-is_none-clause-run : goal.returns-then-is_none-clause-run
 returns-then-is_none-clause-run g c = λ modelled. begun (g.E.Env.observed c.args.env.now) refl
 
 pub returns-in_err-text-clause-run : goal.returns-in_err-text-clause-run
-returns-in_err-text-clause-run g c = λ modelled. Run-call modelled c.read_file.ensures.does
+returns-in_err-text-clause-run g c = λ modelled. Run-call modelled (c.read_file.ensures.does modelled)
 
 pub returns-in_err-text-clause-cause : goal.returns-in_err-text-clause-cause
 returns-in_err-text-clause-cause g c =
@@ -16,4 +16,4 @@ returns-in_err-text-clause-cause g c =
     rw (failed.1, failed.2) (cause_of_error _ (λ lost. lost) (λ lost. inl lost) c.in_err-text.ensures.cause)
 
 pub returns-clause-run : goal.returns-clause-run
-returns-clause-run g c = λ modelled. Run-call modelled c.read_file.ensures.does
+returns-clause-run g c = λ modelled. Run-call modelled (c.read_file.ensures.does modelled)

@@ -7,7 +7,7 @@ loop-file-init c = IsGreatestOf-none c.args.files.now
 
 pub loop-file-preserved : goal.loop-file-preserved
 loop-file-preserved c =
-    IsGreatestOf-more c.args.files.now c.loop-file.file-index c.file-item.result c.loop-file-test.true c.file-item.is c.loop-file.greatest c.loop-file.invariant _ (omega (arith, c.max.ensures))
+    IsGreatestOf-more c.args.files.now c.loop-file.file-index c.file-item.result c.loop-file-test.true c.file-item.is c.loop-file.greatest c.loop-file.invariant _ (omega (arith, c.max-greatest.ensures))
 
 pub returns : goal.returns
 returns c = IsGreatestNumber-all c.args.files.now c.loop-file.file-index c.loop-file.greatest c.loop-file-test.false c.loop-file.invariant
