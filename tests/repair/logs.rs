@@ -229,9 +229,24 @@ fn bad_ends_are_told(rt: HostRuntime) -> Result<()> {
     let records = [Batch(1, "a", ""), Batch(2, "b", ""), Batch(3, "c", "")];
     let whole = log_of(alloc, &records)?;
     for (cut, at, wanted, line) in [
-        (60, 60, " 1a=1 2b=2 |", "db/3.log: 12 bytes from byte 48 on are left out, no whole record among them\n"),
-        (72, 30, " 1a=1 |", "db/3.log: 48 bytes from byte 24 on are left out, whole records among them\n"),
-        (72, 60, " 1a=1 2b=2 |", "db/3.log: 24 bytes from byte 48 on are left out, no whole record among them\n"),
+        (
+            60,
+            60,
+            " 1a=1 2b=2 |",
+            "db/3.log: 12 bytes from byte 48 on are left out, no whole record among them\n",
+        ),
+        (
+            72,
+            30,
+            " 1a=1 |",
+            "db/3.log: 48 bytes from byte 24 on are left out, whole records among them\n",
+        ),
+        (
+            72,
+            60,
+            " 1a=1 2b=2 |",
+            "db/3.log: 24 bytes from byte 48 on are left out, no whole record among them\n",
+        ),
     ] {
         let mut env = MemEnv::new(alloc);
         let mut bytes = whole.clone()?;

@@ -462,7 +462,7 @@ module _ {E F C : Type 0} (env : Ghosts E F) (store : List ℕ) (cmp : C)
   abbrev WhyAny : Status → Type 0
   WhyAny = WhyNotFound env.models_disk store listed_files listing
 
-  -- of the first of the listed_files all that is found is in memory
+  -- of the first of the files all that is found is in memory
   pub record FindingLogs (count : ℕ) (memory : Memtables C) (at : E) : Type 0 where
     pub still : IsTrue env.models_disk
         → Run (FilesUnchanged listed_files) (env.observed from) (env.observed at)

@@ -1,6 +1,10 @@
 -- The greatest number of files that are listed.
+use Rattle.std.specs.Cmp.{nat_cmp_is}
+use Rattle.std.specs.Ordering.{is_lt, nat_cmp, ord_max}
 use Rattle.std.specs.Prelude.{All, Any, Contains}
-use Rattle.std.proofs.Common.{◌≡◌, ◌⊎◌, inl, inr, ⊎_elim, ◌<◌, ◌≤◌, ◌+◌, ℕ, List, [], ap, arith, get_or, length, max, refl, subst, sym, take, string_bytes}
+use Rattle.std.specs.declared.cmp.Ordering.{Ordering}
+use Rattle.std.specs.declared.cmp.Ordering.TheVariants.{Equal, Greater, Less}
+use Rattle.std.proofs.Common.{◌≡◌, ◌∙◌, ◌⊎◌, inl, inr, ⊎_elim, ◌<◌, ◌≤◌, ◌+◌, ℕ, List, [], ap, arith, cond, get_or, length, max, refl, subst, sym, take, string_bytes}
 use Rattle.std.proofs.lemmas.Bool.{cases_lt}
 use Rattle.std.proofs.lemmas.List.{take_all}
 use Rattle.std.proofs.lemmas.List.Elements.{All-contains, All-nil}
@@ -12,6 +16,25 @@ use Rattle.leveldb_store.proofs.OpeningFindLemmas.{listed, no_slash_in_name}
 use Rattle.leveldb_store.specs.Listing.{MatchesName}
 use Rattle.leveldb_store.specs.declared.opening.listing.ListedFile.{ListedFile}
 use Rattle.leveldb_repair.specs.Numbers.{IsGreatestNumber}
+
+-- ---- the greater of two numbers
+
+by_order : (order : Ordering) (a b : ℕ) → order ≡ nat_cmp b a → cond (is_lt order) a b ≡ max a b
+    → ord_max nat_cmp a b ≡ max a b
+by_order order a b is so = ap (λ o. cond (is_lt o) a b) (sym is) ∙ so
+
+pub max_is : (a b : ℕ) → ord_max nat_cmp a b ≡ max a b
+max_is a b = ⊎_elim
+    (λ (less : b < a). let top : a ≡ max a b = omega (arith, less) in
+    by_order Less a b (nat_cmp_is b a Less less) top)
+    (λ (most : a ≤ b). let top : b ≡ max a b = omega (arith, most) in ⊎_elim
+    (λ (below : a < b). by_order Greater a b (nat_cmp_is b a Greater below) top)
+    (λ (least : b ≤ a). let same : b ≡ a = omega (arith, most, least) in
+    by_order Equal a b (nat_cmp_is b a Equal same) top)
+    (cases_lt a b))
+    (cases_lt b a)
+
+-- ---- the greatest number
 
 -- this number is the greatest of the first files
 pub record IsGreatestOf (listing : List ListedFile) (count greatest : ℕ) : Type 0 where
