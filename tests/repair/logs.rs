@@ -132,13 +132,19 @@ fn found<E: Env>(alloc: Global, env: &mut E, log: &mut Option<Logger>) -> Result
 const ROWS: &[(&[Log], &str, &str)] = &[
     (&[("000003.log", &[])], "", ""),
     (
-        &[("000003.log", &[Batch(1, "ab", ""), Batch(3, "", "a"), Batch(4, "", "")])],
+        &[(
+            "000003.log",
+            &[Batch(1, "ab", ""), Batch(3, "", "a"), Batch(4, "", "")],
+        )],
         " 3a- 1a=1 2b=1 |",
         "",
     ),
     // numbers that fall, in a log and from one log to the next
     (
-        &[("000003.log", &[Batch(7, "a", ""), Batch(2, "b", ""), Batch(3, "c", "")])],
+        &[(
+            "000003.log",
+            &[Batch(7, "a", ""), Batch(2, "b", ""), Batch(3, "c", "")],
+        )],
         " 7a=7 | 2b=2 3c=3 |",
         "",
     ),
@@ -152,7 +158,10 @@ const ROWS: &[(&[Log], &str, &str)] = &[
     ),
     // one number whose log has another name, too
     (
-        &[("000003.log", &[Batch(1, "a", "")]), ("3.log", &[Batch(2, "b", "")])],
+        &[
+            ("000003.log", &[Batch(1, "a", "")]),
+            ("3.log", &[Batch(2, "b", "")]),
+        ],
         " 1a=1 2b=2 |",
         "",
     ),
@@ -169,7 +178,10 @@ const ROWS: &[(&[Log], &str, &str)] = &[
     ),
     // records that are no batch of a store
     (
-        &[("000003.log", &[Batch(1, "a", ""), Other(b"none"), Batch(2, "b", "")])],
+        &[(
+            "000003.log",
+            &[Batch(1, "a", ""), Other(b"none"), Batch(2, "b", "")],
+        )],
         " 1a=1 |",
         "db/000003.log: 35 bytes from byte 24 on are left out, no batch comes there\n",
     ),
@@ -182,7 +194,10 @@ const ROWS: &[(&[Log], &str, &str)] = &[
         "db/000003.log: 24 bytes from byte 0 on are left out, no batch comes there\n",
     ),
     (
-        &[("000003.log", &[Batch(1, "a", ""), Batch(0, "", ""), Batch(2, "b", "")])],
+        &[(
+            "000003.log",
+            &[Batch(1, "a", ""), Batch(0, "", ""), Batch(2, "b", "")],
+        )],
         " 1a=1 |",
         "db/000003.log: 43 bytes from byte 24 on are left out, no batch comes there\n",
     ),
@@ -257,7 +272,10 @@ fn bad_ends_are_told(rt: HostRuntime) -> Result<()> {
         let mut log = Some(lines.log(alloc, line)?);
         let text = found(alloc, &mut env, &mut log)?;
         assert!(rt; text.as_str() == wanted, "byte {at} of {cut}: {text}");
-        assert!(rt; lines.counts() == (1, 1), "byte {at} of {cut}: another line");
+        assert!(rt;
+            lines.counts() == (1, 1),
+            "byte {at} of {cut}: another line"
+        );
     }
     Ok(())
 }
@@ -402,8 +420,14 @@ fn assert_found(
     round: usize,
 ) -> Result<usize> {
     let slow = slow_words(alloc, env)?;
-    assert!(rt; found_words(alloc, env)? == slow, "round {round}: other entries");
-    assert!(rt; found_words(alloc, short)? == slow, "round {round}: other entries in few bytes");
+    assert!(rt;
+        found_words(alloc, env)? == slow,
+        "round {round}: other entries"
+    );
+    assert!(rt;
+        found_words(alloc, short)? == slow,
+        "round {round}: other entries in few bytes"
+    );
     Ok(slow.len())
 }
 
@@ -425,7 +449,10 @@ fn random_logs_beside_a_plain_reading(rt: HostRuntime) -> Result<()> {
 // ---- failures
 
 const BESIDE: &[Log] = &[
-    ("000003.log", &[Batch(5, "ab", ""), Batch(2, "c", ""), Other(b"none")]),
+    (
+        "000003.log",
+        &[Batch(5, "ab", ""), Batch(2, "c", ""), Other(b"none")],
+    ),
     ("3.log", &[Batch(9, "", "a")]),
 ];
 
@@ -444,9 +471,15 @@ fn each_failed_call_fails_it(rt: HostRuntime) -> Result<()> {
         if first.is_ok() {
             break;
         }
-        assert!(rt; failed_with(first, StatusCode::IOError)?, "call {call}: another error");
+        assert!(rt;
+            failed_with(first, StatusCode::IOError)?,
+            "call {call}: another error"
+        );
         let again = found(alloc, &mut env, &mut log)?;
-        assert!(rt; again.as_str() == " 5a=5 6b=5 | 9a- 2c=2 |", "call {call}: {again}");
+        assert!(rt;
+            again.as_str() == " 5a=5 6b=5 | 9a- 2c=2 |",
+            "call {call}: {again}"
+        );
         failures += 1;
     }
     assert!(rt; failures > 8 && failures < 98, "{failures} failures");
@@ -474,7 +507,14 @@ fn the_greatest_number_is_of_all_names(rt: HostRuntime) -> Result<()> {
         (["3.log", "000002.ldb", "MANIFEST-000001"], 3),
         (["000002.log", "4.sst", "CURRENT"], 4),
         (["MANIFEST-7", "000002.log", "000006.ldb"], 7),
-        (["18446744073709551615.dbtmp", "1.log", "18446744073709551616.log"], u64::MAX),
+        (
+            [
+                "18446744073709551615.dbtmp",
+                "1.log",
+                "18446744073709551616.log",
+            ],
+            u64::MAX,
+        ),
     ] {
         let mut env = MemEnv::new(alloc);
         for name in &names {

@@ -137,9 +137,11 @@ module _ {E F C : Type 0} (env : Ghosts E F) (store : List ℕ) (file : ListedFi
     lost_why (inr missing) = inr (
       inl (
         missing.0.code,
-        λ modelled. alone (IsMissingLog store files) file
-            (is_log, ap files (sym p_is) ∙ sym (ap (λ (f : Files). f p) (still modelled).has)
-            ∙ missing.1 modelled),
+        λ modelled. alone (IsMissingLog store files) file (
+          is_log,
+          ap files (sym p_is) ∙ sym (ap (λ (f : Files). f p) (still modelled).has)
+              ∙ missing.1 modelled,
+        ),
       ),
       missing.2,
     )

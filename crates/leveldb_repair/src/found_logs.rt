@@ -128,13 +128,7 @@ fn tell_left_out<E: Env>(
 
 // Tells what is left out of a log: a record that is no batch and what comes after it, or a bad end.
 // The line is lost if the sink fails or there is no memory for it, which is no error.
-fn tell(
-    alloc: Global,
-    path: &str,
-    left: LeftOut,
-    is_record: bool,
-    log: &mut Option<Logger>,
-) {
+fn tell(alloc: Global, path: &str, left: LeftOut, is_record: bool, log: &mut Option<Logger>) {
     let Some(Logger(sink)) = log else {
         return;
     };

@@ -314,8 +314,8 @@ module _ {E F : Type 0} (env : Ghosts E F) (number : ℕ) (path : List ℕ) (siz
           same = refl;
           finds = λ batches has. tt;
           fewer = λ more. absurd (cc);
-          cause = λ batches has. refused_cause env number path size left from file core named next to
-              after batch (λ s lost. inl lost) (λ s much. inr (inr much.0, much.1, much.2))
+          cause = λ batches has. refused_cause env number path size left from file core named next
+              to after batch (λ s lost. inl lost) (λ s much. inr (inr much.0, much.1, much.2))
               (λ s why. ⊎_elim (λ lost. inl lost) (λ other. inr other.2) why) answer error stops
               found batches has.read;
         }

@@ -199,7 +199,8 @@ module _ {E F : Type 0} (env : Ghosts E F) (number : ℕ) (path : List ℕ) (siz
       stopped_cause batches has status error (inl up) found =
           cause_of_error error (lost error) (uncounted error)
           (found_cause path (Err status) (Err error)
-          (λ gone modelled. ap (env.observed from).disk.files (sym (named modelled)) ∙ gone modelled)
+          (λ gone modelled.
+          ap (env.observed from).disk.files (sym (named modelled)) ∙ gone modelled)
           (found_refused path status error found) (IsGivenUp-given env up).cause)
       stopped_cause batches has status error (inr much) found =
           let further = IsFurther-given env much.given_before in
@@ -272,5 +273,6 @@ module _ {E F : Type 0} (env : Ghosts E F) (number : ℕ) (path : List ℕ) (siz
           finds = λ batches has. tt;
           fewer = λ more. absurd (cc);
           cause = refused_cause (λ s lost. inl lost) (λ s much. inr (inr (much.0, much.1), much.2))
-              (λ s why. ⊎_elim (λ lost. inl lost) (λ other. inr other.1) why) answer error stops found;
+              (λ s why. ⊎_elim (λ lost. inl lost) (λ other. inr other.1) why) answer error stops
+              found;
         }

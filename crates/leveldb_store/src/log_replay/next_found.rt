@@ -1,5 +1,5 @@
-//! A log that is read as far as it is found: up to its first bad end, or its first record that is no
-//! batch of a store.
+//! A log that is read as far as it is found: up to its first bad end, or its first record that is
+//! no batch of a store.
 ghost use Rattle.std.specs.Prelude.{◌↔◌, IfErr, IfOk, IsTrue};
 ghost use Rattle.leveldb_base.specs.Error.{IsOutOfMemory};
 ghost use Rattle.leveldb_store.specs.NextFound.{FindsNextBatch, HasEntryNumbers, TellsNumbered};
@@ -27,9 +27,9 @@ pub enum NextFound {
 
 impl<E: Env> LogReplay<E> {
     /// Reads the next batch into `batch`, as far as the log is found: up to its first bad end, or
-    /// its first record that is no batch with numbers from 1 to the greatest that an entry may have.
-    /// At an end that holds any batch, and nothing is to be read then. `Corruption` where the file
-    /// is missing.
+    /// its first record that is no batch with numbers from 1 to the greatest that entries have. At
+    /// an end that holds any batch, and nothing is to be read then. `Corruption` where the file is
+    /// missing.
     pub fn next_found(&mut self, env: &mut E, batch: &mut WriteBatch) -> Result<NextFound>
         ensures { FindsNextBatch E.Env self.old env.old result batch.new self.new env.new }
     {
