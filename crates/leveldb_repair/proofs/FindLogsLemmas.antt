@@ -1,7 +1,7 @@
 -- The logs of a folder that are read to memory, one after another, as far as they are found.
-use Rattle.std.specs.Prelude.{◌↔◌, ◌≢◌, All, Any, Contains, IfErr, IfOk, IsSome, IsTrue, OnOk, flat_map, string_bytes}
+use Rattle.std.specs.Prelude.{◌↔◌, ◌≢◌, All, Any, Contains, IfErr, IfOk, IsTrue, string_bytes}
 use Rattle.std.specs.Global.{Global}
-use Rattle.std.proofs.Common.{◌≡◌, ◌∙◌, ◌⊎◌, inl, inr, ⊎_elim, ◌<◌, ◌≤◌, ◌+◌, ℕ, List, [], ◌∷◌, ◌++◌, None, Some, Ok, Err, Result, Vec, ap, append-nil, append_assoc, arith, get_or, length, map, refl, subst, sym, take}
+use Rattle.std.proofs.Common.{◌≡◌, ◌∙◌, ◌⊎◌, inl, inr, ⊎_elim, ◌<◌, ◌≤◌, ◌+◌, ℕ, List, [], ◌∷◌, ◌++◌, None, Some, Ok, Err, Result, Vec, ap, append-nil, append_assoc, arith, get_or, length, refl, subst, sym, take}
 use Rattle.std.proofs.lemmas.List.{take_all, take_more}
 use Rattle.std.proofs.lemmas.List.Concat.{flat_map-append}
 use Rattle.std.proofs.lemmas.List.Elements.{All-contains, Contains-push}
@@ -12,10 +12,9 @@ use Rattle.leveldb_base.specs.Error.{IsOutOfMemory}
 use Rattle.leveldb_base.specs.History.{AreUpTo, Entry}
 use Rattle.leveldb_base.specs.Names.{IsFileName}
 use Rattle.leveldb_base.specs.declared.error.Status.{Status}
-use Rattle.leveldb_base.specs.declared.error.StatusCode.TheVariants.{Corruption, NotSupported}
 use Rattle.leveldb_base.specs.declared.types.FileType.TheVariants.{Log}
 use Rattle.leveldb_env.proofs.EnvLemmas.{Run-trans, begun}
-use Rattle.leveldb_env.specs.Env.{File, Files, FilesUnchanged, HasCause, Run, SameLocks, bytes_of, in_folder}
+use Rattle.leveldb_env.specs.Env.{Files, FilesUnchanged, HasCause, Run, SameLocks, bytes_of, in_folder}
 use Rattle.leveldb_env.specs.WholeFiles.{IsLost}
 use Rattle.leveldb_env.specs.declared.env.Env.{Ghosts}
 use Rattle.leveldb_mem.specs.MemTable.{MemTableState}
@@ -26,11 +25,11 @@ use Rattle.leveldb_version.proofs.LogsLemmas.{all_append}
 use Rattle.leveldb_version.proofs.OneStoreLemmas.{flat_in, in_flat}
 use Rattle.leveldb_version.proofs.RecoverLemmas.{cause_of_error}
 use Rattle.leveldb_version.specs.Batches.{Each, all_entries, batch_entries}
-use Rattle.leveldb_version.specs.Found.{IsFoundLog, LogHas}
+use Rattle.leveldb_version.specs.Found.{IsFoundLog}
 use Rattle.leveldb_store.proofs.NextFoundLemmas.{has_begun_at, has_found_none, has_found_same}
 use Rattle.leveldb_store.proofs.OpeningFindLemmas.{listed, no_slash_in_log}
 use Rattle.leveldb_store.specs.Listing.{AreFilesIn, MatchesName}
-use Rattle.leveldb_store.specs.LogReplay.{HasReadBatches, LogReplayState}
+use Rattle.leveldb_store.specs.LogReplay.{LogReplayState}
 use Rattle.leveldb_store.specs.NextFound.{AreAllFound, BeginsAt, FailsToFindBatch, FindsNextBatch, HasEntryNumbers, HasFoundBatches, IsFileToRead, IsFoundAt}
 use Rattle.leveldb_store.specs.ReplayLog.{HasCauseOr}
 use Rattle.leveldb_store.specs.declared.log_replay.next_found.NextFound.{NextFound}

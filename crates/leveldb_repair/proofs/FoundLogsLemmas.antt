@@ -1,12 +1,12 @@
 -- Entries of logs in memtables that are filled one after another.
-use Rattle.std.specs.Prelude.{◌↔◌, All, Any, Contains, IfErr, IfOk, IsTrue, OnOk, flat_map, max, string_bytes, sum_by}
-use Rattle.std.proofs.Common.{◌≡◌, ◌∙◌, ◌⊎◌, inl, inr, ⊎_elim, ◌<◌, ◌≤◌, ◌+◌, ℕ, List, [], ◌∷◌, ◌++◌, None, Some, Ok, Err, Result, ap, append-nil, append_assoc, arith, length, length-append, refl, subst, sym, take}
+use Rattle.std.specs.Prelude.{◌↔◌, All, Contains, max}
+use Rattle.std.proofs.Common.{◌≡◌, ◌∙◌, ◌⊎◌, ⊎_elim, ◌<◌, ◌+◌, ℕ, List, [], ◌∷◌, ◌++◌, ap, append-nil, append_assoc, arith, length, length-append, refl, subst, sym}
 use Rattle.std.proofs.lemmas.List.Sums.{sum_by-append}
-use Rattle.std.proofs.lemmas.List.Elements.{All-cons, All-contains, All-nil, All-push, Contains-append_cases, Contains-append_left, Contains-append_right}
+use Rattle.std.proofs.lemmas.List.Elements.{All-nil, All-push, Contains-append_cases, Contains-append_left, Contains-append_right}
 use Rattle.leveldb_base.proofs.ConsistentLemmas.{rise_both, rise_placed}
 use Rattle.leveldb_base.proofs.HistoryLemmas.{in_cases, in_front, in_none, in_rest}
-use Rattle.leveldb_base.specs.History.{AreUpTo, Entry, Item, RiseAbove, entries_of, greatest, placed}
-use Rattle.leveldb_mem.specs.MemTable.{AddsAll, GrowsByAll, IsUnion, MemTableState, entry_key, memory_of_entries}
+use Rattle.leveldb_base.specs.History.{AreUpTo, Entry, Item, RiseAbove, greatest, placed}
+use Rattle.leveldb_mem.specs.MemTable.{AddsAll, GrowsByAll, IsUnion, MemTableState, entry_key}
 use Rattle.leveldb_mem.specs.WriteBatch.{Batch}
 use Rattle.leveldb_version.proofs.BatchesLemmas.{each_more}
 use Rattle.leveldb_version.proofs.NumbersLemmas.{entries_more, greatest_append, up_to_greatest}

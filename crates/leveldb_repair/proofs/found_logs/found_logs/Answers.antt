@@ -1,4 +1,3 @@
-use Rattle.std.proofs.Common.{subst, sym}
 use Rattle.std.proofs.lemmas.Result.{err_from_is_err_and}
 use Rattle.leveldb_repair.proofs.FindLogsLemmas.{FindingLogs-more, FindingLogs-none, FindsLogs-done, FindsLogs-stopped}
 use Rattle.leveldb_repair.proofs.FoundLogsLemmas.{up_to_none}

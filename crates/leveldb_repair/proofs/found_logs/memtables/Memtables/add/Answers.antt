@@ -1,4 +1,4 @@
-use Rattle.std.proofs.Common.{arith, subst, sym}
+use Rattle.std.proofs.Common.{arith}
 use Rattle.leveldb_repair.specs.FoundLogs.{KeepsEntries}
 use Rattle.leveldb_repair.proofs.FoundLogsLemmas.{AddsBatch-here, AddsBatch-next, AddsBatch-none, KeepsEntries-same, up_to_kept}
 use Rattle.leveldb_repair.proofs.found_logs.memtables.Memtables.add.Goals as goal

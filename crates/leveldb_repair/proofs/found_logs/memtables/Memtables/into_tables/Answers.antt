@@ -1,4 +1,4 @@
-use Rattle.std.proofs.Common.{◌∙◌, ap, arith, subst, sym}
+use Rattle.std.proofs.Common.{arith, subst, sym}
 use Rattle.leveldb_repair.specs.FoundLogs.{AreAllTables}
 use Rattle.leveldb_repair.proofs.FoundLogsLemmas.{AreAllTables-both, AreAllTables-full}
 use Rattle.leveldb_repair.proofs.found_logs.memtables.Memtables.into_tables.Goals as goal
