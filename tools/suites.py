@@ -1,15 +1,18 @@
 #!/usr/bin/env python3
 """Puts crates and suites into a folder, where they are run unproved: what ./test and other tools share.
 
-    tools/suites.py FOLDER NAME..     the crates of crates.txt and the suites of tests/suites.txt of these names, with all that they use
+    tools/suites.py FOLDER NAME..         the crates of crates.txt and the suites of tests/suites.txt of these names, with all that they use
+    tools/suites.py --prove FOLDER NAME   a program of tests/suites.txt and what it uses, proofs and built libraries too, so that `rt run` proves it
 
 The folder gets a crates.txt, and for each of them crates/NAME/src, with specs where a crate has them. The sources of a suite, tests/NAME/*.rs,
-become .rt files there. Then `rt try`, in such a crate's folder, runs it. The module `long` of a suite, tests/NAME/long.rs, has its tests that
+become .rt files there, and tests/NAME/**/*.antt.txt its definitions and proofs. Then `rt try`, in such a crate's folder, runs it. The module `long` of a suite, tests/NAME/long.rs, has its tests that
 take minutes: it has none there, unless these are asked for.
 """
+import os
 import pathlib
 import re
 import shutil
+import subprocess
 import sys
 
 TOP = pathlib.Path(__file__).resolve().parent.parent
@@ -76,6 +79,10 @@ def put(name, folder, with_long=True):
             shutil.copy(path, copy)
         else:
             copy.write_text("//! Left out here.\n", encoding="utf-8")
+    for path in (TOP / "tests" / name).glob("**/*.antt.txt"):
+        copy = (to / path.relative_to(TOP / "tests" / name)).with_suffix("")
+        copy.parent.mkdir(parents=True, exist_ok=True)
+        shutil.copy(path, copy)
 
 
 def assemble(folder, names, with_long=False):
@@ -83,8 +90,46 @@ def assemble(folder, names, with_long=False):
     found = with_below(names)
     for name in found:
         put(name, folder, with_long)
+    list_crates(folder, found)
+
+
+def list_crates(folder, found):
+    """Writes the folder's crates.txt."""
     lines = [f"{name}: {' '.join(uses)}\n" for name, uses in found.items()]
     pathlib.Path(folder, "crates.txt").write_text("".join(lines), encoding="utf-8")
+
+
+def link_or_copy(one, other):
+    try:
+        os.link(one, other)
+    except OSError:
+        shutil.copy2(one, other)
+
+
+def put_proved(name, folder):
+    """Puts a crate into the folder with its proofs, in place of what is there of it, and its library where it is built."""
+    crate, to = TOP / "crates" / name, pathlib.Path(folder, "crates", name)
+    for part in ("src", "specs", "proofs"):
+        shutil.rmtree(to / part, ignore_errors=True)
+        if (crate / part).is_dir():
+            shutil.copytree(crate / part, to / part)
+    if (crate / "out/rlib").is_dir():
+        shutil.rmtree(to / "out/rlib", ignore_errors=True)
+        shutil.copytree(crate / "out/rlib", to / "out/rlib", copy_function=link_or_copy)
+
+
+def assemble_to_prove(folder, program):
+    """Puts a program and all that it uses into a folder, which may have what an earlier run left there."""
+    found = with_below([program])
+    for part in ("src", "specs", "proofs"):
+        shutil.rmtree(pathlib.Path(folder, "crates", program, part), ignore_errors=True)
+    put(program, folder)
+    for name in found:
+        if name in crates():
+            put_proved(name, folder)
+    list_crates(folder, found)
+    # (rt takes the top of a repository for that of the crates)
+    subprocess.run(["git", "init", "-q", str(folder)], check=True)
 
 
 def own_path(text, folder):
@@ -98,11 +143,16 @@ def main(words):
     if not words or words[0] in ("--help", "-h"):
         print(__doc__)
         return 0 if words else 2
+    to_prove = words[0] == "--prove"
+    words = words[to_prove:]
     unknown = set(words[1:]) - {*crates(), *sources()}
     if unknown or not words[1:]:
         print(f"suites: no crate and no suite: {' '.join(sorted(unknown)) or 'no name was given'}", file=sys.stderr)
         return 2
-    assemble(words[0], words[1:])
+    if to_prove:
+        assemble_to_prove(words[0], words[1])
+    else:
+        assemble(words[0], words[1:])
     return 0
 
 
