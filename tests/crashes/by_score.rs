@@ -1,8 +1,8 @@
 //! A store with a memtable of one byte, each write of which makes a table, so that level 0 fills up and writes compact it. Crashes and failures
 //! come at each moment and call of its script, inside these compactions too.
-use crate::crash_disks::{Script, Setting, Tails, assert_tally, record};
-use crate::steps::Step;
-use crate::sweep::{crash_everywhere, fail_everywhere};
+use super::crash_disks::{Script, Setting, Tails, assert_tally, record};
+use super::steps::Step;
+use super::sweep::{crash_everywhere, fail_everywhere};
 use leveldb_base::error::Result;
 use leveldb_env::env::Env;
 use leveldb_env::mem_env::RecordEnv;

@@ -1,11 +1,11 @@
 //! Compactions of a store with small tables on a recording device: crashes and failures come at each moment and call of scripts, some of which
 //! look random. Each disk that a crash leaves is a whole store by the definition, and each view that is held stays.
-use crate::crash_disks::{
+use super::crash_disks::{
     Recorded, Script, Setting, Side, Tails, assert_tally, crash, record, sides_tried,
 };
-use crate::replies::KEYS;
-use crate::steps::Step;
-use crate::sweep::{
+use super::replies::KEYS;
+use super::steps::Step;
+use super::sweep::{
     crash_everywhere, crash_twice_everywhere, fail_everywhere, is_new, is_possible, nothing_seen,
 };
 use leveldb_base::cmp::DefaultCmp;

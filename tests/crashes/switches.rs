@@ -1,8 +1,8 @@
 //! A store with a memtable of 300 bytes on a recording device: logs are switched and tables are made. Crashes and failures come at each
 //! moment and call of its script.
-use crate::crash_disks::{Script, Setting, Tails, assert_tally, record};
-use crate::steps::Step;
-use crate::sweep::{crash_everywhere, crash_twice_everywhere, fail_everywhere};
+use super::crash_disks::{Script, Setting, Tails, assert_tally, record};
+use super::steps::Step;
+use super::sweep::{crash_everywhere, crash_twice_everywhere, fail_everywhere};
 use leveldb_base::error::Result;
 use slow_store::has_levels;
 use std::alloc::Global;

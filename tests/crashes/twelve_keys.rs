@@ -1,8 +1,8 @@
 //! A script that has each kind of call, over twelve keys in small tables, which is swept whole: a crash at each moment, and each call of the
 //! device failing once. Most second crashes, and crashes by `lives`, are among the long tests.
-use crate::crash_disks::{Script, Setting, Tails, assert_tally};
-use crate::steps::Step;
-use crate::sweep::{crash_everywhere, crash_twice_everywhere, fail_everywhere};
+use super::crash_disks::{Script, Setting, Tails, assert_tally};
+use super::steps::Step;
+use super::sweep::{crash_everywhere, crash_twice_everywhere, fail_everywhere};
 use leveldb_base::error::Result;
 use slow_history::Move;
 

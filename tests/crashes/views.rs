@@ -1,8 +1,8 @@
 //! Snapshots and walks of a store with a memtable of 300 bytes on a recording device: crashes and failures come at each moment and call of
 //! a script. And walks over tables of which one can't be read.
-use crate::crash_disks::{Script, Setting, Tails, assert_tally, record, record_life};
-use crate::steps::{Call, Step};
-use crate::sweep::{crash_everywhere, fail_everywhere, is_possible};
+use super::crash_disks::{Script, Setting, Tails, assert_tally, record, record_life};
+use super::steps::{Call, Step};
+use super::sweep::{crash_everywhere, fail_everywhere, is_possible};
 use leveldb_base::error::Result;
 use rusty_leveldb::shell::{Reply, Step as ShellStep};
 use slow_history::Move;

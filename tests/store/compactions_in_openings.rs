@@ -1,5 +1,5 @@
 //! The compaction that an opening does at its end, where the score of a level asks for one.
-use crate::stores::{
+use super::stores::{
     DefaultOptions, STORE, buffered, count_tables, damage_file, one_byte, opened, reusing,
 };
 use leveldb_base::cmp::DefaultCmp;

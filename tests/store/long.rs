@@ -1,9 +1,9 @@
 //! Trials that take minutes, of which short ones are in the modules themselves: ./test --long.
-use crate::compactions_of_many::try_seeds;
-use crate::merged_inputs::{crash_in_merge, fail_in_merge};
-use crate::merging::compare_merges;
-use crate::open_tables::damage_each;
-use crate::replays::{fail_reads, open_over_short_reads};
+use super::compactions_of_many::try_seeds;
+use super::merged_inputs::{crash_in_merge, fail_in_merge};
+use super::merging::compare_merges;
+use super::open_tables::damage_each;
+use super::replays::{fail_reads, open_over_short_reads};
 use leveldb_base::error::Result;
 
 #[test]
