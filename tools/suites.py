@@ -4,9 +4,9 @@
     tools/suites.py FOLDER NAME..     the crates of crates.txt and the suites of tests/suites.txt of these names, with all that they use
 
 The folder gets a crates.txt, and for each crate crates/NAME/src, with specs where it has them. The suites become modules of one crate, crates/suites,
-so that what they use is built once: tests/NAME/*.rs are crates/suites/src/NAME/*.rt. What suites share, a folder of tests/ without tests, is a crate of its
-own. Then `rt try`, in such a crate's folder, runs it. The module `long` of a suite, tests/NAME/long.rs, has its tests that take minutes: it has
-none there, unless these are asked for.
+so that what they use is built once: tests/NAME/*.rs are crates/suites/src/NAME/*.rt. What suites share, a folder of tests/ without tests, is a
+crate of its own. Then `rt try`, in such a crate's folder, runs it. The module `long` of a suite, tests/NAME/long.rs, has its tests that take
+minutes: it has none there, unless these are asked for.
 """
 import pathlib
 import re

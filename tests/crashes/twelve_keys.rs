@@ -101,14 +101,14 @@ fn second_crashes(rt: HostRuntime) -> Result<()> {
 
 #[test]
 fn failures_without_their_change(rt: HostRuntime) -> Result<()> {
-    let tally = fail_everywhere(&rt, rt.alloc(), SCRIPT.one_of(7), false)?;
+    let tally = fail_everywhere(&rt, rt.alloc(), SCRIPT.one_of(15), false)?;
     assert_tally(&rt, tally, tally.shortest > 0 && tally.longest > 0);
     Ok(())
 }
 
 #[test]
 fn failures_with_their_change(rt: HostRuntime) -> Result<()> {
-    let tally = fail_everywhere(&rt, rt.alloc(), SCRIPT.one_of(7), true)?;
+    let tally = fail_everywhere(&rt, rt.alloc(), SCRIPT.one_of(15), true)?;
     assert_tally(&rt, tally, tally.shortest > 0 && tally.longest > 0);
     Ok(())
 }
