@@ -1,12 +1,11 @@
 -- What a repair makes of the files in a store's folder, and what it leaves as it was: what the
 -- folder holds meanwhile and then, and what is found in it. The statements here are those that the
 -- contracts of module `laws::repairing` name.
-use Rattle.std.specs.Prelude.{◌≡◌, ◌≢◌, ◌⊎◌, ◌<◌, ◌≤◌, ◌+◌, ◌^◌, ◌↔◌, false, ℕ, List, [], ◌∷◌, None, Some, Contains}
+use Rattle.std.specs.Prelude.{◌≡◌, ◌≢◌, ◌⊎◌, ◌<◌, ◌≤◌, ◌+◌, ◌^◌, ◌↔◌, false, ℕ, List, [], ◌∷◌, map, None, Some, Contains}
 use Rattle.std.specs.Option.{option_map}
 use Rattle.std.specs.Str.{bytes_eq}
 use Rattle.std.specs.declared.cmp.Ordering.{Ordering}
-use Rattle.leveldb_base.specs.History.{Entry}
-use Rattle.leveldb_base.specs.KeyTypes.{greatest_sequence}
+use Rattle.leveldb_base.specs.History.{AreAbove, Entry, greatest}
 use Rattle.leveldb_base.specs.Names.{IsFileName, file_name}
 use Rattle.leveldb_base.specs.Types.{Pair}
 use Rattle.leveldb_base.specs.declared.types.FileType.TheVariants.{Log, Table}
@@ -30,22 +29,22 @@ use Rattle.leveldb_version.specs.Writing.{NumbersAreBelow}
 
 -- ---- the manifest
 
--- the one edit of a repair's manifest: the comparator's name, a log number above those of all logs
--- and no previous log, the last sequence number, and the tables
+-- the one edit of a repair's manifest: the comparator's name, the next number for the next log, no
+-- previous log, the last sequence number, and the tables
 abbrev pub repaired_edit : List ℕ → ℕ → ℕ → List NewFile → Edit
-repaired_edit comparator log last added = record empty_edit {
+repaired_edit comparator next last added = record empty_edit {
   comparator = Some comparator;
-  log_number = Some log;
+  log_number = Some next;
   previous_log = Some 0;
-  next_file = Some (log + 1);
+  next_file = Some (next + 1);
   last_sequence = Some last;
   added = added;
 }
 
 -- the bytes of its manifest
 abbrev pub repaired_manifest : List ℕ → ℕ → ℕ → List NewFile → List ℕ
-repaired_manifest comparator log last added =
-    manifest_bytes (edit_bytes (repaired_edit comparator log last added) ∷ [])
+repaired_manifest comparator next last added =
+    manifest_bytes (edit_bytes (repaired_edit comparator next last added) ∷ [])
 
 -- the contents of a repaired store: the entries of its tables, up to the last sequence number
 abbrev pub repaired_contents : List ℕ → List LiveTable → ℕ → Contents
@@ -84,11 +83,9 @@ module _ (store : List ℕ) (cmp : List ℕ → List ℕ → Ordering)
     (IsTableOf : List ℕ → List Pair → Type 0) where
   -- ---- what it left
 
-  -- The tables of a repair are there and kept, all of them in level 1, no user key is in two of
-  -- them, and their entries have numbers from 1 to the last one; and no log has the log number or a
-  -- greater one.
-  pub record HasRepairedTables (log last : ℕ) (tables : List LiveTable) (files : Files)
-      : Type 0 where
+  -- Tables that can be the only ones of a store, all in level 1: they are there and kept, each is
+  -- known by its number, and no two have a user key in common.
+  pub record AreLevelOne (files : Files) (tables : List LiveTable) : Type 0 where
     pub each : (table : LiveTable) → Contains tables table
         → HasTable store cmp IsTableOf files table
         × IsKept (files (table_path store table.file.number)) × (table.file.level ≡ 1)
@@ -96,55 +93,67 @@ module _ (store : List ℕ) (cmp : List ℕ → List ℕ → Ordering)
     pub known : AreKnownByNumber tables
     pub apart : (a b : LiveTable) → Contains tables a → Contains tables b
         → a.file.number ≢ b.file.number → AreDisjoint cmp a.file b.file
-    pub numbered : (entry : Entry) → Contains (table_entries tables) entry
-        → (0 < entry.sequence) × (entry.sequence ≤ last)
-    pub last_fits : last ≤ greatest_sequence
-    pub above_logs : IsAboveLogs store files log
 
-  -- the files are what a repair left: these tables, and a kept manifest of the one edit that adds
-  -- them, which `CURRENT` names
-  pub record IsRepaired (comparator : List ℕ) (log last : ℕ) (tables : List LiveTable)
+  -- The tables of a repair are a store's, all in level 1. They have all numbers between the
+  -- manifest's and the next one, and no others: the next one is one past the last that was given.
+  pub record HasRepairedTables (manifest next last : ℕ) (tables : List LiveTable) (files : Files)
+      : Type 0 where
+    pub level_one : AreLevelOne files tables
+    pub past : manifest < next
+    pub numbers : (n : ℕ) → Contains (map (λ table. table.file.number) tables) n
+        ↔ ((manifest < n) × (n < next))
+    -- the last sequence number is the greatest of their entries, or 0, and theirs are from 1 on
+    pub last_is : last ≡ greatest (table_entries tables)
+    pub numbered : AreAbove 0 (table_entries tables)
+    -- no log that is there has the next number or a greater one
+    pub above_logs : IsAboveLogs store files next
+
+  -- The files are what a repair left: these tables, and a kept manifest of this number, which
+  -- `CURRENT` names and whose one edit adds them.
+  pub record IsRepaired (comparator : List ℕ) (manifest next last : ℕ) (tables : List LiveTable)
       (files : Files) : Type 0 where
     pub edits : HasKeptEdits store files
-        (repaired_edit comparator log last (files_of_tables tables) ∷ [])
-    pub has : HasRepairedTables log last tables files
+        (repaired_edit comparator next last (files_of_tables tables) ∷ [])
+    pub manifest_is : edits.has_edits.number ≡ manifest
+    pub has : HasRepairedTables manifest next last tables files
 
   -- ---- laws of it
 
   -- all that is read of what a repair left is kept, and its contents are the tables' entries
   abbrev pub RepairedIsKept : Type 0
-  RepairedIsKept = (comparator : List ℕ) (log last : ℕ) (tables : List LiveTable) (files : Files)
-      → IsRepaired comparator log last tables files
+  RepairedIsKept = (comparator : List ℕ) (manifest next last : ℕ) (tables : List LiveTable)
+      (files : Files) → IsRepaired comparator manifest next last tables files
       → IsAllKept store cmp IsTableOf files (repaired_contents comparator tables last)
 
   -- Once the tables are there a manifest of this edit makes them a repaired store: at each moment
   -- `CURRENT` is as it was, or the files are what a repair leaves, and so they are then.
-  pub record ManifestRepairs (comparator : List ℕ) (manifest log last : ℕ)
+  pub record ManifestRepairs (comparator : List ℕ) (manifest next last : ℕ)
       (tables : List LiveTable) (files : Files) : Type 0 where
     pub meanwhile : (now : Files)
         → MakingManifest store manifest
-        (repaired_manifest comparator log last (files_of_tables tables)) files now
+        (repaired_manifest comparator next last (files_of_tables tables)) files now
         → (now (current_path store) ≡ files (current_path store))
-        ⊎ IsRepaired comparator log last tables now
-    pub after : IsRepaired comparator log last tables
+        ⊎ IsRepaired comparator manifest next last tables now
+    pub after : IsRepaired comparator manifest next last tables
         (with_manifest store manifest
-        (repaired_manifest comparator log last (files_of_tables tables)) files)
+        (repaired_manifest comparator next last (files_of_tables tables)) files)
 
   -- every such manifest does
   abbrev pub ManifestsRepair : Type 0
-  ManifestsRepair = (comparator : List ℕ) (manifest log last : ℕ) (tables : List LiveTable)
-      (files : Files) → manifest < 2 ^ 64 → HasRepairedTables log last tables files
-      → IsEncodable (repaired_edit comparator log last (files_of_tables tables))
-      → ManifestRepairs comparator manifest log last tables files
+  ManifestsRepair = (comparator : List ℕ) (manifest next last : ℕ) (tables : List LiveTable)
+      (files : Files) → manifest < 2 ^ 64 → HasRepairedTables manifest next last tables files
+      → IsEncodable (repaired_edit comparator next last (files_of_tables tables))
+      → ManifestRepairs comparator manifest next last tables files
 
   module _ (allowed : Store → Type 0) where
     -- what a repair left holds the set of its tables' entries, in whatever list, as one batch that
-    -- is durable
+    -- is durable, and no number past theirs
     abbrev pub RepairedHolds : Type 0
-    RepairedHolds = (comparator : List ℕ) (log last : ℕ) (tables : List LiveTable) (files : Files)
-        → IsRepaired comparator log last tables files → allowed (made (Some comparator))
-        → (found : List Entry) → SameEntries (table_entries tables) found
-        → StoreHolds store cmp IsTableOf allowed files (found ∷ []) last 1 None
+    RepairedHolds = (comparator : List ℕ) (manifest next last : ℕ) (tables : List LiveTable)
+        (files : Files) → IsRepaired comparator manifest next last tables files
+        → allowed (made (Some comparator)) → (found : List Entry)
+        → SameEntries (table_entries tables) found
+        → StoreHolds store cmp IsTableOf allowed files (found ∷ []) (greatest found) 1 None
 
     -- until `CURRENT` names the manifest each history is kept, where a table or a log was there
     abbrev pub RepairsKeep : Type 0
