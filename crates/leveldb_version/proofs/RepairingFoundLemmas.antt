@@ -18,7 +18,7 @@ use Rattle.leveldb_version.proofs.FoundLemmas.{Has, found_in, one_found_log, one
 use Rattle.leveldb_version.proofs.KeptLemmas.{kept_left}
 use Rattle.leveldb_version.proofs.ManagedLemmas.{SameBytes, kinds_apart, numbers_apart, same_bytes}
 use Rattle.leveldb_version.proofs.OneStoreLemmas.{flat_in, in_flat, one_entry}
-use Rattle.leveldb_version.proofs.RepairingKeepsLemmas.{same_log, still_there}
+use Rattle.leveldb_version.proofs.RepairingKeepsLemmas.{manifest_fits, number_fits, same_log, still_there}
 use Rattle.leveldb_version.proofs.SafeLemmas.{some_is}
 use Rattle.leveldb_version.proofs.TablesLemmas.{one_store_table}
 use Rattle.leveldb_version.specs.Batches.{AreInOrder, Each, IsRecordOf, all_entries, batch_entries}
@@ -32,7 +32,7 @@ use Rattle.leveldb_version.specs.Store.{IsInternalPair, IsLog, IsManaged, IsMana
 use Rattle.leveldb_version.specs.StoreSteps.{IsKept}
 use Rattle.leveldb_version.specs.VersionEdit.{NewFile}
 use Rattle.leveldb_version.specs.VersionSet.{live_after}
-use Rattle.std.proofs.Common.{◌<◌, ◌^◌, ◌∙◌, ◌∷◌, ◌≡◌, ◌≤◌, ◌⊎◌, Bool, List, None, Option, Some, [], ap, append-nil, arith, false, inl, inr, max, refl, subst, sym, true, ℕ, ⊎_elim}
+use Rattle.std.proofs.Common.{◌+◌, ◌<◌, ◌^◌, ◌∙◌, ◌∷◌, ◌≡◌, ◌≤◌, ◌⊎◌, Bool, List, None, Option, Some, [], ap, append-nil, arith, false, inl, inr, max, refl, subst, sym, true, ℕ, ⊎_elim}
 use Rattle.std.proofs.lemmas.Bool.{cases_lt}
 use Rattle.std.proofs.lemmas.List.Elements.{Contains-append_cases, Contains-append_left, Contains-append_right}
 use Rattle.std.specs.Cmp.Lexicographic.{bytes_decides}
@@ -49,25 +49,19 @@ module _ (store : List ℕ) (first next : ℕ) where
     pub number : ℕ
     pub from : first ≤ number
     pub below : number < next
-    pub fits : number < 2 ^ 64
     pub is : table_path store number ≡ path
 
   -- no new table has the path
   abbrev pub IsNoNewTable : List ℕ → Type 0
-  IsNoNewTable path = (n : ℕ) → first ≤ n → n < next → n < 2 ^ 64
-      → bytes_eq (table_path store n) path ≡ false
+  IsNoNewTable path = (n : ℕ) → first ≤ n → n < next → bytes_eq (table_path store n) path ≡ false
 
-  module _ (name : List ℕ) (k : ℕ) (is : IsFileName name k Table) where
+  module _ (fits : next < 2 ^ 64) (name : List ℕ) (k : ℕ) (is : IsFileName name k Table) where
     abbrev path : List ℕ
     path = in_folder store name
 
-    fits_name : IsFileName name k Table → k < 2 ^ 64
-    fits_name (inl ldb) = ldb.1.fits
-    fits_name (inr sst) = sst.1.fits
-
-    apart_unless : (n : ℕ) → n < 2 ^ 64 → (n ≡ k → bytes_eq (table_path store n) path ≡ false)
+    apart_unless : (n : ℕ) → n < next → (n ≡ k → bytes_eq (table_path store n) path ≡ false)
         → bytes_eq (table_path store n) path ≡ false
-    apart_unless n fits same = ⊎_elim
+    apart_unless n below same = ⊎_elim
         (λ (less : n < k). differ (λ e. omega (arith, less, e)))
         (λ (more : k ≤ n). ⊎_elim
         (λ (greater : k < n). differ (λ e. omega (arith, greater, e)))
@@ -77,21 +71,20 @@ module _ (store : List ℕ) (first next : ℕ) where
       where
         differ : n ≢ k → bytes_eq (table_path store n) path ≡ false
         differ other = numbers_apart store (file_name Table n) name n k Table Table
-            (made_name Table n fits) is other
+            (made_name Table n (omega (arith, below, fits))) is other
 
     by_path : (b : Bool) → bytes_eq (table_path store k) path ≡ b → (k < first) ⊎ (first ≤ k)
         → (k < next) ⊎ (next ≤ k) → IsNewTable path ⊎ IsNoNewTable path
-    by_path false e low high = inr (λ n from below fits. apart_unless n fits
+    by_path false e low high = inr (λ n from below. apart_unless n below
         (λ same. subst (λ m. bytes_eq (table_path store m) path ≡ false) (sym same) e))
-    by_path true e (inl low) high = inr (λ n from below fits. apart_unless n fits
+    by_path true e (inl low) high = inr (λ n from below. apart_unless n below
         (λ same. absurd (omega (arith, low, from, same))))
-    by_path true e (inr low) (inr high) = inr (λ n from below fits. apart_unless n fits
+    by_path true e (inr low) (inr high) = inr (λ n from below. apart_unless n below
         (λ same. absurd (omega (arith, high, below, same))))
     by_path true e (inr low) (inl high) = inl (record {
       number = k;
       from = low;
       below = high;
-      fits = fits_name is;
       is = (bytes_decides (table_path store k) path).0 e;
     })
 
@@ -101,8 +94,14 @@ module _ (store : List ℕ) (first next : ℕ) where
 
 -- ---- while a repair is made
 
-module _ (store : List ℕ) (IsTableOf : List ℕ → List Pair → Type 0) (manifest first next : ℕ)
-    (old now : Files) (r : IsRepairing store manifest first next old now) where
+module _ (store : List ℕ) (IsTableOf : List ℕ → List Pair → Type 0) (taken next : ℕ)
+    (old now : Files) (r : IsRepairing store taken next old now) where
+  abbrev manifest : ℕ
+  manifest = taken + 1
+
+  abbrev first : ℕ
+  first = taken + 2
+
   -- `CURRENT` is no table and no log
   no_current : (name : List ℕ) (file : File) (entry : Entry) → Has store IsTableOf name file entry
       → bytes_eq (current_path store) (in_folder store name) ≡ false
@@ -119,9 +118,9 @@ module _ (store : List ℕ) (IsTableOf : List ℕ → List Pair → Type 0) (man
       → now (in_folder store name) ≡ old (in_folder store name)
   old_table name k is none = r.others (in_folder store name) none
       (kinds_apart store (file_name Descriptor manifest) name manifest k Descriptor Table
-      (made_name Descriptor manifest r.fits) is (λ d. cc))
+      (made_name Descriptor manifest (manifest_fits store taken next old now r)) is (λ d. cc))
       (kinds_apart store (file_name Temp manifest) name manifest k Temp Table
-      (made_name Temp manifest r.fits) is (λ d. cc))
+      (made_name Temp manifest (manifest_fits store taken next old now r)) is (λ d. cc))
       (kinds_apart store (file_name Current 0) name 0 k Current Table (made_name Current 0 refl) is
       (λ d. cc))
       (kinds_apart store (file_name DBLock 0) name 0 k DBLock Table (made_name DBLock 0 refl) is
@@ -135,7 +134,7 @@ module _ (store : List ℕ) (IsTableOf : List ℕ → List Pair → Type 0) (man
         → IsFound store IsTableOf other entry
     found_then entry is =
         let path = in_folder store is.0 in
-        let e = still_there store manifest first next old now r path is.1 is.2
+        let e = still_there store taken next old now r path is.1 is.2
         (no_current is.0 is.1 entry is.3) in
         found_in store IsTableOf old other is.0 is.1 entry is.2 (same path e) is.3
 
@@ -144,15 +143,15 @@ module _ (store : List ℕ) (IsTableOf : List ℕ → List Pair → Type 0) (man
     found_before entry (name, file, there, inr log) =
         found_in store IsTableOf other old name file entry there
         (sym (same (in_folder store name)
-        (same_log store manifest first next old now r name log.0 log.1))) (inr log)
+        (same_log store taken next old now r name log.0 log.1))) (inr log)
     found_before entry (name, file, there, inl table) = ⊎_elim
         (λ (new : IsNewTable store first next (in_folder store name)).
-        have new.number file table.2 entry new.from new.below new.fits
+        have new.number file table.2 entry new.from new.below
         (ap other new.is ∙ there) table.3 table.4)
         (λ (none : IsNoNewTable store first next (in_folder store name)).
         found_in store IsTableOf other old name file entry there
         (sym (same (in_folder store name) (old_table name table.0 table.1 none))) (inl table))
-        (new_or_not store first next name table.0 table.1)
+        (new_or_not store first next r.fits name table.0 table.1)
 
     found_other : (found : List Entry) → AreFound store IsTableOf old found
         → AreFound store IsTableOf other found
@@ -176,12 +175,16 @@ module _ (store : List ℕ) (IsTableOf : List ℕ → List Pair → Type 0) (man
       found_other left
       (λ path e. kept_left (old path) (left path) (kept path)
       (subst (λ f. FileCrashesTo f (left path)) e (leaves path)))
-      (λ n crashed entries entry from below fits there readable c.
+      (λ n crashed entries entry from below there readable c.
       let was = there_before (now (table_path store n)) (left (table_path store n)) crashed
       (leaves (table_path store n)) there in
-      let same = whole (table_path store n) was.0 crashed entries
-      (file_name Table n, n, made_name Table n fits, refl) was.1 there readable in
-      have n was.0 entries entry from below fits was.1
+      let same = whole (table_path store n) was.0 crashed entries (
+        file_name Table n,
+        n,
+        made_name Table n (number_fits store taken next old now r n below),
+        refl,
+      ) was.1 there readable in
+      have n was.0 entries entry from below was.1
       (subst (λ b. IsReadable IsTableOf b entries) same readable) c)
     where
       -- what a crash left was there

@@ -8,11 +8,13 @@ use Rattle.std.specs.declared.cmp.Ordering.{Ordering}
 use Rattle.leveldb_base.specs.History.{AreAbove, Entry, greatest}
 use Rattle.leveldb_base.specs.Names.{IsFileName, file_name}
 use Rattle.leveldb_base.specs.Types.{Pair}
+use Rattle.leveldb_base.specs.declared.types.FileType.{FileType}
 use Rattle.leveldb_base.specs.declared.types.FileType.TheVariants.{Log, Table}
-use Rattle.leveldb_env.specs.Env.{File, Files, FilesCrashTo, bytes_of, in_folder}
+use Rattle.leveldb_env.specs.Env.{File, Files, FilesCrashTo, bytes_of, in_folder, kept_file, or_empty}
 use Rattle.leveldb_mem.specs.WriteBatch.{Batch}
 use Rattle.leveldb_version.specs.Compaction.{AreKnownByNumber, files_of_tables}
 use Rattle.leveldb_version.specs.Contents.{Contents, Store, made}
+use Rattle.leveldb_version.specs.Current.{current_text}
 use Rattle.leveldb_version.specs.CurrentFile.{temp_path}
 use Rattle.leveldb_version.specs.Format.{IsTableOf, Meaning}
 use Rattle.leveldb_version.specs.Found.{AreFound, HasNoTableNorLog, IsAnyTable, IsFound, IsFoundLog, IsReadable}
@@ -56,28 +58,39 @@ repaired_contents comparator tables last = record {
 
 -- ---- while it is made
 
--- A repair of the old files is being made: its numbers are above those of all names, and no file
--- has changed but tables of numbers from the first on and below the next, the manifest with its
--- temporary file, and `CURRENT`; the lock's file may have been made, where it was missing.
-pub record IsRepairing (store : List ℕ) (manifest first next : ℕ) (old now : Files)
-    : Type 0 where
-  pub numbers : NumbersAreBelow store old manifest
-  pub fits : manifest < 2 ^ 64
-  pub above : manifest ≤ first
+-- this is the greatest number that a name in the folder has, or 0 where none has one
+pub record IsGreatestInFolder (store : List ℕ) (files : Files) (number : ℕ) : Type 0 where
+  pub below : NumbersAreBelow store files (number + 1)
+  pub is : (number ≡ 0) ⊎ ((name : List ℕ) × (kind : FileType) × IsFileName name number kind
+      × (files (in_folder store name) ≢ None))
+
+-- A repair of the old files is being made, in whose names `taken` is the greatest number. No file
+-- has changed but the manifest of the number after it, with its temporary file, the tables of the
+-- numbers after that and below the next, `CURRENT` and the lock's file.
+pub record IsRepairing (store : List ℕ) (taken next : ℕ) (old now : Files) : Type 0 where
+  pub taken_is : IsGreatestInFolder store old taken
   pub others : (path : List ℕ)
-      → ((n : ℕ) → first ≤ n → n < next → n < 2 ^ 64 → bytes_eq (table_path store n) path ≡ false)
-      → bytes_eq (manifest_path store manifest) path ≡ false
-      → bytes_eq (temp_path store manifest) path ≡ false
+      → ((n : ℕ) → taken + 2 ≤ n → n < next → bytes_eq (table_path store n) path ≡ false)
+      → bytes_eq (manifest_path store (taken + 1)) path ≡ false
+      → bytes_eq (temp_path store (taken + 1)) path ≡ false
       → bytes_eq (current_path store) path ≡ false → bytes_eq (lock_path store) path ≡ false
       → now path ≡ old path
-  pub lock : old (lock_path store) ≢ None → now (lock_path store) ≡ old (lock_path store)
+  -- `CURRENT` is as it was, or it is kept and names that manifest
+  pub current : (now (current_path store) ≡ old (current_path store))
+      ⊎ (now (current_path store) ≡ Some (kept_file (current_text (taken + 1))))
+  -- the lock's file is as it was, or was made empty where it was missing
+  pub lock : (now (lock_path store) ≡ old (lock_path store))
+      ⊎ (now (lock_path store) ≡ or_empty (old (lock_path store)))
+  -- the numbers have 64 bits
+  pub begun : taken + 2 ≤ next
+  pub fits : next < 2 ^ 64
 
 -- making the manifest is a part of the repair
 abbrev pub ManifestsGoOn : List ℕ → Type 0
-ManifestsGoOn store = (manifest first next : ℕ) (bytes : List ℕ) (old files now : Files)
-    → IsRepairing store manifest first next old files
-    → MakingManifest store manifest bytes files now
-    → IsRepairing store manifest first next old now
+ManifestsGoOn store = (taken next : ℕ) (bytes : List ℕ) (old files now : Files)
+    → IsRepairing store taken next old files
+    → MakingManifest store (taken + 1) bytes files now
+    → IsRepairing store taken next old now
 
 module _ (store : List ℕ) (cmp : List ℕ → List ℕ → Ordering)
     (IsTableOf : List ℕ → List Pair → Type 0) where
@@ -155,10 +168,9 @@ module _ (store : List ℕ) (cmp : List ℕ → List ℕ → Ordering)
         → SameEntries (table_entries tables) found
         → StoreHolds store cmp IsTableOf allowed files (found ∷ []) (greatest found) 1 None
 
-    -- until `CURRENT` names the manifest each history is kept, where a table or a log was there
+    -- while `CURRENT` is as it was each history is kept, where a table or a log was there
     abbrev pub RepairsKeep : Type 0
-    RepairsKeep = (manifest first next : ℕ) (old now : Files)
-        → IsRepairing store manifest first next old now
+    RepairsKeep = (taken next : ℕ) (old now : Files) → IsRepairing store taken next old now
         → now (current_path store) ≡ old (current_path store)
         → (HasNoTableNorLog store old → ⊥) → (bound : ℕ)
         → KeepsHistory store cmp IsTableOf allowed bound old now
@@ -187,7 +199,7 @@ module _ (store : List ℕ) (IsTableOf : List ℕ → List Pair → Type 0) wher
   -- all that a readable table of a new number has was found before
   abbrev pub NewTablesHaveFound : ℕ → ℕ → Files → Files → Type 0
   NewTablesHaveFound first next old now = (n : ℕ) (file : File) (entries : List Entry)
-      (entry : Entry) → first ≤ n → n < next → n < 2 ^ 64
+      (entry : Entry) → first ≤ n → n < next
       → now (table_path store n) ≡ Some file → IsReadable IsTableOf (bytes_of file) entries
       → Contains entries entry → IsFound store IsTableOf old entry
 
@@ -201,15 +213,15 @@ module _ (store : List ℕ) (IsTableOf : List ℕ → List Pair → Type 0) wher
 
   -- while a repair is made the same is found
   abbrev pub FoundStays : Type 0
-  FoundStays = (manifest first next : ℕ) (old now : Files)
-      → IsRepairing store manifest first next old now → NewTablesHaveFound first next old now
+  FoundStays = (taken next : ℕ) (old now : Files)
+      → IsRepairing store taken next old now → NewTablesHaveFound (taken + 2) next old now
       → (found : List Entry) → AreFound store IsTableOf old found
       → AreFound store IsTableOf now found
 
   -- so it is after a crash, where all bytes of the old files were kept
   abbrev pub CrashesLeaveFound : Type 0
-  CrashesLeaveFound = (manifest first next : ℕ) (old now left : Files)
-      → IsRepairing store manifest first next old now → NewTablesHaveFound first next old now
+  CrashesLeaveFound = (taken next : ℕ) (old now left : Files)
+      → IsRepairing store taken next old now → NewTablesHaveFound (taken + 2) next old now
       → ((path : List ℕ) → IsKept (old path)) → FilesCrashTo now left → LeavesNoTornTable now left
       → (found : List Entry) → AreFound store IsTableOf old found
       → AreFound store IsTableOf left found

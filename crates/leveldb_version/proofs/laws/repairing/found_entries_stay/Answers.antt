@@ -5,5 +5,5 @@ pub returns-clause-meanwhile : goal.returns-clause-meanwhile
 returns-clause-meanwhile g c = λ store. found_stays store g.F.StoreFormat.is_table
 
 pub returns-clause-crash : goal.returns-clause-crash
-returns-clause-crash g c = λ store manifest first next old now left r.
-    crash_leaves_found store g.F.StoreFormat.is_table manifest first next old now r left
+returns-clause-crash g c = λ store taken next old now left r.
+    crash_leaves_found store g.F.StoreFormat.is_table taken next old now r left
