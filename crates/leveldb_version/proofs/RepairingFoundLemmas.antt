@@ -18,7 +18,7 @@ use Rattle.leveldb_version.proofs.FoundLemmas.{Has, found_in, one_found_log, one
 use Rattle.leveldb_version.proofs.KeptLemmas.{kept_left}
 use Rattle.leveldb_version.proofs.ManagedLemmas.{SameBytes, kinds_apart, numbers_apart, same_bytes}
 use Rattle.leveldb_version.proofs.OneStoreLemmas.{flat_in, in_flat, one_entry}
-use Rattle.leveldb_version.proofs.RepairingKeepsLemmas.{manifest_fits, number_fits, same_log, still_there}
+use Rattle.leveldb_version.proofs.RepairingKeepsLemmas.{manifest_fits, same_log, still_there}
 use Rattle.leveldb_version.proofs.SafeLemmas.{some_is}
 use Rattle.leveldb_version.proofs.TablesLemmas.{one_store_table}
 use Rattle.leveldb_version.specs.Batches.{AreInOrder, Each, IsRecordOf, all_entries, batch_entries}
@@ -27,12 +27,12 @@ use Rattle.leveldb_version.specs.Format.{IsTableOf, Meaning}
 use Rattle.leveldb_version.specs.Found.{AreFound, IsAnyTable, IsFound, IsFoundLog, IsNumberedBatch, IsReadable, LogHas, TableHas}
 use Rattle.leveldb_version.specs.Levels.{LiveTable, table_entries}
 use Rattle.leveldb_version.specs.Paths.{current_path, log_path, table_path}
-use Rattle.leveldb_version.specs.Repairing.{FiltersAreIgnored, HasNoOtherFile, IsRepairing, LeavesNoTornTable, NewTablesHaveFound, StoresAreFound, TablesAreReadable}
+use Rattle.leveldb_version.specs.Repairing.{FiltersAreIgnored, HasNoOtherFile, IsRepairing, MeantHaveFound, NoCutTableIsReadable, SameFound, StoresAreFound, TablesAreReadable}
 use Rattle.leveldb_version.specs.Store.{IsInternalPair, IsLog, IsManaged, IsManagedBy, OneTableReading, ReplayedLog, SameEntries, log_batches, log_entries}
 use Rattle.leveldb_version.specs.StoreSteps.{IsKept}
 use Rattle.leveldb_version.specs.VersionEdit.{NewFile}
 use Rattle.leveldb_version.specs.VersionSet.{live_after}
-use Rattle.std.proofs.Common.{◌+◌, ◌<◌, ◌^◌, ◌∙◌, ◌∷◌, ◌≡◌, ◌≤◌, ◌⊎◌, Bool, List, None, Option, Some, [], ap, append-nil, arith, false, inl, inr, max, refl, subst, sym, true, ℕ, ⊎_elim}
+use Rattle.std.proofs.Common.{◌+◌, ◌<◌, ◌^◌, ◌∙◌, ◌∷◌, ◌≡◌, ◌≤◌, ◌⊎◌, Bool, List, None, Some, [], ap, append-nil, arith, false, inl, inr, max, refl, subst, sym, true, ℕ, ⊎_elim}
 use Rattle.std.proofs.lemmas.Bool.{cases_lt}
 use Rattle.std.proofs.lemmas.List.Elements.{Contains-append_cases, Contains-append_left, Contains-append_right}
 use Rattle.std.specs.Cmp.Lexicographic.{bytes_decides}
@@ -126,10 +126,11 @@ module _ (store : List ℕ) (IsTableOf : List ℕ → List Pair → Type 0) (tak
       (kinds_apart store (file_name DBLock 0) name 0 k DBLock Table (made_name DBLock 0 refl) is
       (λ d. cc))
 
-  -- other files in which all that is as it was has the same bytes
-  module _ (other : Files)
+  -- other files in which all that is as it was has the same bytes, and no cut table is readable
+  module _ (meant : ℕ → List ℕ) (have : MeantHaveFound store IsTableOf first next meant old)
+      (other : Files)
       (same : (path : List ℕ) → now path ≡ old path → SameBytes (old path) (other path))
-      (have : NewTablesHaveFound store IsTableOf first next old other) where
+      (whole : NoCutTableIsReadable store IsTableOf first next meant other) where
     found_then : (entry : Entry) → IsFound store IsTableOf old entry
         → IsFound store IsTableOf other entry
     found_then entry is =
@@ -146,53 +147,32 @@ module _ (store : List ℕ) (IsTableOf : List ℕ → List Pair → Type 0) (tak
         (same_log store taken next old now r name log.0 log.1))) (inr log)
     found_before entry (name, file, there, inl table) = ⊎_elim
         (λ (new : IsNewTable store first next (in_folder store name)).
-        have new.number file table.2 entry new.from new.below
-        (ap other new.is ∙ there) table.3 table.4)
+        let bytes = whole new.number file table.2 new.from new.below (ap other new.is ∙ there)
+        table.3 in
+        have new.number table.2 entry new.from new.below
+        (subst (λ b. IsReadable IsTableOf b table.2) bytes table.3) table.4)
         (λ (none : IsNoNewTable store first next (in_folder store name)).
         found_in store IsTableOf other old name file entry there
         (sym (same (in_folder store name) (old_table name table.0 table.1 none))) (inl table))
         (new_or_not store first next r.fits name table.0 table.1)
 
-    found_other : (found : List Entry) → AreFound store IsTableOf old found
-        → AreFound store IsTableOf other found
-    found_other found are entry = (
-      λ c. found_then entry ((are entry).0 c),
-      λ is. (are entry).1 (found_before entry is),
-    )
+    found_other : SameFound store IsTableOf old other
+    found_other entry = (found_then entry, found_before entry)
 
-  pub found_stays : NewTablesHaveFound store IsTableOf first next old now → (found : List Entry)
-      → AreFound store IsTableOf old found → AreFound store IsTableOf now found
-  found_stays have = found_other now (λ path e. same_bytes (old path) (now path) e) have
+  pub found_stays : (meant : ℕ → List ℕ) → MeantHaveFound store IsTableOf first next meant old
+      → NoCutTableIsReadable store IsTableOf first next meant now
+      → SameFound store IsTableOf old now
+  found_stays meant have = found_other meant have now (λ path e. same_bytes (old path) (now path) e)
 
-  -- ---- after a crash
-
-  pub crash_leaves_found : (left : Files)
-      → NewTablesHaveFound store IsTableOf first next old now
+  -- after a crash
+  pub crash_leaves_found : (meant : ℕ → List ℕ) (left : Files)
+      → MeantHaveFound store IsTableOf first next meant old
       → ((path : List ℕ) → IsKept (old path)) → FilesCrashTo now left
-      → LeavesNoTornTable store IsTableOf now left → (found : List Entry)
-      → AreFound store IsTableOf old found → AreFound store IsTableOf left found
-  crash_leaves_found left have kept leaves whole =
-      found_other left
+      → NoCutTableIsReadable store IsTableOf first next meant left
+      → SameFound store IsTableOf old left
+  crash_leaves_found meant left have kept leaves = found_other meant have left
       (λ path e. kept_left (old path) (left path) (kept path)
       (subst (λ f. FileCrashesTo f (left path)) e (leaves path)))
-      (λ n crashed entries entry from below there readable c.
-      let was = there_before (now (table_path store n)) (left (table_path store n)) crashed
-      (leaves (table_path store n)) there in
-      let same = whole (table_path store n) was.0 crashed entries (
-        file_name Table n,
-        n,
-        made_name Table n (number_fits store taken next old now r n below),
-        refl,
-      ) was.1 there readable in
-      have n was.0 entries entry from below was.1
-      (subst (λ b. IsReadable IsTableOf b entries) same readable) c)
-    where
-      -- what a crash left was there
-      there_before : (file left' : Option File) (crashed : File) → FileCrashesTo file left'
-          → left' ≡ Some crashed → (was : File) × (file ≡ Some was)
-      there_before None left' crashed gone there =
-          absurd (let never : None ≡ Some crashed = sym gone ∙ there in cc)
-      there_before (Some was) left' crashed crash there = (was, refl)
 
 -- ---- batches with numbers
 

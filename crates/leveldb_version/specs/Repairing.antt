@@ -20,7 +20,7 @@ use Rattle.leveldb_version.specs.Format.{IsTableOf, Meaning}
 use Rattle.leveldb_version.specs.Found.{AreFound, HasNoTableNorLog, IsAnyTable, IsFound, IsFoundLog, IsReadable}
 use Rattle.leveldb_version.specs.Levels.{AreDisjoint, LiveTable, table_entries}
 use Rattle.leveldb_version.specs.NewManifest.{MakingManifest, manifest_bytes, with_manifest}
-use Rattle.leveldb_version.specs.Paths.{IsFilePath, current_path, lock_path, manifest_path, table_path}
+use Rattle.leveldb_version.specs.Paths.{current_path, lock_path, manifest_path, table_path}
 use Rattle.leveldb_version.specs.Store.{HasTable, IsManaged, LogIsReplayed, SameEntries}
 use Rattle.leveldb_version.specs.StoreLaws.{StoreHolds}
 use Rattle.leveldb_version.specs.StoreStays.{HasKeptEdits}
@@ -196,35 +196,37 @@ OneReadableTable = (cmp : List ℕ → List ℕ → Ordering) (meaning : Meaning
     → IsReadable (IsAnyTable cmp meaning) bytes those → these ≡ those
 
 module _ (store : List ℕ) (IsTableOf : List ℕ → List Pair → Type 0) where
-  -- all that a readable table of a new number has was found before
-  abbrev pub NewTablesHaveFound : ℕ → ℕ → Files → Files → Type 0
-  NewTablesHaveFound first next old now = (n : ℕ) (file : File) (entries : List Entry)
-      (entry : Entry) → first ≤ n → n < next
-      → now (table_path store n) ≡ Some file → IsReadable IsTableOf (bytes_of file) entries
-      → Contains entries entry → IsFound store IsTableOf old entry
+  -- the bytes that are meant for the tables of new numbers have no entry but found ones
+  abbrev pub MeantHaveFound : ℕ → ℕ → (ℕ → List ℕ) → Files → Type 0
+  MeantHaveFound first next meant old = (n : ℕ) (entries : List Entry) (entry : Entry)
+      → first ≤ n → n < next → IsReadable IsTableOf (meant n) entries → Contains entries entry
+      → IsFound store IsTableOf old entry
 
-  -- a crash left no table readable of which it didn't leave all bytes
-  abbrev pub LeavesNoTornTable : Files → Files → Type 0
-  LeavesNoTornTable files left = (path : List ℕ) (file crashed : File) (entries : List Entry)
-      → IsFilePath Table store path → files path ≡ Some file → left path ≡ Some crashed
-      → IsReadable IsTableOf (bytes_of crashed) entries → bytes_of crashed ≡ bytes_of file
+  -- of these tables one is readable only if it has all the bytes that are meant for it
+  abbrev pub NoCutTableIsReadable : ℕ → ℕ → (ℕ → List ℕ) → Files → Type 0
+  NoCutTableIsReadable first next meant files = (n : ℕ) (file : File) (entries : List Entry)
+      → first ≤ n → n < next → files (table_path store n) ≡ Some file
+      → IsReadable IsTableOf (bytes_of file) entries → bytes_of file ≡ meant n
+
+  -- the same entries are found
+  abbrev pub SameFound : Files → Files → Type 0
+  SameFound old new =
+      (entry : Entry) → IsFound store IsTableOf old entry ↔ IsFound store IsTableOf new entry
 
   -- ---- laws of it
 
-  -- while a repair is made the same is found
+  -- while a repair is made the same is found, if no cut table is readable
   abbrev pub FoundStays : Type 0
-  FoundStays = (taken next : ℕ) (old now : Files)
-      → IsRepairing store taken next old now → NewTablesHaveFound (taken + 2) next old now
-      → (found : List Entry) → AreFound store IsTableOf old found
-      → AreFound store IsTableOf now found
+  FoundStays = (taken next : ℕ) (meant : ℕ → List ℕ) (old now : Files)
+      → IsRepairing store taken next old now → MeantHaveFound (taken + 2) next meant old
+      → NoCutTableIsReadable (taken + 2) next meant now → SameFound old now
 
-  -- so it is after a crash, where all bytes of the old files were kept
+  -- so it is of what a crash leaves, where all bytes of the old files were kept
   abbrev pub CrashesLeaveFound : Type 0
-  CrashesLeaveFound = (taken next : ℕ) (old now left : Files)
-      → IsRepairing store taken next old now → NewTablesHaveFound (taken + 2) next old now
-      → ((path : List ℕ) → IsKept (old path)) → FilesCrashTo now left → LeavesNoTornTable now left
-      → (found : List Entry) → AreFound store IsTableOf old found
-      → AreFound store IsTableOf left found
+  CrashesLeaveFound = (taken next : ℕ) (meant : ℕ → List ℕ) (old now left : Files)
+      → IsRepairing store taken next old now → MeantHaveFound (taken + 2) next meant old
+      → ((path : List ℕ) → IsKept (old path)) → FilesCrashTo now left
+      → NoCutTableIsReadable (taken + 2) next meant left → SameFound old left
 
   -- what is found is one set, in whatever list
   abbrev pub OneFoundSet : Type 0
@@ -233,8 +235,7 @@ module _ (store : List ℕ) (IsTableOf : List ℕ → List Pair → Type 0) wher
 
   -- it goes by the bytes of the folder's tables and logs alone
   abbrev pub FoundGoesByBytes : Type 0
-  FoundGoesByBytes = (old new : Files) (found : List Entry) → SameTablesAndLogs store old new
-      → AreFound store IsTableOf old found → AreFound store IsTableOf new found
+  FoundGoesByBytes = (old new : Files) → SameTablesAndLogs store old new → SameFound old new
 
 -- ---- a store's contents
 
