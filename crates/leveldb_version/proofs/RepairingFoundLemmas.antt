@@ -1,5 +1,5 @@
--- What is found stays while a repair is made and after a crash, and of a store with no other file
--- it is its contents.
+-- What is found stays while a repair is made and after a crash, if no cut table is readable; and of
+-- a store with no other file it is its contents.
 use Rattle.leveldb_base.proofs.HistoryLemmas.{in_cases, in_front, in_none, in_rest}
 use Rattle.leveldb_base.proofs.NamesLemmas.{made_name}
 use Rattle.leveldb_base.specs.History.{Entry, greatest}
@@ -28,7 +28,7 @@ use Rattle.leveldb_version.specs.Found.{AreFound, IsAnyTable, IsFound, IsFoundLo
 use Rattle.leveldb_version.specs.Levels.{LiveTable, table_entries}
 use Rattle.leveldb_version.specs.Paths.{current_path, log_path, table_path}
 use Rattle.leveldb_version.specs.Repairing.{FiltersAreIgnored, HasNoOtherFile, IsRepairing, MeantHaveFound, NoCutTableIsReadable, SameFound, StoresAreFound, TablesAreReadable}
-use Rattle.leveldb_version.specs.Store.{IsInternalPair, IsLog, IsManaged, IsManagedBy, OneTableReading, ReplayedLog, SameEntries, log_batches, log_entries}
+use Rattle.leveldb_version.specs.Store.{IsInternalPair, IsLog, IsManaged, IsManagedBy, OneTableReading, ReplayedLog, log_batches, log_entries}
 use Rattle.leveldb_version.specs.StoreSteps.{IsKept}
 use Rattle.leveldb_version.specs.VersionEdit.{NewFile}
 use Rattle.leveldb_version.specs.VersionSet.{live_after}
@@ -37,7 +37,7 @@ use Rattle.std.proofs.lemmas.Bool.{cases_lt}
 use Rattle.std.proofs.lemmas.List.Elements.{Contains-append_cases, Contains-append_left, Contains-append_right}
 use Rattle.std.specs.Cmp.Lexicographic.{bytes_decides}
 use Rattle.std.specs.List.{AllByRecursion}
-use Rattle.std.specs.Prelude.{◌≢◌, ◌↔◌, Contains}
+use Rattle.std.specs.Prelude.{◌≢◌, Contains}
 use Rattle.std.specs.Str.{bytes_eq}
 use Rattle.std.specs.declared.cmp.Ordering.{Ordering}
 
@@ -407,18 +407,8 @@ module _ (store : List ℕ) (cmp : List ℕ → List ℕ → Ordering)
       (in_log is.0 is.1 entry is.2 log))
       is.3)
 
-  pub store_is_found : (found : List Entry)
-      → AreFound store IsAnyTableOf files found ↔ SameEntries found contents.entries
-  store_is_found found = (
-    λ are entry. (
-      λ c. found_in_contents entry ((are entry).0 c),
-      λ c. (are entry).1 (contents_found entry c),
-    ),
-    λ same entry. (
-      λ c. contents_found entry ((same entry).0 c),
-      λ is. (same entry).1 (found_in_contents entry is),
-    ),
-  )
+  pub store_is_found : AreFound store IsAnyTableOf files contents.entries
+  store_is_found entry = (contents_found entry, found_in_contents entry)
 
 pub stores_are_found : (store : List ℕ) → StoresAreFound store
 stores_are_found store cmp meaning files contents m alone =

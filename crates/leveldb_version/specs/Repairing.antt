@@ -254,7 +254,7 @@ FiltersAreIgnored = (cmp : List ℕ → List ℕ → Ordering) (meaning : Meanin
     (pairs others : List Pair) → IsTableOf cmp meaning bytes pairs
     → IsAnyTable cmp meaning bytes others ↔ (others ≡ pairs)
 
--- so a table that is there is readable as its entries alone, if they have numbers from 1 on
+-- so a table that is there is readable exactly as its entries, if they have numbers from 1 on
 abbrev pub TablesAreReadable : List ℕ → Type 0
 TablesAreReadable store = (cmp : List ℕ → List ℕ → Ordering) (meaning : Meaning) (files : Files)
     (table : LiveTable) (h : HasTable store cmp (IsTableOf cmp meaning) files table)
@@ -262,9 +262,9 @@ TablesAreReadable store = (cmp : List ℕ → List ℕ → Ordering) (meaning : 
     ↔ ((entries ≡ table.entries)
     × ((entry : Entry) → Contains table.entries entry → 0 < entry.sequence))
 
--- of a store with no table and no log beside those that it reads, its contents are found
+-- of a store with no table and no log beside those that it reads, exactly its entries are found
 abbrev pub StoresAreFound : List ℕ → Type 0
 StoresAreFound store = (cmp : List ℕ → List ℕ → Ordering) (meaning : Meaning) (files : Files)
     (contents : Contents) (m : IsManaged store cmp (IsTableOf cmp meaning) files contents)
-    → HasNoOtherFile store (live_after m.edits) files → (found : List Entry)
-    → AreFound store (IsAnyTable cmp meaning) files found ↔ SameEntries found contents.entries
+    → HasNoOtherFile store (live_after m.edits) files
+    → AreFound store (IsAnyTable cmp meaning) files contents.entries
