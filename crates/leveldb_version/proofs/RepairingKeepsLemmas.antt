@@ -16,7 +16,7 @@ use Rattle.leveldb_version.specs.Holds.{IsHonest}
 use Rattle.leveldb_version.specs.Paths.{current_path, lock_path, manifest_path, table_path}
 use Rattle.leveldb_version.specs.Repairing.{IsRepairing, ManifestsGoOn}
 use Rattle.leveldb_version.specs.Store.{HasNoStore, IsManaged, IsStore}
-use Rattle.leveldb_version.specs.StoreSteps.{KeepsHistory}
+use Rattle.leveldb_version.specs.StoreSteps.{IsAboveLogs, KeepsHistory}
 use Rattle.leveldb_version.specs.VersionEdit.{NewFile}
 use Rattle.std.proofs.Common.{◌+◌, ◌<◌, ◌^◌, ◌∙◌, ◌≡◌, List, None, Option, Some, ap, arith, false, inl, inr, refl, subst, sym, ℕ, ⊎_elim}
 use Rattle.std.specs.Str.{bytes_eq}
@@ -90,6 +90,12 @@ module _ (store : List ℕ) (taken next : ℕ) (old now : Files)
       (λ d. cc))
       (kinds_apart store (file_name DBLock 0) name 0 k DBLock Log (made_name DBLock 0 refl) is
       (λ d. cc))
+
+  -- no log has the next number or a greater one
+  pub still_above_logs : IsAboveLogs store now next
+  still_above_logs name k is some =
+      let below = r.taken_is.below name k Log is (λ none. some (same_log name k is ∙ none)) in
+      let begun = r.begun in omega (arith, below, begun)
 
 -- making the manifest is a part of the repair
 pub manifests_go_on : (store : List ℕ) → ManifestsGoOn store

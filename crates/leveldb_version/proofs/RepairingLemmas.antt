@@ -1,5 +1,5 @@
 -- What a repair left: all that is read of it is kept, so it holds the set of its tables' entries;
--- and a manifest of the one edit makes tables such a store.
+-- and a manifest of the one edit makes tables such a store. Until then each history is kept.
 use Rattle.leveldb_base.proofs.EntriesLemmas.{in_map, map_in}
 use Rattle.leveldb_base.proofs.HistoryLemmas.{in_cases, in_none}
 use Rattle.leveldb_base.proofs.NamesLemmas.{made_name}
@@ -21,6 +21,7 @@ use Rattle.leveldb_version.proofs.NewManifestKeepsLemmas.{elsewhere, framed_is_m
 use Rattle.leveldb_version.proofs.NumbersLemmas.{up_to_greatest}
 use Rattle.leveldb_version.proofs.OneStoreLemmas.{in_flat}
 use Rattle.leveldb_version.proofs.PairwiseLemmas.{each_second}
+use Rattle.leveldb_version.proofs.RepairingKeepsLemmas.{repair_keeps}
 use Rattle.leveldb_version.proofs.SafeLemmas.{some_is}
 use Rattle.leveldb_version.proofs.VersionEditLemmas.{written_is_read}
 use Rattle.leveldb_version.proofs.VersionSetLemmas.{none_is_some}
@@ -29,11 +30,12 @@ use Rattle.leveldb_version.specs.Compaction.{files_of_tables}
 use Rattle.leveldb_version.specs.Contents.{Contents, Store, made}
 use Rattle.leveldb_version.specs.Current.{IsCurrentText, current_text}
 use Rattle.leveldb_version.specs.CurrentFile.{temp_path}
+use Rattle.leveldb_version.specs.Found.{HasNoTableNorLog}
 use Rattle.leveldb_version.specs.Holds.{Holds}
 use Rattle.leveldb_version.specs.Levels.{LevelOrder, LiveTable, table_entries}
 use Rattle.leveldb_version.specs.NewManifest.{MakingManifest}
 use Rattle.leveldb_version.specs.Paths.{current_path, manifest_path, table_path}
-use Rattle.leveldb_version.specs.Repairing.{AreLevelOne, HasRepairedTables, IsRepaired, ManifestRepairs, repaired_contents, repaired_edit, repaired_manifest}
+use Rattle.leveldb_version.specs.Repairing.{AreLevelOne, HasRepairedTables, HoldOldOrFound, IsRepaired, IsRepairing, ManifestRepairs, repaired_contents, repaired_edit, repaired_manifest}
 use Rattle.leveldb_version.specs.Store.{FitTogether, HasTables, IsInternalPair, IsManagedBy, IsManifest, IsStore, LastNumbersFit, LogIsReplayed, SameEntries, contents_of}
 use Rattle.leveldb_version.specs.StoreSteps.{AddsOnce, AreKept, HasAddedTables, IsAllKept, IsKept, LeavesAlone}
 use Rattle.leveldb_version.specs.VersionEdit.{Edit, IsEncodable, NewFile, edit_bytes}
@@ -286,6 +288,21 @@ module _ (store : List ℕ) (cmp : List ℕ → List ℕ → Ordering)
       where
         last_found : last ≡ greatest found
         last_found = r.has.last_is ∙ same_greatest (table_entries tables) found same
+
+    -- until then each history is kept
+    pub repairs_hold : (allowed : Store → Type 0) (taken : ℕ) (old now : Files)
+        → IsRepairing store taken next old now → (HasNoTableNorLog store old → ⊥)
+        → (now (current_path store) ≡ old (current_path store))
+        ⊎ IsRepaired store cmp IsTableOf comparator manifest next last tables now
+        → allowed (made (Some comparator)) → (found : List Entry)
+        → SameEntries (table_entries tables) found
+        → HoldOldOrFound store cmp IsTableOf allowed found old now
+    repairs_hold allowed taken old now r some either may found same = ⊎_elim
+        (λ (still : now (current_path store) ≡ old (current_path store)).
+        inl (repair_keeps store cmp IsTableOf allowed taken next old now r still some))
+        (λ (done : IsRepaired store cmp IsTableOf comparator manifest next last tables now).
+        inr (repaired_holds allowed now done may found same))
+        either
 
     -- ---- its manifest
 

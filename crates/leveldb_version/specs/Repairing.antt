@@ -175,6 +175,23 @@ module _ (store : List ℕ) (cmp : List ℕ → List ℕ → Ordering)
         → (HasNoTableNorLog store old → ⊥) → (bound : ℕ)
         → KeepsHistory store cmp IsTableOf allowed bound old now
 
+    -- The new files keep each history of the old ones, or they hold the found set, as one durable
+    -- batch, and no number past its own.
+    abbrev pub HoldOldOrFound : List Entry → Files → Files → Type 0
+    HoldOldOrFound found old new =
+        ((bound : ℕ) → KeepsHistory store cmp IsTableOf allowed bound old new)
+        ⊎ StoreHolds store cmp IsTableOf allowed new (found ∷ []) (greatest found) 1 None
+
+    -- so they do at each moment of a repair whose tables have the found set
+    abbrev pub RepairsHold : Type 0
+    RepairsHold = (comparator : List ℕ) (taken next last : ℕ) (tables : List LiveTable)
+        (old now : Files) → IsRepairing store taken next old now
+        → (HasNoTableNorLog store old → ⊥)
+        → (now (current_path store) ≡ old (current_path store))
+        ⊎ IsRepaired comparator (taken + 1) next last tables now
+        → allowed (made (Some comparator)) → (found : List Entry)
+        → SameEntries (table_entries tables) found → HoldOldOrFound found old now
+
 -- ---- what is found
 
 -- the tables and logs of the folder have the same bytes, and no others are there

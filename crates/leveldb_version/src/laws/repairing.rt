@@ -1,7 +1,7 @@
 //! Laws of a repair: what it leaves is a store with the set of its tables' entries, each history is
 //! kept while `CURRENT` is as it was, and the same is found meanwhile if no cut table is readable.
 ghost use Rattle.std.specs.Prelude.{ℕ, List};
-ghost use Rattle.leveldb_version.specs.Repairing.{CrashesLeaveFound, FiltersAreIgnored, FoundGoesByBytes, FoundStays, ManifestsGoOn, ManifestsRepair, OneFoundLog, OneFoundSet, OneReadableTable, RepairedHolds, RepairedIsKept, RepairsKeep, StoresAreFound, TablesAreReadable};
+ghost use Rattle.leveldb_version.specs.Repairing.{CrashesLeaveFound, FiltersAreIgnored, FoundGoesByBytes, FoundStays, ManifestsGoOn, ManifestsRepair, OneFoundLog, OneFoundSet, OneReadableTable, RepairedHolds, RepairedIsKept, RepairsHold, RepairsKeep, StoresAreFound, TablesAreReadable};
 
 use super::stores::StoreFormat;
 
@@ -18,9 +18,11 @@ pub fn manifests_make_repaired_stores<F: StoreFormat>()
     ensures part { (store : List ℕ) → ManifestsGoOn store }
 {}
 
-/// While `CURRENT` is as it was each history is kept, where a table or a log was there.
+/// While `CURRENT` is as it was each history is kept, where a table or a log was there. So at each
+/// moment the files hold what they held, or the set of the entries of the repair's tables.
 pub fn repairs_keep_histories<F: StoreFormat>()
-    ensures { (store : List ℕ) → RepairsKeep store F.cmp F.is_table F.allowed }
+    ensures keeps { (store : List ℕ) → RepairsKeep store F.cmp F.is_table F.allowed }
+    ensures holds { (store : List ℕ) → RepairsHold store F.cmp F.is_table F.allowed }
 {}
 
 /// What is found stays the same while a repair is made, if the bytes that are meant for its tables
