@@ -1,6 +1,6 @@
 -- What is found stays while a repair is made and after a crash, if no cut table is readable; and of
 -- a store with no other file it is its contents.
-use Rattle.leveldb_base.proofs.HistoryLemmas.{in_cases, in_front, in_none, in_rest}
+use Rattle.leveldb_base.proofs.HistoryLemmas.{in_cases, in_front, in_none, in_rest, same_sets}
 use Rattle.leveldb_base.proofs.NamesLemmas.{made_name}
 use Rattle.leveldb_base.specs.History.{Entry, greatest}
 use Rattle.leveldb_base.specs.KeyTypes.{greatest_sequence, internal_cmp, user_part}
@@ -14,7 +14,7 @@ use Rattle.leveldb_mem.specs.WriteBatch.{Batch}
 use Rattle.leveldb_table.proofs.TableReaderLemmas.{decodes_one, one_table}
 use Rattle.leveldb_table.specs.Table.{FiltersHold, Part}
 use Rattle.leveldb_version.proofs.BatchesLemmas.{each_one}
-use Rattle.leveldb_version.proofs.FoundLemmas.{Has, found_in, one_found_log, one_readable}
+use Rattle.leveldb_version.proofs.FoundLemmas.{Has, found_in, one_found_log, one_found_set, one_readable}
 use Rattle.leveldb_version.proofs.KeptLemmas.{kept_left}
 use Rattle.leveldb_version.proofs.ManagedLemmas.{SameBytes, kinds_apart, numbers_apart, same_bytes}
 use Rattle.leveldb_version.proofs.OneStoreLemmas.{flat_in, in_flat, one_entry}
@@ -27,7 +27,7 @@ use Rattle.leveldb_version.specs.Format.{IsTableOf, Meaning}
 use Rattle.leveldb_version.specs.Found.{AreFound, IsAnyTable, IsFound, IsFoundLog, IsNumberedBatch, IsReadable, LogHas, TableHas}
 use Rattle.leveldb_version.specs.Levels.{LiveTable, table_entries}
 use Rattle.leveldb_version.specs.Paths.{current_path, log_path, table_path}
-use Rattle.leveldb_version.specs.Repairing.{FiltersAreIgnored, HasNoOtherFile, IsRepairing, MeantHaveFound, NoCutTableIsReadable, SameFound, StoresAreFound, TablesAreReadable}
+use Rattle.leveldb_version.specs.Repairing.{FiltersAreIgnored, FoundShowsTheSame, HasNoOtherFile, IsRepairing, MeantHaveFound, NoCutTableIsReadable, SameFound, StoresAreFound, TablesAreReadable}
 use Rattle.leveldb_version.specs.Store.{IsInternalPair, IsLog, IsManaged, IsManagedBy, OneTableReading, ReplayedLog, log_batches, log_entries}
 use Rattle.leveldb_version.specs.StoreSteps.{IsKept}
 use Rattle.leveldb_version.specs.VersionEdit.{NewFile}
@@ -414,3 +414,9 @@ pub stores_are_found : (store : List ℕ) → StoresAreFound store
 stores_are_found store cmp meaning files contents m alone =
     store_is_found store cmp (IsTableOf cmp meaning) (IsAnyTable cmp meaning)
     (ignoring cmp meaning) files contents m alone
+
+pub found_shows_the_same : (store : List ℕ) → FoundShowsTheSame store
+found_shows_the_same store cmp meaning files contents m alone found are =
+    same_sets found contents.entries
+    ((one_found_set store (IsAnyTable cmp meaning) files found contents.entries are).0
+    (stores_are_found store cmp meaning files contents m alone))

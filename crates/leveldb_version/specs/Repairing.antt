@@ -5,7 +5,7 @@ use Rattle.std.specs.Prelude.{◌≡◌, ◌≢◌, ◌⊎◌, ◌<◌, ◌≤�
 use Rattle.std.specs.Option.{option_map}
 use Rattle.std.specs.Str.{bytes_eq}
 use Rattle.std.specs.declared.cmp.Ordering.{Ordering}
-use Rattle.leveldb_base.specs.History.{AreAbove, Entry, greatest}
+use Rattle.leveldb_base.specs.History.{AreAbove, Entry, SameView, greatest}
 use Rattle.leveldb_base.specs.Names.{IsFileName, file_name}
 use Rattle.leveldb_base.specs.Types.{Pair}
 use Rattle.leveldb_base.specs.declared.types.FileType.{FileType}
@@ -81,7 +81,7 @@ pub record IsRepairing (store : List ℕ) (taken next : ℕ) (old now : Files) :
   -- the lock's file is as it was, or was made empty where it was missing
   pub lock : (now (lock_path store) ≡ old (lock_path store))
       ⊎ (now (lock_path store) ≡ or_empty (old (lock_path store)))
-  -- the numbers have 64 bits
+  -- the next number is past the manifest's, and has 64 bits
   pub begun : taken + 2 ≤ next
   pub fits : next < 2 ^ 64
 
@@ -175,14 +175,14 @@ module _ (store : List ℕ) (cmp : List ℕ → List ℕ → Ordering)
         → (HasNoTableNorLog store old → ⊥) → (bound : ℕ)
         → KeepsHistory store cmp IsTableOf allowed bound old now
 
-    -- The new files keep each history of the old ones, or they hold the found set, as one durable
-    -- batch, and no number past its own.
+    -- The new files keep each history of the old ones, or they hold this set of entries, as one
+    -- durable batch, and no number past theirs.
     abbrev pub HoldOldOrFound : List Entry → Files → Files → Type 0
     HoldOldOrFound found old new =
         ((bound : ℕ) → KeepsHistory store cmp IsTableOf allowed bound old new)
         ⊎ StoreHolds store cmp IsTableOf allowed new (found ∷ []) (greatest found) 1 None
 
-    -- so they do at each moment of a repair whose tables have the found set
+    -- so they do at each moment of a repair whose tables have this set
     abbrev pub RepairsHold : Type 0
     RepairsHold = (comparator : List ℕ) (taken next last : ℕ) (tables : List LiveTable)
         (old now : Files) → IsRepairing store taken next old now
@@ -285,3 +285,11 @@ StoresAreFound store = (cmp : List ℕ → List ℕ → Ordering) (meaning : Mea
     (contents : Contents) (m : IsManaged store cmp (IsTableOf cmp meaning) files contents)
     → HasNoOtherFile store (live_after m.edits) files
     → AreFound store (IsAnyTable cmp meaning) files contents.entries
+
+-- so all that is found of such a store shows what it shows, at every number
+abbrev pub FoundShowsTheSame : List ℕ → Type 0
+FoundShowsTheSame store = (cmp : List ℕ → List ℕ → Ordering) (meaning : Meaning) (files : Files)
+    (contents : Contents) (m : IsManaged store cmp (IsTableOf cmp meaning) files contents)
+    → HasNoOtherFile store (live_after m.edits) files → (found : List Entry)
+    → AreFound store (IsAnyTable cmp meaning) files found → (t : ℕ)
+    → SameView found contents.entries t

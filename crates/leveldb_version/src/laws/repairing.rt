@@ -1,7 +1,7 @@
 //! Laws of a repair: what it leaves is a store with the set of its tables' entries, each history is
 //! kept while `CURRENT` is as it was, and the same is found meanwhile if no cut table is readable.
 ghost use Rattle.std.specs.Prelude.{ℕ, List};
-ghost use Rattle.leveldb_version.specs.Repairing.{CrashesLeaveFound, FiltersAreIgnored, FoundGoesByBytes, FoundStays, ManifestsGoOn, ManifestsRepair, OneFoundLog, OneFoundSet, OneReadableTable, RepairedHolds, RepairedIsKept, RepairsHold, RepairsKeep, StoresAreFound, TablesAreReadable};
+ghost use Rattle.leveldb_version.specs.Repairing.{CrashesLeaveFound, FiltersAreIgnored, FoundGoesByBytes, FoundShowsTheSame, FoundStays, ManifestsGoOn, ManifestsRepair, OneFoundLog, OneFoundSet, OneReadableTable, RepairedHolds, RepairedIsKept, RepairsHold, RepairsKeep, StoresAreFound, TablesAreReadable};
 
 use super::stores::StoreFormat;
 
@@ -42,11 +42,12 @@ pub fn found_entries_are_a_set<F: StoreFormat>()
     ensures bytes { (store : List ℕ) → FoundGoesByBytes store F.is_table }
 {}
 
-/// Of a store with no table and no log beside those that it reads exactly its entries are found. A
-/// table is readable, whatever its filters are, exactly as its entries, if these have numbers from 1
-/// on.
+/// Of a store with no table and no log beside those that it reads exactly its entries are found, so
+/// what is found shows what it shows. A table is readable, whatever its filters are, exactly as its
+/// entries, if these have numbers from 1 on.
 pub fn stores_are_found()
     ensures contents { (store : List ℕ) → StoresAreFound store }
+    ensures shows { (store : List ℕ) → FoundShowsTheSame store }
     ensures tables { (store : List ℕ) → TablesAreReadable store }
     ensures filters { FiltersAreIgnored }
 {}
