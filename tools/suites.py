@@ -1,18 +1,24 @@
 #!/usr/bin/env python3
 """Puts crates and suites into a folder, where they are run unproved: what ./test and other tools share.
 
-    tools/suites.py FOLDER NAME..     the crates of crates.txt and the suites of tests/suites.txt of these names, with all that they use
+    tools/suites.py FOLDER NAME..         the crates of crates.txt and the suites of tests/suites.txt of these names, with all that they use
+    tools/suites.py --prove FOLDER NAME   a program of tests/suites.txt and what it uses, proofs and built libraries too, so that `rt run` proves it
 
-The folder gets a crates.txt, and for each of them crates/NAME/src, with specs where a crate has them. The sources of a suite, tests/NAME/*.rs,
-become .rt files there. Then `rt try`, in such a crate's folder, runs it. The module `long` of a suite, tests/NAME/long.rs, has its tests that
-take minutes: it has none there, unless these are asked for.
+The folder gets a crates.txt, and for each crate crates/NAME/src, with specs where it has them. The suites become modules of one crate, crates/suites,
+so that what they use is built once: tests/NAME/*.rs are crates/suites/src/NAME/*.rt. What suites share, and a program,
+a folder of tests/ without tests, is a crate of its own, with definitions and proofs where it has them, tests/NAME/**/*.antt.txt. Then `rt try`, in such a
+crate's folder, runs it. The module `long` of a suite, tests/NAME/long.rs, has its tests that take minutes: it has none there, unless these are asked for.
 """
+import os
 import pathlib
 import re
 import shutil
+import subprocess
 import sys
 
 TOP = pathlib.Path(__file__).resolve().parent.parent
+# the crate whose modules the suites are
+JOINED = "suites"
 # the module of a suite whose tests take minutes
 LONG = "long"
 TEST = re.compile(r"^ *#\[test\]\n(?: *#\[.*\]\n)* *(?:pub )?fn (\w+)", re.MULTILINE)
@@ -61,48 +67,119 @@ def with_below(names):
     return found
 
 
-def put(name, folder, with_long=True):
-    """Puts one crate or suite into the folder, with its long tests or without."""
-    to = pathlib.Path(folder, "crates", name)
-    if name not in sources():
-        for part in ("src", "specs"):
-            if (TOP / "crates" / name / part).is_dir():
-                shutil.copytree(TOP / "crates" / name / part, to / part)
-        return
+def put_crate(name, folder):
+    """Puts one crate of the repository into the folder."""
+    for part in ("src", "specs"):
+        if (TOP / "crates" / name / part).is_dir():
+            shutil.copytree(TOP / "crates" / name / part, pathlib.Path(folder, "crates", name, part))
+
+
+def put_sources(name, root, below, with_long=True):
+    """Puts the sources of a folder of tests/ where a crate or module has this root file, and its other files in the folder `below`."""
     for path in (TOP / "tests" / name).glob("**/*.rs"):
-        copy = (to / "src" / path.relative_to(TOP / "tests" / name)).with_suffix(".rt")
+        inner = path.relative_to(TOP / "tests" / name).with_suffix(".rt")
+        copy = root if inner.name == "lib.rt" else below / inner
         copy.parent.mkdir(parents=True, exist_ok=True)
-        if with_long or path != TOP / "tests" / name / f"{LONG}.rs":
+        if with_long or str(inner) != f"{LONG}.rt":
             shutil.copy(path, copy)
         else:
             copy.write_text("//! Left out here.\n", encoding="utf-8")
 
 
+def put_alone(name, folder):
+    """Puts a library of suites, or a program, into the folder, as a crate of its own."""
+    to = pathlib.Path(folder, "crates", name)
+    put_sources(name, to / "src/lib.rt", to / "src")
+    for path in (TOP / "tests" / name).glob("**/*.antt.txt"):
+        copy = (to / path.relative_to(TOP / "tests" / name)).with_suffix("")
+        copy.parent.mkdir(parents=True, exist_ok=True)
+        shutil.copy(path, copy)
+
+
+def join(names, folder, with_long):
+    """Puts suites into the folder as the modules of one crate, with their long tests or without."""
+    source = pathlib.Path(folder, "crates", JOINED, "src")
+    for name in names:
+        put_sources(name, source / f"{name}.rt", source / name, with_long)
+    modules = "".join(f"mod {name};\n" for name in names)
+    (source / "lib.rt").write_text(f"//! Suites of tests.\n\n{modules}", encoding="utf-8")
+
+
 def assemble(folder, names, with_long=False):
     """Puts these crates and suites, with all that they use, into a folder that has none of them; the suites with their long tests or without."""
-    found = with_below(names)
-    for name in found:
-        put(name, folder, with_long)
-    lines = [f"{name}: {' '.join(uses)}\n" for name, uses in found.items()]
+    uses, joined = with_below(names), [it for it in suites() if it in names]
+    for name in uses:
+        if name in crates():
+            put_crate(name, folder)
+        elif name not in joined:
+            put_alone(name, folder)
+    if joined:
+        join(joined, folder, with_long)
+        uses[JOINED] = sorted({it for name in joined for it in uses.pop(name)})
+    list_crates(folder, uses)
+
+
+def list_crates(folder, uses):
+    """Writes the folder's crates.txt."""
+    lines = [f"{name}: {' '.join(below)}\n" for name, below in uses.items()]
     pathlib.Path(folder, "crates.txt").write_text("".join(lines), encoding="utf-8")
 
 
+def link_or_copy(one, other):
+    try:
+        os.link(one, other)
+    except OSError:
+        shutil.copy2(one, other)
+
+
+def put_proved(name, folder):
+    """Puts a crate into the folder with its proofs, in place of what is there of it, and its library where it is built."""
+    crate, to = TOP / "crates" / name, pathlib.Path(folder, "crates", name)
+    for part in ("src", "specs", "proofs"):
+        shutil.rmtree(to / part, ignore_errors=True)
+        if (crate / part).is_dir():
+            shutil.copytree(crate / part, to / part)
+    if (crate / "out/rlib").is_dir():
+        shutil.rmtree(to / "out/rlib", ignore_errors=True)
+        shutil.copytree(crate / "out/rlib", to / "out/rlib", copy_function=link_or_copy)
+
+
+def assemble_to_prove(folder, program):
+    """Puts a program and all that it uses into a folder, which may have what an earlier run left there."""
+    uses = with_below([program])
+    for part in ("src", "specs", "proofs"):
+        shutil.rmtree(pathlib.Path(folder, "crates", program, part), ignore_errors=True)
+    put_alone(program, folder)
+    for name in uses:
+        if name in crates():
+            put_proved(name, folder)
+    list_crates(folder, uses)
+    # (rt takes the top of a repository for that of the crates)
+    subprocess.run(["git", "init", "-q", str(folder)], check=True)
+
+
 def own_path(text, folder):
-    """Returns a text with the paths of the folder's copies as those of the repository's files."""
+    """Returns what is said of the crate of suites in the folder, with the paths of the repository's files in place of those of their copies."""
     mine = "|".join(map(re.escape, sources()))
-    text = text.replace(f"{folder}/", "")
-    return re.sub(rf"\bcrates/({mine})/src/([\w/]+)\.rt\b", r"tests/\1/\2.rs", text)
+    text = re.sub(r"(?<![\w/])src/", f"crates/{JOINED}/src/", text.replace(f"{folder}/", ""))
+    text = re.sub(rf"\bcrates/{JOINED}/src/({mine})\.rt\b", r"tests/\1/lib.rs", text)
+    return re.sub(rf"\bcrates/(?:{JOINED}/src/({mine})|({mine})/src)/([\w/]+)\.rt\b", r"tests/\1\2/\3.rs", text)
 
 
 def main(words):
     if not words or words[0] in ("--help", "-h"):
         print(__doc__)
         return 0 if words else 2
+    to_prove = words[0] == "--prove"
+    words = words[to_prove:]
     unknown = set(words[1:]) - {*crates(), *sources()}
     if unknown or not words[1:]:
         print(f"suites: no crate and no suite: {' '.join(sorted(unknown)) or 'no name was given'}", file=sys.stderr)
         return 2
-    assemble(words[0], words[1:])
+    if to_prove:
+        assemble_to_prove(words[0], words[1])
+    else:
+        assemble(words[0], words[1:])
     return 0
 
 

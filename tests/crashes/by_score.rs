@@ -1,8 +1,8 @@
 //! A store with a memtable of one byte, each write of which makes a table, so that level 0 fills up and writes compact it. Crashes and failures
 //! come at each moment and call of its script, inside these compactions too.
-use crate::crash_disks::{Script, Setting, Tails, assert_tally, record};
-use crate::steps::Step;
-use crate::sweep::{crash_everywhere, fail_everywhere};
+use super::crash_disks::{Script, Setting, Tails, assert_tally, record};
+use super::steps::Step;
+use super::sweep::{crash_everywhere, fail_everywhere};
 use leveldb_base::error::Result;
 use leveldb_env::env::Env;
 use leveldb_env::mem_env::RecordEnv;
@@ -135,21 +135,21 @@ fn compactions_of_level_0(rt: HostRuntime) -> Result<()> {
 
 #[test]
 fn crashes_without_tails(rt: HostRuntime) -> Result<()> {
-    let tally = crash_everywhere(&rt, rt.alloc(), SHORT.one_of(5), Tails::Nothing)?;
-    assert_tally(&rt, tally, tally.shortest > 5);
+    let tally = crash_everywhere(&rt, rt.alloc(), SHORT.one_of(11), Tails::Nothing)?;
+    assert_tally(&rt, tally, tally.shortest > 2);
     Ok(())
 }
 
 #[test]
 fn crashes_with_whole_tails(rt: HostRuntime) -> Result<()> {
-    let tally = crash_everywhere(&rt, rt.alloc(), SHORT.one_of(5), Tails::Whole)?;
-    assert_tally(&rt, tally, tally.longest > 5);
+    let tally = crash_everywhere(&rt, rt.alloc(), SHORT.one_of(11), Tails::Whole)?;
+    assert_tally(&rt, tally, tally.longest > 2);
     Ok(())
 }
 
 #[test]
 fn failures_without_their_change(rt: HostRuntime) -> Result<()> {
-    let tally = fail_everywhere(&rt, rt.alloc(), SHORT.one_of(7), false)?;
+    let tally = fail_everywhere(&rt, rt.alloc(), SHORT.one_of(15), false)?;
     assert_tally(&rt, tally, tally.open > 0);
     Ok(())
 }

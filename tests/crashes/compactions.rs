@@ -1,11 +1,11 @@
 //! Compactions of a store with small tables on a recording device: crashes and failures come at each moment and call of scripts, some of which
 //! look random. Each disk that a crash leaves is a whole store by the definition, and each view that is held stays.
-use crate::crash_disks::{
+use super::crash_disks::{
     Recorded, Script, Setting, Side, Tails, assert_tally, crash, record, sides_tried,
 };
-use crate::replies::KEYS;
-use crate::steps::Step;
-use crate::sweep::{
+use super::replies::KEYS;
+use super::steps::Step;
+use super::sweep::{
     crash_everywhere, crash_twice_everywhere, fail_everywhere, is_new, is_possible, nothing_seen,
 };
 use leveldb_base::cmp::DefaultCmp;
@@ -173,21 +173,21 @@ fn whole_stores(rt: HostRuntime) -> Result<()> {
 
 #[test]
 fn crashes_without_tails(rt: HostRuntime) -> Result<()> {
-    let tally = crash_everywhere(&rt, rt.alloc(), IN_SMALL.one_of(7), Tails::Nothing)?;
+    let tally = crash_everywhere(&rt, rt.alloc(), IN_SMALL.one_of(15), Tails::Nothing)?;
     assert_tally(&rt, tally, tally.shortest > 0);
     Ok(())
 }
 
 #[test]
 fn crashes_with_whole_tails(rt: HostRuntime) -> Result<()> {
-    let tally = crash_everywhere(&rt, rt.alloc(), IN_LARGE.one_of(5), Tails::Whole)?;
+    let tally = crash_everywhere(&rt, rt.alloc(), IN_LARGE.one_of(11), Tails::Whole)?;
     assert_tally(&rt, tally, tally.longest > 0);
     Ok(())
 }
 
 #[test]
 fn crashes_with_wrong_bytes(rt: HostRuntime) -> Result<()> {
-    let tally = crash_everywhere(&rt, rt.alloc(), IN_LARGE.one_of(5), Tails::WrongBytes)?;
+    let tally = crash_everywhere(&rt, rt.alloc(), IN_LARGE.one_of(11), Tails::WrongBytes)?;
     assert_tally(&rt, tally, tally.open > 0);
     Ok(())
 }
@@ -210,14 +210,14 @@ fn second_crashes_with_wrong_bytes(rt: HostRuntime) -> Result<()> {
 
 #[test]
 fn failures_without_their_change(rt: HostRuntime) -> Result<()> {
-    let tally = fail_everywhere(&rt, rt.alloc(), IN_SMALL.one_of(25), false)?;
+    let tally = fail_everywhere(&rt, rt.alloc(), IN_SMALL.one_of(51), false)?;
     assert_tally(&rt, tally, tally.open > 0);
     Ok(())
 }
 
 #[test]
 fn failures_with_their_change(rt: HostRuntime) -> Result<()> {
-    let tally = fail_everywhere(&rt, rt.alloc(), IN_LARGE.one_of(13), true)?;
+    let tally = fail_everywhere(&rt, rt.alloc(), IN_LARGE.one_of(27), true)?;
     assert_tally(&rt, tally, tally.open > 0);
     Ok(())
 }

@@ -1,6 +1,6 @@
 //! Crashes of a recording device: which tails they leave, and what is then found and allowed.
-use crate::replies::{is_any_map, is_map, look_ups};
-use crate::steps::{Call, Step, commands_of, crash_inside, judge};
+use super::replies::{is_any_map, is_map, look_ups};
+use super::steps::{Call, Step, commands_of, crash_inside, judge};
 use leveldb_base::cmp::DefaultCmp;
 use leveldb_base::error::{Result, Status, StatusCode};
 use leveldb_env::env::Env;

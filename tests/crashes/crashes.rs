@@ -1,6 +1,6 @@
 //! A store in memory after each of a dozen batches, and a crash that leaves each prefix of its log's unsynced bytes, or all of them with
 //! the last byte changed: the map that is found is that of a prefix of the batches with all durable ones, and the store goes on from there.
-use crate::replies::{are_same, bytes_of, is_any_map, look_ups};
+use super::replies::{are_same, bytes_of, is_any_map, look_ups};
 use leveldb_base::cmp::DefaultCmp;
 use leveldb_base::error::Result;
 use rusty_leveldb::env::Env;

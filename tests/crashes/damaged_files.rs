@@ -1,9 +1,9 @@
 //! Stores of which one file is cut to each length, has each of its bytes raised, or is taken away, and is opened then. An opening fails as
 //! damage does, or what is found is what the slow reader reads of the changed files. Of a table that is damaged nothing wrong is found.
-use crate::changed_files::{Change, File, bytes_in, disk_with, files_on, make_file};
-use crate::replies::{KEYS, has};
-use crate::steps::{Step, commands_of, landings_of};
-use crate::twelve_keys::OVER_ALL;
+use super::changed_files::{Change, File, bytes_in, disk_with, files_on, make_file};
+use super::replies::{KEYS, has};
+use super::steps::{Step, commands_of, landings_of};
+use super::twelve_keys::OVER_ALL;
 use leveldb_base::cmp::DefaultCmp;
 use leveldb_base::error::{Result, StatusCode};
 use leveldb_base::names::parse_file_name;

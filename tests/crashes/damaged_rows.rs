@@ -1,6 +1,6 @@
 //! A store of a table with a, a log with b and no more, with one or two of its files changed: what its opening returns, and what is found.
-use crate::changed_files::{Change, File, bytes_in, disk_with, files_on, make_file};
-use crate::replies::bytes_of;
+use super::changed_files::{Change, File, bytes_in, disk_with, files_on, make_file};
+use super::replies::bytes_of;
 use leveldb_base::crc::{crc32, mask_crc};
 use leveldb_base::error::{Result, StatusCode};
 use leveldb_env::env::Env;

@@ -1,11 +1,11 @@
 //! One call of the device fails, with its change made or not: a sync of a write, an append of one, and the rename that makes `CURRENT`
 //! name a new manifest.
-use crate::crash_disks::{
+use super::crash_disks::{
     DEFAULTS, Recorded, Script, Setting, Side, Tails, crash, find_all, options_of, record,
     record_on,
 };
-use crate::replies::is_map;
-use crate::steps::{Call, Step};
+use super::replies::is_map;
+use super::steps::{Call, Step};
 use leveldb_base::error::{Result, StatusCode};
 use leveldb_env::env::Env;
 use leveldb_env::env::whole_files::read_file;

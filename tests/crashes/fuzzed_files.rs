@@ -1,10 +1,10 @@
 //! Stores that look random, several of whose files are damaged at once in ways that look random, some with right checksums over what is wrong. They are opened, read both ways,
 //! written, compacted and opened again. Whatever the files hold, a call returns, and an error says damage; a reading changes no file but as an opening may; where the slow reader
 //! reads a store, its map is found; and where no checksum was made right, no pair is found but one that was put.
-use crate::changed_files::{File, files_on, make_file};
-use crate::damaged_files::{DefaultOptions, are_left, is_free, map_of, read_slowly};
-use crate::replies::has;
-use crate::steps::{Step, commands_of, landings_of};
+use super::changed_files::{File, files_on, make_file};
+use super::damaged_files::{DefaultOptions, are_left, is_free, map_of, read_slowly};
+use super::replies::has;
+use super::steps::{Step, commands_of, landings_of};
 use leveldb_base::cmp::DefaultCmp;
 use leveldb_base::crc::{crc32, mask_crc};
 use leveldb_base::error::{Result, Status, StatusCode};

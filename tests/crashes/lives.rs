@@ -1,9 +1,9 @@
 //! Lives of a store with a crash after each, reported by `lives`.
-use crate::crash_disks::{
+use super::crash_disks::{
     DEFAULTS, Setting, Side, Tally, add_calls, assert_tally, judge_crash, options_of,
 };
-use crate::replies::{bytes_of, look_ups};
-use crate::steps::{Call, Step, commands_of};
+use super::replies::{bytes_of, look_ups};
+use super::steps::{Call, Step, commands_of};
 use leveldb_base::cmp::DefaultCmp;
 use leveldb_base::error::{Result, StatusCode};
 use leveldb_env::filter::BloomPolicy;

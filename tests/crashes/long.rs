@@ -1,18 +1,18 @@
 //! Sweeps that take minutes each, over every moment, call and change: ./test --long.
-use crate::by_score::{APART, SCRIPT as BY_SCORE, SHORT as ONE_BY_SCORE};
-use crate::compactions::{
+use super::by_score::{APART, SCRIPT as BY_SCORE, SHORT as ONE_BY_SCORE};
+use super::compactions::{
     IN_LARGE, IN_SMALL, SHORT as COMPACTIONS, leave_whole_stores, run_seeds, sweep_seed,
 };
-use crate::crash_disks::{Script, Tails, assert_tally};
-use crate::crashes::crash_after_each;
-use crate::damaged_files::{change_blocks, change_two_puts};
-use crate::lives::crash_at_each;
-use crate::program::read_long_inputs;
-use crate::random_commands::run_all;
-use crate::sweep::{crash_everywhere, crash_twice_everywhere, fail_everywhere};
-use crate::switches::{ANEW, REUSING};
-use crate::twelve_keys::{SCRIPT as TWELVE_KEYS, STEPS};
-use crate::views::{SCRIPT as VIEWS, walk_over_each_byte};
+use super::crash_disks::{Script, Tails, assert_tally};
+use super::crashes::crash_after_each;
+use super::damaged_files::{change_blocks, change_two_puts};
+use super::lives::crash_at_each;
+use super::program::read_long_inputs;
+use super::random_commands::run_all;
+use super::sweep::{crash_everywhere, crash_twice_everywhere, fail_everywhere};
+use super::switches::{ANEW, REUSING};
+use super::twelve_keys::{SCRIPT as TWELVE_KEYS, STEPS};
+use super::views::{SCRIPT as VIEWS, walk_over_each_byte};
 use leveldb_base::error::Result;
 use std::alloc::Global;
 use std::io;

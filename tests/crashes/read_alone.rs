@@ -1,7 +1,7 @@
 //! Disks that are read alone before their store is opened: both show the same map.
-use crate::crash_disks::{Setting, find_all, options_of};
-use crate::program::assert_run;
-use crate::replies::{are_same, look_ups};
+use super::crash_disks::{Setting, find_all, options_of};
+use super::program::assert_run;
+use super::replies::{are_same, look_ups};
 use leveldb_base::error::{Result, StatusCode};
 use leveldb_env::env::Env;
 use leveldb_env::mem_env::{MemEnv, RecordEnv};

@@ -1,5 +1,5 @@
 //! The program over a folder of the system, as over memory: its data stay from run to run.
-use crate::program::assert_run;
+use super::program::assert_run;
 use leveldb_base::error::{Result, StatusCode};
 use leveldb_env::disk_env::PosixDiskEnv;
 use leveldb_env::env::Env;

@@ -1,10 +1,10 @@
 //! Scripts of a store one of whose requests for memory may be refused. `tools/refuse` refuses each in turn; then the call that met the refusal is made
 //! again, each reply is one that the slow store gives after the refusal, and a test whose calls were all right ends with it.
-use crate::appends::CountedAppends;
-use crate::crash_disks::{DEFAULTS, Setting, add_calls, judge_all, options_of};
-use crate::steps::{Call, Change, Step, commands_of, judge, shell_moves, written_by};
-use crate::sweep::have_causes;
-use crate::twelve_keys::{OVER_ALL, SCRIPT, STEPS};
+use super::appends::CountedAppends;
+use super::crash_disks::{DEFAULTS, Setting, add_calls, judge_all, options_of};
+use super::steps::{Call, Change, Step, commands_of, judge, shell_moves, written_by};
+use super::sweep::have_causes;
+use super::twelve_keys::{OVER_ALL, SCRIPT, STEPS};
 use leveldb_base::cmp::DefaultCmp;
 use leveldb_base::error::{Result, Status, StatusCode};
 use leveldb_env::env::Env;

@@ -1,5 +1,5 @@
 //! Snapshots and walks of the program.
-use crate::program::assert_run;
+use super::program::assert_run;
 use leveldb_env::mem_env::MemEnv;
 use std::io;
 

@@ -1,5 +1,5 @@
 //! Calls of a store: what is asked, what it returns, and what the slow store says to that.
-use crate::replies::bytes_of;
+use super::replies::bytes_of;
 use leveldb_base::cmp::DefaultCmp;
 use leveldb_base::error::{Result, Status, StatusCode};
 use rusty_leveldb::shell::{Command, Item, Move as ShellMove, Reply, Step as ShellStep};

@@ -1,12 +1,12 @@
 //! A script on a recording device: a crash at each of its moments, a second one at each moment of the reopening, and each call of the
 //! device failing once. What is found is what the slow store allows.
-use crate::crash_disks::{
+use super::crash_disks::{
     Recorded, Script, Setting, Side, Tails, Tally, bytes_on, calls_by, crash, find_all, judge_all,
     judge_crash, options_of, pass_on_memory, record, record_on, sides_of, sides_tried,
 };
-use crate::read_alone::{find_alone, find_both, is_read_alone};
-use crate::replies::{are_same, is_any_map};
-use crate::steps::{Call, Step};
+use super::read_alone::{find_alone, find_both, is_read_alone};
+use super::replies::{are_same, is_any_map};
+use super::steps::{Call, Step};
 use leveldb_base::cmp::DefaultCmp;
 use leveldb_base::error::{Result, StatusCode};
 use leveldb_env::mem_env::RecordEnv;

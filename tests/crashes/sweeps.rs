@@ -1,7 +1,7 @@
 //! A store of one log on a recording device, and crashes and failures at each moment and call of its script.
-use crate::crash_disks::{DEFAULTS, Script, Tails, assert_tally};
-use crate::steps::Step;
-use crate::sweep::{crash_everywhere, crash_twice_everywhere, fail_everywhere};
+use super::crash_disks::{DEFAULTS, Script, Tails, assert_tally};
+use super::steps::Step;
+use super::sweep::{crash_everywhere, crash_twice_everywhere, fail_everywhere};
 use leveldb_base::error::Result;
 
 /// Three lives of one store, the first closed, the others abandoned. Each begins with a look-up, whose reply shows when its opening returned.

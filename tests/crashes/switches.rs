@@ -1,8 +1,8 @@
 //! A store with a memtable of 300 bytes on a recording device: logs are switched and tables are made. Crashes and failures come at each
 //! moment and call of its script.
-use crate::crash_disks::{Script, Setting, Tails, assert_tally, record};
-use crate::steps::Step;
-use crate::sweep::{crash_everywhere, crash_twice_everywhere, fail_everywhere};
+use super::crash_disks::{Script, Setting, Tails, assert_tally, record};
+use super::steps::Step;
+use super::sweep::{crash_everywhere, crash_twice_everywhere, fail_everywhere};
 use leveldb_base::error::Result;
 use slow_store::has_levels;
 use std::alloc::Global;
@@ -89,58 +89,58 @@ fn tables_in_three_levels(rt: HostRuntime) -> Result<()> {
 /// Where a switch has synced the log, a crash loses less than it may.
 #[test]
 fn crashes_without_tails(rt: HostRuntime) -> Result<()> {
-    let tally = crash_everywhere(&rt, rt.alloc(), REUSING.one_of(5), Tails::Nothing)?;
+    let tally = crash_everywhere(&rt, rt.alloc(), REUSING.one_of(11), Tails::Nothing)?;
     assert_tally(
         &rt,
         tally,
-        tally.shortest > 5 && tally.shortest < tally.open,
+        tally.shortest > 2 && tally.shortest < tally.open,
     );
     Ok(())
 }
 
 #[test]
 fn crashes_with_whole_tails(rt: HostRuntime) -> Result<()> {
-    let tally = crash_everywhere(&rt, rt.alloc(), REUSING.one_of(5), Tails::Whole)?;
-    assert_tally(&rt, tally, tally.longest > 5);
+    let tally = crash_everywhere(&rt, rt.alloc(), REUSING.one_of(11), Tails::Whole)?;
+    assert_tally(&rt, tally, tally.longest > 2);
     Ok(())
 }
 
 #[test]
 fn crashes_without_the_last_byte(rt: HostRuntime) -> Result<()> {
-    let tally = crash_everywhere(&rt, rt.alloc(), REUSING.one_of(5), Tails::WithoutLast)?;
-    assert_tally(&rt, tally, tally.shortest > 5);
+    let tally = crash_everywhere(&rt, rt.alloc(), REUSING.one_of(11), Tails::WithoutLast)?;
+    assert_tally(&rt, tally, tally.shortest > 2);
     Ok(())
 }
 
 #[test]
 fn crashes_with_wrong_bytes(rt: HostRuntime) -> Result<()> {
-    let tally = crash_everywhere(&rt, rt.alloc(), REUSING.one_of(5), Tails::WrongBytes)?;
-    assert_tally(&rt, tally, tally.shortest > 5);
+    let tally = crash_everywhere(&rt, rt.alloc(), REUSING.one_of(11), Tails::WrongBytes)?;
+    assert_tally(&rt, tally, tally.shortest > 2);
     Ok(())
 }
 
 #[test]
 fn crashes_of_new_manifests(rt: HostRuntime) -> Result<()> {
-    let tally = crash_everywhere(&rt, rt.alloc(), ANEW.one_of(5), Tails::Nothing)?;
+    let tally = crash_everywhere(&rt, rt.alloc(), ANEW.one_of(11), Tails::Nothing)?;
     assert_tally(
         &rt,
         tally,
-        tally.shortest > 5 && tally.shortest < tally.open,
+        tally.shortest > 2 && tally.shortest < tally.open,
     );
     Ok(())
 }
 
 #[test]
 fn crashes_of_new_manifests_with_tails(rt: HostRuntime) -> Result<()> {
-    let tally = crash_everywhere(&rt, rt.alloc(), ANEW.one_of(5), Tails::Whole)?;
-    assert_tally(&rt, tally, tally.longest > 5);
+    let tally = crash_everywhere(&rt, rt.alloc(), ANEW.one_of(11), Tails::Whole)?;
+    assert_tally(&rt, tally, tally.longest > 2);
     Ok(())
 }
 
 #[test]
 fn crashes_of_new_manifests_with_wrong_bytes(rt: HostRuntime) -> Result<()> {
-    let tally = crash_everywhere(&rt, rt.alloc(), ANEW.one_of(5), Tails::WrongBytes)?;
-    assert_tally(&rt, tally, tally.shortest > 5);
+    let tally = crash_everywhere(&rt, rt.alloc(), ANEW.one_of(11), Tails::WrongBytes)?;
+    assert_tally(&rt, tally, tally.shortest > 2);
     Ok(())
 }
 
@@ -170,28 +170,28 @@ fn second_crashes_of_new_manifests(rt: HostRuntime) -> Result<()> {
 
 #[test]
 fn failures_without_their_change(rt: HostRuntime) -> Result<()> {
-    let tally = fail_everywhere(&rt, rt.alloc(), REUSING.one_of(9), false)?;
+    let tally = fail_everywhere(&rt, rt.alloc(), REUSING.one_of(19), false)?;
     assert_tally(&rt, tally, tally.shortest > 0 && tally.longest > 0);
     Ok(())
 }
 
 #[test]
 fn failures_with_their_change(rt: HostRuntime) -> Result<()> {
-    let tally = fail_everywhere(&rt, rt.alloc(), REUSING.one_of(9), true)?;
+    let tally = fail_everywhere(&rt, rt.alloc(), REUSING.one_of(19), true)?;
     assert_tally(&rt, tally, tally.shortest > 0 && tally.longest > 0);
     Ok(())
 }
 
 #[test]
 fn failures_of_new_manifests(rt: HostRuntime) -> Result<()> {
-    let tally = fail_everywhere(&rt, rt.alloc(), ANEW.one_of(9), false)?;
+    let tally = fail_everywhere(&rt, rt.alloc(), ANEW.one_of(19), false)?;
     assert_tally(&rt, tally, tally.shortest > 0 && tally.longest > 0);
     Ok(())
 }
 
 #[test]
 fn failures_of_new_manifests_with_their_change(rt: HostRuntime) -> Result<()> {
-    let tally = fail_everywhere(&rt, rt.alloc(), ANEW.one_of(9), true)?;
+    let tally = fail_everywhere(&rt, rt.alloc(), ANEW.one_of(19), true)?;
     assert_tally(&rt, tally, tally.shortest > 0 && tally.longest > 0);
     Ok(())
 }

@@ -1,8 +1,8 @@
 //! A script that has each kind of call, over twelve keys in small tables, which is swept whole: a crash at each moment, and each call of the
 //! device failing once. Most second crashes, and crashes by `lives`, are among the long tests.
-use crate::crash_disks::{Script, Setting, Tails, assert_tally};
-use crate::steps::Step;
-use crate::sweep::{crash_everywhere, crash_twice_everywhere, fail_everywhere};
+use super::crash_disks::{Script, Setting, Tails, assert_tally};
+use super::steps::Step;
+use super::sweep::{crash_everywhere, crash_twice_everywhere, fail_everywhere};
 use leveldb_base::error::Result;
 use slow_history::Move;
 
@@ -101,14 +101,14 @@ fn second_crashes(rt: HostRuntime) -> Result<()> {
 
 #[test]
 fn failures_without_their_change(rt: HostRuntime) -> Result<()> {
-    let tally = fail_everywhere(&rt, rt.alloc(), SCRIPT.one_of(7), false)?;
+    let tally = fail_everywhere(&rt, rt.alloc(), SCRIPT.one_of(15), false)?;
     assert_tally(&rt, tally, tally.shortest > 0 && tally.longest > 0);
     Ok(())
 }
 
 #[test]
 fn failures_with_their_change(rt: HostRuntime) -> Result<()> {
-    let tally = fail_everywhere(&rt, rt.alloc(), SCRIPT.one_of(7), true)?;
+    let tally = fail_everywhere(&rt, rt.alloc(), SCRIPT.one_of(15), true)?;
     assert_tally(&rt, tally, tally.shortest > 0 && tally.longest > 0);
     Ok(())
 }

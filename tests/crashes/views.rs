@@ -1,8 +1,8 @@
 //! Snapshots and walks of a store with a memtable of 300 bytes on a recording device: crashes and failures come at each moment and call of
 //! a script. And walks over tables of which one can't be read.
-use crate::crash_disks::{Script, Setting, Tails, assert_tally, record, record_life};
-use crate::steps::{Call, Step};
-use crate::sweep::{crash_everywhere, fail_everywhere, is_possible};
+use super::crash_disks::{Script, Setting, Tails, assert_tally, record, record_life};
+use super::steps::{Call, Step};
+use super::sweep::{crash_everywhere, fail_everywhere, is_possible};
 use leveldb_base::error::Result;
 use rusty_leveldb::shell::{Reply, Step as ShellStep};
 use slow_history::Move;
@@ -110,14 +110,14 @@ fn crashes_with_whole_tails(rt: HostRuntime) -> Result<()> {
 
 #[test]
 fn failures_without_their_change(rt: HostRuntime) -> Result<()> {
-    let tally = fail_everywhere(&rt, rt.alloc(), SCRIPT.one_of(7), false)?;
+    let tally = fail_everywhere(&rt, rt.alloc(), SCRIPT.one_of(15), false)?;
     assert_tally(&rt, tally, tally.open > 0);
     Ok(())
 }
 
 #[test]
 fn failures_with_their_change(rt: HostRuntime) -> Result<()> {
-    let tally = fail_everywhere(&rt, rt.alloc(), SCRIPT.one_of(7), true)?;
+    let tally = fail_everywhere(&rt, rt.alloc(), SCRIPT.one_of(15), true)?;
     assert_tally(&rt, tally, tally.open > 0);
     Ok(())
 }

@@ -1,5 +1,5 @@
 //! The errors that a folder can be made to give.
-use crate::calls::{Call, code_of};
+use super::calls::{Call, code_of};
 use leveldb_base::error::{Result, Status, StatusCode};
 use leveldb_env::disk_env::PosixDiskEnv;
 use leveldb_env::env::Env;

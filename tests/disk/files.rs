@@ -1,5 +1,5 @@
 //! What each call does to real files.
-use crate::calls::{Call, shown};
+use super::calls::{Call, shown};
 use leveldb_base::error::{Result, StatusCode};
 use leveldb_env::disk_env::{PosixDiskEnv, reserve_descriptors};
 use leveldb_env::env::Env;

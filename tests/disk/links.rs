@@ -1,5 +1,5 @@
 //! Strange names in a folder, and what is made of it.
-use crate::calls::{Call, shown};
+use super::calls::{Call, shown};
 use leveldb_base::error::{Result, StatusCode};
 use leveldb_env::disk_env::PosixDiskEnv;
 use leveldb_env::env::Env;

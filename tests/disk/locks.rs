@@ -1,5 +1,5 @@
 //! Locks of real files.
-use crate::calls::{Call, code_of};
+use super::calls::{Call, code_of};
 use leveldb_base::error::Result;
 use leveldb_base::error::StatusCode::{self, LockError, OK};
 use leveldb_env::disk_env::PosixDiskEnv;

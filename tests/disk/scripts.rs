@@ -1,5 +1,5 @@
 //! The same calls over memory and over real files.
-use crate::calls::{Call, shown};
+use super::calls::{Call, shown};
 use leveldb_base::error::Result;
 use leveldb_env::disk_env::PosixDiskEnv;
 use leveldb_env::env::Env;

@@ -1,7 +1,7 @@
 //! Any sink and any source at work: what a caller knows of the vector, slice or file that they
 //! write or read.
 
-use crate::disks::no_tails;
+use super::disks::no_tails;
 use leveldb_base::error::{Result, Status, StatusCode};
 use leveldb_env::env::source::read_to_end;
 use leveldb_env::env::whole_files::{found, read_file, replace_file, write_file};

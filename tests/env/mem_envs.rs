@@ -1,6 +1,6 @@
 //! A disk in memory, call by call.
 
-use crate::disks::{Call, handle_of, names_of, no_tails, pick_of, run, run_all, show_file};
+use super::disks::{Call, handle_of, names_of, no_tails, pick_of, run, run_all, show_file};
 use leveldb_base::error::StatusCode::{InvalidArgument, LockError, NotFound, OK, OutOfMemory};
 use leveldb_base::error::{Result, Status, StatusCode};
 use leveldb_env::env::Env;

@@ -1,6 +1,6 @@
 //! A run of calls, each of its moments, and what a crash leaves of them.
 
-use crate::disks::{Call, handle_of, names_of, no_tails, pick_of, run, run_all, show_file};
+use super::disks::{Call, handle_of, names_of, no_tails, pick_of, run, run_all, show_file};
 use leveldb_base::error::StatusCode::{IOError, InvalidArgument, LockError, NotFound, OK};
 use leveldb_base::error::{Result, StatusCode};
 use leveldb_env::env::Env;

@@ -1,5 +1,5 @@
 //! Merges of lists beside the sorted list of their pairs.
-use crate::children::{Device, Source, list_of, list_of_keys};
+use super::children::{Device, Source, list_of, list_of_keys};
 use leveldb_base::cmp::DefaultCmp;
 use leveldb_base::error::{Result, StatusCode};
 use leveldb_iter::merging_iter::{MergeCore, MergingIter};

@@ -1,5 +1,5 @@
 //! Lists of moves of a walk over a list in memory.
-use crate::children::{Device, Source, list_of};
+use super::children::{Device, Source, list_of};
 use leveldb_base::cmp::DefaultCmp;
 use leveldb_base::error::{Result, StatusCode};
 use leveldb_iter::moves::{Move, Step, make_moves};

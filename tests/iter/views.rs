@@ -1,6 +1,6 @@
 //! Views of lists of entries beside a slow search for each key.
-use crate::children::{Device, Source, list_of_damaged, list_of_entries};
-use crate::merges::{MOVES, go, gone, is_at};
+use super::children::{Device, Source, list_of_damaged, list_of_entries};
+use super::merges::{MOVES, go, gone, is_at};
 use leveldb_base::cmp::{DefaultCmp, InternalKeyCmp};
 use leveldb_base::error::{Result, StatusCode};
 use leveldb_base::key_types::ValueType;

@@ -1,6 +1,6 @@
 //! Logs of known lengths, read in pieces, cut and damaged; and what is read of a log in memory.
 
-use crate::checks::are_records;
+use super::checks::are_records;
 use leveldb_base::error::{Result, Status, StatusCode, err};
 use leveldb_env::env::{Env, Sink, Source};
 use leveldb_env::mem_env::MemEnv;

@@ -1,7 +1,7 @@
 //! What is found of keys at sequence numbers before, at, between and after their versions, and what
 //! failed calls leave.
 
-use crate::checks::five_changes;
+use super::checks::five_changes;
 use leveldb_base::cmp::DefaultCmp;
 use leveldb_base::error::{Result, StatusCode};
 use leveldb_base::key_types::{LookupKey, ValueType};

@@ -1,5 +1,5 @@
 //! Batches and their bytes: changes read back, and bytes that are cut, raised or malformed.
-use crate::checks::{CHANGES, five_changes};
+use super::checks::{CHANGES, five_changes};
 use leveldb_base::error::{Result, StatusCode};
 use leveldb_mem::write_batch::WriteBatch;
 use std::process::Abort;

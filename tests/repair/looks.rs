@@ -1,5 +1,5 @@
 //! Looks over merges.
-use crate::lists::{Row, list_of, merge_of, pair_of};
+use super::lists::{Row, list_of, merge_of, pair_of};
 use bytes::Bytes;
 use leveldb_base::error::{Result, StatusCode};
 use leveldb_repair::look_over::{LookedOver, look_over};

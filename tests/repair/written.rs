@@ -1,5 +1,5 @@
 //! The tables to which all pairs go.
-use crate::lists::{Merged, Row, merge_of, pair_of};
+use super::lists::{Merged, Row, merge_of, pair_of};
 use bytes::Bytes;
 use leveldb_base::cmp::DefaultCmp;
 use leveldb_base::error::{Result, StatusCode};

@@ -1,5 +1,5 @@
 //! Stores in memory by rows: what is done to a store and its files, and what is then asked of them.
-use crate::stores::{
+use super::stores::{
     DefaultOptions, Row, STORE, cut_file, file_bytes, files_of, has_files, holds, put_all,
     put_file, put_log, reopen,
 };

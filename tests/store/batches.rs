@@ -1,5 +1,5 @@
 //! Batches one after another: what is then found, and the numbers in the log.
-use crate::stores::opened;
+use super::stores::opened;
 use leveldb_base::cmp::DefaultCmp;
 use leveldb_base::error::{Result, StatusCode};
 use leveldb_base::key_types::ValueType;

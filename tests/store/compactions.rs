@@ -1,5 +1,5 @@
 //! Compactions of a range: what is found before and after, now and at snapshots, which files are left, and what a failure leaves.
-use crate::stores::{
+use super::stores::{
     DefaultEngine, DefaultOptions, STORE, count_tables, damage_file, files_of, has_files, one_byte,
     opened,
 };

@@ -1,5 +1,5 @@
 //! Compactions for which a version asks, by its score or by reads, after each switch of the log: which tables are left, and what is found.
-use crate::stores::{DefaultOptions, STORE, count_tables, one_byte};
+use super::stores::{DefaultOptions, STORE, count_tables, one_byte};
 use leveldb_base::cmp::DefaultCmp;
 use leveldb_base::error::Result;
 use leveldb_env::env::Env;

@@ -1,5 +1,5 @@
 //! The compaction that an opening does at its end, where the score of a level asks for one.
-use crate::stores::{
+use super::stores::{
     DefaultOptions, STORE, buffered, count_tables, damage_file, one_byte, opened, reusing,
 };
 use leveldb_base::cmp::DefaultCmp;
@@ -114,31 +114,67 @@ fn opened_at(rt: &impl Abort, alloc: Global, nth: u64, done: bool) -> Result<Opt
     Ok(Some(is_ok))
 }
 
-/// Each call of the device fails once. Where the manifest's append or sync fails, the opening is refused.
-#[test]
-fn each_call_fails_once(rt: HostRuntime) -> Result<()> {
-    let alloc = rt.alloc();
-    for done in [false, true] {
-        let mut refused = 0;
-        let mut goes_on = 0;
-        let mut nth = 1;
-        while let Some(is_ok) = opened_at(&rt, alloc, nth, done)? {
-            if is_ok {
-                goes_on += 1;
-            } else {
-                refused += 1;
-            }
-            nth += 1;
+/// One of so many calls of the device fails, done or not. Returns how many openings were refused, and how many went on.
+pub fn fail_in_openings(
+    rt: &impl Abort,
+    alloc: Global,
+    every: u64,
+    done: bool,
+) -> Result<(usize, usize)> {
+    let mut refused = 0;
+    let mut goes_on = 0;
+    let mut nth = 1 + u64::from(done) % every;
+    while let Some(is_ok) = opened_at(rt, alloc, nth, done)? {
+        if is_ok {
+            goes_on += 1;
+        } else {
+            refused += 1;
         }
-        assert!(rt; refused > 6 && goes_on > 10, "{done}: {refused} {goes_on}");
+        nth += every;
+    }
+    Ok((refused, goes_on))
+}
+
+/// One of three calls of the device fails. Where the manifest's append or sync fails, the opening is refused.
+#[test]
+fn one_of_the_calls_fails(rt: HostRuntime) -> Result<()> {
+    for done in [false, true] {
+        let (refused, goes_on) = fail_in_openings(&rt, rt.alloc(), 3, done)?;
+        assert!(rt; refused > 1 && goes_on > 3, "{done}: {refused} {goes_on}");
     }
     Ok(())
 }
 
-/// Each moment of an opening that compacts leaves a store with the value, if its log was synced, and the next opening has compacted it.
-#[test]
-fn crashes_at_each_moment(rt: HostRuntime) -> Result<()> {
-    let alloc = rt.alloc();
+/// A moment of an opening that compacts leaves a store with the value, if its log was synced, and the next opening has compacted it.
+fn crash_at(
+    rt: &impl Abort,
+    alloc: Global,
+    env: &RecordEnv,
+    moment: u64,
+    whole: bool,
+) -> Result<()> {
+    let tails = if whole {
+        env.tails(alloc, moment, true)?
+    } else {
+        Vec::new(alloc)
+    };
+    let pick = Pick {
+        tails,
+        after: whole,
+    };
+    let mut left = env.disk_at(alloc, moment, &pick)?;
+    assert!(rt; is_whole(alloc, &mut left), "moment {moment} {whole}");
+    let byte = byte_in(alloc, &mut left)?;
+    assert!(rt; byte == b'6' || byte == b'5', "moment {moment} {whole}");
+    // Without the log's value level 0 has three tables.
+    let wanted = if byte == b'6' { 2 } else { 5 };
+    let tables = count_tables(alloc, &mut left)?;
+    assert!(rt; tables == wanted, "moment {moment} {whole}: {tables}");
+    Ok(())
+}
+
+/// Crashes at one of so many moments of an opening.
+pub fn crash_in_openings(rt: &impl Abort, alloc: Global, every: u64) -> Result<()> {
     let mut env = left_with(alloc, 4)?;
     let before = env.moment();
     let engine = opened(alloc, &mut env, tabling())?;
@@ -146,30 +182,17 @@ fn crashes_at_each_moment(rt: HostRuntime) -> Result<()> {
     engine.abandon(&mut env)?;
     assert!(rt; after - before > 40);
     for moment in before..=after {
-        for whole in [false, true] {
-            let tails = if whole {
-                env.tails(alloc, moment, true)?
-            } else {
-                Vec::new(alloc)
-            };
-            let mut left = env.disk_at(
-                alloc,
-                moment,
-                &Pick {
-                    tails,
-                    after: whole,
-                },
-            )?;
-            assert!(rt; is_whole(alloc, &mut left), "moment {moment} {whole}");
-            let byte = byte_in(alloc, &mut left)?;
-            assert!(rt; byte == b'6' || byte == b'5', "moment {moment} {whole}");
-            // Without the log's value level 0 has three tables.
-            let wanted = if byte == b'6' { 2 } else { 5 };
-            let tables = count_tables(alloc, &mut left)?;
-            assert!(rt; tables == wanted, "moment {moment} {whole}: {tables}");
+        if moment % every == 0 {
+            crash_at(rt, alloc, &env, moment, false)?;
+            crash_at(rt, alloc, &env, moment, true)?;
         }
     }
     Ok(())
+}
+
+#[test]
+fn crashes_at_one_of_three_moments(rt: HostRuntime) -> Result<()> {
+    crash_in_openings(&rt, rt.alloc(), 3)
 }
 
 /// A store with a damaged table opens, tells a line, and reads what is readable.

@@ -1,5 +1,5 @@
 //! Compactions that a write does once its memtable became a table: those for which the score of a level asks, or else reads.
-use crate::stores::{DefaultEngine, STORE, buffered, count_tables, damage_file, one_byte, opened};
+use super::stores::{DefaultEngine, STORE, buffered, count_tables, damage_file, one_byte, opened};
 use leveldb_base::cmp::DefaultCmp;
 use leveldb_base::error::{Result, StatusCode};
 use leveldb_env::env::Env;

@@ -1,5 +1,5 @@
 //! Many keys in small tables: puts, deletions, snapshots and compactions that look random, each view compared with that of the history.
-use crate::stores::{DefaultEngine, DefaultOptions, STORE, opened};
+use super::stores::{DefaultEngine, DefaultOptions, STORE, opened};
 use leveldb_base::cmp::DefaultCmp;
 use leveldb_base::error::Result;
 use leveldb_env::mem_env::MemEnv;

@@ -1,5 +1,5 @@
 //! Openings of files whose bytes were changed: which lines the sink gets, and which files stay.
-use crate::stores::{
+use super::stores::{
     DefaultOptions, STORE, buffered, damage_file, file_bytes, has_files, opened, put_all, put_file,
     reopen, reusing,
 };

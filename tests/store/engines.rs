@@ -1,5 +1,5 @@
 //! Stores in memory: each call once, devices that fail, and crashes.
-use crate::stores::one_byte;
+use super::stores::one_byte;
 use leveldb_base::cmp::DefaultCmp;
 use leveldb_base::error::{Result, StatusCode};
 use leveldb_env::env::Env;

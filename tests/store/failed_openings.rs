@@ -1,5 +1,5 @@
 //! What is left of a store's files where its opening fails: each of them, with all its bytes.
-use crate::stores::{STORE, buffered, damage_file, file_bytes, opened, reusing};
+use super::stores::{STORE, buffered, damage_file, file_bytes, opened, reusing};
 use leveldb_base::error::Result;
 use leveldb_env::env::Env;
 use leveldb_env::mem_env::{Pick, RecordEnv};

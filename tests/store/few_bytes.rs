@@ -1,8 +1,8 @@
 //! Runs over an environment that gives at most one byte a read, or two, up to nine: what they reply and the files that they leave are those of reads that give
 //! all bytes that are asked for.
-use crate::acts::{Setting, options_of};
-use crate::sinks::commands_of;
-use crate::stores::STORE;
+use super::acts::{Setting, options_of};
+use super::sinks::commands_of;
+use super::stores::STORE;
 use leveldb_base::error::{Result, StatusCode};
 use leveldb_env::env::Env;
 use leveldb_env::env::whole_files::read_file;

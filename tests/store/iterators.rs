@@ -1,5 +1,5 @@
 //! Iterators over a store: in memory, over tables, and at a snapshot.
-use crate::stores::{DefaultDB, opened_db};
+use super::stores::{DefaultDB, opened_db};
 use leveldb_base::cmp::DefaultCmp;
 use leveldb_base::error::{Result, StatusCode};
 use leveldb_env::filter::BloomPolicy;

@@ -1,9 +1,10 @@
 //! Trials that take minutes, of which short ones are in the modules themselves: ./test --long.
-use crate::compactions_of_many::try_seeds;
-use crate::merged_inputs::{crash_in_merge, fail_in_merge};
-use crate::merging::compare_merges;
-use crate::open_tables::damage_each;
-use crate::replays::{fail_reads, open_over_short_reads};
+use super::compactions_in_openings::{crash_in_openings, fail_in_openings};
+use super::compactions_of_many::try_seeds;
+use super::merged_inputs::{crash_in_merge, fail_in_merge};
+use super::merging::compare_merges;
+use super::open_tables::damage_each;
+use super::replays::{fail_reads, open_over_short_reads};
 use leveldb_base::error::Result;
 
 #[test]
@@ -43,4 +44,18 @@ fn reads_that_fail(rt: HostRuntime) -> Result<()> {
 #[test]
 fn each_byte_of_a_table(rt: HostRuntime) -> Result<()> {
     damage_each(&rt, rt.alloc(), 1)
+}
+
+#[test]
+fn crashes_at_each_moment_of_an_opening(rt: HostRuntime) -> Result<()> {
+    crash_in_openings(&rt, rt.alloc(), 1)
+}
+
+#[test]
+fn each_call_of_an_opening_fails_once(rt: HostRuntime) -> Result<()> {
+    for done in [false, true] {
+        let (refused, goes_on) = fail_in_openings(&rt, rt.alloc(), 1, done)?;
+        assert!(rt; refused > 6 && goes_on > 10, "{done}: {refused} {goes_on}");
+    }
+    Ok(())
 }

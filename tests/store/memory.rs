@@ -1,5 +1,5 @@
 //! A store with a small memtable, whose calls are made again where they find no memory. `tools/refuse` refuses each allocation in turn.
-use crate::stores::{Change, DefaultEngine, DefaultOptions, STORE, batch_of, reusing, text_of};
+use super::stores::{Change, DefaultEngine, DefaultOptions, STORE, batch_of, reusing, text_of};
 use leveldb_base::error::{Result, Status, StatusCode};
 use leveldb_env::env::Env;
 use leveldb_env::mem_env::MemEnv;

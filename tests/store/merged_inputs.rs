@@ -1,8 +1,8 @@
 //! Merging the tables of a version's files: what is left of them, over an environment that reads few bytes at a time, and what is left where a
 //! call fails or a crash comes.
 
-use crate::merging::{EvenKeys, assert_has, copy_of, entries, slow_merge};
-use crate::outputs::{FIRST, Put, SmallOptions, pairs_of, path_of, small};
+use super::merging::{EvenKeys, assert_has, copy_of, entries, slow_merge};
+use super::outputs::{FIRST, Put, SmallOptions, pairs_of, path_of, small};
 use leveldb_base::cmp::DefaultCmp;
 use leveldb_base::error::{Result, StatusCode};
 use leveldb_base::key_types::parse_internal_key;

@@ -1,6 +1,6 @@
 //! Merging into tables: what is left of random entries, beside a slow merge that goes by the definition, and what is left where a call fails.
 
-use crate::outputs::{
+use super::outputs::{
     FIRST, Put, SmallOptions, changes_only_tables, key_of, new_set, pairs_of, path_of, plain_cuts,
     small, user_of, with_log,
 };

@@ -1,6 +1,6 @@
 //! Calls that take no memory. `tools/refuse --same store made_calls left_out_calls` tells whether the first test makes as many requests as the second,
 //! which prepares the same and makes none of these calls.
-use crate::stores::{batch_of, buffered, opened};
+use super::stores::{batch_of, buffered, opened};
 use leveldb_base::blockhandle::BlockHandle;
 use leveldb_base::cmp::{Cmp, DefaultCmp, InternalKeyCmp};
 use leveldb_base::crc::{digest, mask_crc, unmask_crc};

@@ -1,6 +1,6 @@
 //! The tables that a store has open: with room for one of three, and for all of them.
-use crate::rooms::{self, Act};
-use crate::stores::{buffered, opened};
+use super::rooms::{self, Act};
+use super::stores::{buffered, opened};
 use leveldb_base::error::Result;
 use leveldb_env::mem_env::RecordEnv;
 use std::alloc::Global;

@@ -1,6 +1,6 @@
 //! Which files openings leave, and what they hold.
-use crate::acts::{Act, Setting, play_each};
-use crate::stores::{STORE, contents_of, file_bytes, has_files, opened, reopen, reusing, store_of};
+use super::acts::{Act, Setting, play_each};
+use super::stores::{STORE, contents_of, file_bytes, has_files, opened, reopen, reusing, store_of};
 use leveldb_base::error::Result;
 use leveldb_env::mem_env::{Pick, RecordEnv};
 use leveldb_env::options::Options;

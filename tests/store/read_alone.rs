@@ -1,7 +1,7 @@
 //! Stores that are read alone: what they show is what an opening then finds, and no call changes a file or a lock.
-use crate::acts::{Setting, options_of};
-use crate::replays::{damage, random_log_from};
-use crate::stores::{
+use super::acts::{Setting, options_of};
+use super::replays::{damage, random_log_from};
+use super::stores::{
     DefaultOptions, Row, STORE, cut_file, file_bytes, files_of, put_all, put_file, put_log, reopen,
     store_of,
 };

@@ -1,6 +1,6 @@
 //! Engines that only read: they show what an opening finds then, and make no call of the device but reads.
-use crate::acts::{Act, Setting, change, options_of};
-use crate::stores::{
+use super::acts::{Act, Setting, change, options_of};
+use super::stores::{
     DefaultOptions, STORE, damage_file, file_bytes, files_of, has_files, one_byte, opened,
     opened_db, put_all, put_file, reopen, reusing, store_of, text_of,
 };

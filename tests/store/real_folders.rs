@@ -1,5 +1,5 @@
 //! Openings that fail before anything is changed, in memory and in folders of the system.
-use crate::stores::DefaultOptions;
+use super::stores::DefaultOptions;
 use leveldb_base::error::{Result, StatusCode};
 use leveldb_env::disk_env::PosixDiskEnv;
 use leveldb_env::env::Env;

@@ -1,6 +1,6 @@
 //! What isn't opened: an opening fails, changes no file but the lock's, and gives back the lock.
-use crate::acts::{Act, Setting, is_damaged, play_each};
-use crate::stores::{Row, put_file};
+use super::acts::{Act, Setting, is_damaged, play_each};
+use super::stores::{Row, put_file};
 use leveldb_base::error::{Result, StatusCode};
 use leveldb_env::mem_env::MemEnv;
 use std::alloc::Global;

@@ -1,7 +1,7 @@
 //! Logs that openings replay, a piece at a time: long ones, torn and damaged ones, over reads of few
 //! bytes and reads that fail.
-use crate::acts::{Setting, fails, options_of};
-use crate::stores::{STORE, files_of, put_file, reopen};
+use super::acts::{Setting, fails, options_of};
+use super::stores::{STORE, files_of, put_file, reopen};
 use leveldb_base::cmp::DefaultCmp;
 use leveldb_base::error::{Result, StatusCode};
 use leveldb_env::env::Env;

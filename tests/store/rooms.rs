@@ -1,5 +1,5 @@
 //! A store with a memtable of one byte: each write but the first makes a table of the batch before.
-use crate::stores::{
+use super::stores::{
     Change, DefaultEngine, DefaultOptions, STORE, batch_of, buffered, damage_file, has_files,
     holds, opened, put_all, reopen,
 };

@@ -1,6 +1,6 @@
 //! Samples of the keys that iterators read: after how many bytes one is taken, and that they ask for a compaction as look-ups do.
 
-use crate::stores::{DefaultEngine, buffered, count_tables, opened};
+use super::stores::{DefaultEngine, buffered, count_tables, opened};
 use leveldb_base::error::Result;
 use leveldb_env::mem_env::MemEnv;
 use rand_core::{Rng, SeedableRng};

@@ -1,6 +1,6 @@
 //! An information log whose sink refuses every line changes nothing that a store returns, and no file.
-use crate::acts::{Setting, options_of};
-use crate::stores::{STORE, files_of};
+use super::acts::{Setting, options_of};
+use super::stores::{STORE, files_of};
 use leveldb_base::error::{Result, StatusCode, err};
 use leveldb_env::env::Env;
 use leveldb_env::infolog::{InfoSink, Logger};

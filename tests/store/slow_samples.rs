@@ -1,7 +1,7 @@
 //! Samples of random walks, beside a plain list of all entries that says what each move reads, and which file is compacted for it.
 
-use crate::samples::Periods;
-use crate::stores::{DefaultEngine, STORE, buffered, opened};
+use super::samples::Periods;
+use super::stores::{DefaultEngine, STORE, buffered, opened};
 use leveldb_base::cmp::DefaultCmp;
 use leveldb_base::error::Result;
 use leveldb_base::types::FileNum;

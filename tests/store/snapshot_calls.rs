@@ -1,5 +1,5 @@
 //! Snapshots: what is read at them, and those that aren't held.
-use crate::stores::{DefaultDB, DefaultEngine, buffered, opened, opened_db};
+use super::stores::{DefaultDB, DefaultEngine, buffered, opened, opened_db};
 use leveldb_base::error::{Result, StatusCode};
 use leveldb_env::mem_env::MemEnv;
 use rusty_leveldb::{Options, Snapshot};

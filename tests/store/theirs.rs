@@ -1,5 +1,5 @@
 //! Stores that C++ LevelDB 1.23 made (tools/theirstores/make.cc says how), which are opened and read.
-use crate::stores::{DefaultOptions, STORE, file_bytes, put_file};
+use super::stores::{DefaultOptions, STORE, file_bytes, put_file};
 use leveldb_base::error::{Result, StatusCode};
 use leveldb_env::env::Env;
 use leveldb_env::mem_env::MemEnv;

@@ -1,5 +1,5 @@
 //! Blocks read and walked both ways, and compared with a slow reader of their grammar.
-use crate::checks::Given;
+use super::checks::Given;
 use byteorder::{ByteOrder, LittleEndian};
 use bytes::Bytes;
 use leveldb_base::cmp::DefaultCmp;

@@ -1,5 +1,5 @@
 //! Footers, byte by byte.
-use crate::checks::{footer_of, numbers};
+use super::checks::{footer_of, numbers};
 use leveldb_base::blockhandle::BlockHandle;
 use leveldb_table::table_builder::{FULL_FOOTER_LENGTH, Footer};
 

@@ -1,8 +1,8 @@
 //! A table from outside: built of a list of pairs into a file, opened, looked up and walked over
 //! both ways, and what a caller knows then.
 
-use crate::checks::{Given, options_under};
-use crate::passed::BothWays;
+use super::checks::{Given, options_under};
+use super::passed::BothWays;
 use bytes::Bytes;
 use leveldb_base::cmp::{Cmp, DefaultCmp, InternalKeyCmp, UserCmp};
 use leveldb_base::error::{Result, StatusCode, err};

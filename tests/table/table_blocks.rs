@@ -1,5 +1,5 @@
 //! Blocks and filters read from files: whole, damaged, cut, and at handles past the file.
-use crate::checks::{Given, failed_saying, has_pairs};
+use super::checks::{Given, failed_saying, has_pairs};
 use leveldb_base::blockhandle::BlockHandle;
 use leveldb_base::cmp::DefaultCmp;
 use leveldb_base::crc::{digest, mask_crc};

@@ -1,5 +1,5 @@
 //! Tables built, and their bytes. The lengths are worked by hand from the format.
-use crate::checks::{
+use super::checks::{
     EIGHT, Given, ONE, add_all, compressed, count_pairs, failed_saying, finish_with, footer_of,
     internal_table, numbers, table_of,
 };

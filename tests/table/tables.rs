@@ -1,5 +1,5 @@
 //! Tables built, opened, looked up and walked over, and compared with the lists of their pairs.
-use crate::checks::{
+use super::checks::{
     EIGHT, Given, ONE, compressed, failed_saying, footer_of, has_pairs, internal_table,
     options_under, table_of,
 };

@@ -1,6 +1,6 @@
 //! Checks of stores whose files are damaged.
-use crate::files::{log_of, prints, put, run};
-use crate::theirs::{LOG, MANIFEST, TABLE, their_store};
+use super::files::{log_of, prints, put, run};
+use super::theirs::{LOG, MANIFEST, TABLE, their_store};
 use leveldb_base::error::Result;
 use leveldb_env::env::Env;
 use leveldb_env::env::whole_files::read_file;

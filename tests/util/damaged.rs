@@ -1,6 +1,6 @@
 //! Damaged files: what can be read is printed, and the reason.
-use crate::files::{log_of, prints, put_batch, run, with_file};
-use crate::theirs::{LOG, LOG_TEXT, MANIFEST, MANIFEST_TEXT, TABLE};
+use super::files::{log_of, prints, put_batch, run, with_file};
+use super::theirs::{LOG, LOG_TEXT, MANIFEST, MANIFEST_TEXT, TABLE};
 use leveldb_base::error::Result;
 use std::alloc::Global;
 use std::process::Abort;

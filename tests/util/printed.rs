@@ -1,6 +1,6 @@
 //! Dumps of whole files and of records that are no batch or no edit.
-use crate::files::{log_of, prints, put_batch, with_file};
-use crate::theirs::{LOG, TABLE};
+use super::files::{log_of, prints, put_batch, with_file};
+use super::theirs::{LOG, TABLE};
 use leveldb_base::error::Result;
 use leveldb_env::mem_env::MemEnv;
 use std::alloc::Global;

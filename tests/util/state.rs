@@ -1,6 +1,6 @@
 //! A store's state.
-use crate::files::{prints, put};
-use crate::theirs::{MANIFEST, their_store};
+use super::files::{prints, put};
+use super::theirs::{MANIFEST, their_store};
 use leveldb_base::error::Result;
 use leveldb_env::env::Env;
 use leveldb_env::mem_env::MemEnv;

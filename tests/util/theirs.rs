@@ -1,6 +1,6 @@
 //! Files that C++ LevelDB 1.23 wrote (`tools/theirstores/make.cc dumped`), and the text that its own dump has for each
 //! (`tools/theirstores/dump.cc`).
-use crate::files::{prints, put, with_file};
+use super::files::{prints, put, with_file};
 use leveldb_base::error::Result;
 use leveldb_env::env::Env;
 use leveldb_env::mem_env::MemEnv;

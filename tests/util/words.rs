@@ -1,6 +1,6 @@
 //! The program's arguments, and outputs that fail.
-use crate::files::{run, with_file};
-use crate::theirs::LOG;
+use super::files::{run, with_file};
+use super::theirs::LOG;
 use leveldb_base::error::{Result, StatusCode, err};
 use leveldb_env::env::Sink;
 use leveldb_inspect::util_main;

@@ -1,6 +1,6 @@
 //! Versions and version sets after many edits at random, beside a plain list of the live files.
 
-use crate::stored::Stored;
+use super::stored::Stored;
 use bytes::Bytes;
 use leveldb_base::cmp::DefaultCmp;
 use leveldb_base::error::{Result, StatusCode};

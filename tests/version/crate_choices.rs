@@ -1,7 +1,7 @@
 //! What the crate's tests ask of its choices, of the same files.
 
-use crate::choices::missing;
-use crate::versions::{STORE, entry_key, version_of};
+use super::choices::missing;
+use super::versions::{STORE, entry_key, version_of};
 use bytes::Bytes;
 use leveldb_base::cmp::DefaultCmp;
 use leveldb_base::error::Result;

@@ -1,7 +1,7 @@
 //! Looking a key up in a version: what its tables have of it, beside a search through all of their
 //! entries, and which file is charged with a seek.
 
-use crate::store_files::put;
+use super::store_files::put;
 use bytes::Bytes;
 use leveldb_base::cmp::{Cmp, DefaultCmp, InternalKeyCmp};
 use leveldb_base::error::{Result, StatusCode};

@@ -1,5 +1,5 @@
 //! New stores, and edits that are logged.
-use crate::stored::Stored;
+use super::stored::Stored;
 use bytes::Bytes;
 use leveldb_base::cmp::DefaultCmp;
 use leveldb_base::error::{Result, StatusCode};

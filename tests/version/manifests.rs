@@ -1,7 +1,7 @@
 //! Manifests that are read in pieces: of several blocks, with short reads, with reads that fail, and
 //! with many edits.
-use crate::recovers::{BEGINNING, numbers_of, put_store};
-use crate::stored::Stored;
+use super::recovers::{BEGINNING, numbers_of, put_store};
+use super::stored::Stored;
 use bytes::Bytes;
 use leveldb_base::error::{Result, StatusCode};
 use leveldb_base::key_types::LookupKey;

@@ -1,6 +1,6 @@
 //! Compactions of versions at random, beside a chooser that goes through all files for each question.
 
-use crate::choices::{NUMBER, Row, key_at, pointer, read_often, row, taken, version_of};
+use super::choices::{NUMBER, Row, key_at, pointer, read_often, row, taken, version_of};
 use leveldb_base::cmp::DefaultCmp;
 use leveldb_base::error::Result;
 use leveldb_base::types::FileNum;

@@ -1,6 +1,6 @@
 //! What a version set recovers from manifests that are written by hand, and what it refuses.
-use crate::store_files::{NEW_MANIFEST, TABLE_EDIT};
-use crate::stored::Stored;
+use super::store_files::{NEW_MANIFEST, TABLE_EDIT};
+use super::stored::Stored;
 use leveldb_base::cmp::DefaultCmp;
 use leveldb_base::error::{Result, StatusCode};
 use leveldb_base::types::{FileNum, SequenceNumber};

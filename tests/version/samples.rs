@@ -1,7 +1,7 @@
 //! Which file a sample of the keys that are read charges with a seek.
 
-use crate::choices::{NUMBER, Row, key_at, row, version_of};
-use crate::random_choices::{GREATEST, random_rows};
+use super::choices::{NUMBER, Row, key_at, row, version_of};
+use super::random_choices::{GREATEST, random_rows};
 use leveldb_base::cmp::DefaultCmp;
 use leveldb_base::error::Result;
 use leveldb_base::types::FileNum;

@@ -1,13 +1,13 @@
 //! The compactions of a version set: which ones it asks for, beside a chooser that goes through all
 //! files, the merge of the tables that one takes, and the set after its edit.
 
-use crate::choices::{NUMBER, Row, file_of, key_at, missing, read_often};
-use crate::gets::{Choices, Entry, TABLES, Tables, key_of, put_table};
-use crate::random_choices::{
+use super::choices::{NUMBER, Row, file_of, key_at, missing, read_often};
+use super::gets::{Choices, Entry, TABLES, Tables, key_of, put_table};
+use super::random_choices::{
     Span, are_same, asking_file, asking_level, choice_of_asking, choice_of_range, key_at_random,
     random_rows,
 };
-use crate::stored::Stored;
+use super::stored::Stored;
 use leveldb_base::cmp::{Cmp, DefaultCmp, InternalKeyCmp};
 use leveldb_base::error::Result;
 use leveldb_base::types::FileNum;

@@ -3,7 +3,7 @@
 //!
 //! The store has manifest 1 with the edit of a table, the table, and two logs of two batches each.
 //! A second manifest is beside the first.
-use crate::store_files::{
+use super::store_files::{
     A, B, C, LATER_MANIFEST, Row, TABLE, TABLE_EDIT, are_rows, bytes_of, put, put_log, read,
     store_of,
 };

@@ -1,6 +1,6 @@
 //! What the files of small stores hold, by the slow reading of them: the expected contents are
 //! written by hand.
-use crate::store_files::{
+use super::store_files::{
     A, B, C, NEW_MANIFEST, NEXT_MANIFEST, PAIR_EDIT, PAIR_TABLE, PAST_EDIT, Row, TABLE, TABLE_EDIT,
     are_rows, bytes_of, put, put_log, read, store_of,
 };

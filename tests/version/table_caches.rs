@@ -1,5 +1,5 @@
 //! Caches of a store's open tables, over tables whose bytes are written by hand.
-use crate::store_files::{PAIR_TABLE, TABLE, put};
+use super::store_files::{PAIR_TABLE, TABLE, put};
 use bytes::Bytes;
 use leveldb_base::cmp::DefaultCmp;
 use leveldb_base::error::{Result, StatusCode};

@@ -1,5 +1,5 @@
 //! The numbers that a version set gives, and the file `CURRENT`.
-use crate::stored::Stored;
+use super::stored::Stored;
 use leveldb_base::error::{Result, StatusCode};
 use leveldb_base::types::FileNum;
 use leveldb_env::env::Env;

@@ -1,6 +1,6 @@
 -- The tables to which what was found goes: they are a store's, all in level 1.
-use Rattle.std.specs.Prelude.{All, Contains, IsTrue, Result}
-use Rattle.std.proofs.Common.{◌≡◌, ◌∙◌, ℕ, List, [], ◌∷◌, ◌++◌, Ok, Err, refl, sym, ap, subst, arith}
+use Rattle.std.specs.Prelude.{All, IsTrue, Result}
+use Rattle.std.proofs.Common.{◌≡◌, ◌∙◌, ℕ, List, [], ◌∷◌, ◌++◌, Ok, Err, refl, sym, ap, subst}
 use Rattle.std.specs.declared.cmp.Ordering.{Ordering}
 use Rattle.leveldb_base.proofs.EntriesLemmas.{in_map}
 use Rattle.leveldb_base.specs.Cmp.{IsExactOrder}
@@ -78,28 +78,15 @@ module _ {C FP : Type 0} {order : CmpGhosts C} {filters : FilterGhosts FP}
       live = merged_outputs (merge_of_all choices store) env exact builds modelled meaning agrees
           into internal 0
 
-      live_is : (table : LiveTable) → Contains live table → table.file.level ≡ 1
-      live_is table there = (each_output (merge_of_all choices store) env exact builds modelled
-          meaning agrees into internal 0 table there).2
-
       live_level_one : AreLevelOne store cmp (IsTableOf cmp meaning) (env.observed to).disk.files live
-      live_level_one =
-          let apart = outputs_apart (merge_of_all choices store) env exact builds modelled meaning
-          agrees into internal 0 in
-          record {
-            each = each_output (merge_of_all choices store) env exact builds modelled meaning agrees
-                into internal 0;
-            known = λ a b a_there b_there levels numbers. outputs_known 1 Is first next files
-                into.tables finished into.are_tables.numbers a b a_there b_there numbers;
-            apart = apart;
-            order = record {
-              disjoint = λ a b a_there b_there levels deep differ. apart a b a_there b_there differ;
-              deeper = λ a b a_there b_there above.
-                  absurd (omega (arith, above, live_is a a_there, live_is b b_there));
-              newer = λ a b a_there b_there top.
-                  absurd (omega (arith, top, live_is a a_there));
-            };
-          }
+      live_level_one = record {
+        each = each_output (merge_of_all choices store) env exact builds modelled meaning agrees
+            into internal 0;
+        known = λ a b a_there b_there levels numbers. outputs_known 1 Is first next files
+            into.tables finished into.are_tables.numbers a b a_there b_there numbers;
+        apart = outputs_apart (merge_of_all choices store) env exact builds modelled meaning agrees
+            into internal 0;
+      }
 
     pub written : HasWritten choices env store first read next files to
     written = record {

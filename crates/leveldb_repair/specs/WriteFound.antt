@@ -1,7 +1,6 @@
 -- How what was found goes to new tables: which tables they are, what changes meanwhile, and why that
 -- stops.
-use Rattle.std.specs.Prelude.{◌≡◌, ◌≢◌, ◌⊎◌, ◌≤◌, ◌<◌, ◌+◌, ◌^◌, ◌++◌, ℕ, true, false, length, List, [], map, All, Contains, Result, IfErr, IfOk, IsTrue}
-use Rattle.std.specs.declared.cmp.Ordering.{Ordering}
+use Rattle.std.specs.Prelude.{◌≡◌, ◌⊎◌, ◌≤◌, ◌+◌, ◌++◌, ℕ, true, false, length, List, [], map, All, Contains, Result, IfErr, IfOk, IsTrue}
 use Rattle.leveldb_base.specs.Entries.{entries_of_pairs}
 use Rattle.leveldb_base.specs.History.{AreRising}
 use Rattle.leveldb_base.specs.KeyTypes.{internal_cmp}
@@ -9,21 +8,19 @@ use Rattle.leveldb_base.specs.Types.{Pair}
 use Rattle.leveldb_base.specs.declared.cmp.Cmp.{Ghosts as CmpGhosts}
 use Rattle.leveldb_base.specs.declared.error.Status.{Status}
 use Rattle.leveldb_base.specs.declared.types.FileMetaData.{FileMetaData}
-use Rattle.leveldb_env.specs.Env.{Files}
 use Rattle.leveldb_env.specs.EnvFile.{failed}
 use Rattle.leveldb_env.specs.declared.env.Env.{Ghosts as EnvGhosts}
 use Rattle.leveldb_env.specs.declared.filter.FilterPolicy.{Ghosts as FilterGhosts}
 use Rattle.leveldb_iter.specs.Walk.{key_order}
 use Rattle.leveldb_iter.specs.declared.walk.Walk.{Ghosts as WalkGhosts}
 use Rattle.leveldb_version.specs.Batches.{Each}
-use Rattle.leveldb_version.specs.Compaction.{AreKnownByNumber, files_of_tables}
+use Rattle.leveldb_version.specs.Compaction.{files_of_tables}
 use Rattle.leveldb_version.specs.CurrentVersion.{VersionsValue, new_versions}
 use Rattle.leveldb_version.specs.Format.{Agrees, IsTableOf, Meaning}
-use Rattle.leveldb_version.specs.Levels.{AreDisjoint, LevelOrder, LiveTable, table_entries}
+use Rattle.leveldb_version.specs.Levels.{LiveTable, table_entries}
 use Rattle.leveldb_version.specs.Opening.{FitsEdit}
-use Rattle.leveldb_version.specs.Paths.{table_path}
-use Rattle.leveldb_version.specs.Store.{HasTable, IsInternalPair}
-use Rattle.leveldb_version.specs.StoreSteps.{IsKept}
+pub use Rattle.leveldb_version.specs.Repairing.{AreLevelOne}
+use Rattle.leveldb_version.specs.Store.{IsInternalPair}
 use Rattle.leveldb_version.specs.VersionEdit.{NewFile, new_file_of}
 use Rattle.leveldb_store.specs.BuildTable.{TableChoices}
 use Rattle.leveldb_store.specs.Merging.{BearsNewTables, ComesOf, FailsOnWay, IsMergeFault, Merge, all_pairs, merge_of}
@@ -43,21 +40,6 @@ versions_above store comparator cmp greatest =
 -- the files as those of level 1
 abbrev pub files_of_level_one : List FileMetaData → List NewFile
 files_of_level_one files = map (λ file. new_file_of (1, file)) files
-
--- Tables that can be the only ones of a store, all in level 1: they are there and kept, each is known
--- by its number, and no two have a user key in common.
-pub record AreLevelOne (store : List ℕ) (cmp : List ℕ → List ℕ → Ordering)
-    (IsTableOf : List ℕ → List Pair → Type 0) (files : Files) (tables : List LiveTable) : Type 0
-  where
-    pub each : (table : LiveTable) → Contains tables table
-        → HasTable store cmp IsTableOf files table
-        × IsKept (files (table_path store table.file.number)) × (table.file.level ≡ 1)
-        × (table.file.number < 2 ^ 64)
-    pub known : AreKnownByNumber tables
-    pub apart : (a b : LiveTable) → Contains tables a → Contains tables b
-        → a.file.number ≢ b.file.number → AreDisjoint cmp a.file b.file
-    -- and so their levels are in order
-    pub order : LevelOrder cmp tables
 
 -- ---- writing them
 

@@ -13,7 +13,7 @@ use Rattle.leveldb_version.proofs.ManagedLemmas.{SameBytes, found_again}
 use Rattle.leveldb_version.proofs.OneStoreLemmas.{one_entry}
 use Rattle.leveldb_version.specs.Batches.{Each}
 use Rattle.leveldb_version.specs.Found.{AreFound, IsFound, IsFoundLog, IsNoBatchNext, IsNumberedBatch, IsReadable, LogHas, TableHas}
-use Rattle.leveldb_version.specs.Repairing.{SameTablesAndLogs}
+use Rattle.leveldb_version.specs.Repairing.{SameFound, SameTablesAndLogs}
 use Rattle.leveldb_version.specs.Store.{IsInternalPair, OneTableReading, SameEntries}
 use Rattle.std.proofs.Common.{◌++◌, ◌∷◌, ◌≡◌, ◌⊎◌, List, Some, [], inl, inr, refl, subst, sym, ℕ}
 use Rattle.std.specs.Prelude.{◌↔◌}
@@ -117,10 +117,9 @@ module _ (store : List ℕ) (IsTableOf : List ℕ → List Pair → Type 0) wher
       let kind = kind_of is.0 is.1 entry is.3 in
       found_in old new is.0 is.1 entry is.2 (same is.0 kind.0 kind.1) is.3
 
-  pub found_goes_by_bytes : (old new : Files) (found : List Entry)
-      → SameTablesAndLogs store old new → AreFound store IsTableOf old found
-      → AreFound store IsTableOf new found
-  found_goes_by_bytes old new found same are entry = (
-    λ c. found_on old new same entry ((are entry).0 c),
-    λ is. (are entry).1 (found_on new old (λ name n kind. sym (same name n kind)) entry is),
+  pub found_goes_by_bytes : (old new : Files) → SameTablesAndLogs store old new
+      → SameFound store IsTableOf old new
+  found_goes_by_bytes old new same entry = (
+    found_on old new same entry,
+    found_on new old (λ name n kind. sym (same name n kind)) entry,
   )

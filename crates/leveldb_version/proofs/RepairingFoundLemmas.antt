@@ -1,6 +1,6 @@
--- What is found stays while a repair is made and after a crash, and of a store with no other file
--- it is its contents.
-use Rattle.leveldb_base.proofs.HistoryLemmas.{in_cases, in_front, in_none, in_rest}
+-- What is found stays while a repair is made and after a crash, if no cut table is readable; and of
+-- a store with no other file it is its contents.
+use Rattle.leveldb_base.proofs.HistoryLemmas.{in_cases, in_front, in_none, in_rest, same_sets}
 use Rattle.leveldb_base.proofs.NamesLemmas.{made_name}
 use Rattle.leveldb_base.specs.History.{Entry, greatest}
 use Rattle.leveldb_base.specs.KeyTypes.{greatest_sequence, internal_cmp, user_part}
@@ -14,11 +14,11 @@ use Rattle.leveldb_mem.specs.WriteBatch.{Batch}
 use Rattle.leveldb_table.proofs.TableReaderLemmas.{decodes_one, one_table}
 use Rattle.leveldb_table.specs.Table.{FiltersHold, Part}
 use Rattle.leveldb_version.proofs.BatchesLemmas.{each_one}
-use Rattle.leveldb_version.proofs.FoundLemmas.{Has, found_in, one_found_log, one_readable}
+use Rattle.leveldb_version.proofs.FoundLemmas.{Has, found_in, one_found_log, one_found_set, one_readable}
 use Rattle.leveldb_version.proofs.KeptLemmas.{kept_left}
 use Rattle.leveldb_version.proofs.ManagedLemmas.{SameBytes, kinds_apart, numbers_apart, same_bytes}
 use Rattle.leveldb_version.proofs.OneStoreLemmas.{flat_in, in_flat, one_entry}
-use Rattle.leveldb_version.proofs.RepairingKeepsLemmas.{same_log, still_there}
+use Rattle.leveldb_version.proofs.RepairingKeepsLemmas.{manifest_fits, same_log, still_there}
 use Rattle.leveldb_version.proofs.SafeLemmas.{some_is}
 use Rattle.leveldb_version.proofs.TablesLemmas.{one_store_table}
 use Rattle.leveldb_version.specs.Batches.{AreInOrder, Each, IsRecordOf, all_entries, batch_entries}
@@ -27,17 +27,17 @@ use Rattle.leveldb_version.specs.Format.{IsTableOf, Meaning}
 use Rattle.leveldb_version.specs.Found.{AreFound, IsAnyTable, IsFound, IsFoundLog, IsNumberedBatch, IsReadable, LogHas, TableHas}
 use Rattle.leveldb_version.specs.Levels.{LiveTable, table_entries}
 use Rattle.leveldb_version.specs.Paths.{current_path, log_path, table_path}
-use Rattle.leveldb_version.specs.Repairing.{FiltersAreIgnored, HasNoOtherFile, IsRepairing, LeavesNoTornTable, NewTablesHaveFound, StoresAreFound, TablesAreReadable}
-use Rattle.leveldb_version.specs.Store.{IsInternalPair, IsLog, IsManaged, IsManagedBy, OneTableReading, ReplayedLog, SameEntries, log_batches, log_entries}
+use Rattle.leveldb_version.specs.Repairing.{FiltersAreIgnored, FoundShowsTheSame, HasNoOtherFile, IsRepairing, MeantHaveFound, NoCutTableIsReadable, SameFound, StoresAreFound, TablesAreReadable}
+use Rattle.leveldb_version.specs.Store.{IsInternalPair, IsLog, IsManaged, IsManagedBy, OneTableReading, ReplayedLog, log_batches, log_entries}
 use Rattle.leveldb_version.specs.StoreSteps.{IsKept}
 use Rattle.leveldb_version.specs.VersionEdit.{NewFile}
 use Rattle.leveldb_version.specs.VersionSet.{live_after}
-use Rattle.std.proofs.Common.{◌<◌, ◌^◌, ◌∙◌, ◌∷◌, ◌≡◌, ◌≤◌, ◌⊎◌, Bool, List, None, Option, Some, [], ap, append-nil, arith, false, inl, inr, max, refl, subst, sym, true, ℕ, ⊎_elim}
+use Rattle.std.proofs.Common.{◌+◌, ◌<◌, ◌^◌, ◌∙◌, ◌∷◌, ◌≡◌, ◌≤◌, ◌⊎◌, Bool, List, None, Some, [], ap, append-nil, arith, false, inl, inr, max, refl, subst, sym, true, ℕ, ⊎_elim}
 use Rattle.std.proofs.lemmas.Bool.{cases_lt}
 use Rattle.std.proofs.lemmas.List.Elements.{Contains-append_cases, Contains-append_left, Contains-append_right}
 use Rattle.std.specs.Cmp.Lexicographic.{bytes_decides}
 use Rattle.std.specs.List.{AllByRecursion}
-use Rattle.std.specs.Prelude.{◌≢◌, ◌↔◌, Contains}
+use Rattle.std.specs.Prelude.{◌≢◌, Contains}
 use Rattle.std.specs.Str.{bytes_eq}
 use Rattle.std.specs.declared.cmp.Ordering.{Ordering}
 
@@ -49,25 +49,19 @@ module _ (store : List ℕ) (first next : ℕ) where
     pub number : ℕ
     pub from : first ≤ number
     pub below : number < next
-    pub fits : number < 2 ^ 64
     pub is : table_path store number ≡ path
 
   -- no new table has the path
   abbrev pub IsNoNewTable : List ℕ → Type 0
-  IsNoNewTable path = (n : ℕ) → first ≤ n → n < next → n < 2 ^ 64
-      → bytes_eq (table_path store n) path ≡ false
+  IsNoNewTable path = (n : ℕ) → first ≤ n → n < next → bytes_eq (table_path store n) path ≡ false
 
-  module _ (name : List ℕ) (k : ℕ) (is : IsFileName name k Table) where
+  module _ (fits : next < 2 ^ 64) (name : List ℕ) (k : ℕ) (is : IsFileName name k Table) where
     abbrev path : List ℕ
     path = in_folder store name
 
-    fits_name : IsFileName name k Table → k < 2 ^ 64
-    fits_name (inl ldb) = ldb.1.fits
-    fits_name (inr sst) = sst.1.fits
-
-    apart_unless : (n : ℕ) → n < 2 ^ 64 → (n ≡ k → bytes_eq (table_path store n) path ≡ false)
+    apart_unless : (n : ℕ) → n < next → (n ≡ k → bytes_eq (table_path store n) path ≡ false)
         → bytes_eq (table_path store n) path ≡ false
-    apart_unless n fits same = ⊎_elim
+    apart_unless n below same = ⊎_elim
         (λ (less : n < k). differ (λ e. omega (arith, less, e)))
         (λ (more : k ≤ n). ⊎_elim
         (λ (greater : k < n). differ (λ e. omega (arith, greater, e)))
@@ -77,21 +71,20 @@ module _ (store : List ℕ) (first next : ℕ) where
       where
         differ : n ≢ k → bytes_eq (table_path store n) path ≡ false
         differ other = numbers_apart store (file_name Table n) name n k Table Table
-            (made_name Table n fits) is other
+            (made_name Table n (omega (arith, below, fits))) is other
 
     by_path : (b : Bool) → bytes_eq (table_path store k) path ≡ b → (k < first) ⊎ (first ≤ k)
         → (k < next) ⊎ (next ≤ k) → IsNewTable path ⊎ IsNoNewTable path
-    by_path false e low high = inr (λ n from below fits. apart_unless n fits
+    by_path false e low high = inr (λ n from below. apart_unless n below
         (λ same. subst (λ m. bytes_eq (table_path store m) path ≡ false) (sym same) e))
-    by_path true e (inl low) high = inr (λ n from below fits. apart_unless n fits
+    by_path true e (inl low) high = inr (λ n from below. apart_unless n below
         (λ same. absurd (omega (arith, low, from, same))))
-    by_path true e (inr low) (inr high) = inr (λ n from below fits. apart_unless n fits
+    by_path true e (inr low) (inr high) = inr (λ n from below. apart_unless n below
         (λ same. absurd (omega (arith, high, below, same))))
     by_path true e (inr low) (inl high) = inl (record {
       number = k;
       from = low;
       below = high;
-      fits = fits_name is;
       is = (bytes_decides (table_path store k) path).0 e;
     })
 
@@ -101,8 +94,14 @@ module _ (store : List ℕ) (first next : ℕ) where
 
 -- ---- while a repair is made
 
-module _ (store : List ℕ) (IsTableOf : List ℕ → List Pair → Type 0) (manifest first next : ℕ)
-    (old now : Files) (r : IsRepairing store manifest first next old now) where
+module _ (store : List ℕ) (IsTableOf : List ℕ → List Pair → Type 0) (taken next : ℕ)
+    (old now : Files) (r : IsRepairing store taken next old now) where
+  abbrev manifest : ℕ
+  manifest = taken + 1
+
+  abbrev first : ℕ
+  first = taken + 2
+
   -- `CURRENT` is no table and no log
   no_current : (name : List ℕ) (file : File) (entry : Entry) → Has store IsTableOf name file entry
       → bytes_eq (current_path store) (in_folder store name) ≡ false
@@ -119,23 +118,24 @@ module _ (store : List ℕ) (IsTableOf : List ℕ → List Pair → Type 0) (man
       → now (in_folder store name) ≡ old (in_folder store name)
   old_table name k is none = r.others (in_folder store name) none
       (kinds_apart store (file_name Descriptor manifest) name manifest k Descriptor Table
-      (made_name Descriptor manifest r.fits) is (λ d. cc))
+      (made_name Descriptor manifest (manifest_fits store taken next old now r)) is (λ d. cc))
       (kinds_apart store (file_name Temp manifest) name manifest k Temp Table
-      (made_name Temp manifest r.fits) is (λ d. cc))
+      (made_name Temp manifest (manifest_fits store taken next old now r)) is (λ d. cc))
       (kinds_apart store (file_name Current 0) name 0 k Current Table (made_name Current 0 refl) is
       (λ d. cc))
       (kinds_apart store (file_name DBLock 0) name 0 k DBLock Table (made_name DBLock 0 refl) is
       (λ d. cc))
 
-  -- other files in which all that is as it was has the same bytes
-  module _ (other : Files)
+  -- other files in which all that is as it was has the same bytes, and no cut table is readable
+  module _ (meant : ℕ → List ℕ) (have : MeantHaveFound store IsTableOf first next meant old)
+      (other : Files)
       (same : (path : List ℕ) → now path ≡ old path → SameBytes (old path) (other path))
-      (have : NewTablesHaveFound store IsTableOf first next old other) where
+      (whole : NoCutTableIsReadable store IsTableOf first next meant other) where
     found_then : (entry : Entry) → IsFound store IsTableOf old entry
         → IsFound store IsTableOf other entry
     found_then entry is =
         let path = in_folder store is.0 in
-        let e = still_there store manifest first next old now r path is.1 is.2
+        let e = still_there store taken next old now r path is.1 is.2
         (no_current is.0 is.1 entry is.3) in
         found_in store IsTableOf old other is.0 is.1 entry is.2 (same path e) is.3
 
@@ -144,52 +144,35 @@ module _ (store : List ℕ) (IsTableOf : List ℕ → List Pair → Type 0) (man
     found_before entry (name, file, there, inr log) =
         found_in store IsTableOf other old name file entry there
         (sym (same (in_folder store name)
-        (same_log store manifest first next old now r name log.0 log.1))) (inr log)
+        (same_log store taken next old now r name log.0 log.1))) (inr log)
     found_before entry (name, file, there, inl table) = ⊎_elim
         (λ (new : IsNewTable store first next (in_folder store name)).
-        have new.number file table.2 entry new.from new.below new.fits
-        (ap other new.is ∙ there) table.3 table.4)
+        let bytes = whole new.number file table.2 new.from new.below (ap other new.is ∙ there)
+        table.3 in
+        have new.number table.2 entry new.from new.below
+        (subst (λ b. IsReadable IsTableOf b table.2) bytes table.3) table.4)
         (λ (none : IsNoNewTable store first next (in_folder store name)).
         found_in store IsTableOf other old name file entry there
         (sym (same (in_folder store name) (old_table name table.0 table.1 none))) (inl table))
-        (new_or_not store first next name table.0 table.1)
+        (new_or_not store first next r.fits name table.0 table.1)
 
-    found_other : (found : List Entry) → AreFound store IsTableOf old found
-        → AreFound store IsTableOf other found
-    found_other found are entry = (
-      λ c. found_then entry ((are entry).0 c),
-      λ is. (are entry).1 (found_before entry is),
-    )
+    found_other : SameFound store IsTableOf old other
+    found_other entry = (found_then entry, found_before entry)
 
-  pub found_stays : NewTablesHaveFound store IsTableOf first next old now → (found : List Entry)
-      → AreFound store IsTableOf old found → AreFound store IsTableOf now found
-  found_stays have = found_other now (λ path e. same_bytes (old path) (now path) e) have
+  pub found_stays : (meant : ℕ → List ℕ) → MeantHaveFound store IsTableOf first next meant old
+      → NoCutTableIsReadable store IsTableOf first next meant now
+      → SameFound store IsTableOf old now
+  found_stays meant have = found_other meant have now (λ path e. same_bytes (old path) (now path) e)
 
-  -- ---- after a crash
-
-  pub crash_leaves_found : (left : Files)
-      → NewTablesHaveFound store IsTableOf first next old now
+  -- after a crash
+  pub crash_leaves_found : (meant : ℕ → List ℕ) (left : Files)
+      → MeantHaveFound store IsTableOf first next meant old
       → ((path : List ℕ) → IsKept (old path)) → FilesCrashTo now left
-      → LeavesNoTornTable store IsTableOf now left → (found : List Entry)
-      → AreFound store IsTableOf old found → AreFound store IsTableOf left found
-  crash_leaves_found left have kept leaves whole =
-      found_other left
+      → NoCutTableIsReadable store IsTableOf first next meant left
+      → SameFound store IsTableOf old left
+  crash_leaves_found meant left have kept leaves = found_other meant have left
       (λ path e. kept_left (old path) (left path) (kept path)
       (subst (λ f. FileCrashesTo f (left path)) e (leaves path)))
-      (λ n crashed entries entry from below fits there readable c.
-      let was = there_before (now (table_path store n)) (left (table_path store n)) crashed
-      (leaves (table_path store n)) there in
-      let same = whole (table_path store n) was.0 crashed entries
-      (file_name Table n, n, made_name Table n fits, refl) was.1 there readable in
-      have n was.0 entries entry from below fits was.1
-      (subst (λ b. IsReadable IsTableOf b entries) same readable) c)
-    where
-      -- what a crash left was there
-      there_before : (file left' : Option File) (crashed : File) → FileCrashesTo file left'
-          → left' ≡ Some crashed → (was : File) × (file ≡ Some was)
-      there_before None left' crashed gone there =
-          absurd (let never : None ≡ Some crashed = sym gone ∙ there in cc)
-      there_before (Some was) left' crashed crash there = (was, refl)
 
 -- ---- batches with numbers
 
@@ -424,20 +407,16 @@ module _ (store : List ℕ) (cmp : List ℕ → List ℕ → Ordering)
       (in_log is.0 is.1 entry is.2 log))
       is.3)
 
-  pub store_is_found : (found : List Entry)
-      → AreFound store IsAnyTableOf files found ↔ SameEntries found contents.entries
-  store_is_found found = (
-    λ are entry. (
-      λ c. found_in_contents entry ((are entry).0 c),
-      λ c. (are entry).1 (contents_found entry c),
-    ),
-    λ same entry. (
-      λ c. contents_found entry ((same entry).0 c),
-      λ is. (same entry).1 (found_in_contents entry is),
-    ),
-  )
+  pub store_is_found : AreFound store IsAnyTableOf files contents.entries
+  store_is_found entry = (contents_found entry, found_in_contents entry)
 
 pub stores_are_found : (store : List ℕ) → StoresAreFound store
 stores_are_found store cmp meaning files contents m alone =
     store_is_found store cmp (IsTableOf cmp meaning) (IsAnyTable cmp meaning)
     (ignoring cmp meaning) files contents m alone
+
+pub found_shows_the_same : (store : List ℕ) → FoundShowsTheSame store
+found_shows_the_same store cmp meaning files contents m alone found are =
+    same_sets found contents.entries
+    ((one_found_set store (IsAnyTable cmp meaning) files found contents.entries are).0
+    (stores_are_found store cmp meaning files contents m alone))

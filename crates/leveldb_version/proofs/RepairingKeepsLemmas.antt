@@ -5,19 +5,20 @@ use Rattle.leveldb_base.specs.Types.{Pair}
 use Rattle.leveldb_base.specs.declared.types.FileType.{FileType}
 use Rattle.leveldb_base.specs.declared.types.FileType.TheVariants.{Current, DBLock, Descriptor, Log, Table, Temp}
 use Rattle.leveldb_env.proofs.EnvLemmas.{bytes_eq-apart}
-use Rattle.leveldb_env.specs.Env.{File, FileCrashesTo, Files, FilesCrashTo, in_folder}
+use Rattle.leveldb_env.specs.Env.{File, FileCrashesTo, Files, FilesCrashTo, in_folder, kept_file, or_empty}
 use Rattle.leveldb_version.proofs.ManagedLemmas.{kinds_apart, managed_on, same_bytes}
 use Rattle.leveldb_version.proofs.ManifestLemmas.{kept_name, missing_left}
 use Rattle.leveldb_version.proofs.SafeLemmas.{by_name}
 use Rattle.leveldb_version.specs.Contents.{Contents, Store}
+use Rattle.leveldb_version.specs.Current.{current_text}
 use Rattle.leveldb_version.specs.Found.{HasNoTableNorLog}
 use Rattle.leveldb_version.specs.Holds.{IsHonest}
-use Rattle.leveldb_version.specs.Paths.{current_path, lock_path, table_path}
+use Rattle.leveldb_version.specs.Paths.{current_path, lock_path, manifest_path, table_path}
 use Rattle.leveldb_version.specs.Repairing.{IsRepairing, ManifestsGoOn}
 use Rattle.leveldb_version.specs.Store.{HasNoStore, IsManaged, IsStore}
-use Rattle.leveldb_version.specs.StoreSteps.{KeepsHistory}
+use Rattle.leveldb_version.specs.StoreSteps.{IsAboveLogs, KeepsHistory}
 use Rattle.leveldb_version.specs.VersionEdit.{NewFile}
-use Rattle.std.proofs.Common.{◌∙◌, ◌≡◌, ◌≤◌, List, None, Option, Some, ap, arith, false, inl, inr, refl, subst, sym, ℕ}
+use Rattle.std.proofs.Common.{◌+◌, ◌<◌, ◌^◌, ◌∙◌, ◌≡◌, List, None, Option, Some, ap, arith, false, inl, inr, refl, subst, sym, ℕ, ⊎_elim}
 use Rattle.std.specs.Str.{bytes_eq}
 use Rattle.std.specs.declared.cmp.Ordering.{Ordering}
 
@@ -28,22 +29,38 @@ where_there (Some file) left = left
 
 -- ---- what a repair leaves alone
 
-module _ (store : List ℕ) (manifest first next : ℕ) (old now : Files)
-    (r : IsRepairing store manifest first next old now) where
-  -- a path of a number from the manifest's on has no file
-  fresh : (kind : FileType) (n : ℕ) → MayHaveNumber kind n → manifest ≤ n → (file : File)
+module _ (store : List ℕ) (taken next : ℕ) (old now : Files)
+    (r : IsRepairing store taken next old now) where
+  -- the manifest's number has 64 bits, and so do those of tables
+  pub manifest_fits : taken + 1 < 2 ^ 64
+  manifest_fits = let begun = r.begun in let fits = r.fits in omega (arith, begun, fits)
+
+  pub number_fits : (n : ℕ) → n < next → n < 2 ^ 64
+  number_fits n below = let fits = r.fits in omega (arith, below, fits)
+
+  -- a path of a number past all others has no file
+  fresh : (kind : FileType) (n : ℕ) → MayHaveNumber kind n → taken < n → (file : File)
       → old (in_folder store (file_name kind n)) ≡ Some file → ⊥
   fresh kind n may late file there =
-      let below = r.numbers (file_name kind n) n kind (made_name kind n may)
+      let below = r.taken_is.below (file_name kind n) n kind (made_name kind n may)
       (λ none. let never : Some file ≡ None = sym there ∙ none in cc) in
       omega (arith, below, late)
 
-  fresh_apart : (kind : FileType) (n : ℕ) → MayHaveNumber kind n → manifest ≤ n → (path : List ℕ)
+  fresh_apart : (kind : FileType) (n : ℕ) → MayHaveNumber kind n → taken < n → (path : List ℕ)
       (file : File) → old path ≡ Some file
       → bytes_eq (in_folder store (file_name kind n)) path ≡ false
   fresh_apart kind n may late path file there =
       bytes_eq-apart (in_folder store (file_name kind n)) path
       (λ e. fresh kind n may late file (ap old e ∙ there))
+
+  -- the lock's file is as it was where it was there
+  lock_there : (file : File) → old (lock_path store) ≡ Some file
+      → now (lock_path store) ≡ old (lock_path store)
+  lock_there file there = ⊎_elim
+      (λ (same : now (lock_path store) ≡ old (lock_path store)). same)
+      (λ (made : now (lock_path store) ≡ or_empty (old (lock_path store))).
+      made ∙ ap or_empty there ∙ sym there)
+      r.lock
 
   -- what was there is there, but perhaps `CURRENT`
   pub still_there : (path : List ℕ) (file : File) → old path ≡ Some file
@@ -52,47 +69,70 @@ module _ (store : List ℕ) (manifest first next : ℕ) (old now : Files)
       by_name
       (λ p. old p ≡ Some file → bytes_eq (current_path store) p ≡ false → now p ≡ old p)
       (lock_path store) path
-      (λ is away. r.lock (λ none. let never : Some file ≡ None = sym is ∙ none in cc))
+      (λ is away. lock_there file is)
       (λ free is away. r.others path
-      (λ n from below fits. fresh_apart Table n fits (late n from) path file is)
-      (fresh_apart Descriptor manifest r.fits (omega arith) path file is)
-      (fresh_apart Temp manifest r.fits (omega arith) path file is) away free)
+      (λ n from below. fresh_apart Table n (number_fits n below) (omega (arith, from)) path file is)
+      (fresh_apart Descriptor (taken + 1) manifest_fits (omega arith) path file is)
+      (fresh_apart Temp (taken + 1) manifest_fits (omega arith) path file is) away free)
       there far
-    where
-      late : (n : ℕ) → first ≤ n → manifest ≤ n
-      late n from = let above = r.above in omega (arith, above, from)
 
   -- a log is as it was
   pub same_log : (name : List ℕ) (k : ℕ) → IsFileName name k Log
       → now (in_folder store name) ≡ old (in_folder store name)
   same_log name k is = r.others (in_folder store name)
-      (λ n from below fits. kinds_apart store (file_name Table n) name n k Table Log
-      (made_name Table n fits) is (λ d. cc))
-      (kinds_apart store (file_name Descriptor manifest) name manifest k Descriptor Log
-      (made_name Descriptor manifest r.fits) is (λ d. cc))
-      (kinds_apart store (file_name Temp manifest) name manifest k Temp Log
-      (made_name Temp manifest r.fits) is (λ d. cc))
+      (λ n from below. kinds_apart store (file_name Table n) name n k Table Log
+      (made_name Table n (number_fits n below)) is (λ d. cc))
+      (kinds_apart store (file_name Descriptor (taken + 1)) name (taken + 1) k Descriptor Log
+      (made_name Descriptor (taken + 1) manifest_fits) is (λ d. cc))
+      (kinds_apart store (file_name Temp (taken + 1)) name (taken + 1) k Temp Log
+      (made_name Temp (taken + 1) manifest_fits) is (λ d. cc))
       (kinds_apart store (file_name Current 0) name 0 k Current Log (made_name Current 0 refl) is
       (λ d. cc))
       (kinds_apart store (file_name DBLock 0) name 0 k DBLock Log (made_name DBLock 0 refl) is
       (λ d. cc))
 
+  -- no log has the next number or a greater one
+  pub still_above_logs : IsAboveLogs store now next
+  still_above_logs name k is some =
+      let below = r.taken_is.below name k Log is (λ none. some (same_log name k is ∙ none)) in
+      let begun = r.begun in omega (arith, below, begun)
+
 -- making the manifest is a part of the repair
 pub manifests_go_on : (store : List ℕ) → ManifestsGoOn store
-manifests_go_on store manifest first next bytes old files now r making = record {
-  numbers = r.numbers;
-  fits = r.fits;
-  above = r.above;
+manifests_go_on store taken next bytes old files now r making = record {
+  taken_is = r.taken_is;
   others = λ path tables away apart far free.
       making.others path away apart far ∙ r.others path tables away apart far free;
-  lock = λ some. making.others (lock_path store)
-      (kinds_apart store (file_name Descriptor manifest) (file_name DBLock 0) manifest 0 Descriptor
-      DBLock (made_name Descriptor manifest r.fits) (made_name DBLock 0 refl) (λ d. cc))
-      (kinds_apart store (file_name Temp manifest) (file_name DBLock 0) manifest 0 Temp DBLock
-      (made_name Temp manifest r.fits) (made_name DBLock 0 refl) (λ d. cc))
-      (kinds_apart store (file_name Current 0) (file_name DBLock 0) 0 0 Current DBLock
-      (made_name Current 0 refl) (made_name DBLock 0 refl) (λ d. cc)) ∙ r.lock some;
+  current = ⊎_elim
+      (λ (same : now (current_path store) ≡ files (current_path store)). ⊎_elim
+      (λ (still : files (current_path store) ≡ old (current_path store)). inl (same ∙ still))
+      (λ (named : files (current_path store) ≡ Some (kept_file (current_text (taken + 1)))).
+      inr (same ∙ named)) r.current)
+      (λ (made : (now (current_path store) ≡ Some (kept_file (current_text (taken + 1))))
+      × (now (manifest_path store (taken + 1)) ≡ Some (kept_file bytes))). inr made.0)
+      making.current;
+  lock = ⊎_elim
+      (λ (same : files (lock_path store) ≡ old (lock_path store)). inl (lock_is ∙ same))
+      (λ (made : files (lock_path store) ≡ or_empty (old (lock_path store))). inr (lock_is ∙ made))
+      r.lock;
+  begun = r.begun;
+  fits = r.fits;
 }
+  where
+    named : IsFileName (file_name Descriptor (taken + 1)) (taken + 1) Descriptor
+    named = made_name Descriptor (taken + 1) (manifest_fits store taken next old files r)
+
+    temp : IsFileName (file_name Temp (taken + 1)) (taken + 1) Temp
+    temp = made_name Temp (taken + 1) (manifest_fits store taken next old files r)
+
+    lock_is : now (lock_path store) ≡ files (lock_path store)
+    lock_is = making.others (lock_path store)
+        (kinds_apart store (file_name Descriptor (taken + 1)) (file_name DBLock 0) (taken + 1) 0
+        Descriptor DBLock named (made_name DBLock 0 refl) (λ d. cc))
+        (kinds_apart store (file_name Temp (taken + 1)) (file_name DBLock 0) (taken + 1) 0 Temp
+        DBLock temp (made_name DBLock 0 refl) (λ d. cc))
+        (kinds_apart store (file_name Current 0) (file_name DBLock 0) 0 0 Current DBLock
+        (made_name Current 0 refl) (made_name DBLock 0 refl) (λ d. cc))
 
 -- ---- more files
 
@@ -135,15 +175,15 @@ module _ (store : List ℕ) (cmp : List ℕ → List ℕ → Ordering)
         }) m.managed;
       }
 
-  module _ (allowed : Store → Type 0) (manifest first next : ℕ) (old now : Files)
-      (r : IsRepairing store manifest first next old now)
+  module _ (allowed : Store → Type 0) (taken next : ℕ) (old now : Files)
+      (r : IsRepairing store taken next old now)
       (still : now (current_path store) ≡ old (current_path store))
       (some : HasNoTableNorLog store old → ⊥) where
     -- what was there is there
     there_now : (path : List ℕ) (file : File) → old path ≡ Some file → now path ≡ old path
     there_now path file there =
         by_name (λ p. old p ≡ Some file → now p ≡ old p) (current_path store) path (λ is. still)
-        (λ far is. still_there store manifest first next old now r path file is far) there
+        (λ far is. still_there store taken next old now r path file is far) there
 
     -- a crash of the old files leaves a table or a log
     some_left : (left : Files) → FilesCrashTo old left → HasNoStore store left → ⊥
@@ -160,7 +200,7 @@ module _ (store : List ℕ) (cmp : List ℕ → List ℕ → Ordering)
       no_log = bare.0.no_log;
     }))
     read_now contents (inr m) =
-        inr (with_more old now there_now (same_log store manifest first next old now r) contents m)
+        inr (with_more old now there_now (same_log store taken next old now r) contents m)
 
     -- ---- after a crash
 
@@ -204,7 +244,7 @@ module _ (store : List ℕ) (cmp : List ℕ → List ℕ → Ordering)
           by None none =
               missing_left (now (in_folder store name)) (left (in_folder store name))
               (leaves (in_folder store name))
-              (same_log store manifest first next old now r name k is ∙ none)
+              (same_log store taken next old now r name k is ∙ none)
               ∙ sym (ap (λ f. where_there f (left (in_folder store name))) none)
           by (Some was) there = sym (before_is (in_folder store name) was there)
 

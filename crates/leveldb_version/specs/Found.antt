@@ -1,5 +1,6 @@
 -- What is found in a store's folder, whether a manifest names it or not: the entries of each table
--- that is readable, and of each log as far as it is one. A repair makes a store of them.
+-- that is readable, and of each log up to its first bad end, or its first record that is no batch
+-- whose numbers entries may have. A repair makes a store of them.
 use Rattle.std.specs.Prelude.{◌≡◌, ◌⊎◌, ◌<◌, ◌≤◌, ◌↔◌, ℕ, List, [], ◌∷◌, ◌++◌, None, Some, Contains}
 use Rattle.std.specs.declared.cmp.Ordering.{Ordering}
 use Rattle.leveldb_base.specs.History.{Entry, greatest}
@@ -34,21 +35,21 @@ pub record IsReadable (IsTableOf : List ℕ → List Pair → Type 0) (bytes : L
 
 -- ---- logs
 
--- a record is a batch whose numbers are those that entries may have
+-- a record is a batch whose numbers are those that entries may have, from 1 to the greatest
 pub record IsNumberedBatch (text : List ℕ) (batch : Batch) : Type 0 where
   pub record_is : IsRecordOf text batch
   pub from_one : 0 < batch.first
   pub first_fits : batch.first ≤ greatest_sequence
   pub fits : greatest (batch_entries batch) ≤ greatest_sequence
 
--- what comes after the batches that are read of a log: no record, or first one that is no such
--- batch
+-- what comes after the batches that are read of a log: no record, or first one that is no batch
+-- with numbers from 1 to the greatest
 abbrev pub IsNoBatchNext : List (List ℕ) → Type 0
 IsNoBatchNext [] = Unit {0}
 IsNoBatchNext (text ∷ rest) = (batch : Batch) → IsNumberedBatch text batch → ⊥
 
 -- The bytes of a log are read as these batches: up to its first bad end, or its first record that
--- is no batch.
+-- is no batch with such numbers.
 pub record IsFoundLog (bytes : List ℕ) (batches : List Batch) : Type 0 where
   pub front : List (List ℕ)
   pub rest : List (List ℕ)

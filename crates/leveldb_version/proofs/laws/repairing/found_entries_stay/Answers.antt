@@ -2,8 +2,9 @@ use Rattle.leveldb_version.proofs.RepairingFoundLemmas.{crash_leaves_found, foun
 use Rattle.leveldb_version.proofs.laws.repairing.found_entries_stay.Goals as goal
 
 pub returns-clause-meanwhile : goal.returns-clause-meanwhile
-returns-clause-meanwhile g c = λ store. found_stays store g.F.StoreFormat.is_table
+returns-clause-meanwhile g c = λ store taken next meant old now r.
+    found_stays store g.F.StoreFormat.is_table taken next old now r meant
 
 pub returns-clause-crash : goal.returns-clause-crash
-returns-clause-crash g c = λ store manifest first next old now left r.
-    crash_leaves_found store g.F.StoreFormat.is_table manifest first next old now r left
+returns-clause-crash g c = λ store taken next meant old now left r.
+    crash_leaves_found store g.F.StoreFormat.is_table taken next old now r meant left

@@ -6,6 +6,6 @@ returns-clause-kept g c = λ store. repaired_is_kept store g.F.StoreFormat.cmp
     g.F.StoreFormat.is_table
 
 pub returns-clause-holds : goal.returns-clause-holds
-returns-clause-holds g c = λ store comparator log last tables files.
-    repaired_holds store g.F.StoreFormat.cmp g.F.StoreFormat.is_table comparator log last tables
-    g.F.StoreFormat.allowed files
+returns-clause-holds g c = λ store comparator manifest next last tables files.
+    repaired_holds store g.F.StoreFormat.cmp g.F.StoreFormat.is_table comparator manifest next last
+    tables g.F.StoreFormat.allowed files
