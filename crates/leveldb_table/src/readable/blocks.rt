@@ -1,7 +1,7 @@
 //! The blocks of a file that is judged. One that isn't there is no error, as it is where a table is
 //! read.
-ghost use Rattle.std.specs.Prelude.{◌≡◌, ℕ, length, MatchOption, IfOk, IfSome};
-ghost use Rattle.leveldb_base.specs.BlockHandle.{Handle, HandleFits, handle_bytes};
+ghost use Rattle.std.specs.Prelude.{◌≡◌, length, MatchOption, IfOk, IfSome};
+ghost use Rattle.leveldb_base.specs.BlockHandle.{Handle};
 ghost use Rattle.leveldb_env.specs.Compressor.{Decodes};
 ghost use Rattle.leveldb_table.specs.Block.{HasEntries};
 ghost use Rattle.leveldb_table.specs.ReadableTable.{ForFileOf, HasNoBlockByMore, IsUndecodedAt};
@@ -19,18 +19,6 @@ use leveldb_base::cmp::Cmp;
 use leveldb_base::error::{Result, StatusCode};
 use leveldb_env::compressor::{Compressor, CompressorList, Compressors};
 use leveldb_env::env::Env;
-
-/// The handle that these bytes encode, and nothing else.
-pub(crate) fn handle_in(bytes: &[u8]) -> Option<BlockHandle>
-    ensures { MatchOption result
-        ((handle : Handle) → HandleFits handle → bytes.now ≡ handle_bytes handle → ⊥)
-        (λ handle. HandleFits handle × (bytes.now ≡ handle_bytes handle)) }
-{
-    match BlockHandle::decode(bytes) {
-        Some((handle, used)) if used == bytes.len() => Some(handle),
-        _ => None,
-    }
-}
 
 impl<'a, E: Env, C: Cmp> Judge<'a, E, C> {
     /// The footer in which the file ends.

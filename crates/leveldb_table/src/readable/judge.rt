@@ -7,8 +7,8 @@ ghost use Rattle.leveldb_table.specs.ReadableTable.{ForFileOf, HasUndecodedBlock
 ghost use Rattle.leveldb_table.specs.TableBlock.{IsLackError, ReadsFile};
 
 use crate::block::Block;
-use crate::readable::blocks::handle_in;
 use crate::readable::keys::{LineKeys, are_between};
+use crate::table_reader::handle_in;
 use leveldb_base::cmp::{Cmp, DefaultCmp};
 use leveldb_base::error::Result;
 use leveldb_base::types::LdbIterator;
