@@ -17,3 +17,4 @@ pub mod TableReaderMovesLemmas
 pub mod TableMoreLemmas
 pub mod ReadableTableLemmas
 pub mod ReadableFileLemmas
+pub mod ReadableJudgeLemmas
