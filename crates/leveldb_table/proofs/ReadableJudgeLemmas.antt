@@ -1,6 +1,6 @@
 -- What a file that is judged comes to: a line of its index, all lines, and the table.
 use Rattle.std.proofs.Common.{◌≡◌, ◌<◌, ℕ, Bool, true, false, List, length, Option, None, Some, Result, Ok, Err, refl, sym, ◌∙◌, ap, subst, inl, inr, arith}
-use Rattle.std.specs.Prelude.{◌↔◌, Contains, IfOk, IsTrue}
+use Rattle.std.specs.Prelude.{◌↔◌, Contains, IfOk, IsTrue, is_none}
 use Rattle.std.specs.declared.cmp.Ordering.{Ordering}
 use Rattle.std.proofs.lemmas.Bool.{true≢false}
 use Rattle.leveldb_base.specs.BlockHandle.{Handle, handle_bytes}
@@ -25,6 +25,11 @@ use Rattle.leveldb_table.proofs.TableReaderLemmas.{lacks}
 -- a test that fails of what isn't so
 pub no_test : {P : Type 0} → (P → ⊥) → IsTrue false ↔ P
 no_test none = (λ e. absurd (true≢false (sym e)), λ p. absurd (none p))
+
+-- there is something where it isn't missing
+pub some_if : {T : Type 0} (found : Option T) → is_none found ≡ false → (x : T) × (found ≡ Some x)
+some_if None e = absurd (true≢false e)
+some_if (Some x) e = (x, refl)
 
 module _ {E F : Type 0} (env : Ghosts E F) (codings : Codings) (accepts : List ℕ → Bool) (cmp : List ℕ → List ℕ → Ordering) (file : F) (size : ℕ) where
   -- a line whose block was read is judged by its keys
