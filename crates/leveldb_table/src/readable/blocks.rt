@@ -91,7 +91,10 @@ impl<'a, E: Env, C: Cmp> Judge<'a, E, C> {
         let Some((id, stored)) = self.stored(env, location)? else {
             return Ok(None);
         };
-        let text = self.compressors.get(self.alloc, id)?.decode(self.alloc, stored)?;
+        let text = self
+            .compressors
+            .get(self.alloc, id)?
+            .decode(self.alloc, stored)?;
         match Block::new(self.alloc, cmp, Bytes::from_vec(text)?) {
             Ok(block) => Ok(Some(block)),
             Err(status) if status.code == StatusCode::Corruption => Ok(None),

@@ -11,7 +11,8 @@ use Rattle.leveldb_table.proofs.readable.keys.are_between.Given as goal
 abbrev pub invariant-pairs : goal.invariant-pairs
 invariant-pairs g l =
     IsPassing
-    (λ (pair : Pair). IsKeyBetween (g.C.Cmp.accepts l.cmp) (g.C.Cmp.cmp l.cmp) (key_before l.line.first l.line.before.now) l.line.here.now pair.0)
+    (λ (pair : Pair). IsKeyBetween (g.C.Cmp.accepts l.cmp) (g.C.Cmp.cmp l.cmp) (key_before
+    l.line.first l.line.before.now) l.line.here.now pair.0)
     (pairs_of None l.block.entries) l.pairs
 
 abbrev pub decreases-pairs : goal.decreases-pairs

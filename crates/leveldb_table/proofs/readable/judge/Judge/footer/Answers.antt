@@ -11,4 +11,9 @@ pub returns-clause-ok : goal.returns-clause-ok
 returns-clause-ok g c = λ bytes has same.
     let read = c.in_ok-bytes.ensures in
     let value = c.deref.ensures.value in
-    footer_read bytes c.in-Some.offset c.decode.result (omega (arith, c.in-Some.ensures.0, c.in-Some.ensures.1)) same (ap length value ∙ read.size) (value ∙ read.ok bytes has) c.decode.ensures
+    footer_read bytes c.in-Some.offset c.decode.result (omega (
+      arith,
+      c.in-Some.ensures.0,
+      c.in-Some.ensures.1,
+    )) same (ap length value ∙ read.size) (value ∙ read.ok bytes has)
+    c.decode.ensures
