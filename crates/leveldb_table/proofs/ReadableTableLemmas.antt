@@ -30,20 +30,6 @@ use Rattle.leveldb_table.proofs.TableReaderLemmas.{ends_one, index_read, tables_
 
 -- ---- tests
 
-pub tests_true : (codings : Codings) (Holds : (ℕ → List ℕ → List ℕ → Type 0) → Type 0)
-    → ((more : Codings) → DecodesMore (Decodes codings) (Decodes more) → Holds (Decodes more))
-    → TestsByMore codings Holds true
-tests_true codings Holds holds more by = (λ e. holds more by, λ h. refl)
-
-pub tests_false : (codings : Codings) (Holds : (ℕ → List ℕ → List ℕ → Type 0) → Type 0)
-    → ((more : Codings) → DecodesMore (Decodes codings) (Decodes more) → Holds (Decodes more) → ⊥)
-    → TestsByMore codings Holds false
-tests_false codings Holds none more by = (
-  λ e. absurd (true≢false (sym e)),
-  λ h. absurd (none more
-      by h),
-)
-
 -- the same of what follows from one another
 pub tests_same : (codings : Codings) (Holds Others : (ℕ → List ℕ → List ℕ → Type 0)
     → Type 0) (test : Bool)

@@ -1,6 +1,6 @@
 //! The blocks of a file that is judged. One that isn't there is no error, as it is where a table is
 //! read.
-ghost use Rattle.std.specs.Prelude.{◌≡◌, length, MatchOption, IfOk, IfSome};
+ghost use Rattle.std.specs.Prelude.{◌≡◌, ◌<◌, ◌^◌, length, MatchOption, IfOk, IfSome};
 ghost use Rattle.leveldb_base.specs.BlockHandle.{Handle};
 ghost use Rattle.leveldb_env.specs.Compressor.{Decodes};
 ghost use Rattle.leveldb_table.specs.Block.{HasEntries};
@@ -29,6 +29,7 @@ impl<'a, E: Env, C: Cmp> Judge<'a, E, C> {
             (λ bytes. MatchOption footer
             ((meta index : Handle) → EndsInFooter bytes (length bytes) meta index → ⊥)
             (λ there. EndsInFooter bytes (length bytes) there.meta_index there.index))) }
+        ensures fits { self.now.size < 2 ^ 64 }
     {
         let Some(offset) = self.size.checked_sub(FULL_FOOTER_LENGTH) else {
             return Ok(None);

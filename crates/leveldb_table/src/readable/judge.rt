@@ -1,5 +1,5 @@
 //! The judge of a file that may be a table.
-ghost use Rattle.std.specs.Prelude.{◌≡◌, ◌↔◌, length, List, None, IfOk, Contains};
+ghost use Rattle.std.specs.Prelude.{◌≡◌, ◌<◌, ◌^◌, length, List, None, IfOk, Contains};
 ghost use Rattle.leveldb_base.specs.Types.{Pair};
 ghost use Rattle.leveldb_table.specs.Block.{pairs_of};
 ghost use Rattle.leveldb_table.specs.BlockCheck.{key_before};
@@ -41,6 +41,7 @@ impl<'a, E: Env, C: Cmp + Copy + Drop> Judge<'a, E, C> {
             self.now.file self.now.size (λ bytes. TestsByMore codings (λ Decodes.
             (pairs : List Pair) × IsNumberedTable Decodes (C.accepts self.now.cmp)
             (C.cmp self.now.cmp) bytes pairs) holds)) }
+        ensures fits { self.now.size < 2 ^ 64 }
     {
         let Some(footer) = self.footer(env)? else {
             return Ok(false);
@@ -101,7 +102,8 @@ impl<'a, E: Env, C: Cmp + Copy + Drop> Judge<'a, E, C> {
             self.now.compressors.now in IfOk result (λ holds. ForFileOf E.Env env.old
             self.now.file self.now.size (λ bytes. TestsByMore codings (λ Decodes.
             LineHolds Decodes (C.accepts self.now.cmp) (C.cmp self.now.cmp) bytes
-            (key_before keys.entry.first keys.entry.before.now) (keys.entry.here.now, value.now)) holds)) }
+            (key_before keys.entry.first keys.entry.before.now)
+            (keys.entry.here.now, value.now)) holds)) }
     {
         let Some(handle) = handle_in(value) else {
             return Ok(false);
