@@ -1,4 +1,5 @@
-//! Files that are judged to be readable tables or not, each as a plain reader of whole files judges it.
+//! Files that are judged to be readable tables or not, each as a plain reader of whole files judges
+//! it.
 use crate::checks::{Given, internal_table};
 use leveldb_base::blockhandle::BlockHandle;
 use leveldb_base::cmp::DefaultCmp;
@@ -89,7 +90,11 @@ fn built<FP: FilterPolicy + Copy + Drop>(
     let mut builder = TableBuilder::new(alloc, options, Vec::new(alloc));
     for number in 0..count {
         let user = [b'k', number / 7, number];
-        let kind = if number % 3 == 0 { ValueType::TypeDeletion } else { ValueType::TypeValue };
+        let kind = if number % 3 == 0 {
+            ValueType::TypeDeletion
+        } else {
+            ValueType::TypeValue
+        };
         let newer = key_of(alloc, &user, u64::from(number) + 2, kind)?;
         builder.add(compressors, newer.as_slice(), b"new")?;
         let older = key_of(alloc, &user, 1, ValueType::TypeValue)?;
@@ -112,9 +117,15 @@ fn small_blocks<FP>(policy: FP, block_size: usize) -> Options<DefaultCmp, FP> {
 fn built_tables(rt: HostRuntime) -> Result<()> {
     for size in [1, 60, 200, 4096] {
         let filtered = built(rt.alloc(), &small_blocks(BloomPolicy::new(10), size), 20)?;
-        assert!(rt; both(rt.alloc(), &filtered, true)?, "filters, blocks of {size}");
+        assert!(rt;
+            both(rt.alloc(), &filtered, true)?,
+            "filters, blocks of {size}"
+        );
         let plain = built(rt.alloc(), &small_blocks(NoFilterPolicy::new(), size), 20)?;
-        assert!(rt; both(rt.alloc(), &plain, true)?, "no filters, blocks of {size}");
+        assert!(rt;
+            both(rt.alloc(), &plain, true)?,
+            "no filters, blocks of {size}"
+        );
     }
     Ok(())
 }
@@ -133,7 +144,10 @@ fn each_byte(rt: HostRuntime) -> Result<()> {
         readable += usize::from(judged(rt.alloc(), &bytes)?);
         change_byte(&mut bytes, at, 255);
     }
-    assert!(rt; readable > 0 && readable < 80, "{readable} bytes may be any");
+    assert!(rt;
+        readable > 0 && readable < 80,
+        "{readable} bytes may be any"
+    );
     Ok(())
 }
 
@@ -168,15 +182,20 @@ impl Entries {
     }
 
     fn add(&mut self, key: &[u8], value: &[u8]) -> Result<()> {
-        self.points.extend_from_slice(&(self.bytes.len() as u32).to_le_bytes())?;
-        self.bytes.extend_from_slice(&[0, key.len() as u8, value.len() as u8])?;
+        self.points
+            .extend_from_slice(&(self.bytes.len() as u32).to_le_bytes())?;
+        self.bytes
+            .extend_from_slice(&[0, key.len() as u8, value.len() as u8])?;
         self.bytes.extend_from_slice(key)?;
         self.bytes.extend_from_slice(value)?;
         Ok(())
     }
 
     fn finish(self) -> Result<Vec<u8>> {
-        let Entries { mut bytes, mut points } = self;
+        let Entries {
+            mut bytes,
+            mut points,
+        } = self;
         if points.is_empty() {
             points.extend_from_slice(&[0; 4])?;
         }
@@ -249,7 +268,11 @@ fn put_footer(file: &mut Vec<u8>, meta: BlockHandle, index: BlockHandle) -> Resu
 fn table_with(alloc: Global, lines: &[Line<'_>], metas: &[Given<'_>]) -> Result<Vec<u8>> {
     let mut file = Vec::from_slice(alloc, b"what no handle names")?;
     let index = put_lines(alloc, &mut file, lines)?;
-    put_end(&mut file, metaindex(alloc, metas)?.as_slice(), index.as_slice())?;
+    put_end(
+        &mut file,
+        metaindex(alloc, metas)?.as_slice(),
+        index.as_slice(),
+    )?;
     Ok(file)
 }
 
@@ -257,9 +280,15 @@ fn table_with(alloc: Global, lines: &[Line<'_>], metas: &[Given<'_>]) -> Result<
 const GOOD: [&[Line<'static>]; 5] = [
     &[],
     &[((b"a", 1, 1), &[(b"a", 1, 1)])],
-    &[((b"b", 1, 1), &[(b"a", 9, 0), (b"a", 1, 1)]), ((b"c", 1, 1), &[(b"c", 5, 1)])],
+    &[
+        ((b"b", 1, 1), &[(b"a", 9, 0), (b"a", 1, 1)]),
+        ((b"c", 1, 1), &[(b"c", 5, 1)]),
+    ],
     // a user's key in two blocks, and a line after all keys of its own
-    &[((b"a", 5, 1), &[(b"a", 9, 0), (b"a", 5, 1)]), ((b"z", 1, 1), &[(b"a", 4, 1), (b"b", 2, 0)])],
+    &[
+        ((b"a", 5, 1), &[(b"a", 9, 0), (b"a", 5, 1)]),
+        ((b"z", 1, 1), &[(b"a", 4, 1), (b"b", 2, 0)]),
+    ],
     // the greatest number, and an empty user's key; the type of a line isn't looked at
     &[((b"", 1, 77), &[(b"", (1 << 56) - 1, 1)])],
 ];
@@ -276,12 +305,27 @@ const BAD: [&[Line<'static>]; 16] = [
     &[((b"c", 1, 1), &[(b"a", 1, 1), (b"a", 2, 1)])],
     &[((b"c", 1, 1), &[(b"a", 1, 1), (b"a", 1, 0)])],
     // and from block to block
-    &[((b"b", 1, 1), &[(b"b", 1, 1)]), ((b"c", 1, 1), &[(b"a", 1, 1)])],
-    &[((b"b", 1, 1), &[(b"b", 1, 1)]), ((b"c", 1, 1), &[(b"b", 1, 1)])],
+    &[
+        ((b"b", 1, 1), &[(b"b", 1, 1)]),
+        ((b"c", 1, 1), &[(b"a", 1, 1)]),
+    ],
+    &[
+        ((b"b", 1, 1), &[(b"b", 1, 1)]),
+        ((b"c", 1, 1), &[(b"b", 1, 1)]),
+    ],
     // a line that isn't before the next block's keys, or is after the next line
-    &[((b"b", 1, 1), &[(b"a", 1, 1)]), ((b"c", 1, 1), &[(b"b", 1, 1)])],
-    &[((b"x", 1, 1), &[(b"a", 1, 1)]), ((b"c", 1, 1), &[(b"b", 1, 1)])],
-    &[((b"b", 1, 1), &[(b"a", 1, 1)]), ((b"b", 1, 1), &[(b"b", 1, 1)])],
+    &[
+        ((b"b", 1, 1), &[(b"a", 1, 1)]),
+        ((b"c", 1, 1), &[(b"b", 1, 1)]),
+    ],
+    &[
+        ((b"x", 1, 1), &[(b"a", 1, 1)]),
+        ((b"c", 1, 1), &[(b"b", 1, 1)]),
+    ],
+    &[
+        ((b"b", 1, 1), &[(b"a", 1, 1)]),
+        ((b"b", 1, 1), &[(b"b", 1, 1)]),
+    ],
     // types that there aren't, and the number 0
     &[((b"a", 1, 1), &[(b"a", 1, 2)])],
     &[((b"a", 1, 1), &[(b"a", 1, 255)])],
@@ -309,7 +353,10 @@ fn by_hand(rt: HostRuntime) -> Result<()> {
 fn metaindexes(rt: HostRuntime) -> Result<()> {
     let lines = GOOD[2];
     let rows: [(&[Given<'_>], bool); 4] = [
-        (&[(b"filter.leveldb.BuiltinBloomFilter2", b"no handle")], true),
+        (
+            &[(b"filter.leveldb.BuiltinBloomFilter2", b"no handle")],
+            true,
+        ),
         (&[(b"a", b""), (b"a\0", b"")], true),
         (&[(b"b", b""), (b"a", b"")], false),
         (&[(b"a", b""), (b"a", b"")], false),
@@ -332,9 +379,19 @@ fn short_keys(rt: HostRuntime) -> Result<()> {
         let handle = put_block(&mut file, block.finish()?.as_slice(), 0)?;
         let mut index = Entries::new(rt.alloc());
         let named = handle_bytes(rt.alloc(), handle)?;
-        index.add(whole.as_slice().get(..line).unwrap_or_default(), named.as_slice())?;
-        put_end(&mut file, metaindex(rt.alloc(), &[])?.as_slice(), index.finish()?.as_slice())?;
-        assert!(rt; both(rt.alloc(), &file, false)?, "keys of {key} and {line} bytes");
+        index.add(
+            whole.as_slice().get(..line).unwrap_or_default(),
+            named.as_slice(),
+        )?;
+        put_end(
+            &mut file,
+            metaindex(rt.alloc(), &[])?.as_slice(),
+            index.finish()?.as_slice(),
+        )?;
+        assert!(rt;
+            both(rt.alloc(), &file, false)?,
+            "keys of {key} and {line} bytes"
+        );
     }
     Ok(())
 }
@@ -351,7 +408,11 @@ fn with_handle(alloc: Global, after: &[u8], past: usize) -> Result<Vec<u8>> {
     named.extend_from_slice(after)?;
     let mut index = Entries::new(alloc);
     index.add(key.as_slice(), named.as_slice())?;
-    put_end(&mut file, metaindex(alloc, &[])?.as_slice(), index.finish()?.as_slice())?;
+    put_end(
+        &mut file,
+        metaindex(alloc, &[])?.as_slice(),
+        index.finish()?.as_slice(),
+    )?;
     Ok(file)
 }
 
@@ -370,7 +431,10 @@ fn handles(rt: HostRuntime) -> Result<()> {
 /// The order of the blocks in the file is free, but two lines can't name the same block.
 #[test]
 fn order_in_the_file(rt: HostRuntime) -> Result<()> {
-    let lines = [((b"b".as_slice(), 1, 1), [(b"b".as_slice(), 1, 1)]), ((b"a", 1, 1), [(b"a", 1, 1)])];
+    let lines = [
+        ((b"b".as_slice(), 1, 1), [(b"b".as_slice(), 1, 1)]),
+        ((b"a", 1, 1), [(b"a", 1, 1)]),
+    ];
     let mut file = Vec::new(rt.alloc());
     let mut index = Entries::new(rt.alloc());
     let mut handles = Vec::new(rt.alloc());
@@ -385,7 +449,11 @@ fn order_in_the_file(rt: HostRuntime) -> Result<()> {
         let handle = handle_bytes(rt.alloc(), handles[number])?;
         index.add(key.as_slice(), handle.as_slice())?;
     }
-    put_end(&mut file, metaindex(rt.alloc(), &[])?.as_slice(), index.finish()?.as_slice())?;
+    put_end(
+        &mut file,
+        metaindex(rt.alloc(), &[])?.as_slice(),
+        index.finish()?.as_slice(),
+    )?;
     assert!(rt; both(rt.alloc(), &file, true)?);
     let mut index = Entries::new(rt.alloc());
     let handle = handle_bytes(rt.alloc(), handles[1])?;
@@ -393,7 +461,11 @@ fn order_in_the_file(rt: HostRuntime) -> Result<()> {
         let key = key_bytes(rt.alloc(), (user, 1, 1))?;
         index.add(key.as_slice(), handle.as_slice())?;
     }
-    put_end(&mut twice, metaindex(rt.alloc(), &[])?.as_slice(), index.finish()?.as_slice())?;
+    put_end(
+        &mut twice,
+        metaindex(rt.alloc(), &[])?.as_slice(),
+        index.finish()?.as_slice(),
+    )?;
     assert!(rt; both(rt.alloc(), &twice, false)?);
     Ok(())
 }
@@ -445,7 +517,9 @@ fn blocks_that_are_not_decoded(rt: HostRuntime) -> Result<()> {
 fn by_a_compressor(rt: HostRuntime) -> Result<()> {
     let mut options = small_blocks(BloomPolicy::new(10), 60);
     options.compressor = 7;
-    options.compressor_list.set_with_id(rt.alloc(), 7, Box::new(rt.alloc(), Raised)?)?;
+    options
+        .compressor_list
+        .set_with_id(rt.alloc(), 7, Box::new(rt.alloc(), Raised)?)?;
     let bytes = built(rt.alloc(), &options, 9)?;
     let mut env = env_of(rt.alloc(), &bytes)?;
     assert!(rt; judged_in(rt.alloc(), &mut env, &options.compressor_list)?);
@@ -502,7 +576,10 @@ fn short_reads(rt: HostRuntime) -> Result<()> {
         assert!(rt; judged_in(rt.alloc(), &mut env, &compressors)? == readable);
         for most in 1..10 {
             let mut env = ShortReads::at_most(most, env_of(rt.alloc(), bytes)?);
-            assert!(rt; judged_in(rt.alloc(), &mut env, &compressors)? == readable, "{most} bytes");
+            assert!(rt;
+                judged_in(rt.alloc(), &mut env, &compressors)? == readable,
+                "{most} bytes"
+            );
         }
         let mut env = OnlyReads::of(env_of(rt.alloc(), bytes)?);
         assert!(rt; judged_in(rt.alloc(), &mut env, &compressors)? == readable);
@@ -540,7 +617,11 @@ fn damage_under_right_sums(rt: HostRuntime) -> Result<()> {
             let handle = handles[random.below(handles.len() as u64) as usize];
             for _ in 0..1 + random.below(2) {
                 let at = handle.0 + random.below(handle.1 as u64) as usize;
-                let amount = if random.below(2) == 0 { 1 } else { random.below(256) as u8 };
+                let amount = if random.below(2) == 0 {
+                    1
+                } else {
+                    random.below(256) as u8
+                };
                 change_byte(&mut damaged, at, amount);
             }
             sum_anew(&mut damaged, handle);
@@ -557,7 +638,9 @@ fn damage_under_right_sums(rt: HostRuntime) -> Result<()> {
 /// after twenty bytes and lie one after the other.
 fn handles_in(alloc: Global, bytes: &[u8]) -> Result<Vec<(usize, usize)>> {
     let mut handles = Vec::new(alloc);
-    let end = bytes.get(bytes.len().saturating_sub(48)..).unwrap_or_default();
+    let end = bytes
+        .get(bytes.len().saturating_sub(48)..)
+        .unwrap_or_default();
     let Some(footer) = Footer::decode(end) else {
         return Ok(handles);
     };
@@ -596,7 +679,10 @@ fn damage_anywhere(rt: HostRuntime) -> Result<()> {
         let to = random.below(bytes.len() as u64) as usize;
         let mut joined = Vec::from_slice(rt.alloc(), bytes.get(..from).unwrap_or_default())?;
         joined.extend_from_slice(bytes.get(to..).unwrap_or_default())?;
-        assert!(rt; alike(rt.alloc(), &joined)?, "round {round}, {from} and {to}");
+        assert!(rt;
+            alike(rt.alloc(), &joined)?,
+            "round {round}, {from} and {to}"
+        );
     }
     Ok(())
 }

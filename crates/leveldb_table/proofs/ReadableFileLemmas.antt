@@ -1,6 +1,6 @@
 -- A file that is judged: what is read of it, line by line of its index.
-use Rattle.std.proofs.Common.{◌≡◌, ◌⊎◌, ◌+◌, ◌-◌, ◌<◌, ◌≤◌, ◌^◌, ℕ, Bool, true, false, List, [], ◌∷◌, flat_map, length, take, drop, Option, None, Some, Result, Ok, Err, refl, sym, ◌∙◌, ap, subst, inl, inr, ⊎_elim, arith}
-use Rattle.std.specs.Prelude.{◌↔◌, ◌≢◌, Contains, IfOk, IfErr, IsErrAnd, IsSomeAnd, IsTrue, IsSome, MatchOption, OnOk, is_some}
+use Rattle.std.proofs.Common.{◌≡◌, ◌+◌, ◌<◌, ◌≤◌, ◌^◌, ℕ, Bool, true, false, List, [], ◌∷◌, flat_map, length, take, drop, Option, None, Some, Result, Ok, Err, refl, sym, ◌∙◌, ap, subst, inl, inr, arith}
+use Rattle.std.specs.Prelude.{◌↔◌, ◌≢◌, Contains, IfOk, IsErrAnd, IsSomeAnd, IsTrue, IsSome, MatchOption, OnOk, is_some}
 use Rattle.std.specs.List.{AllByRecursion}
 use Rattle.std.specs.declared.cmp.Ordering.{Ordering}
 use Rattle.std.proofs.lemmas.Bool.{true≢false}
@@ -10,20 +10,17 @@ use Rattle.leveldb_base.proofs.PositionLemmas.{position_in}
 use Rattle.leveldb_base.specs.BlockHandle.{Handle, HandleFits, handle_bytes}
 use Rattle.leveldb_base.specs.Cmp.{internal_accepts}
 use Rattle.leveldb_base.specs.KeyTypes.{internal_cmp}
-use Rattle.leveldb_base.specs.Error.{IsOutOfMemory}
 use Rattle.leveldb_base.specs.Types.{Pair, next_position, pair_at, position_within}
 use Rattle.leveldb_base.specs.declared.error.Status.{Status}
-use Rattle.leveldb_base.specs.declared.error.StatusCode.TheVariants.{Corruption}
 use Rattle.leveldb_env.specs.Compressor.{Codings, Decodes}
 use Rattle.leveldb_env.specs.Env.{File, bytes_of}
 use Rattle.leveldb_env.specs.declared.env.Env.{Ghosts}
 use Rattle.leveldb_table.specs.Block.{IsBlock}
-use Rattle.leveldb_table.specs.BlockCheck.{key_before}
 use Rattle.leveldb_table.specs.BlockWalk.{BlockPosition, pairs_over, position_over}
 use Rattle.leveldb_table.specs.Footer.{ReadsFooter}
-use Rattle.leveldb_table.specs.ReadableTable.{AreKeysBetween, ForFileOf, HasNoBlockByMore, HasUndecodedBlock, IsKeyBetween, IsNumberedTable, IsReadableTable, IsUndecodedAt, JudgesTable, LineHolds, LinesHold, OpensJudged, PathHas, TestsByMore}
-use Rattle.leveldb_table.specs.Table.{AreAccepted, HasBlockAt, IsTable, Part, StoresAt}
-use Rattle.leveldb_table.specs.TableBlock.{EndsBefore, FileHas, ForBytesOf, IsDamaged, IsLackError, IsUndecoded, KeepsDisk, ReadsFile}
+use Rattle.leveldb_table.specs.ReadableTable.{AreKeysBetween, ForFileOf, HasNoBlockByMore, HasUndecodedBlock, IsNumberedTable, IsReadableTable, IsUndecodedAt, JudgesTable, LineHolds, LinesHold, OpensJudged, PathHas, TestsByMore}
+use Rattle.leveldb_table.specs.Table.{HasBlockAt, Part, StoresAt}
+use Rattle.leveldb_table.specs.TableBlock.{EndsBefore, FileHas, IsDamaged, IsLackError, IsUndecoded, KeepsDisk, ReadsFile}
 use Rattle.leveldb_table.specs.TableLaws.{DecodesMore}
 use Rattle.leveldb_table.specs.TableReader.{EndsInFooter}
 use Rattle.leveldb_table.specs.declared.table_builder.footer.Footer.{Footer}

@@ -1,5 +1,5 @@
 -- What a file that is judged comes to: a line of its index, all lines, and the table.
-use Rattle.std.proofs.Common.{◌≡◌, ◌<◌, ℕ, Bool, true, false, not, List, length, Option, None, Some, Result, Ok, Err, refl, sym, ◌∙◌, ap, subst, inl, inr, arith}
+use Rattle.std.proofs.Common.{◌≡◌, ℕ, Bool, true, false, not, List, length, Option, None, Some, Result, Ok, Err, refl, sym, ◌∙◌, ap}
 use Rattle.std.specs.Prelude.{◌↔◌, Contains, IfOk, IsTrue, is_some}
 use Rattle.std.specs.declared.cmp.Ordering.{Ordering}
 use Rattle.std.proofs.lemmas.Bool.{true≢false}
@@ -14,7 +14,6 @@ use Rattle.leveldb_table.specs.BlockWalk.{BlockPosition, pairs_over, position_ov
 use Rattle.leveldb_table.specs.ReadableTable.{AreKeysBetween, ForFileOf, HasUndecodedBlock, IsHandleIn, IsNumberedTable, IsUndecodedAt, IsUndecodedLine, LineHolds, LinesHold, TestsByMore, of_line}
 use Rattle.leveldb_table.specs.Table.{HasBlockAt}
 use Rattle.leveldb_table.specs.TableBlock.{IsLackError, KeepsDisk, ReadsFile}
-use Rattle.leveldb_table.specs.TableLaws.{DecodesMore}
 use Rattle.leveldb_table.specs.TableReader.{HasIndex}
 use Rattle.leveldb_table.proofs.ReadableFileLemmas.{LinesSoFar, line_by_keys, so_far_contains}
 use Rattle.leveldb_table.proofs.ReadableTableLemmas.{index_by_more, lines_are_tables}

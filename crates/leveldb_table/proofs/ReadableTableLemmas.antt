@@ -1,32 +1,31 @@
 -- Readable tables: by their keys, their blocks and the lines of their index.
-use Rattle.std.proofs.Common.{◌≡◌, ◌≢◌, ◌⊎◌, ◌+◌, ◌-◌, ◌/◌, ◌%◌, ◌<◌, ◌≤◌, ◌^◌, ℕ, zero, suc, Bool, true, false, cond, nat_le, nat_lt, List, [], ◌∷◌, ◌++◌, length, map, drop, take, Option, None, Some, slice_get, flat_map, Result, Ok, Err, refl, sym, ◌∙◌, ap, subst, inl, inr, ⊎_elim, arith, length-append, add-one}
-use Rattle.std.specs.Prelude.{◌↔◌, Contains, IfSome, IfOk, IfErr, IsErrAnd, IsSomeAnd, IsTrue, is_some}
+use Rattle.std.proofs.Common.{◌≡◌, ◌≢◌, ◌+◌, ◌-◌, ◌/◌, ◌%◌, ◌<◌, ◌≤◌, ◌^◌, ℕ, zero, suc, Bool, true, false, cond, nat_le, nat_lt, List, [], ◌∷◌, ◌++◌, length, map, drop, Option, None, Some, slice_get, refl, sym, ◌∙◌, ap, subst, arith, length-append, add-one}
+use Rattle.std.specs.Prelude.{◌↔◌, Contains, IfSome}
 use Rattle.std.specs.List.{All, AllByRecursion}
 use Rattle.std.specs.declared.cmp.Ordering.{Ordering}
-use Rattle.std.specs.declared.cmp.Ordering.TheVariants.{Less, Greater}
+use Rattle.std.specs.declared.cmp.Ordering.TheVariants.{Less}
 use Rattle.std.proofs.Math.ListN.{drop_of_length-le}
-use Rattle.std.proofs.lemmas.Bool.{le-leb, true≢false}
+use Rattle.std.proofs.lemmas.Bool.{le-leb}
 use Rattle.std.proofs.lemmas.Bool.Decides.{nat_tests}
-use Rattle.std.proofs.lemmas.List.{take_all, length-drop}
+use Rattle.std.proofs.lemmas.List.{take_all}
 use Rattle.byteorder.specs.Endian.{little_number}
 use Rattle.leveldb_base.proofs.HistoryLemmas.{in_front, in_rest}
 use Rattle.leveldb_base.proofs.KeyTypesLemmas.{internal_key-parts}
-use Rattle.leveldb_base.proofs.PositionLemmas.{position_in, position_out}
-use Rattle.leveldb_base.specs.BlockHandle.{Handle, HandleFits, handle_bytes}
+use Rattle.leveldb_base.specs.BlockHandle.{Handle}
 use Rattle.leveldb_base.specs.Cmp.{IsPreorderOn, bytewise}
 use Rattle.leveldb_base.specs.CmpLaws.{length-internal_key, tag_part-internal_key, type_number-le}
-use Rattle.leveldb_base.specs.KeyTypes.{internal_key, sequence_part, tag, tag_part, type_number, type_part, user_part}
+use Rattle.leveldb_base.specs.KeyTypes.{sequence_part, tag, tag_part, type_part, user_part}
 use Rattle.leveldb_base.specs.Types.{Pair, next_position, pair_at, position_within}
 use Rattle.leveldb_env.specs.Compressor.{Codings, Decodes}
 use Rattle.leveldb_table.specs.Block.{IsBlock, IsNoBlock, KeysRise, RiseAfter}
-use Rattle.leveldb_table.specs.ReadableTable.{AreKeysBetween, HasNoBlockByMore, IsKeyBetween, IsNumberedKey, IsNumberedTable, LineHolds, LinesHold, TestsByMore}
-use Rattle.leveldb_table.specs.Table.{AreAccepted, AreParted, FiltersHold, HasBlockAt, HasTableBlocks, IsAtOrAfterAll, IsBeforeAll, IsPart, IsTable, Part, StoresAt, index_pair, with_trailer}
+use Rattle.leveldb_table.specs.ReadableTable.{HasNoBlockByMore, IsKeyBetween, IsNumberedKey, IsNumberedTable, LinesHold, TestsByMore}
+use Rattle.leveldb_table.specs.Table.{AreParted, FiltersHold, HasBlockAt, IsAtOrAfterAll, IsBeforeAll, IsPart, Part, StoresAt, index_pair, with_trailer}
 use Rattle.leveldb_table.specs.TableBlock.{StoresNothing}
 use Rattle.leveldb_table.specs.TableLaws.{DecodesMore}
 use Rattle.leveldb_table.specs.TableReader.{EndsInFooter, HasIndex, pairs_in}
 use Rattle.leveldb_table.proofs.TableLemmas.{all_append, all_left, all_right, all_with, has_one_block, length-with_trailer, then_less, turned_from}
 use Rattle.leveldb_table.proofs.TableMoreLemmas.{block_by_more}
-use Rattle.leveldb_table.proofs.TableReaderLemmas.{ends_one, index_read, tables_indexed}
+use Rattle.leveldb_table.proofs.TableReaderLemmas.{ends_one, index_read}
 
 -- ---- tests
 

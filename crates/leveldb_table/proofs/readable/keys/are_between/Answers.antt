@@ -1,8 +1,8 @@
-use Rattle.std.proofs.Common.{ap, sym, ◌∙◌, None}
+use Rattle.std.proofs.Common.{ap, ◌∙◌, None}
 use Rattle.std.specs.Prelude.{is_some}
-use Rattle.leveldb_base.specs.Types.{Pair, position_within}
+use Rattle.leveldb_base.specs.Types.{position_within}
 use Rattle.leveldb_table.specs.Block.{pairs_of}
-use Rattle.leveldb_table.proofs.ReadableFileLemmas.{passing_ends, passing_first, passing_next, passing_smaller, passing_stops}
+use Rattle.leveldb_table.proofs.ReadableFileLemmas.{passing_ends, passing_first, passing_next, passing_smaller}
 use Rattle.leveldb_table.proofs.readable.keys.are_between.Goals as goal
 
 pub pairs-init : goal.pairs-init
