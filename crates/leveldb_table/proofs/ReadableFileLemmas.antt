@@ -98,7 +98,8 @@ module _ {accepts : List ℕ → Bool} {cmp : List ℕ → List ℕ
         → AreKeysBetween accepts cmp before line.0 pairs ↔ LineHolds (Decodes more) accepts cmp
         bytes before line
     line_by_keys {text} {pairs} there block accepted =
-        let is_there = block_by_more (Decodes codings) (Decodes more) by bytes handle text there in (
+        let is_there =
+        block_by_more (Decodes codings) (Decodes more) by bytes handle text there in (
           λ between. record {
             handle = handle;
             named = named;

@@ -330,9 +330,9 @@ module _ (Decodes : ℕ → List ℕ → List ℕ → Type 0) (accepts : List �
           accepted = lines.0;
           between = (
             each.0.some,
-            betweens accepts cmp before part.index_key part.pairs (all_left
-                Accepted part.pairs (pairs_in parts) accepted) (all_left Numbered part.pairs (pairs_in
-                parts) numbered)
+            betweens accepts cmp before part.index_key part.pairs
+                (all_left Accepted part.pairs (pairs_in parts) accepted)
+                (all_left Numbered part.pairs (pairs_in parts) numbered)
                 (afters accepts cmp before part.pairs after) (parted_upto cmp part parts parted),
           );
         },
