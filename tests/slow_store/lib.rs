@@ -12,3 +12,4 @@ pub use compaction::{TableEntry, TableSpan, Trial, has, tables_to_compact, value
 pub use files::{Contents, read_store};
 pub use levels::{compaction_inputs, files_with_key, has_overlap, new_table_level};
 pub use live_levels::{has_levels, levels_of};
+pub use table::table_pairs;

@@ -12,6 +12,8 @@ mod checks;
 mod footers;
 pub mod passed;
 #[cfg(test)]
+mod readable;
+#[cfg(test)]
 mod round_trip;
 #[cfg(test)]
 mod table_blocks;

@@ -15,3 +15,6 @@ pub mod TableReaderLemmas
 pub mod TableReaderWalkLemmas
 pub mod TableReaderMovesLemmas
 pub mod TableMoreLemmas
+pub mod ReadableTableLemmas
+pub mod ReadableFileLemmas
+pub mod ReadableJudgeLemmas

@@ -8,7 +8,7 @@ use Rattle.std.specs.List.{AllByRecursion}
 use Rattle.std.specs.declared.cmp.Ordering.{Ordering}
 
 module _ (Decodes More : ℕ → List ℕ → List ℕ → Type 0) (more : DecodesMore Decodes More) where
-  block_by_more : (file : List ℕ) (handle : Handle) (text : List ℕ)
+  pub block_by_more : (file : List ℕ) (handle : Handle) (text : List ℕ)
       → HasBlockAt Decodes file handle text → HasBlockAt More file handle text
   block_by_more file handle text has = record {
     id = has.id;

@@ -1,5 +1,5 @@
 -- What a metaindex says of the filters.
-use Rattle.std.proofs.Common.{◌≡◌, ◌≢◌, ℕ, ◌+◌, ◌^◌, Bool, true, false, cond, Result, Ok, Err, List, [], ◌∷◌, ◌++◌, length, Option, None, Some, slice_get, nat_lt, if◌then◌else◌, refl, sym, ◌∙◌, ap, subst, ◌⊎◌, map, inl, inr, ⊎_elim, arith, nat_le, ◌/◌, ◌≤◌, add-one, append-nil}
+use Rattle.std.proofs.Common.{◌≡◌, ◌≢◌, ℕ, ◌+◌, ◌^◌, Bool, true, false, cond, Result, Ok, Err, List, [], ◌∷◌, ◌++◌, length, Option, None, Some, slice_get, nat_lt, if◌then◌else◌, refl, sym, ◌∙◌, ap, subst, ◌⊎◌, map, inl, ⊎_elim, arith, nat_le, ◌/◌, ◌≤◌, add-one, append-nil}
 use Rattle.std.specs.Map.{lookup}
 use Rattle.std.specs.Str.{bytes_eq}
 use Rattle.std.specs.declared.cmp.Ordering.{Ordering}
@@ -28,7 +28,7 @@ use Rattle.leveldb_env.specs.Compressor.{Codings, Decodes}
 use Rattle.leveldb_env.specs.FilterBlock.{IsFilterBlock, FiltersRead, passes}
 use Rattle.leveldb_env.specs.FilterBlockLaws.{one_reading}
 use Rattle.leveldb_table.specs.Block.{BlockRead, RiseAfter, KeysRise, IsBlock, HasEntries, pairs_of}
-use Rattle.leveldb_table.specs.Table.{first_from, Part, IsPart, StoresAt, HasBlockAt, HasFiltersAt, FiltersHold, AllPass, HasTableBlocks, IsTable, DecodesOne, OneTable, index_pair, filter_key, IsAtOrAfterAll, IsBeforeAll, AreParted, PartPasses, named_part, AreAccepted, offset_for}
+use Rattle.leveldb_table.specs.Table.{first_from, Part, IsPart, StoresAt, HasBlockAt, HasFiltersAt, FiltersHold, AllPass, HasTableBlocks, IsTable, DecodesOne, OneTable, index_pair, filter_key, IsAtOrAfterAll, IsBeforeAll, AreParted, PartPasses, named_part, offset_for}
 use Rattle.leveldb_table.specs.TableReader.{OpenTable, GivesHandle, HasFiltersBy, IsFiltersAt, EndsInFooter, HasIndex, LacksIndex, no_footer, no_index, HasNoIndex, OpensTable, OpensAs, LacksPart, not_indexed, no_metaindex, no_filters, CannotOpen, CanOpen, HasParts, HandlesFit, pairs_in, KeepsUsersTogether, HasNoneFrom}
 use Rattle.leveldb_table.specs.TableBlock.{HasNoFilters, KeepsDisk, FileHas, IsDamaged, IsLackError, ReadsFile}
 use Rattle.leveldb_table.specs.BlockLaws.{one_block}

@@ -23,3 +23,4 @@ pub mod TableReaderMoves
 pub mod TableReaderSteps
 pub mod TableReaderBlocks
 pub mod OpenTable
+pub mod ReadableTable

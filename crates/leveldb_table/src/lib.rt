@@ -7,6 +7,7 @@ pub mod block_cache;
 pub mod cache;
 mod damage;
 pub mod laws;
+pub mod readable;
 pub mod table_block;
 pub mod table_builder;
 pub mod table_reader;

@@ -122,8 +122,8 @@ fn read_stored<E: Env>(
     Ok((id, stored))
 }
 
-// The id after `size` stored bytes, where the checksum after it is right.
-fn checked_id(bytes: &[u8], size: usize) -> Option<u8>
+/// The id after `size` stored bytes, where the checksum after it is right.
+pub(crate) fn checked_id(bytes: &[u8], size: usize) -> Option<u8>
     requires { length bytes.now ≡ size + 5 }
     ensures some { IfSome result (λ id. bytes.now ≡ with_trailer id (take size bytes.now)) }
     ensures none { IfNone result ((id : ℕ) (stored : List ℕ) → length stored ≡ size

@@ -1,5 +1,5 @@
 //! Tables: files that are opened once, and then looked up and walked block by block.
-ghost use Rattle.std.specs.Prelude.{◌≡◌, ◌⊎◌, ◌+◌, ◌^◌, ◌<◌, List, ℕ, Bool, true, None, Some, length, map, IfOk, IfSome, IfErr, Err, OnErr, IsErrAnd};
+ghost use Rattle.std.specs.Prelude.{◌≡◌, ◌⊎◌, ◌+◌, ◌^◌, ◌<◌, List, ℕ, Bool, true, None, Some, length, map, IfOk, IfSome, IfErr, Err, OnErr, IsErrAnd, MatchOption};
 ghost use Rattle.leveldb_base.specs.Cmp.{bytewise};
 ghost use Rattle.leveldb_base.specs.BlockHandle.{Handle, handle_bytes, HandleFits};
 ghost use Rattle.leveldb_base.specs.Types.{Pair};
@@ -367,15 +367,26 @@ impl<E: Env, C: Cmp + Copy + Drop, FP: FilterPolicy> Table<E, C, FP> {
 // What is wrong with a value of an index or a metaindex that encodes no handle.
 const NO_HANDLE: &str = "no handle of a block";
 
-// The handle that these bytes encode, and nothing else. They are a value of the block that is this
-// part of a table, at this offset of its file.
+/// The handle that these bytes encode, and nothing else.
+pub(crate) fn handle_in(bytes: &[u8]) -> Option<BlockHandle>
+    ensures { MatchOption result
+        ((handle : Handle) → HandleFits handle → bytes.now ≡ handle_bytes handle → ⊥)
+        (λ handle. HandleFits handle × (bytes.now ≡ handle_bytes handle)) }
+{
+    match BlockHandle::decode(bytes) {
+        Some((handle, used)) if used == bytes.len() => Some(handle),
+        _ => None,
+    }
+}
+
+// The same of a value of the block that is this part of a table, at this offset of its file.
 fn whole_handle(alloc: Global, bytes: &[u8], part: &str, offset: usize) -> Result<BlockHandle>
     ensures ok { IfOk result (λ handle. HandleFits handle × (bytes.now ≡ handle_bytes handle)) }
     ensures err { IfErr result (λ status. (status.code ≡ Corruption)
         × ((handle : Handle) → HandleFits handle → bytes.now ≡ handle_bytes handle → ⊥)) }
 {
-    match BlockHandle::decode(bytes) {
-        Some((handle, used)) if used == bytes.len() => Ok(handle),
-        _ => corruption(alloc, part, offset, NO_HANDLE),
+    match handle_in(bytes) {
+        Some(handle) => Ok(handle),
+        None => corruption(alloc, part, offset, NO_HANDLE),
     }
 }

@@ -1,6 +1,5 @@
 use Rattle.std.proofs.Common.{◌≡◌, ◌+◌, ◌-◌, ◌<◌, ◌≤◌, ◌++◌, subst, ℕ, length, take, drop, ◌∙◌, ap, inl, inr, arith, length-append, length-take, length-drop, min, max}
 use Rattle.std.proofs.lemmas.List.{length-take-le, with_items_is}
-use Rattle.std.specs.Prelude.{IsTrue}
 use borrow.Rule.Slice.PartMut.{put_mid}
 use Rattle.leveldb_env.specs.Env.{ReadsFrom}
 use Rattle.leveldb_table.specs.TableBlock.{ForBytesOf}

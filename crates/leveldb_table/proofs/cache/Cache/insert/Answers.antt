@@ -1,4 +1,4 @@
-use Rattle.std.proofs.Common.{◌∙◌, ◌≡◌, ap, sym}
+use Rattle.std.proofs.Common.{◌∙◌, ap, sym}
 use Rattle.lru.specs.LruCache.{lru_cache}
 use Rattle.leveldb_table.proofs.CacheLemmas.{cached_of, after_put, put_is, put_none, room_kept, kept_put}
 use Rattle.leveldb_table.proofs.cache.Cache.insert.Goals as goal

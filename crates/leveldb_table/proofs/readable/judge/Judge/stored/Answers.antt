@@ -1,0 +1,32 @@
+use Rattle.std.proofs.Common.{◌≡◌, length, take, sym, ◌∙◌, ap, refl, arith}
+use Rattle.std.proofs.lemmas.List.{length-take-le}
+use Rattle.leveldb_base.specs.BlockHandle.{HandleFits}
+use Rattle.leveldb_table.specs.Table.{with_trailer}
+use Rattle.leveldb_table.proofs.TableLemmas.{read_as, is_there_as, stores_from}
+use Rattle.leveldb_table.proofs.readable.judge.Judge.stored.Goals as goal
+
+pub returns-in_default-checked_id-clause-ok : goal.returns-in_default-checked_id-clause-ok
+returns-in_default-checked_id-clause-ok g c = λ bytes has same id stored there.
+    let read = read_as bytes c.args.location (c.in_ok-stored.ensures.ok bytes has)
+    c.offset-offset.ensures c.size-size.ensures refl in
+    c.in_default-checked_id.ensures.none id stored (there.size ∙ sym c.size-size.ensures)
+    (c.deref.ensures.value ∙ read ∙ is_there_as there)
+
+pub returns-clause-ok : goal.returns-clause-ok
+returns-clause-ok g c = λ bytes has same.
+    let handle = c.args.location in
+    let read = read_as bytes handle (c.in_ok-stored.ensures.ok bytes has) c.offset-offset.ensures
+    c.size-size.ensures refl in
+    let items = c.in_ok-stored.stored.items in
+    let id = c.in-Some-checked_id.id in
+    let fits : HandleFits handle = record { offset = omega arith; size = omega arith } in
+    let cut = c.truncate.ensures.items in
+    let long : length c.truncate.new.self.items ≡ handle.size =
+    ap length cut ∙ length-take-le c.size-size.result items (omega (
+      arith,
+      c.in_ok-stored.ensures.size,
+    )) ∙ c.size-size.ensures in
+    stores_from bytes handle id c.truncate.new.self.items fits long
+    (sym read ∙ sym c.deref.ensures.value ∙ c.in-Some-checked_id.ensures.some ∙ ap (λ z.
+    with_trailer id (take c.size-size.result z)) c.deref.ensures.value ∙ sym (ap (with_trailer
+    id) cut))
