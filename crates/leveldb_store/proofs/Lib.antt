@@ -93,6 +93,7 @@ mod ViewTablesLemmas
 mod ViewChildrenLemmas
 mod ViewStoreLemmas
 pub mod NoNewEntriesLemmas
+pub mod KeptEntriesLemmas
 pub mod CompactedLemmas
 mod ReplacedFilesLemmas
 mod CompactPickedLemmas
@@ -102,3 +103,5 @@ pub mod LoggedEditsLemmas
 pub mod AskedCompactionLemmas
 mod EndsOpeningLemmas
 mod TabledEntriesLemmas
+mod AddedTableLemmas
+mod CompactsOnceLemmas
