@@ -104,4 +104,4 @@ pub mod AskedCompactionLemmas
 mod EndsOpeningLemmas
 mod TabledEntriesLemmas
 mod AddedTableLemmas
-mod CompactsOnceLemmas
+pub mod CompactsOnceLemmas
