@@ -128,10 +128,10 @@ module _ {E F C FP D P : Type 0} {order : CmpGhosts (InternalKeyCmp C)} {env : G
     picked = None;
     logged = tt;
     live = λ number there. inr (
-        subst (λ (files : List NewFile). Contains (file_numbers files) number)
-            (sym (ap (λ (e : Edit). e.added) (failed_keeps_files old.set new.set one.err.0))) there,
-        λ modelled fits given. one.given modelled number fits given,
-      );
+      subst (λ (files : List NewFile). Contains (file_numbers files) number)
+          (sym (ap (λ (e : Edit). e.added) (failed_keeps_files old.set new.set one.err.0))) there,
+      λ modelled fits given. one.given modelled number fits given,
+    );
   }
 
   -- one that is logged takes its inputs, and what is obsolete then is deleted
