@@ -42,7 +42,7 @@ pub mod KeptLemmas
 mod HeldViewsLemmas
 mod ChargesLemmas
 mod ReadSamplesLemmas
-mod LosesNoEntryLemmas
+mod KeepsOrCompactsLemmas
 mod RoomInLemmas
 pub mod WritingLemmas
 pub mod CompactingLemmas

@@ -22,7 +22,7 @@ use Rattle.leveldb_store.specs.OpenTables.{ClosesObsolete}
 use Rattle.leveldb_store.specs.Room.{FailsToMakeRoom, IsFull, MakesRoom}
 use Rattle.leveldb_store.specs.RoomSteps.{AddsNone, IsStepToRoom}
 use Rattle.leveldb_store.specs.SoundCall.{IsSoundCall}
-use Rattle.rusty_leveldb.proofs.LosesNoEntryLemmas.{loses_by_tables, loses_compacted, loses_none}
+use Rattle.rusty_leveldb.proofs.KeepsOrCompactsLemmas.{kept_in_tables, kept_or_compacted, kept_as_they_are}
 use Rattle.rusty_leveldb.specs.Room.{LogsRoom, StoreMakesRoom}
 
 module _ {E F C FP D P : Type 0} (order : CmpGhosts (InternalKeyCmp C)) (env : Ghosts E F)
@@ -44,7 +44,7 @@ module _ {E F C FP D P : Type 0} (order : CmpGhosts (InternalKeyCmp C)) (env : G
     not_full = λ also. (refl, refl, tt);
     empties = λ full. absurd (room full);
     logs = λ full. absurd (room full);
-    entries = loses_none env by.format old from;
+    entries = kept_as_they_are env by.format old from;
   }
 
   module _ {cmp : List ℕ → List ℕ → Ordering} (same : cmp ≡ by.format.order)
@@ -78,7 +78,7 @@ module _ {E F C FP D P : Type 0} (order : CmpGhosts (InternalKeyCmp C)) (env : G
     not_full = made.not_full;
     empties = tt;
     logs = tt;
-    entries = loses_by_tables env by.format old from new to made.rest.store
+    entries = kept_in_tables env by.format old from new to made.rest.store
         (subst (λ f. KeepsEntries env f old from new to) format_is kept);
   }
 
@@ -107,7 +107,7 @@ module _ {E F C FP D P : Type 0} (order : CmpGhosts (InternalKeyCmp C)) (env : G
         not_full = λ room. absurd (room full);
         empties = empties result;
         logs = logs result by_score;
-        entries = loses_compacted env by.format old from mid at made.rest.store
+        entries = kept_or_compacted env by.format old from mid at made.rest.store
             (subst (λ f. KeepsEntries env f old from mid at) format_is kept) charged only new to
             compacts.memory compacts.keeps.rest.last
             (subst (λ c. CompactsOnceAtMost c env.models_disk charged (env.observed at) new

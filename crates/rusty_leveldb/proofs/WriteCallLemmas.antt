@@ -21,7 +21,7 @@ use Rattle.leveldb_store.specs.SoundCall.{IsSoundCall, any_meaning}
 use Rattle.leveldb_store.specs.WriteBatch.{FailsToWrite, WritesBatch, next_batch}
 use Rattle.rusty_leveldb.specs.Boxes.{EngineOf, InternalOrder}
 use Rattle.rusty_leveldb.specs.EngineValue.{FollowsStore}
-use Rattle.rusty_leveldb.specs.Room.{EngineMakesRoom, LogsRoom, LosesNoEntry, entries_added}
+use Rattle.rusty_leveldb.specs.Room.{EngineMakesRoom, LogsRoom, KeepsOrCompacts, entries_added}
 use Rattle.rusty_leveldb.specs.Calls.{AppendsNothing, EngineWrites, IsMemtableFull, KeepsMemory, KeepsModeOrBreaks, OneWaitsAtMost, WritesIntoRoom}
 use Rattle.rusty_leveldb.specs.Causes.{AreUsedUp}
 use Rattle.rusty_leveldb.specs.Engine.{empty_memtable, Answers, IsBroken, WriteExcused, options_in, formats_of, tables_by}
@@ -31,7 +31,7 @@ use Rattle.rusty_leveldb.specs.State.{write}
 use Rattle.rusty_leveldb.proofs.Batching.{IsUnmade, not_written}
 use Rattle.rusty_leveldb.proofs.EngineLemmas.{follows_broken, follows_open}
 use Rattle.rusty_leveldb.proofs.CallsLemmas.{not_halted}
-use Rattle.rusty_leveldb.proofs.LosesNoEntryLemmas.{loses_beside_batch, loses_none}
+use Rattle.rusty_leveldb.proofs.KeepsOrCompactsLemmas.{kept_beside_batch, kept_as_they_are}
 use Rattle.rusty_leveldb.proofs.RestLemmas.{rest_roomless, rest_still, rest_written}
 use Rattle.rusty_leveldb.proofs.RowLemmas.{write_row}
 use Rattle.rusty_leveldb.proofs.SyncLemmas.{log_is_there}
@@ -104,7 +104,7 @@ module _ {E C FP F P : Type 0} {B : Boxed} {keys : InternalOrder C} {key_filters
         waits = tt;
         logs = tt;
         failed = (inr refl, (refl, λ room. (refl, refl)));
-        entries = loses_none env (formats (options_in before)) before.store from;
+        entries = kept_as_they_are env (formats (options_in before)) before.store from;
         breaks = inr (inl refl);
         snapshots = refl;
         options = record { rest = refl; sink = refl };
@@ -276,15 +276,15 @@ module _ {E C FP F P : Type 0} {B : Boxed} {keys : InternalOrder C} {key_filters
           (λ (broke : value.log.writer.broken ≡ true). inl (follows_broken mode value follows broke))
           writes.breaks
 
-      -- and no entry is lost
+      -- where the entries are
       batch_entries : (result : Result (Unit {0}) Status)
           → WritesBatch env (formats (options_in roomy)).order roomy.store mid items sync result value
-          to → LosesNoEntry env (formats (options_in before))
+          to → KeepsOrCompacts env (formats (options_in before))
           (entries_added result (next_batch before.store items)) before.store from value to
-      batch_entries result writes = subst (λ k. LosesNoEntry env (formats (options_in before))
+      batch_entries result writes = subst (λ k. KeepsOrCompacts env (formats (options_in before))
           (entries_added result (placed (k + 1) items)) before.store from value to)
           made.makes.keeps.rest.last
-          (loses_beside_batch env (formats (options_in before)) before.store from roomy.store mid
+          (kept_beside_batch env (formats (options_in before)) before.store from roomy.store mid
           made.makes.keeps.rest.store made.makes.entries (formats (options_in roomy)).order items
           sync result value to writes)
 

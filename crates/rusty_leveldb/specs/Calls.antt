@@ -35,7 +35,7 @@ use Rattle.rusty_leveldb.specs.Serves.{AreReadAs, done_or, found_or, given_engin
 use Rattle.rusty_leveldb.specs.Engine.{IsClosed, IsBroken, IsClosedOrBroken, ReadsAt, RefusedByMode, AnswersAs, Answers, WriteExcused, SyncExcused, CloseExcused, CompactExcused, GetExcused, GetFails, SnapshotExcused, ReleaseExcused, WalkExcused, IsStoreName, IsOpening, HasOwnLock, formats_of, holds_lock, options_in, tables_by}
 use Rattle.rusty_leveldb.specs.Frame.{IsOwn, IsSyncing, MayTouchOrLog, SameBytes, Spares}
 use Rattle.rusty_leveldb.specs.Machine.{AllDurable, Closes, Gives, Keeps, Opens, Releases, Writes, risk_of}
-use Rattle.rusty_leveldb.specs.Room.{EngineMakesRoom, LogsRoom, LosesNoEntry, entries_added}
+use Rattle.rusty_leveldb.specs.Room.{EngineMakesRoom, LogsRoom, KeepsOrCompacts, entries_added}
 use Rattle.rusty_leveldb.specs.Rows.{FindsValue, FromEachState, FromStatesOf, IsAbandoned, NotClosed, NotCompacted, NotFlushed, NotOpened, NotUnlocked, NotWritten, RepresentsAt, Row, StaysAsItWas, WalksView}
 use Rattle.rusty_leveldb.specs.Unopened.{IsLockGivenBack, IsLockHeld, MakesLockAlone, NeverOpens, OpenExcused}
 use Rattle.rusty_leveldb.specs.Boxes.{EngineOf, InternalOrder}
@@ -184,9 +184,9 @@ module _ {E C FP F P : Type 0} {B : Boxed} {keys : InternalOrder C} {key_filters
         (record after.store.set { last_sequence = before.store.set.last_sequence }))
     -- Err leaves what memory shows, and the mode, or a broken store
     pub failed : OnErr result (KeepsModeOrBreaks before after × KeepsMemory before after)
-    -- Ok or Err, and whatever the files are: no entry is lost that was in memory, or is of the batch
-    -- that was written
-    pub entries : LosesNoEntry env (formats_of choices (options_in before))
+    -- Ok or Err, and whatever the files are: what was in memory, and the batch if it was written, is
+    -- in memory, or in tables that were added, of which one compaction may have taken some
+    pub entries : KeepsOrCompacts env (formats_of choices (options_in before))
         (entries_added result (next_batch before.store items)) before.store from after.store to
     -- an Err came before the batch was appended to the log, or broke the store
     pub breaks : OnErr result (IsBroken after.mode ⊎ AppendsNothing to)

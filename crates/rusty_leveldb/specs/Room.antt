@@ -44,20 +44,21 @@ entries_added (Err status) batch = []
 abbrev pub with_last : {C : Type 0} → ℕ → OpenStoreValue C → OpenStoreValue C
 with_last n value = record value { set = record value.set { last_sequence = n } }
 
--- No entry is lost, whatever the files are. Tables may be made of what is in memory, then one
--- compaction may be logged, and then these entries, of a batch, are added to memory.
-pub record LosesNoEntry {E F C : Type 0} (env : Ghosts E F) (format : Format) (batch : List Entry)
+-- Where entries are after a write, whatever the files are: each is in memory still, or in a table
+-- that was added, and then one compaction may have taken that table. These entries, of a batch, are
+-- added to memory.
+pub record KeepsOrCompacts {E F C : Type 0} (env : Ghosts E F) (format : Format) (batch : List Entry)
     (old : OpenStoreValue C) (from : E) (new : OpenStoreValue C) (to : E) : Type 0 where
-  -- the store and its environment once tables were made: each entry is in memory still, or in a
-  -- table that was added, and each live table stays as it is
+  -- the store and its environment once tables were made of what was in memory, and nothing was
+  -- compacted yet
   pub tabled : OpenStoreValue C
   pub at : E
   pub path : tabled.set.store ≡ old.set.store
   pub tables : KeepsEntries env format old from tabled at
-  -- each live table stays so but those that the compaction took
+  -- since then each live table stays as it is but those that one compaction took
   pub compacts : CompactsOnceAtMost format.order env.models_disk tabled (env.observed at)
       (with_last tabled.set.last_sequence new) (env.observed to)
-  -- what is in memory stays there, with the batch, and nothing else is
+  -- and what is in memory stays there, with the batch, and nothing else is
   pub memory : SameEntries (in_memory tabled ++ batch) (in_memory new)
 
 -- Room is made in the memtable of a store that isn't broken, and where it was full the compaction is
@@ -77,8 +78,8 @@ pub record StoreMakesRoom {E F C FP D P : Type 0} (order : CmpGhosts (InternalKe
   pub empties : OnOk result (IsFull limit old.recent
       → (new.recent.entries ≡ []) × (new.recent.places ≡ 0) × (new.waiting ≡ None))
   pub logs : OnOk result (IsFull limit old.recent → LogsRoom by.format.order old.set new.set)
-  -- Ok or Err, no entry is lost
-  pub entries : LosesNoEntry env by.format [] old from new to
+  -- Ok or Err, no entry is lost from memory but into tables
+  pub entries : KeepsOrCompacts env by.format [] old from new to
 
 -- The store of an engine makes room so, by the engine's options.
 pub record EngineMakesRoom {E C FP F P : Type 0} {B : Boxed} {keys : InternalOrder C}

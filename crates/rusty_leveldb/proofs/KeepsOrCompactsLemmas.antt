@@ -1,4 +1,4 @@
--- That no entry is lost where room is made and a batch is written, whatever the files are.
+-- Where entries are once room was made and a batch was written, whatever the files are.
 use Rattle.std.specs.Prelude.{Contains, IfSome, IsTrue, Result}
 use Rattle.std.proofs.Common.{◌≡◌, ◌∙◌, ◌++◌, ◌⊎◌, ◌<◌, ◌^◌, inl, inr, ⊎_elim, ℕ, Bool, List, [], Option, None, Some, Ok, Err, ap, append-nil, refl, subst, sym}
 use Rattle.std.proofs.lemmas.List.Elements.{Contains-append_cases, Contains-append_left, Contains-append_right}
@@ -22,7 +22,7 @@ use Rattle.leveldb_store.specs.OpenStore.{OpenStoreValue}
 use Rattle.leveldb_store.specs.Read.{in_memory}
 use Rattle.leveldb_store.specs.WriteBatch.{WritesBatch, next_batch}
 use Rattle.leveldb_store.specs.Written.{waiting_entries}
-use Rattle.rusty_leveldb.specs.Room.{LosesNoEntry, entries_added, with_last}
+use Rattle.rusty_leveldb.specs.Room.{KeepsOrCompacts, entries_added, with_last}
 
 -- ---- lists
 
@@ -87,10 +87,10 @@ module _ {E F C : Type 0} (env : Ghosts E F) (format : Format) where
   own_last value n same = ap (λ k. with_last k value) same
 
   -- tables are made, and no compaction
-  pub loses_by_tables : (old : OpenStoreValue C) (from : E) (new : OpenStoreValue C) (to : E)
+  pub kept_in_tables : (old : OpenStoreValue C) (from : E) (new : OpenStoreValue C) (to : E)
       → new.set.store ≡ old.set.store → KeepsEntries env format old from new to
-      → LosesNoEntry env format [] old from new to
-  loses_by_tables old from new to path kept = record {
+      → KeepsOrCompacts env format [] old from new to
+  kept_in_tables old from new to path kept = record {
     tabled = new;
     at = to;
     path = path;
@@ -100,12 +100,12 @@ module _ {E F C : Type 0} (env : Ghosts E F) (format : Format) where
   }
 
   -- nothing is done
-  pub loses_none : (value : OpenStoreValue C) (at : E)
-      → LosesNoEntry env format [] value at value at
-  loses_none value at = loses_by_tables value at value at refl (entries_same env format value at)
+  pub kept_as_they_are : (value : OpenStoreValue C) (at : E)
+      → KeepsOrCompacts env format [] value at value at
+  kept_as_they_are value at = kept_in_tables value at value at refl (entries_same env format value at)
 
   -- tables are made, and then what the store asks for is compacted, or not
-  pub loses_compacted : (old : OpenStoreValue C) (from : E) (mid : OpenStoreValue C) (at : E)
+  pub kept_or_compacted : (old : OpenStoreValue C) (from : E) (mid : OpenStoreValue C) (at : E)
       → mid.set.store ≡ old.set.store → KeepsEntries env format old from mid at
       → (charged : OpenStoreValue C) → charged ≡ record mid { current = charged.current }
       → (new : OpenStoreValue C) (to : E)
@@ -113,8 +113,8 @@ module _ {E F C : Type 0} (env : Ghosts E F) (format : Format) where
       → new.set.last_sequence ≡ mid.set.last_sequence
       → CompactsOnceAtMost format.order env.models_disk charged (env.observed at) new
       (env.observed to)
-      → LosesNoEntry env format [] old from new to
-  loses_compacted old from mid at path kept charged only new to rest last once = record {
+      → KeepsOrCompacts env format [] old from new to
+  kept_or_compacted old from mid at path kept charged only new to rest last once = record {
     tabled = charged;
     at = at;
     path = ap (λ (v : OpenStoreValue C). v.set.store) only ∙ path;
@@ -151,7 +151,7 @@ module _ {E F C : Type 0} (env : Ghosts E F) (format : Format) where
 
   module _ (old : OpenStoreValue C) (from : E) (mid : OpenStoreValue C) (at : E)
       (same_path : mid.set.store ≡ old.set.store)
-      (room : LosesNoEntry env format [] old from mid at) (cmp : List ℕ → List ℕ → Ordering)
+      (room : KeepsOrCompacts env format [] old from mid at) (cmp : List ℕ → List ℕ → Ordering)
       (items : List Item) (sync : Bool) (result : Result (Unit {0}) Status)
       (new : OpenStoreValue C) (to : E)
       (writes : WritesBatch env cmp mid at items sync result new to) where
@@ -186,10 +186,10 @@ module _ {E F C : Type 0} (env : Ghosts E F) (format : Format) where
         set : (with_last n new).set ≡ (with_last n mid).set
         set = ap (λ (v : OpenStoreValue C). (with_last n v).set) writes.rest
 
-    -- no entry is lost, and those of a batch that was written are in memory
-    pub loses_beside_batch : LosesNoEntry env format (entries_added result (next_batch mid items)) old from
+    -- those of a batch that was written are in memory
+    pub kept_beside_batch : KeepsOrCompacts env format (entries_added result (next_batch mid items)) old from
         new to
-    loses_beside_batch = record {
+    kept_beside_batch = record {
       tabled = room.tabled;
       at = room.at;
       path = room.path;
