@@ -37,25 +37,32 @@ use Rattle.leveldb_store.specs.Room.{TidiesUp}
 same_number : (a b : LevelFile) → is_same_file a b ≡ true → a.1 ≡ b.1
 same_number a b same = eqb-true a.1 b.1 (and_parts (a.0 == b.0) (a.1 == b.1) same).1
 
+-- one of these has this number
+abbrev IsAmong : List LevelFile → ℕ → Type 0
+IsAmong places number = (at : LevelFile) × Contains places at × (at.1 ≡ number)
+
 -- a file stays unless one of its number is deleted
 deleted_or_stays : (deleted : List LevelFile) (files : List NewFile) (file : NewFile)
     → Contains files file
-    → ((at : LevelFile) × Contains deleted at × (at.1 ≡ file.number))
-    ⊎ Contains (fold files_without files deleted) file
+    → IsAmong deleted file.number ⊎ Contains (fold files_without files deleted) file
 deleted_or_stays [] files file there = inr there
-deleted_or_stays (first ∷ deleted) files file there = by (is_same_file (level_file file) first) refl
+deleted_or_stays (first ∷ deleted) files file there =
+    by (λ left. deleted_or_stays deleted (files_without files first) file left)
+    (is_same_file (level_file file) first) refl
   where
-    by : (same : Bool) → is_same_file (level_file file) first ≡ same
-        → ((at : LevelFile) × Contains (first ∷ deleted) at × (at.1 ≡ file.number))
+    by : (Contains (files_without files first) file → IsAmong deleted file.number
+        ⊎ Contains (fold files_without (files_without files first) deleted) file)
+        → (same : Bool) → is_same_file (level_file file) first ≡ same
+        → IsAmong (first ∷ deleted) file.number
         ⊎ Contains (fold files_without (files_without files first) deleted) file
-    by true is = inl (first, in_front first deleted, sym (same_number (level_file file) first is))
-    by false is = ⊎_elim
-        (λ (later : (at : LevelFile) × Contains deleted at × (at.1 ≡ file.number)).
-        inl (later.0, in_rest first later.0 deleted later.1, later.2))
+    by later true is =
+        inl (first, in_front first deleted, sym (same_number (level_file file) first is))
+    by later false is = ⊎_elim
+        (λ (gone : IsAmong deleted file.number).
+        inl (gone.0, in_rest first gone.0 deleted gone.1, gone.2))
         (λ stays. inr stays)
-        (deleted_or_stays deleted (files_without files first) file
-        (passes_kept (λ (f : NewFile). not (is_same_file (level_file f) first)) files file there
-        (ap not is)))
+        (later (passes_kept (λ (f : NewFile). not (is_same_file (level_file f) first)) files file
+        there (ap not is)))
 
 -- a file is among these that has this number
 abbrev HasNumber : List NewFile → ℕ → Type 0
@@ -89,11 +96,10 @@ number_stays (x ∷ added) files number has = number_stays added (files_with fil
 -- the number of each file was deleted by the edit, or is there after it
 deleted_or_there : (edit : Edit) (files : List NewFile) (number : ℕ)
     → Contains (file_numbers files) number
-    → ((at : LevelFile) × Contains edit.deleted at × (at.1 ≡ number))
-    ⊎ Contains (file_numbers (files_after edit files)) number
+    → IsAmong edit.deleted number ⊎ Contains (file_numbers (files_after edit files)) number
 deleted_or_there edit files number there =
     let it = in_map (λ (f : NewFile). f.number) files number there in ⊎_elim
-    (λ (gone : (at : LevelFile) × Contains edit.deleted at × (at.1 ≡ it.0.number)).
+    (λ (gone : IsAmong edit.deleted it.0.number).
     inl (gone.0, gone.1, gone.2 ∙ it.2))
     (λ (stays : Contains (fold files_without files edit.deleted) it.0).
     let now = number_stays edit.added (fold files_without files edit.deleted) number
@@ -144,8 +150,8 @@ module _ {E F C FP D P : Type 0} {order : CmpGhosts (InternalKeyCmp C)} {env : G
     picked = Some it;
     logged = logged;
     live = λ number there. ⊎_elim
-        (λ (gone : (place : LevelFile) × Contains logged.edit.deleted place
-        × (place.1 ≡ number)). inl (taken number gone.0 gone.1 gone.2))
+        (λ (gone : IsAmong logged.edit.deleted number).
+        inl (taken number gone.0 gone.1 gone.2))
         (λ (left : Contains (file_numbers (files_after logged.edit logged.given.full.added)) number).
         inr (live_now number left, same number (live_now number left)))
         (deleted_or_there logged.edit logged.given.full.added number
