@@ -22,7 +22,7 @@ use Rattle.leveldb_version.specs.VersionEdit.{NewFile}
 use Rattle.leveldb_version.specs.VersionSetValue.{VersionSetValue}
 use Rattle.leveldb_store.proofs.NoNewEntriesLemmas.{live_table_left}
 use Rattle.leveldb_store.specs.BuildTable.{TableChoices}
-use Rattle.leveldb_store.specs.KeptEntries.{AddsTableOf, IsAddedTable, KeepsEntries, KeepsLiveTables}
+use Rattle.leveldb_store.specs.KeptEntries.{AddsTableOf, IsAddedTable, KeepsEntries, KeepsLiveTables, TablesMemory}
 use Rattle.leveldb_store.specs.OpenStore.{OpenStoreValue}
 use Rattle.leveldb_store.specs.Read.{in_memory}
 use Rattle.leveldb_store.specs.Room.{TidiesUp}
@@ -131,6 +131,15 @@ module _ {E F : Type 0} (env : Ghosts E F) (format : Format) where
     entries_charged old from mid new to charged kept =
         subst (λ (v : OpenStoreValue C). KeepsEntries env format old from v to) (sym charged)
         (record { added = kept.added; each = kept.each; same = kept.same; live = kept.live })
+
+    -- so it may have been before
+    pub entries_of_charged : (old charged : OpenStoreValue C) (from : E) (new : OpenStoreValue C)
+        (to : E) → charged ≡ record old { current = charged.current }
+        → KeepsEntries env format charged from new to → KeepsEntries env format old from new to
+    entries_of_charged old charged from new to only kept =
+        let its : KeepsEntries env format (record old { current = charged.current }) from new to =
+        subst (λ (v : OpenStoreValue C). KeepsEntries env format v from new to) only kept in
+        record { added = its.added; each = its.each; same = its.same; live = its.live }
 
     -- the memtables stay
     memory_stays : (old : OpenStoreValue C) (from : E) (new : OpenStoreValue C) (to : E)
@@ -255,6 +264,46 @@ module _ {E F : Type 0} (env : Ghosts E F) (format : Format) where
             (Contains-append_right (in_memory mid) made entry before))
             (Contains-append_cases tabled made entry in_tables))
             (Contains-append_cases (in_memory new) (tabled ++ made) entry there)
+
+-- ---- memory, where something may be compacted
+
+module _ {E F C : Type 0} (env : Ghosts E F) (format : Format) (old : OpenStoreValue C) (from : E)
+    where
+  -- nothing is done
+  pub memory_same : TablesMemory env format old from old
+  memory_same = record {
+    tabled = old;
+    at = from;
+    tables = entries_same env format old from;
+    memory = refl;
+  }
+
+  -- and then compactions are done, or not
+  pub memory_compacts : {mid new : OpenStoreValue C} → TablesMemory env format old from mid
+      → new ≡ record mid { set = new.set; current = new.current }
+      → TablesMemory env format old from new
+  memory_compacts first rest = record {
+    tabled = first.tabled;
+    at = first.at;
+    tables = first.tables;
+    memory = ap (λ (v : OpenStoreValue C). in_memory v) rest ∙ first.memory;
+  }
+
+  -- tables were made
+  pub memory_tabled : {mid : OpenStoreValue C} (at : E) → KeepsEntries env format old from mid at
+      → TablesMemory env format old from mid
+  memory_tabled {mid} at kept = record { tabled = mid; at = at; tables = kept; memory = refl }
+
+  -- the version of the files before doesn't count
+  pub memory_of_charged : (charged new : OpenStoreValue C)
+      → charged ≡ record old { current = charged.current }
+      → TablesMemory env format charged from new → TablesMemory env format old from new
+  memory_of_charged charged new only its = record {
+    tabled = its.tabled;
+    at = its.at;
+    tables = entries_of_charged env format old charged from its.tabled its.at only its.tables;
+    memory = its.memory;
+  }
 
 -- ---- a table of the entries that wait
 

@@ -62,6 +62,16 @@ module _ {E F : Type 0} (env : Ghosts E F) (format : Format) where
     pub live : KeepsLiveTables env.models_disk old.set (env.observed from) new.set
         (env.observed to)
 
+-- What is in memory after a call, and the tables that it made of what was there before, have all
+-- entries that were in memory, and no others. The tables were added before anything was compacted.
+pub record TablesMemory {E F C : Type 0} (env : Ghosts E F) (format : Format)
+    (old : OpenStoreValue C) (from : E) (new : OpenStoreValue C) : Type 0 where
+  -- the store and its environment before anything was compacted
+  pub tabled : OpenStoreValue C
+  pub at : E
+  pub tables : KeepsEntries env format old from tabled at
+  pub memory : in_memory new ≡ in_memory tabled
+
 -- ---- one compaction
 
 -- the numbers of files

@@ -20,6 +20,7 @@ use Rattle.leveldb_store.specs.BuildTable.{TableChoices}
 use Rattle.leveldb_store.specs.Compact.{AreClearOf, deepest_overlapped}
 use Rattle.leveldb_store.specs.FoundLogs.{HasLogNotKept}
 use Rattle.leveldb_store.specs.KeptBytes.{LosesNothing}
+use Rattle.leveldb_store.specs.KeptEntries.{TablesMemory}
 use Rattle.leveldb_store.specs.Read.{GetsFromMemory, GetsFromTables}
 use Rattle.leveldb_store.specs.Room.{FailsFor, IsFull, TellsOnly}
 use Rattle.leveldb_store.specs.SoundCall.{TimeGoesOn}
@@ -244,6 +245,10 @@ module _ {E C FP F P : Type 0} {B : Boxed} {keys : InternalOrder C} {key_filters
     pub failed : OnErr result (KeepsModeOrBreaks before after)
     -- Ok or Err, the last number stays
     pub last : after.store.set.last_sequence ≡ before.store.set.last_sequence
+    -- Ok or Err, and whatever the files are: what was in memory is in memory, or was in tables that
+    -- were added, before anything was compacted
+    pub entries : TablesMemory env (formats_of choices (options_in before)) before.store from
+        after.store
     -- Ok: no entry is in memory, all are in tables
     pub tabled : OnOk result
         ((after.store.recent.entries ≡ []) × (after.store.waiting ≡ None))
