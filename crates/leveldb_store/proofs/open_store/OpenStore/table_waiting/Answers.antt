@@ -13,6 +13,7 @@ use Rattle.leveldb_version.specs.VersionEdit.{Edit}
 use Rattle.leveldb_version.specs.VersionSetValue.{VersionSetValue, broken}
 use Rattle.leveldb_base.specs.History.{AreUpTo}
 use Rattle.leveldb_store.proofs.GivenNumbersLemmas.{live_given}
+use Rattle.leveldb_store.specs.KeptEntries.{AddsTableOf}
 use Rattle.leveldb_store.specs.OpenStore.{AreInLevels, HasOwnManifest, OpenStoreValue}
 use Rattle.leveldb_store.proofs.LevelsApartLemmas.{levels_with_picked, range_in_order}
 use Rattle.leveldb_store.proofs.AddedTableLemmas.{waiting_added}
@@ -217,6 +218,16 @@ returns-clause-added g c =
     let used = in_use_of c.self.inside.versions.set.manifest c.self.invariant.5 usable in
     let some = waiting_has_entries c.self.inside.waiting (rw (← c.self.view_is) at c.requires.waits) c.self.invariant.7 in
     let gone = ap (λ (v : OpenStoreValue g.row.C.Denot). record v { waiting = None }) (c.self-2.view_is ∙ c.log_table.ensures.rest) in
-    rw (← c.self.view_is, gone)
-    (waiting_added g.E.Env _ _ c.args.env.now c.build_waiting.new.env c.level_for-level.result c.in_ok-file.file some c.build_waiting.ensures.entries made
-    c.in_ok-number.ensures.fits c.self.invariant.9 used.0 used.1 c.self.invariant.4 c.log_table.new.self.set c.log_table.new.env (logs used.0 used.1))
+    let old : OpenStoreValue g.row.C.Denot = record {
+      cmp = c.self.inside.cmp;
+      set = c.self.inside.versions.set;
+      current = c.self.inside.versions.current;
+      log = record { number = c.self.inside.log.number; writer = c.self.inside.log.file.writer };
+      recent = c.self.inside.recent.kept;
+      waiting = option_map (λ memtable. memtable.kept) c.self.inside.waiting;
+      keeps_files = c.self.inside.keeps_files;
+    } in
+    rw (← c.self.view_is)
+    (subst (λ (v : OpenStoreValue g.row.C.Denot). AddsTableOf g.E.Env _ (waiting_entries old.waiting) old.set v.set c.log_table.new.env) (sym gone)
+    (waiting_added g.E.Env _ old c.args.env.now c.build_waiting.new.env c.level_for-level.result c.in_ok-file.file some c.build_waiting.ensures.entries made
+    c.in_ok-number.ensures.fits c.self.invariant.9 used.0 used.1 c.self.invariant.4 c.log_table.new.self.set c.log_table.new.env (logs used.0 used.1)))
