@@ -48,8 +48,11 @@ module _ {E F C D FP : Type 0} {order : CmpGhosts D} {filters : FilterGhosts FP}
       → AppendsEdit env.models_disk manifest (with_number_given old.set)
       (table_edit old.log.number it) (env.observed mid) (env.failures mid) (Ok tt) set
       (env.observed to) (env.failures to)
-      → AddsTableOf env choices.format (waiting_entries old.waiting) old.set set to
-  waiting_added next_fits given manifest used own set to l = (
+      → (new : VersionSetValue) → new ≡ set
+      → AddsTableOf env choices.format (waiting_entries old.waiting) old.set new to
+  waiting_added next_fits given manifest used own set to l new same_set =
+      subst (λ s. AddsTableOf env choices.format (waiting_entries old.waiting) old.set s to)
+      (sym same_set) (
     it,
     record {
       live =

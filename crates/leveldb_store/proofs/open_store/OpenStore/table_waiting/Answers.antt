@@ -13,7 +13,6 @@ use Rattle.leveldb_version.specs.VersionEdit.{Edit}
 use Rattle.leveldb_version.specs.VersionSetValue.{VersionSetValue, broken}
 use Rattle.leveldb_base.specs.History.{AreUpTo}
 use Rattle.leveldb_store.proofs.GivenNumbersLemmas.{live_given}
-use Rattle.leveldb_store.specs.KeptEntries.{AddsTableOf}
 use Rattle.leveldb_store.specs.OpenStore.{AreInLevels, HasOwnManifest, OpenStoreValue}
 use Rattle.leveldb_store.proofs.LevelsApartLemmas.{levels_with_picked, range_in_order}
 use Rattle.leveldb_store.proofs.AddedTableLemmas.{waiting_added}
@@ -228,6 +227,5 @@ returns-clause-added g c =
       keeps_files = c.self.inside.keeps_files;
     } in
     rw (← c.self.view_is)
-    (subst (λ (v : OpenStoreValue g.row.C.Denot). AddsTableOf g.E.Env _ (waiting_entries old.waiting) old.set v.set c.log_table.new.env) (sym gone)
     (waiting_added g.E.Env _ old c.args.env.now c.build_waiting.new.env c.level_for-level.result c.in_ok-file.file some c.build_waiting.ensures.entries made
-    c.in_ok-number.ensures.fits c.self.invariant.9 used.0 used.1 c.self.invariant.4 c.log_table.new.self.set c.log_table.new.env (logs used.0 used.1)))
+    c.in_ok-number.ensures.fits c.self.invariant.9 used.0 used.1 c.self.invariant.4 c.log_table.new.self.set c.log_table.new.env (logs used.0 used.1) _ (ap (λ (v : OpenStoreValue g.row.C.Denot). v.set) gone))
