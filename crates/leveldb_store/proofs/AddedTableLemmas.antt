@@ -1,6 +1,6 @@
 -- The table of the entries that wait is added, whatever the other files are.
 use Rattle.std.specs.Prelude.{◌≢◌, All, Contains, IsTrue}
-use Rattle.std.proofs.Common.{◌≡◌, ◌∙◌, ◌∷◌, ◌++◌, ◌+◌, ◌<◌, ◌^◌, ℕ, [], map, None, Ok, ap, arith, refl, subst, sym}
+use Rattle.std.proofs.Common.{◌≡◌, ◌∙◌, ◌∷◌, ◌++◌, ◌+◌, ◌<◌, ◌^◌, ℕ, [], map, Ok, ap, arith, refl, subst, sym}
 use Rattle.std.proofs.lemmas.List.Elements.{Contains-append_right}
 use Rattle.leveldb_base.proofs.HistoryLemmas.{in_front}
 use Rattle.leveldb_base.specs.Entries.{internal_pair}

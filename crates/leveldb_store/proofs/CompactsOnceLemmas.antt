@@ -1,7 +1,6 @@
 -- That a compaction takes its inputs alone from the live tables, whatever the files are.
-use Rattle.std.specs.Prelude.{Contains, IsTrue, OnErr, OnOk, fold, map}
-use Rattle.std.specs.List.{filter}
-use Rattle.std.proofs.Common.{◌≡◌, ◌∙◌, ◌⊎◌, ◌==◌, ◌<◌, ◌^◌, inl, inr, ⊎_elim, ℕ, Bool, true, false, not, List, [], ◌∷◌, None, Some, Ok, Err, Result, ap, refl, subst, sym}
+use Rattle.std.specs.Prelude.{Contains, fold}
+use Rattle.std.proofs.Common.{◌≡◌, ◌∙◌, ◌⊎◌, ◌==◌, ◌<◌, ◌^◌, inl, inr, ⊎_elim, ℕ, Bool, true, false, not, List, [], ◌∷◌, None, Some, Ok, Err, ap, refl, subst, sym}
 use Rattle.std.proofs.lemmas.Bool.{and_parts, eqb-true}
 use Rattle.std.proofs.lemmas.List.Elements.{Contains-append_left, Contains-append_right}
 use Rattle.std.specs.declared.cmp.Ordering.{Ordering}

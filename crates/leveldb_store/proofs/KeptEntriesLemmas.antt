@@ -1,6 +1,6 @@
 -- That no entry of memory and no live table is lost, in each call on the way to room.
-use Rattle.std.specs.Prelude.{Contains, IsTrue, OnOk, map}
-use Rattle.std.proofs.Common.{◌≡◌, ◌⊎◌, ◌∙◌, ◌∷◌, ◌++◌, ◌≤◌, ◌<◌, inl, inr, ⊎_elim, ℕ, Bool, List, [], None, Ok, Err, Result, ap, append-nil, arith, refl, subst, sym}
+use Rattle.std.specs.Prelude.{Contains, OnOk}
+use Rattle.std.proofs.Common.{◌≡◌, ◌⊎◌, ◌∙◌, ◌∷◌, ◌++◌, ◌≤◌, ⊎_elim, ℕ, Bool, List, [], None, Ok, Err, Result, ap, append-nil, arith, refl, subst, sym}
 use Rattle.std.proofs.lemmas.Grind.{flat_map-append}
 use Rattle.std.proofs.lemmas.List.Elements.{Contains-append_cases, Contains-append_left, Contains-append_right}
 use Rattle.std.specs.declared.cmp.Ordering.{Ordering}
@@ -9,7 +9,7 @@ use Rattle.leveldb_base.specs.History.{Entry}
 use Rattle.leveldb_base.specs.Types.{Pair}
 use Rattle.leveldb_base.specs.declared.cmp.Cmp.{Ghosts as CmpGhosts}
 use Rattle.leveldb_base.specs.declared.error.Status.{Status}
-use Rattle.leveldb_env.specs.Env.{Files, Observed}
+use Rattle.leveldb_env.specs.Env.{Observed}
 use Rattle.leveldb_env.specs.declared.env.Env.{Ghosts}
 use Rattle.leveldb_env.specs.declared.filter.FilterPolicy.{Ghosts as FilterGhosts}
 use Rattle.leveldb_mem.specs.MemTable.{Kept}
@@ -18,7 +18,6 @@ use Rattle.leveldb_version.specs.Format.{Format, IsTableOf}
 use Rattle.leveldb_version.specs.Levels.{LiveTable, table_entries}
 use Rattle.leveldb_version.specs.Paths.{table_path}
 use Rattle.leveldb_version.specs.Store.{HasTable, SameEntries}
-use Rattle.leveldb_version.specs.VersionEdit.{NewFile}
 use Rattle.leveldb_version.specs.VersionSetValue.{VersionSetValue}
 use Rattle.leveldb_store.proofs.NoNewEntriesLemmas.{live_table_left}
 use Rattle.leveldb_store.specs.BuildTable.{TableChoices}

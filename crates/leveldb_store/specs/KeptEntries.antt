@@ -16,7 +16,6 @@ use Rattle.leveldb_version.specs.VersionSetValue.{VersionSetValue}
 use Rattle.leveldb_store.specs.Compact.{LogsCompaction}
 use Rattle.leveldb_store.specs.OpenStore.{OpenStoreValue}
 use Rattle.leveldb_store.specs.Read.{in_memory}
-use Rattle.leveldb_store.specs.Written.{waiting_entries}
 
 -- ---- live tables
 
