@@ -53,37 +53,37 @@ module _ {E F C D FP : Type 0} {order : CmpGhosts D} {filters : FilterGhosts FP}
   waiting_added next_fits given manifest used own set to l new same_set =
       subst (λ s. AddsTableOf env choices.format (waiting_entries old.waiting) old.set s to)
       (sym same_set) (
-    it,
-    record {
-      live =
-          let lower = lower_stay it old.set.full.added
-          (subst (λ n. All (λ (one : NewFile). one.number < n) old.set.full.added) (sym number)
-          given) in
-          subst (λ files. Contains files it)
-          (sym (ap (λ (s : VersionSetValue). s.full.added) l.ok
-          ∙ ap (λ files. files ++ it ∷ []) lower))
-          (Contains-append_right old.set.full.added (it ∷ []) it (in_front it []));
-      fresh = omega (arith, number);
-      given = let more = ap (λ (s : VersionSetValue). s.next_file) l.ok in
-          omega (arith, number, more);
-      fits = fits;
-      there = λ modelled meaning agrees.
-          let path = table_path old.set.store file.num in
-          let same = appending_and_syncing manifest.path _ (env.observed mid).disk.files
-          (env.observed to).disk.files ((l.does modelled).now modelled) path
-          (types_apart old.set.store manifest.path path Descriptor Table
-          (own modelled manifest used) (is_table_path old.set.store file.num fits)
-          (λ e. cc)) in
-          let f = choices.format in
-          subst (λ s. HasTable s f.order (IsTableOf f.order meaning) (env.observed to).disk.files
-          table) (sym (ap (λ (s : VersionSetValue). s.store) l.ok))
-          (table_on old.set.store f.order (IsTableOf f.order meaning) (env.observed mid).disk.files
-          (env.observed to).disk.files table
-          (same_bytes ((env.observed mid).disk.files path) ((env.observed to).disk.files path) same)
-          (has_made env choices old from mid level file some each m modelled f.order refl meaning
-          agrees));
-    },
-  )
+        it,
+        record {
+          live =
+              let lower = lower_stay it old.set.full.added
+              (subst (λ n. All (λ (one : NewFile). one.number < n) old.set.full.added) (sym number)
+              given) in
+              subst (λ files. Contains files it)
+              (sym (ap (λ (s : VersionSetValue). s.full.added) l.ok
+              ∙ ap (λ files. files ++ it ∷ []) lower))
+              (Contains-append_right old.set.full.added (it ∷ []) it (in_front it []));
+          fresh = omega (arith, number);
+          given = let more = ap (λ (s : VersionSetValue). s.next_file) l.ok in
+              omega (arith, number, more);
+          fits = fits;
+          there = λ modelled meaning agrees.
+              let path = table_path old.set.store file.num in
+              let same = appending_and_syncing manifest.path _ (env.observed mid).disk.files
+              (env.observed to).disk.files ((l.does modelled).now modelled) path
+              (types_apart old.set.store manifest.path path Descriptor Table
+              (own modelled manifest used) (is_table_path old.set.store file.num fits)
+              (λ e. cc)) in
+              let f = choices.format in
+              subst (λ s. HasTable s f.order (IsTableOf f.order meaning) (env.observed to).disk.files
+              table) (sym (ap (λ (s : VersionSetValue). s.store) l.ok))
+              (table_on old.set.store f.order (IsTableOf f.order meaning) (env.observed mid).disk.files
+              (env.observed to).disk.files table
+              (same_bytes ((env.observed mid).disk.files path) ((env.observed to).disk.files path) same)
+              (has_made env choices old from mid level file some each m modelled f.order refl meaning
+              agrees));
+        },
+      )
     where
       number : file.num ≡ old.set.next_file
       number = m.number_is.0
