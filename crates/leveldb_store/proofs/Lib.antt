@@ -94,6 +94,7 @@ mod ViewTablesLemmas
 mod ViewChildrenLemmas
 mod ViewStoreLemmas
 pub mod NoNewEntriesLemmas
+pub mod KeptEntriesLemmas
 pub mod CompactedLemmas
 mod ReplacedFilesLemmas
 mod CompactPickedLemmas
@@ -103,3 +104,5 @@ pub mod LoggedEditsLemmas
 pub mod AskedCompactionLemmas
 mod EndsOpeningLemmas
 mod TabledEntriesLemmas
+mod AddedTableLemmas
+pub mod CompactsOnceLemmas

@@ -29,6 +29,7 @@ pub mod SoundCall
 pub mod LoggedEdits
 pub mod RoomSteps
 pub mod Compact
+pub mod KeptEntries
 pub mod EndsOpening
 pub mod ReadLogs
 pub mod OpensToRead

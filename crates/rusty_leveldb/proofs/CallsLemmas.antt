@@ -35,6 +35,7 @@ use Rattle.rusty_leveldb.specs.State as machine
 use Rattle.rusty_leveldb.specs.State.{Refusal, Request, Snapshot, State, close, compact_range, flush, get, refused, write}
 use Rattle.rusty_leveldb.proofs.ClosingLemmas.{close_locked, close_unsynced, closed_now, counted_error, flush_goes}
 use Rattle.rusty_leveldb.proofs.EngineLemmas.{follows_broken, follows_open}
+use Rattle.rusty_leveldb.proofs.KeepsOrCompactsLemmas.{kept_as_they_are}
 use Rattle.rusty_leveldb.proofs.Moments.{moments_none}
 use Rattle.rusty_leveldb.proofs.Others.{spares_still}
 use Rattle.rusty_leveldb.proofs.ReadingLemmas.{get_cause, get_closed, get_goes, get_misfit, read_store}
@@ -148,7 +149,8 @@ module _ {E C FP F P : Type 0} {B : Boxed} {keys : InternalOrder C} {key_filters
           waits = tt;
           logs = tt;
           failed = (inr refl, (refl, λ room. (refl, refl)));
-          breaks = λ room. inr refl;
+          entries = kept_as_they_are env (formats (options_in before)) before.store at;
+          breaks = inr (inl refl);
           snapshots = refl;
           options = record { rest = refl; sink = refl };
           rest = rest_still env before at (write items sync) (Err status) (inr (status, refl));

@@ -9,6 +9,7 @@ use Rattle.leveldb_env.specs.Options.{Boxed, OptionsOf}
 use Rattle.leveldb_env.specs.declared.env.Env.{Ghosts}
 use Rattle.leveldb_env.specs.declared.filter.FilterPolicy.{Ghosts as FilterGhosts}
 use Rattle.leveldb_store.specs.BuildTable.{TableChoices}
+use Rattle.leveldb_store.proofs.KeptEntriesLemmas.{memory_same}
 use Rattle.leveldb_store.specs.OpenStore.{IsUnbroken}
 use Rattle.leveldb_store.specs.Room.{FailsFor, TellsOnly}
 use Rattle.leveldb_version.specs.Format.{Format, Meaning}
@@ -16,7 +17,7 @@ use Rattle.rusty_leveldb.specs.Boxes.{EngineOf, InternalOrder}
 use Rattle.rusty_leveldb.specs.Calls.{EngineCompacts, KeepsModeOrBreaks}
 use Rattle.rusty_leveldb.specs.Compact.{EngineCompactsStore}
 use Rattle.rusty_leveldb.specs.Causes.{Setting, bad_operand}
-use Rattle.rusty_leveldb.specs.Engine.{AnswersStill, CompactExcused, RefusedByMode, formats_of}
+use Rattle.rusty_leveldb.specs.Engine.{AnswersStill, CompactExcused, RefusedByMode, formats_of, options_in}
 use Rattle.rusty_leveldb.specs.CompactionLaws.{HasViewsInTables}
 use Rattle.rusty_leveldb.specs.Frame.{MayTouch}
 use Rattle.rusty_leveldb.specs.Machine.{Refuses, Step}
@@ -56,6 +57,7 @@ module _ {E C FP F P : Type 0} {B : Boxed} {keys : InternalOrder C} {key_filters
         mode = tt;
         failed = inr refl;
         last = refl;
+        entries = memory_same env (formats (options_in before)) before.store from;
         tabled = tt;
         by_tables = tt;
         clear = tt;
@@ -110,6 +112,7 @@ module _ {E C FP F P : Type 0} {B : Boxed} {keys : InternalOrder C} {key_filters
           mode = tt;
           failed = inr refl;
           last = refl;
+          entries = memory_same env (formats (options_in before)) before.store from;
           tabled = tt;
           by_tables = tt;
           clear = tt;
@@ -184,6 +187,7 @@ module _ {E C FP F P : Type 0} {B : Boxed} {keys : InternalOrder C} {key_filters
             mode = mode_then result it;
             failed = failed_then result it;
             last = it.compacts.keeps.rest.last;
+            entries = it.entries;
             tabled = it.compacts.tabled;
             by_tables = by_tables_then result it;
             clear = it.compacts.clear;

@@ -42,6 +42,7 @@ pub mod KeptLemmas
 mod HeldViewsLemmas
 mod ChargesLemmas
 mod ReadSamplesLemmas
+mod KeepsOrCompactsLemmas
 mod RoomInLemmas
 pub mod WritingLemmas
 pub mod CompactingLemmas

@@ -15,12 +15,14 @@ use Rattle.leveldb_store.proofs.CompactedLemmas.{compacted_then, merge_between, 
 use Rattle.leveldb_store.proofs.CompactRangeLemmas.{memory_compacted}
 use Rattle.leveldb_store.specs.BuildTable.{TableChoices}
 use Rattle.leveldb_store.specs.Compact.{CompactsTables, FailsToCompactRange, KeepsCompacted}
+use Rattle.leveldb_store.specs.KeptEntries.{CompactsOnceAtMost, KeepsEntries}
 use Rattle.leveldb_store.specs.LoggedEdits.{LogsByScore, LogsTableEdits}
 use Rattle.leveldb_store.specs.OpenStore.{IsUnbroken, OpenStoreValue}
 use Rattle.leveldb_store.specs.OpenTables.{ClosesObsolete}
 use Rattle.leveldb_store.specs.Room.{FailsToMakeRoom, IsFull, MakesRoom}
 use Rattle.leveldb_store.specs.RoomSteps.{AddsNone, IsStepToRoom}
 use Rattle.leveldb_store.specs.SoundCall.{IsSoundCall}
+use Rattle.rusty_leveldb.proofs.KeepsOrCompactsLemmas.{kept_in_tables, kept_or_compacted, kept_as_they_are}
 use Rattle.rusty_leveldb.specs.Room.{LogsRoom, StoreMakesRoom}
 
 module _ {E F C FP D P : Type 0} (order : CmpGhosts (InternalKeyCmp C)) (env : Ghosts E F)
@@ -42,6 +44,7 @@ module _ {E F C FP D P : Type 0} (order : CmpGhosts (InternalKeyCmp C)) (env : G
     not_full = λ also. (refl, refl, tt);
     empties = λ full. absurd (room full);
     logs = λ full. absurd (room full);
+    entries = kept_as_they_are env by.format old from;
   }
 
   module _ {cmp : List ℕ → List ℕ → Ordering} (same : cmp ≡ by.format.order)
@@ -68,12 +71,15 @@ module _ {E F C FP D P : Type 0} (order : CmpGhosts (InternalKeyCmp C)) (env : G
       → (status : Status) (new : OpenStoreValue C) (to : E) (now : TableCache E C FP F)
       → MakesRoom env cmp old from choices limit (Err status) new to
       → IsSoundCall {T = Unit {0}} env cmp (Agrees choices.format) old from (Err status) new to
-      → ClosesObsolete env old.set from tables to now → Makes (Err status) new to now
-  room_not_made same status new to now made sound closes = record {
+      → ClosesObsolete env old.set from tables to now
+      → KeepsEntries env choices.format old from new to → Makes (Err status) new to now
+  room_not_made same status new to now made sound closes kept = record {
     keeps = room_keeps same (Err status) new to now made sound closes tt;
     not_full = made.not_full;
     empties = tt;
     logs = tt;
+    entries = kept_in_tables env by.format old from new to made.rest.store
+        (subst (λ f. KeepsEntries env f old from new to) format_is kept);
   }
 
   -- it was, and then what the store asks for was compacted, or not
@@ -83,13 +89,17 @@ module _ {E F C FP D P : Type 0} (order : CmpGhosts (InternalKeyCmp C)) (env : G
       → IsSoundCall {T = Unit {0}} env cmp (Agrees choices.format) old from (Ok tt) mid at
       → ClosesObsolete env old.set from tables at between
       → AddsNone env cmp choices.format old from mid at → LogsTableEdits 2 old.set mid.set
+      → KeepsEntries env choices.format old from mid at
       → (result : Result (Unit {0}) Status) (new : OpenStoreValue C) (to : E)
       (now : TableCache E C FP F)
       → CompactsTables order env by mid at between choices smallest result new to now
       → {other : List ℕ → List ℕ → Ordering} → other ≡ by.format.order
-      → OnOk result (LogsByScore other mid.set new.set) → Makes result new to now
-  room_compacted same full mid at between made sound closes none tables result new to now compacts
-      {other} also_same by_score = record {
+      → OnOk result (LogsByScore other mid.set new.set) → (charged : OpenStoreValue C)
+      → charged ≡ record mid { current = charged.current }
+      → CompactsOnceAtMost other env.models_disk charged (env.observed at) new (env.observed to)
+      → Makes result new to now
+  room_compacted same full mid at between made sound closes none tables kept result new to now
+      compacts {other} also_same by_score charged only once = record {
         keeps =
             let first = room_keeps same (Ok tt) mid at between made sound closes none in
             compacted_then first result new to now
@@ -97,6 +107,11 @@ module _ {E F C FP D P : Type 0} (order : CmpGhosts (InternalKeyCmp C)) (env : G
         not_full = λ room. absurd (room full);
         empties = empties result;
         logs = logs result by_score;
+        entries = kept_or_compacted env by.format old from mid at made.rest.store
+            (subst (λ f. KeepsEntries env f old from mid at) format_is kept) charged only new to
+            compacts.memory compacts.keeps.rest.last
+            (subst (λ c. CompactsOnceAtMost c env.models_disk charged (env.observed at) new
+            (env.observed to)) also_same once);
       }
     where
       logs : (result : Result (Unit {0}) Status) → OnOk result (LogsByScore other mid.set new.set)

@@ -18,11 +18,11 @@ use Rattle.leveldb_store.specs.Compact.{FailsToCompactRange}
 use Rattle.leveldb_store.specs.Room.{FailsFor, HasFailed, IsFull, TellsOnly}
 use Rattle.leveldb_store.specs.Written.{IsWritten}
 use Rattle.leveldb_store.specs.SoundCall.{IsSoundCall, any_meaning}
-use Rattle.leveldb_store.specs.WriteBatch.{FailsToWrite, WritesBatch}
+use Rattle.leveldb_store.specs.WriteBatch.{FailsToWrite, WritesBatch, next_batch}
 use Rattle.rusty_leveldb.specs.Boxes.{EngineOf, InternalOrder}
 use Rattle.rusty_leveldb.specs.EngineValue.{FollowsStore}
-use Rattle.rusty_leveldb.specs.Room.{EngineMakesRoom, LogsRoom}
-use Rattle.rusty_leveldb.specs.Calls.{EngineWrites, IsMemtableFull, KeepsMemory, KeepsModeOrBreaks, OneWaitsAtMost, WritesIntoRoom}
+use Rattle.rusty_leveldb.specs.Room.{EngineMakesRoom, LogsRoom, KeepsOrCompacts, entries_added}
+use Rattle.rusty_leveldb.specs.Calls.{AppendsNothing, EngineWrites, IsMemtableFull, KeepsMemory, KeepsModeOrBreaks, OneWaitsAtMost, WritesIntoRoom}
 use Rattle.rusty_leveldb.specs.Causes.{AreUsedUp}
 use Rattle.rusty_leveldb.specs.Engine.{empty_memtable, Answers, IsBroken, WriteExcused, options_in, formats_of, tables_by}
 use Rattle.rusty_leveldb.specs.Serves.{done_or}
@@ -31,6 +31,7 @@ use Rattle.rusty_leveldb.specs.State.{write}
 use Rattle.rusty_leveldb.proofs.Batching.{IsUnmade, not_written}
 use Rattle.rusty_leveldb.proofs.EngineLemmas.{follows_broken, follows_open}
 use Rattle.rusty_leveldb.proofs.CallsLemmas.{not_halted}
+use Rattle.rusty_leveldb.proofs.KeepsOrCompactsLemmas.{kept_beside_batch, kept_as_they_are}
 use Rattle.rusty_leveldb.proofs.RestLemmas.{rest_roomless, rest_still, rest_written}
 use Rattle.rusty_leveldb.proofs.RowLemmas.{write_row}
 use Rattle.rusty_leveldb.proofs.SyncLemmas.{log_is_there}
@@ -103,7 +104,8 @@ module _ {E C FP F P : Type 0} {B : Boxed} {keys : InternalOrder C} {key_filters
         waits = tt;
         logs = tt;
         failed = (inr refl, (refl, λ room. (refl, refl)));
-        breaks = λ room. inr refl;
+        entries = kept_as_they_are env (formats (options_in before)) before.store from;
+        breaks = inr (inl refl);
         snapshots = refl;
         options = record { rest = refl; sink = refl };
         rest = rest_still env before from (write items sync) (Err status) (inr (status, refl));
@@ -150,7 +152,8 @@ module _ {E C FP F P : Type 0} {B : Boxed} {keys : InternalOrder C} {key_filters
                   ),
             ),
           );
-          breaks = λ room. absurd (made.makes.not_full room).2;
+          entries = made.makes.entries;
+          breaks = inr (inr (Err status, after, made));
           snapshots = ap (λ (e : EngineOf E C FP F B). e.snapshots) made.rest;
           options = room_tells env choices before from (Err status) after to made;
           rest = rest_roomless env before from opened choices items sync after to status made;
@@ -262,12 +265,28 @@ module _ {E C FP F P : Type 0} {B : Boxed} {keys : InternalOrder C} {key_filters
       -- then no call was made, or the log is broken
       batch_breaks : (result : Result (Unit {0}) Status)
           → WritesBatch env (formats (options_in roomy)).order roomy.store mid items sync result value
-          to → OnErr result ((IsMemtableFull before → ⊥) → IsBroken mode ⊎ (to ≡ from))
+          to → OnErr result (IsBroken mode ⊎ AppendsNothing env choices before from to)
       batch_breaks (Ok nothing) writes = tt
-      batch_breaks (Err status) writes = λ room. ⊎_elim
-          (λ (still : to ≡ mid). inr (still ∙ (made.makes.not_full room).1))
+      batch_breaks (Err status) writes = ⊎_elim
+          (λ (still : to ≡ mid). inr (inr (
+            Ok tt,
+            roomy,
+            subst (EngineMakesRoom env choices before from (Ok tt) roomy) (sym still) made,
+          )))
           (λ (broke : value.log.writer.broken ≡ true). inl (follows_broken mode value follows broke))
           writes.breaks
+
+      -- where the entries are
+      batch_entries : (result : Result (Unit {0}) Status)
+          → WritesBatch env (formats (options_in roomy)).order roomy.store mid items sync result value
+          to → KeepsOrCompacts env (formats (options_in before))
+          (entries_added result (next_batch before.store items)) before.store from value to
+      batch_entries result writes = subst (λ k. KeepsOrCompacts env (formats (options_in before))
+          (entries_added result (placed (k + 1) items)) before.store from value to)
+          made.makes.keeps.rest.last
+          (kept_beside_batch env (formats (options_in before)) before.store from roomy.store mid
+          made.makes.keeps.rest.store made.makes.entries (formats (options_in roomy)).order items
+          sync result value to writes)
 
       -- the memtable that room was made in is empty
       in_empty : IsFull before.options.write_buffer_size before.store.recent → {status : Status}
@@ -388,6 +407,7 @@ module _ {E C FP F P : Type 0} {B : Boxed} {keys : InternalOrder C} {key_filters
             waits = batch_waits result writes_in;
             logs = batch_logs result writes_in;
             failed = batch_failed result writes_in;
+            entries = batch_entries result writes_in;
             breaks = batch_breaks result writes_in;
             snapshots = ap (λ (e : EngineOf E C FP F B). e.snapshots) made.rest;
             options = batch_tells env choices before from roomy mid made value

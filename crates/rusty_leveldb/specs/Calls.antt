@@ -20,6 +20,7 @@ use Rattle.leveldb_store.specs.BuildTable.{TableChoices}
 use Rattle.leveldb_store.specs.Compact.{AreClearOf, deepest_overlapped}
 use Rattle.leveldb_store.specs.FoundLogs.{HasLogNotKept}
 use Rattle.leveldb_store.specs.KeptBytes.{LosesNothing}
+use Rattle.leveldb_store.specs.KeptEntries.{TablesMemory}
 use Rattle.leveldb_store.specs.Read.{GetsFromMemory, GetsFromTables}
 use Rattle.leveldb_store.specs.Room.{FailsFor, IsFull, TellsOnly}
 use Rattle.leveldb_store.specs.SoundCall.{TimeGoesOn}
@@ -35,7 +36,7 @@ use Rattle.rusty_leveldb.specs.Serves.{AreReadAs, done_or, found_or, given_engin
 use Rattle.rusty_leveldb.specs.Engine.{IsClosed, IsBroken, IsClosedOrBroken, ReadsAt, RefusedByMode, AnswersAs, Answers, WriteExcused, SyncExcused, CloseExcused, CompactExcused, GetExcused, GetFails, SnapshotExcused, ReleaseExcused, WalkExcused, IsStoreName, IsOpening, HasOwnLock, formats_of, holds_lock, options_in, tables_by}
 use Rattle.rusty_leveldb.specs.Frame.{IsOwn, IsSyncing, MayTouchOrLog, SameBytes, Spares}
 use Rattle.rusty_leveldb.specs.Machine.{AllDurable, Closes, Gives, Keeps, Opens, Releases, Writes, risk_of}
-use Rattle.rusty_leveldb.specs.Room.{LogsRoom}
+use Rattle.rusty_leveldb.specs.Room.{EngineMakesRoom, LogsRoom, KeepsOrCompacts, entries_added}
 use Rattle.rusty_leveldb.specs.Rows.{FindsValue, FromEachState, FromStatesOf, IsAbandoned, NotClosed, NotCompacted, NotFlushed, NotOpened, NotUnlocked, NotWritten, RepresentsAt, Row, StaysAsItWas, WalksView}
 use Rattle.rusty_leveldb.specs.Unopened.{IsLockGivenBack, IsLockHeld, MakesLockAlone, NeverOpens, OpenExcused}
 use Rattle.rusty_leveldb.specs.Boxes.{EngineOf, InternalOrder}
@@ -157,6 +158,11 @@ module _ {E C FP F P : Type 0} {B : Boxed} {keys : InternalOrder C} {key_filters
   Takes row after to =
       FromEachState keys env (formats_of choices) (Some before) from (Some after) to row
 
+  -- no batch is appended: the environment is as it was, or as room in the memtable left it
+  abbrev pub AppendsNothing : E → Type 0
+  AppendsNothing to = (to ≡ from) ⊎ ((made : Result (Unit {0}) Status)
+      × (roomy : EngineOf E C FP F B) × EngineMakesRoom env choices before from made roomy to)
+
   -- A call that writes a batch of these items.
   pub record EngineWrites (items : List Item) (sync : Bool) (result : Result (Unit {0}) Status)
       (after : EngineOf E C FP F B) (to : E) : Type 0 where
@@ -179,8 +185,12 @@ module _ {E C FP F P : Type 0} {B : Boxed} {keys : InternalOrder C} {key_filters
         (record after.store.set { last_sequence = before.store.set.last_sequence }))
     -- Err leaves what memory shows, and the mode, or a broken store
     pub failed : OnErr result (KeepsModeOrBreaks before after × KeepsMemory before after)
-    -- where the memtable wasn't full, an Err came before any call of the device, or broke the store
-    pub breaks : OnErr result ((IsMemtableFull before → ⊥) → IsBroken after.mode ⊎ (to ≡ from))
+    -- Ok or Err, and whatever the files are: what was in memory, and the batch if it was written, is
+    -- in memory, or in tables that were added, of which one compaction may have taken some
+    pub entries : KeepsOrCompacts env (formats_of choices (options_in before))
+        (entries_added result (next_batch before.store items)) before.store from after.store to
+    -- an Err came before the batch was appended to the log, or broke the store
+    pub breaks : OnErr result (IsBroken after.mode ⊎ AppendsNothing to)
     -- the same snapshots are held, and the options stay, but for the sink of their log
     pub snapshots : after.snapshots ≡ before.snapshots
     pub options : TellsOnly (options_in before) (options_in after)
@@ -235,6 +245,10 @@ module _ {E C FP F P : Type 0} {B : Boxed} {keys : InternalOrder C} {key_filters
     pub failed : OnErr result (KeepsModeOrBreaks before after)
     -- Ok or Err, the last number stays
     pub last : after.store.set.last_sequence ≡ before.store.set.last_sequence
+    -- Ok or Err, and whatever the files are: what was in memory is in memory, or was in tables that
+    -- were added, before anything was compacted
+    pub entries : TablesMemory env (formats_of choices (options_in before)) before.store from
+        after.store
     -- Ok: no entry is in memory, all are in tables
     pub tabled : OnOk result
         ((after.store.recent.entries ≡ []) × (after.store.waiting ≡ None))

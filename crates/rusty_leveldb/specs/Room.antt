@@ -1,7 +1,8 @@
 -- What room in an engine's memtable leaves: a memtable that is full becomes a table, and then the
 -- compaction is done for which the store asks.
-use Rattle.std.specs.Prelude.{◌≡◌, ℕ, List, [], None, Result, OnErr, OnOk, is_some}
+use Rattle.std.specs.Prelude.{◌≡◌, ◌++◌, ℕ, List, [], None, Result, Ok, Err, OnErr, OnOk, is_some}
 use Rattle.std.specs.declared.cmp.Ordering.{Ordering}
+use Rattle.leveldb_base.specs.History.{Entry}
 use Rattle.leveldb_base.specs.declared.cmp.Cmp.{Ghosts as CmpGhosts}
 use Rattle.leveldb_base.specs.declared.cmp.internal.InternalKeyCmp.{InternalKeyCmp}
 use Rattle.leveldb_base.specs.declared.error.Status.{Status}
@@ -9,13 +10,17 @@ use Rattle.leveldb_env.specs.declared.env.Env.{Ghosts}
 use Rattle.leveldb_env.specs.declared.filter.FilterPolicy.{Ghosts as FilterGhosts}
 use Rattle.leveldb_env.specs.Options.{Boxed, OptionsOf}
 use Rattle.leveldb_iter.specs.Snapshot.{IsSmallestHeld}
+use Rattle.leveldb_version.specs.Format.{Format}
+use Rattle.leveldb_version.specs.Store.{SameEntries}
 use Rattle.leveldb_version.specs.TableCache.{TableOptions}
 use Rattle.leveldb_version.specs.VersionSetValue.{VersionSetValue}
 use Rattle.leveldb_version.specs.declared.table_cache.TableCache.{TableCache}
 use Rattle.leveldb_store.specs.BuildTable.{TableChoices}
 use Rattle.leveldb_store.specs.Compact.{FailsToCompactRange, KeepsCompacted}
+use Rattle.leveldb_store.specs.KeptEntries.{CompactsOnceAtMost, KeepsEntries}
 use Rattle.leveldb_store.specs.LoggedEdits.{LogsByScore, LogsTableEdits}
 use Rattle.leveldb_store.specs.OpenStore.{OpenStoreValue}
+use Rattle.leveldb_store.specs.Read.{in_memory}
 use Rattle.leveldb_store.specs.Room.{IsFull}
 use Rattle.rusty_leveldb.specs.Boxes.{EngineOf, InternalOrder}
 use Rattle.rusty_leveldb.specs.Compact.{ChangesStore}
@@ -29,6 +34,32 @@ pub record LogsRoom (cmp : List ℕ → List ℕ → Ordering) (old new : Versio
   pub tabled : VersionSetValue
   pub tables : LogsTableEdits 2 old tabled
   pub by_score : LogsByScore cmp tabled new
+
+-- the entries that a write of this batch adds, by what it returns
+abbrev pub entries_added : Result (Unit {0}) Status → List Entry → List Entry
+entries_added (Ok nothing) batch = batch
+entries_added (Err status) batch = []
+
+-- the store with this last number
+abbrev pub with_last : {C : Type 0} → ℕ → OpenStoreValue C → OpenStoreValue C
+with_last n value = record value { set = record value.set { last_sequence = n } }
+
+-- Where entries are after a write, whatever the files are: each is in memory still, or in a table
+-- that was added, and then one compaction may have taken that table. These entries, of a batch, are
+-- added to memory.
+pub record KeepsOrCompacts {E F C : Type 0} (env : Ghosts E F) (format : Format) (batch : List Entry)
+    (old : OpenStoreValue C) (from : E) (new : OpenStoreValue C) (to : E) : Type 0 where
+  -- the store and its environment once tables were made of what was in memory, and nothing was
+  -- compacted yet
+  pub tabled : OpenStoreValue C
+  pub at : E
+  pub path : tabled.set.store ≡ old.set.store
+  pub tables : KeepsEntries env format old from tabled at
+  -- since then each live table stays as it is but those that one compaction took
+  pub compacts : CompactsOnceAtMost format.order env.models_disk tabled (env.observed at)
+      (with_last tabled.set.last_sequence new) (env.observed to)
+  -- and what is in memory stays there, with the batch, and nothing else is
+  pub memory : SameEntries (in_memory tabled ++ batch) (in_memory new)
 
 -- Room is made in the memtable of a store that isn't broken, and where it was full the compaction is
 -- done for which the store asks then, down to the smallest number at which it is read.
@@ -47,6 +78,8 @@ pub record StoreMakesRoom {E F C FP D P : Type 0} (order : CmpGhosts (InternalKe
   pub empties : OnOk result (IsFull limit old.recent
       → (new.recent.entries ≡ []) × (new.recent.places ≡ 0) × (new.waiting ≡ None))
   pub logs : OnOk result (IsFull limit old.recent → LogsRoom by.format.order old.set new.set)
+  -- Ok or Err, no entry is lost from memory but into tables
+  pub entries : KeepsOrCompacts env by.format [] old from new to
 
 -- The store of an engine makes room so, by the engine's options.
 pub record EngineMakesRoom {E C FP F P : Type 0} {B : Boxed} {keys : InternalOrder C}

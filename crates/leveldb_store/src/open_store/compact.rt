@@ -8,6 +8,7 @@ ghost use Rattle.leveldb_version.specs.TableCache.{table_options};
 ghost use Rattle.leveldb_store.specs.BuildTable.{choices_of};
 ghost use Rattle.leveldb_store.specs.Compact.{CompactsIfAsked, CompactsStore, CompactsTables, EndsByRemoval, LogsCompaction, LogsPicked};
 ghost use Rattle.leveldb_store.specs.KeptBytes.{NewTablesLoseNothing};
+ghost use Rattle.leveldb_store.specs.KeptEntries.{CompactsOnceAtMost};
 ghost use Rattle.leveldb_store.specs.OpenStore.{IsUnbroken};
 ghost use Rattle.leveldb_store.specs.SoundCall.{BreaksForCause};
 
@@ -53,6 +54,8 @@ impl<E: Env, C: UserCmp + Copy + Drop> OpenStore<E, C> {
         ensures asked { CompactsIfAsked (C.cmp self.old.cmp) options.now.max_file_size self.old
             result self.new }
         ensures removes { OnOk result ((self.new ≡ self.old) ⊎ EndsByRemoval E.Env self.new env.new) }
+        ensures once { CompactsOnceAtMost (C.cmp self.old.cmp) E.models_disk self.old
+            (E.observed env.old) self.new (E.observed env.new) }
         ensures kept { OnErr result (NewTablesLoseNothing E.Env self.old.set.store env.old env.new
             self.old.set.next_file) }
         ensures breaks { BreaksForCause E.Env self.old env.old result self.new env.new }
@@ -119,6 +122,8 @@ impl<E: Env, C: UserCmp + Copy + Drop> OpenStore<E, C> {
         ensures none { picked ≡ None → (result ≡ Ok tt) × (self.new ≡ self.old)
             × (env.new ≡ env.old) × (tables.new ≡ tables.old) }
         ensures err { OnErr result (self.new.set.full ≡ self.old.set.full) }
+        ensures once { CompactsOnceAtMost (C.cmp self.old.cmp) E.models_disk self.old
+            (E.observed env.old) self.new (E.observed env.new) }
         ensures kept { OnErr result (NewTablesLoseNothing E.Env self.old.set.store env.old env.new
             self.old.set.next_file) }
         ensures breaks { BreaksForCause E.Env self.old env.old result self.new env.new }

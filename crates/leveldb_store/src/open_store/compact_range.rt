@@ -9,6 +9,7 @@ ghost use Rattle.leveldb_version.specs.Picking.{IsCompactionOf};
 ghost use Rattle.leveldb_version.specs.TableCache.{table_options};
 ghost use Rattle.leveldb_store.specs.BuildTable.{choices_of};
 ghost use Rattle.leveldb_store.specs.Compact.{CompactsRange, CompactsTables, KeepsLevelsAbove, deepest_overlapped};
+ghost use Rattle.leveldb_store.specs.KeptEntries.{KeepsEntries, TablesMemory};
 ghost use Rattle.leveldb_store.specs.OpenStore.{IsUnbroken};
 ghost use Rattle.leveldb_store.specs.OpenTables.{ClosesObsolete};
 ghost use Rattle.leveldb_store.specs.Room.{FailsToMakeRoom};
@@ -37,7 +38,8 @@ impl<E: Env, C: UserCmp + Copy + Drop> OpenStore<E, C> {
     /// their tables closed; what fails of that is a line for `log`.
     ///
     /// After an Err some of this may be done; of a store that is written no entry that is read is
-    /// lost. The next call goes on from there, unless the store broke.
+    /// lost. Whatever the files are, each entry that was in memory is there still, or was in a table
+    /// before anything was compacted. The next call goes on from there, unless the store broke.
     pub fn compact_range<FP: FilterPolicy + Copy + Drop>(
         &mut self,
         env: &mut E,
@@ -56,6 +58,8 @@ impl<E: Env, C: UserCmp + Copy + Drop> OpenStore<E, C> {
             CompactsRange ⟦<InternalKeyCmp<C> as Cmp>⟧ E.Env
             (table_options choices.format options.now) self.old env.old tables.old choices smallest
             (named_range from.now to.now) result self.new env.new tables.new }
+        ensures entries { TablesMemory E.Env (format_of C.Cmp FP.FilterPolicy
+            ⟦<CompressorList as Compressors>⟧.codings options.now) self.old env.old self.new }
         ensures log { is_some log.new ≡ is_some log.old }
     {
         let begin = LookupKey::new(self.alloc, from, 0)?;
@@ -105,6 +109,9 @@ impl<E: Env, C: UserCmp + Copy + Drop> OpenStore<E, C> {
         ensures none_new { let format = format_of C.Cmp FP.FilterPolicy
             ⟦<CompressorList as Compressors>⟧.codings options.now in OnOk result
             (AddsNone E.Env (C.cmp self.old.cmp) format self.old env.old self.new env.new) }
+        ensures entries { KeepsEntries E.Env (format_of C.Cmp FP.FilterPolicy
+            ⟦<CompressorList as Compressors>⟧.codings options.now) self.old env.old self.new
+            env.new }
         ensures tabled { OnOk result
             ((self.new.recent.entries ≡ []) × (self.new.waiting ≡ None)) }
         ensures closes { ClosesObsolete E.Env self.old.set env.old tables.old env.new tables.new }

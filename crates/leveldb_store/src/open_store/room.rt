@@ -4,6 +4,7 @@ ghost use Rattle.std.specs.Prelude.{◌≡◌, ◌≢◌, ◌↔◌, ◌≤◌, 
 ghost use Rattle.leveldb_store.specs.BuildTable.{choices_of};
 ghost use Rattle.leveldb_version.specs.Format.{Agrees, format_of};
 ghost use Rattle.leveldb_version.specs.VersionEdit.{NewFile};
+ghost use Rattle.leveldb_store.specs.KeptEntries.{KeepsEntries};
 ghost use Rattle.leveldb_store.specs.LoggedEdits.{LogsTableEdits};
 ghost use Rattle.leveldb_store.specs.OpenStore.{IsUnbroken};
 ghost use Rattle.leveldb_store.specs.OpenTables.{ClosesObsolete};
@@ -63,8 +64,8 @@ impl<E: Env, C: UserCmp + Copy + Drop> OpenStore<E, C> {
     /// waits at most. Obsolete files are deleted after each table, and their tables closed; what
     /// fails of that is a line for `log`. An Ok has what the last of these removals returned.
     ///
-    /// After an Err the memtable is full still, or one waits; of a store that is written no entry is
-    /// lost. The next call goes on from there, unless the store broke.
+    /// After an Err the memtable is full still, or one waits. Ok or Err, and whatever the files are, no
+    /// entry is lost. The next call goes on from there, unless the store broke.
     pub fn make_room<FP: FilterPolicy + Copy + Drop>(
         &mut self,
         env: &mut E,
@@ -87,6 +88,9 @@ impl<E: Env, C: UserCmp + Copy + Drop> OpenStore<E, C> {
         ensures none_new { let format = format_of C.Cmp FP.FilterPolicy
             ⟦<CompressorList as Compressors>⟧.codings options.now in OnOk (but_removal result)
             (AddsNone E.Env (C.cmp self.old.cmp) format self.old env.old self.new env.new) }
+        ensures entries { KeepsEntries E.Env (format_of C.Cmp FP.FilterPolicy
+            ⟦<CompressorList as Compressors>⟧.codings options.now) self.old env.old self.new
+            env.new }
         ensures tables { OnOk result (LogsTableEdits 2 self.old.set self.new.set) }
         ensures closes { ClosesObsolete E.Env self.old.set env.old tables.old env.new tables.new }
         ensures log { is_some log.new ≡ is_some log.old }
@@ -118,6 +122,9 @@ impl<E: Env, C: UserCmp + Copy + Drop> OpenStore<E, C> {
             self.old env.old (but_removal result) self.new env.new }
         ensures removes { IfOk result (λ removal. self.old.waiting ≢ None
             → RemovesAtLast E.Env self.new removal env.new) }
+        ensures entries { KeepsEntries E.Env (format_of C.Cmp FP.FilterPolicy
+            ⟦<CompressorList as Compressors>⟧.codings options.now) self.old env.old self.new
+            env.new }
         ensures tables { OnOk result (LogsTableEdits 1 self.old.set self.new.set) }
         ensures numbers { OnOk result (self.new.set.next_file ≤ self.old.set.next_file + 1) }
         ensures none_new { let format = format_of C.Cmp FP.FilterPolicy

@@ -16,6 +16,7 @@ ghost use Rattle.leveldb_version.specs.VersionSetValue.{OpenManifest, broken, in
 ghost use Rattle.leveldb_version.specs.Writing.{table_edit};
 ghost use Rattle.leveldb_store.specs.BuildTable.{MakesTable, choices_of};
 ghost use Rattle.leveldb_version.specs.Format.{Agrees, Meaning, format_of};
+ghost use Rattle.leveldb_store.specs.KeptEntries.{AddsTableOf};
 ghost use Rattle.leveldb_store.specs.OpenStore.{AreInLevels, AreNumbersGiven};
 ghost use Rattle.leveldb_store.specs.RoomSteps.{AddsNone};
 ghost use Rattle.leveldb_store.specs.SoundCall.{IsSoundCall};
@@ -60,6 +61,10 @@ impl<E: Env, C: UserCmp + Copy + Drop> OpenStore<E, C> {
         ensures none_new { let format = format_of C.Cmp FP.FilterPolicy
             ⟦<CompressorList as Compressors>⟧.codings options.now in OnOk result
             (AddsNone E.Env (C.cmp self.old.cmp) format self.old env.old self.new env.new) }
+        ensures added { let format = format_of C.Cmp FP.FilterPolicy
+            ⟦<CompressorList as Compressors>⟧.codings options.now in OnOk result
+            (AddsTableOf E.Env format (waiting_entries self.old.waiting) self.old.set self.new.set
+            env.new) }
     {
         if self.versions.is_broken() {
             return err(self.alloc, StatusCode::IOError, "reopen the store");

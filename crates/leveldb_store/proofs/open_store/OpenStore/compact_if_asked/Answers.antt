@@ -4,6 +4,7 @@ use Rattle.leveldb_version.specs.CurrentVersion.{IsCurrent}
 use Rattle.leveldb_version.specs.Picking.{IsAskedFor}
 use Rattle.leveldb_store.proofs.AskedCompactionLemmas.{compacts_if_asked, picked_ends, picked_may_be}
 use Rattle.leveldb_store.proofs.CompactedLemmas.{failed_at_once}
+use Rattle.leveldb_store.proofs.CompactsOnceLemmas.{none_compacted}
 use Rattle.leveldb_store.proofs.CurrentVersionLemmas.{current_by}
 use Rattle.leveldb_store.proofs.KeptBytesLemmas.{meanwhile_none}
 use Rattle.leveldb_store.specs.OpenStore.{OpenStoreValue}
@@ -20,6 +21,7 @@ returns-in_err-picked g c =
       };
       asked = record { logged = tt; by_score = tt; err = refl };
       removes = tt;
+      once = none_compacted _ g.E.Env.models_disk c.args.self.now (g.E.Env.observed c.args.env.now);
       kept = λ modelled below. meanwhile_none g.E.Env c.args.self.now.set.store c.args.env.now;
       breaks = λ unbroken. inl unbroken;
       log = refl;

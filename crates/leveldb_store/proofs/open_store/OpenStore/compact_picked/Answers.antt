@@ -2,6 +2,8 @@ use Rattle.std.proofs.Common.{◌≡◌, ◌∙◌, Ok, ap, refl, subst, sym}
 use Rattle.std.proofs.lemmas.Result.{err_from_is_err_and}
 use Rattle.leveldb_store.proofs.CompactPickedLemmas.{compacted_once, compacted_tidied}
 use Rattle.leveldb_store.proofs.CompactedLemmas.{compacts_then, nothing_compacted}
+use Rattle.leveldb_store.proofs.CompactsOnceLemmas.{compacted_inputs, compacted_none, none_compacted}
+use Rattle.leveldb_store.specs.KeptEntries.{CompactsOnceAtMost}
 use Rattle.leveldb_store.specs.OpenStore.{OpenStoreValue}
 use Rattle.leveldb_store.specs.Room.{TidiesUp}
 use Rattle.leveldb_store.proofs.open_store.OpenStore.compact_picked.Goals as goal
@@ -29,3 +31,18 @@ returns-in_default-clause-compacts g c = record {
   keeps = nothing_compacted _ g.E.Env _ c.args.self.now c.args.env.now c.args.tables.now _ _ c.requires.usable;
   memory = refl;
 }
+
+-- ---- the live tables
+
+pub returns-in_default-clause-once : goal.returns-in_default-clause-once
+returns-in_default-clause-once g c = none_compacted _ g.E.Env.models_disk c.args.self.now (g.E.Env.observed c.args.env.now)
+
+pub returns-in_err-compact-clause-once : goal.returns-in_err-compact-clause-once
+returns-in_err-compact-clause-once g c =
+    subst (λ cmp. CompactsOnceAtMost cmp g.E.Env.models_disk c.args.self.now (g.E.Env.observed c.args.env.now) c.compact.new.self (g.E.Env.observed c.compact.new.env)) c.requires.order
+    (compacted_none c.in_err-compact.ensures.compacts)
+
+pub returns-clause-once : goal.returns-clause-once
+returns-clause-once g c =
+    subst (λ cmp. CompactsOnceAtMost cmp g.E.Env.models_disk c.args.self.now (g.E.Env.observed c.args.env.now) c.compact.new.self (g.E.Env.observed c.tidy_up.new.env)) c.requires.order
+    (compacted_inputs c.in_ok-compact.ensures.compacts c.tidy_up.ensures.tidies)

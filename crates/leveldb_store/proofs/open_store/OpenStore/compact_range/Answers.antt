@@ -7,6 +7,7 @@ use Rattle.leveldb_version.specs.Overlap.{named_range}
 use Rattle.leveldb_store.proofs.CompactLevelLemmas.{clear_alike, clear_more}
 use Rattle.leveldb_store.proofs.CompactRangeLemmas.{memory_compacted, range_then}
 use Rattle.leveldb_store.proofs.CompactedLemmas.{failed_at_once}
+use Rattle.leveldb_store.proofs.KeptEntriesLemmas.{memory_compacts, memory_same, memory_tabled}
 use Rattle.leveldb_store.specs.OpenStore.{OpenStoreValue}
 use Rattle.leveldb_store.proofs.open_store.OpenStore.compact_range.Goals as goal
 
@@ -78,6 +79,9 @@ loop-level-init g c =
         ap (λ (v : OpenStoreValue g.row.C.Denot). v.waiting) read.compacts.memory ∙ done.tabled.1,
       );
       clear = λ level less. absurd (omega (arith, less));
+      entries = memory_compacts g.E.Env _ c.args.self.now c.args.env.now
+          (memory_tabled g.E.Env _ c.args.self.now c.args.env.now c.table_memory.new.env done.entries)
+          read.compacts.memory;
       log = read.log ∙ done.log;
     }
 
@@ -110,5 +114,28 @@ loop-level-preserved g c =
         ap (λ (v : OpenStoreValue g.row.C.Denot). v.waiting) done.compacts.memory ∙ before.tabled.1,
       );
       clear = clear_more (g.C.Cmp.cmp c.args.options.now.cmp) (named_range from to) level c.loop-level.self.set.full.added c.compact_level.new.self.set.full.added before.clear (clear_alike level c.compact_level.new.self.set.full.added same begins ends done.clear) done.above;
+      entries = memory_compacts g.E.Env _ c.args.self.now c.args.env.now before.entries done.compacts.memory;
       log = done.log ∙ before.log;
     }
+
+-- ---- what was in memory
+
+pub returns-in_err-begin-clause-entries : goal.returns-in_err-begin-clause-entries
+returns-in_err-begin-clause-entries g c = memory_same g.E.Env _ c.args.self.now c.args.env.now
+
+pub returns-in_err-end-clause-entries : goal.returns-in_err-end-clause-entries
+returns-in_err-end-clause-entries g c = memory_same g.E.Env _ c.args.self.now c.args.env.now
+
+pub returns-in_err-table_memory-clause-entries : goal.returns-in_err-table_memory-clause-entries
+returns-in_err-table_memory-clause-entries g c =
+    memory_tabled g.E.Env _ c.args.self.now c.args.env.now c.table_memory.new.env c.in_err-table_memory.ensures.entries
+
+pub returns-in_err-compact_by_reads-clause-entries : goal.returns-in_err-compact_by_reads-clause-entries
+returns-in_err-compact_by_reads-clause-entries g c =
+    memory_compacts g.E.Env _ c.args.self.now c.args.env.now
+    (memory_tabled g.E.Env _ c.args.self.now c.args.env.now c.table_memory.new.env c.in_ok-table_memory.ensures.entries)
+    c.in_err-compact_by_reads.ensures.compacts.memory
+
+pub returns-in_err-compact_level-clause-entries : goal.returns-in_err-compact_level-clause-entries
+returns-in_err-compact_level-clause-entries g c =
+    memory_compacts g.E.Env _ c.args.self.now c.args.env.now c.loop-level.invariant.entries c.in_err-compact_level.ensures.compacts.memory

@@ -1,6 +1,7 @@
 use Rattle.std.proofs.Common.{◌≡◌, ◌∙◌, None, Ok, Some, ap, false, inl, refl, sym, true}
 use Rattle.std.proofs.lemmas.Result.{IfOk-weaker, err_from_is_err_and}
 use Rattle.leveldb_version.specs.TableCache.{files_at}
+use Rattle.leveldb_store.proofs.KeptEntriesLemmas.{entries_same, entries_switched, entries_then}
 use Rattle.leveldb_store.proofs.LoggedEditsLemmas.{no_tables, two_tables}
 use Rattle.leveldb_store.proofs.NoNewEntriesLemmas.{adds_none, adds_none_in_order, steps_add_none, switch_adds_none}
 use Rattle.leveldb_store.proofs.OpenTablesLemmas.{closes_after, closes_none, closes_then, no_removal}
@@ -156,3 +157,35 @@ returns-clause-none_new g c =
     (steps_add_none g.E.Env _ (order old.cmp) old mid switched from at begun first.step first.none_new (switch_adds_none g.E.Env _ (order old.cmp) mid at switched begun done.switches))
     (adds_none_in_order g.E.Env _ order switched begun new to second.rest.cmp last))
     c.table_if_waiting-2.ensures.none_new
+
+-- ---- no entry is lost
+
+pub returns-then-not-is_full-clause-entries : goal.returns-then-not-is_full-clause-entries
+returns-then-not-is_full-clause-entries g c = entries_same g.E.Env _ c.args.self.now c.args.env.now
+
+pub returns-in_err-switch_log-clause-entries : goal.returns-in_err-switch_log-clause-entries
+returns-in_err-switch_log-clause-entries g c =
+    let mid = c.table_if_waiting.new.self in
+    let at = c.table_if_waiting.new.env in
+    let first = c.in_ok-table_if_waiting.ensures in
+    let switched = c.in_err-switch_log.ensures.switches in
+    entries_then g.E.Env _ first.step.rest.store first.step.rest.numbers switched.rest.store switched.rest.numbers first.entries
+    (entries_switched g.E.Env _ mid at first.none_waits _ c.switch_log.new.self c.switch_log.new.env switched)
+
+pub returns-clause-entries : goal.returns-clause-entries
+returns-clause-entries g c =
+    let old = c.args.self.now in
+    let from = c.args.env.now in
+    let order = g.C.Cmp.cmp in
+    let mid = c.table_if_waiting.new.self in
+    let at = c.table_if_waiting.new.env in
+    let switched = c.switch_log.new.self in
+    let begun = c.switch_log.new.env in
+    let first = c.in_ok-table_if_waiting.ensures in
+    let done = c.in_ok-switch_log.ensures in
+    let last = c.table_if_waiting-2.ensures in
+    let second = step_switched g.E.Env order _ old mid from at first.step first.numbers (Ok tt) switched begun done.switches done.keeps done.sound in
+    entries_then g.E.Env _ second.rest.store second.rest.numbers last.step.rest.store last.step.rest.numbers
+    (entries_then g.E.Env _ first.step.rest.store first.step.rest.numbers done.switches.rest.store done.switches.rest.numbers first.entries
+    (entries_switched g.E.Env _ mid at first.none_waits (Ok tt) switched begun done.switches))
+    last.entries

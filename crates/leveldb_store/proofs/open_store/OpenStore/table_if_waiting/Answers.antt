@@ -1,6 +1,7 @@
-use Rattle.std.proofs.Common.{◌≡◌, Ok, false, refl, true}
+use Rattle.std.proofs.Common.{◌≡◌, Ok, arith, false, refl, true}
 use Rattle.std.proofs.lemmas.Result.{err_from_is_err_and}
 use Rattle.leveldb_version.specs.TableCache.{files_at}
+use Rattle.leveldb_store.proofs.KeptEntriesLemmas.{entries_of_table, entries_same, entries_then, entries_tidied}
 use Rattle.leveldb_store.proofs.LoggedEditsLemmas.{no_tables, one_table}
 use Rattle.leveldb_store.proofs.NoNewEntriesLemmas.{adds_none, adds_none_removed, steps_add_none}
 use Rattle.leveldb_store.proofs.OpenTablesLemmas.{closes_after, closes_none, no_removal}
@@ -100,3 +101,21 @@ returns-then-not-has_waiting-clause-tables g c = no_tables 1 (GivesNumbers-refl 
 
 pub returns-clause-tables : goal.returns-clause-tables
 returns-clause-tables g c = one_table c.in_ok-table_waiting.ensures.tables.logged
+
+-- ---- no entry is lost
+
+pub returns-then-not-has_waiting-clause-entries : goal.returns-then-not-has_waiting-clause-entries
+returns-then-not-has_waiting-clause-entries g c = entries_same g.E.Env _ c.args.self.now c.args.env.now
+
+pub returns-in_err-table_waiting-clause-entries : goal.returns-in_err-table_waiting-clause-entries
+returns-in_err-table_waiting-clause-entries g c =
+    entries_of_table g.E.Env _ c.args.self.now c.args.env.now _ _ c.table_waiting.new.self c.table_waiting.new.env c.in_err-table_waiting.ensures.tables tt
+
+pub returns-clause-entries : goal.returns-clause-entries
+returns-clause-entries g c =
+    let mid = c.table_waiting.new.self in
+    let at = c.table_waiting.new.env in
+    let made = c.in_ok-table_waiting.ensures in
+    entries_then g.E.Env _ made.tables.rest.store made.tables.rest.numbers refl (omega arith)
+    (entries_of_table g.E.Env _ c.args.self.now c.args.env.now _ (Ok tt) mid at made.tables made.added)
+    (entries_tidied g.E.Env _ (g.C.Cmp.cmp mid.cmp) mid at c.tidy_up.new.env c.tidy_up.ensures.tidies)

@@ -1,5 +1,6 @@
 use Rattle.std.proofs.Common.{Ok}
 use Rattle.std.proofs.lemmas.Result.{err_from_is_err_and}
+use Rattle.leveldb_store.proofs.KeptEntriesLemmas.{entries_switched, entries_then}
 use Rattle.leveldb_store.proofs.NoNewEntriesLemmas.{adds_none_in_order, steps_add_none, switch_adds_none}
 use Rattle.leveldb_store.proofs.OpenTablesLemmas.{closes_after, closes_none, closes_then}
 use Rattle.leveldb_store.proofs.RoomLemmas.{fails_first, step_for, step_switched, step_tabled, usable_switched}
@@ -98,3 +99,42 @@ returns-clause-none_new g c =
     steps_add_none g.E.Env _ (order old.cmp) old switched new from begun to second
     (steps_add_none g.E.Env _ (order old.cmp) old mid switched from at begun first.step first.none_new (switch_adds_none g.E.Env _ (order old.cmp) mid at switched begun done.switches))
     (adds_none_in_order g.E.Env _ order switched begun new to second.rest.cmp c.in_ok-table_if_waiting-2.ensures.none_new)
+
+-- ---- no entry is lost
+
+pub returns-in_err-switch_log-clause-entries : goal.returns-in_err-switch_log-clause-entries
+returns-in_err-switch_log-clause-entries g c =
+    let mid = c.table_if_waiting.new.self in
+    let at = c.table_if_waiting.new.env in
+    let first = c.in_ok-table_if_waiting.ensures in
+    let switched = c.in_err-switch_log.ensures.switches in
+    entries_then g.E.Env _ first.step.rest.store first.step.rest.numbers switched.rest.store switched.rest.numbers first.entries
+    (entries_switched g.E.Env _ mid at first.none_waits _ c.switch_log.new.self c.switch_log.new.env switched)
+
+pub returns-in_err-table_if_waiting-2-clause-entries : goal.returns-in_err-table_if_waiting-2-clause-entries
+returns-in_err-table_if_waiting-2-clause-entries g c =
+    let order = g.C.Cmp.cmp in
+    let mid = c.table_if_waiting.new.self in
+    let at = c.table_if_waiting.new.env in
+    let first = c.in_ok-table_if_waiting.ensures in
+    let done = c.in_ok-switch_log.ensures in
+    let last = c.in_err-table_if_waiting-2.ensures in
+    let second = step_switched g.E.Env order _ c.args.self.now mid c.args.env.now at first.step first.numbers (Ok tt) c.switch_log.new.self c.switch_log.new.env done.switches done.keeps done.sound in
+    entries_then g.E.Env _ second.rest.store second.rest.numbers last.step.rest.store last.step.rest.numbers
+    (entries_then g.E.Env _ first.step.rest.store first.step.rest.numbers done.switches.rest.store done.switches.rest.numbers first.entries
+    (entries_switched g.E.Env _ mid at first.none_waits (Ok tt) c.switch_log.new.self c.switch_log.new.env done.switches))
+    last.entries
+
+pub returns-clause-entries : goal.returns-clause-entries
+returns-clause-entries g c =
+    let order = g.C.Cmp.cmp in
+    let mid = c.table_if_waiting.new.self in
+    let at = c.table_if_waiting.new.env in
+    let first = c.in_ok-table_if_waiting.ensures in
+    let done = c.in_ok-switch_log.ensures in
+    let last = c.in_ok-table_if_waiting-2.ensures in
+    let second = step_switched g.E.Env order _ c.args.self.now mid c.args.env.now at first.step first.numbers (Ok tt) c.switch_log.new.self c.switch_log.new.env done.switches done.keeps done.sound in
+    entries_then g.E.Env _ second.rest.store second.rest.numbers last.step.rest.store last.step.rest.numbers
+    (entries_then g.E.Env _ first.step.rest.store first.step.rest.numbers done.switches.rest.store done.switches.rest.numbers first.entries
+    (entries_switched g.E.Env _ mid at first.none_waits (Ok tt) c.switch_log.new.self c.switch_log.new.env done.switches))
+    last.entries

@@ -15,6 +15,7 @@ use Rattle.leveldb_base.specs.History.{AreUpTo}
 use Rattle.leveldb_store.proofs.GivenNumbersLemmas.{live_given}
 use Rattle.leveldb_store.specs.OpenStore.{AreInLevels, HasOwnManifest, OpenStoreValue}
 use Rattle.leveldb_store.proofs.LevelsApartLemmas.{levels_with_picked, range_in_order}
+use Rattle.leveldb_store.proofs.AddedTableLemmas.{waiting_added}
 use Rattle.leveldb_store.proofs.TabledEntriesLemmas.{table_adds_none}
 use Rattle.leveldb_store.proofs.TableWaitingLemmas.{in_use_of, keeps_done, keeps_failed, keeps_unmade, keeps_with_current, some_pairs, tables_logged, tables_unbuilt, tables_unlogged, unlogged_sound, waiting_has_entries}
 use Rattle.leveldb_store.proofs.SoundLemmas.{edit_goes_on, given_unbroken, goes_on_then, sound_ok, sound_unbroken, table_goes_on}
@@ -205,3 +206,26 @@ returns-clause-none_new g c =
     (λ modelled meaning agrees w. subst (λ (v : OpenStoreValue g.row.C.Denot). AddsNoEntry (g.C.Cmp.cmp cmp) meaning old (files_at g.E.Env c.args.env.now) v (files_at g.E.Env c.log_table.new.env)) (sym gone)
     (table_adds_none g.E.Env _ old c.args.env.now c.build_waiting.new.env c.level_for-level.result c.in_ok-file.file some c.build_waiting.ensures.entries made modelled (g.C.Cmp.cmp cmp) order meaning agrees
     usable c.in_ok-number.ensures.fits used.0 used.1 c.self.invariant.4 c.log_table.new.env c.log_table.ensures.locks c.log_table.new.self.set c.self.invariant.9 (logs used.0 used.1) c.log_table.new.self.current w))
+
+-- ---- the table that is added
+
+pub returns-clause-added : goal.returns-clause-added
+returns-clause-added g c =
+    let usable = not_broken c.self.inside.versions.set c.is_broken.result c.is_broken.ensures.1 c.if-is_broken.false in
+    let made = rw (c.in_ok-number.ensures.number, c.in_ok-number.ensures.ok) at c.in_ok-file.ensures.makes in
+    let logs = rw c.in_ok-number.ensures.ok at c.in_ok-log_table.ensures.logs in
+    let used = in_use_of c.self.inside.versions.set.manifest c.self.invariant.5 usable in
+    let some = waiting_has_entries c.self.inside.waiting (rw (← c.self.view_is) at c.requires.waits) c.self.invariant.7 in
+    let gone = ap (λ (v : OpenStoreValue g.row.C.Denot). record v { waiting = None }) (c.self-2.view_is ∙ c.log_table.ensures.rest) in
+    let old : OpenStoreValue g.row.C.Denot = record {
+      cmp = c.self.inside.cmp;
+      set = c.self.inside.versions.set;
+      current = c.self.inside.versions.current;
+      log = record { number = c.self.inside.log.number; writer = c.self.inside.log.file.writer };
+      recent = c.self.inside.recent.kept;
+      waiting = option_map (λ memtable. memtable.kept) c.self.inside.waiting;
+      keeps_files = c.self.inside.keeps_files;
+    } in
+    rw (← c.self.view_is)
+    (waiting_added g.E.Env _ old c.args.env.now c.build_waiting.new.env c.level_for-level.result c.in_ok-file.file some c.build_waiting.ensures.entries made
+    c.in_ok-number.ensures.fits c.self.invariant.9 used.0 used.1 c.self.invariant.4 c.log_table.new.self.set c.log_table.new.env (logs used.0 used.1) _ (ap (λ (v : OpenStoreValue g.row.C.Denot). v.set) gone))

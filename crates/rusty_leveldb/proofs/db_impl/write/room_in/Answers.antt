@@ -2,6 +2,7 @@
 use Rattle.std.specs.Prelude.{OnOk}
 use Rattle.std.proofs.Common.{◌≡◌, ◌∙◌, ap, false, refl, subst, sym, true}
 use Rattle.std.proofs.lemmas.Result.{err_from_is_err_and}
+use Rattle.leveldb_store.specs.KeptEntries.{CompactsOnceAtMost}
 use Rattle.leveldb_store.specs.LoggedEdits.{LogsByScore}
 use Rattle.leveldb_store.specs.OpenStore.{OpenStoreValue}
 use Rattle.rusty_leveldb.proofs.ChargesLemmas.{charged_tables}
@@ -20,7 +21,7 @@ returns-in_err-make_room-clause-makes g c =
     let failed = c.in_err-make_room.ensures in
     rw (p.1, p.2) (room_not_made _ g.E.Env _ c.args.store.now c.args.env.now c.args.tables.now _
     refl _ _ (sym c.requires.order) _ c.make_room.new.self c.make_room.new.env
-    c.make_room.new.tables failed.makes failed.sound failed.closes)
+    c.make_room.new.tables failed.makes failed.sound failed.closes failed.entries)
 
 pub returns-clause-makes : goal.returns-clause-makes
 returns-clause-makes g c =
@@ -29,7 +30,7 @@ returns-clause-makes g c =
     room_compacted _ g.E.Env _ c.args.store.now c.args.env.now c.args.tables.now _ refl _ _
     (sym c.requires.order) (c.if-not-is_full.ensures.0 refl) c.make_room.new.self
     c.make_room.new.env c.make_room.new.tables made.makes made.sound made.closes made.none_new
-    made.tables c.compact_if_asked.result c.compact_if_asked.new.self c.compact_if_asked.new.env
+    made.tables made.entries c.compact_if_asked.result c.compact_if_asked.new.self c.compact_if_asked.new.env
     c.compact_if_asked.new.tables (charged_tables _ g.E.Env _ c.make_room.new.self
     c.make_room.new.env c.make_room.new.tables _ made.makes.usable _ c.charge.new.store charged
     c.compact_if_asked.result c.compact_if_asked.new.self c.compact_if_asked.new.env
@@ -37,4 +38,8 @@ returns-clause-makes g c =
     (ap g.C.Cmp.cmp made.makes.rest.cmp ∙ sym c.requires.order)
     (subst (λ (s : OpenStoreValue g.row.C.Denot). OnOk c.compact_if_asked.result
     (LogsByScore (g.C.Cmp.cmp s.cmp) s.set c.compact_if_asked.new.self.set)) charged
-    c.compact_if_asked.ensures.asked.by_score)
+    c.compact_if_asked.ensures.asked.by_score) c.charge.new.store charged
+    (subst (λ (s : OpenStoreValue g.row.C.Denot). CompactsOnceAtMost (g.C.Cmp.cmp s.cmp)
+    g.E.Env.models_disk c.charge.new.store (g.E.Env.observed c.make_room.new.env)
+    c.compact_if_asked.new.self (g.E.Env.observed c.compact_if_asked.new.env)) charged
+    c.compact_if_asked.ensures.once)

@@ -1,5 +1,6 @@
 -- The store is charged and compacted by the engine's options, in the order of the store.
 use Rattle.std.proofs.Common.{refl}
+use Rattle.leveldb_store.proofs.KeptEntriesLemmas.{memory_of_charged}
 use Rattle.rusty_leveldb.proofs.ChargesLemmas.{charged_range}
 use Rattle.rusty_leveldb.proofs.db_impl.compact.Engine+E+C+FP.compact_store.Goals as goal
 
@@ -14,6 +15,9 @@ returns-clause-compacts g c =
           c.compact_range-compacted.result c.compact_range-compacted.new.self
           c.compact_range-compacted.new.env c.compact_range-compacted.new.tables _
           c.compact_range-compacted.ensures.compacts));
+      entries = (rw c.cmp-self-inside.ensures at (memory_of_charged g.E.Env _ c.self.inside.store
+          c.args.env.now c.charge.new.store c.compact_range-compacted.new.self
+          c.charge.ensures.version c.compact_range-compacted.ensures.entries));
       rest = (rw c.cmp-self-inside.ensures refl);
       mode = c.mode_by-self-inside.ensures;
     })

@@ -1,0 +1,92 @@
+-- The table of the entries that wait is added, whatever the other files are.
+use Rattle.std.specs.Prelude.{◌≢◌, All, Contains, IsTrue}
+use Rattle.std.proofs.Common.{◌≡◌, ◌∙◌, ◌∷◌, ◌++◌, ◌+◌, ◌<◌, ◌^◌, ℕ, [], map, Ok, ap, arith, refl, subst, sym}
+use Rattle.std.proofs.lemmas.List.Elements.{Contains-append_right}
+use Rattle.leveldb_base.proofs.HistoryLemmas.{in_front}
+use Rattle.leveldb_base.specs.Entries.{internal_pair}
+use Rattle.leveldb_base.specs.declared.cmp.Cmp.{Ghosts as CmpGhosts}
+use Rattle.leveldb_base.specs.declared.types.FileMetaData.{FileMetaData}
+use Rattle.leveldb_base.specs.declared.types.FileType.TheVariants.{Descriptor, Table}
+use Rattle.leveldb_env.specs.declared.env.Env.{Ghosts}
+use Rattle.leveldb_env.specs.declared.filter.FilterPolicy.{Ghosts as FilterGhosts}
+use Rattle.leveldb_version.proofs.ManagedLemmas.{same_bytes, table_on}
+use Rattle.leveldb_version.specs.Batches.{Each}
+use Rattle.leveldb_version.specs.Format.{IsTableOf}
+use Rattle.leveldb_version.specs.Levels.{LiveTable}
+use Rattle.leveldb_version.specs.LogEdit.{AppendsEdit}
+use Rattle.leveldb_version.specs.Paths.{table_path}
+use Rattle.leveldb_version.specs.Store.{HasTable, IsInternalPair}
+use Rattle.leveldb_version.specs.VersionEdit.{NewFile, new_file_of}
+use Rattle.leveldb_version.specs.VersionSetValue.{OpenManifest, VersionSetValue, in_use, with_number_given}
+use Rattle.leveldb_version.specs.Writing.{table_edit}
+use Rattle.leveldb_store.proofs.CurrentVersionLemmas.{lower_stay}
+use Rattle.leveldb_store.proofs.TableKeepsLemmas.{appending_and_syncing, is_table_path, types_apart}
+use Rattle.leveldb_store.proofs.TableWaitingLemmas.{has_made}
+use Rattle.leveldb_store.specs.BuildTable.{MakesTable, TableChoices}
+use Rattle.leveldb_store.specs.KeptEntries.{AddsTableOf}
+use Rattle.leveldb_store.specs.OpenStore.{AreNumbersGiven, HasOwnManifest, OpenStoreValue}
+use Rattle.leveldb_store.specs.Written.{waiting_entries}
+
+module _ {E F C D FP : Type 0} {order : CmpGhosts D} {filters : FilterGhosts FP} (env : Ghosts E F)
+    (choices : TableChoices order filters) (old : OpenStoreValue C) (from mid : E)
+    (level : ℕ) (file : FileMetaData) (some : waiting_entries old.waiting ≢ [])
+    (each : Each IsInternalPair (map internal_pair (waiting_entries old.waiting))
+    (waiting_entries old.waiting))
+    (m : MakesTable choices (map internal_pair (waiting_entries old.waiting)) env (λ status. ⊥)
+    old.set.store old.set.next_file from (Ok file) mid) where
+  abbrev it : NewFile
+  it = new_file_of (level, file)
+
+  abbrev table : LiveTable
+  table = record { file = it; entries = waiting_entries old.waiting }
+
+  -- once its edit is logged it has the entries that waited
+  pub waiting_added : old.set.next_file + 1 < 2 ^ 64 → AreNumbersGiven old.set old.set.full.added
+      → (manifest : OpenManifest) → old.set.manifest ≡ in_use manifest
+      → (IsTrue env.models_disk → HasOwnManifest old.set)
+      → (set : VersionSetValue) (to : E)
+      → AppendsEdit env.models_disk manifest (with_number_given old.set)
+      (table_edit old.log.number it) (env.observed mid) (env.failures mid) (Ok tt) set
+      (env.observed to) (env.failures to)
+      → (new : VersionSetValue) → new ≡ set
+      → AddsTableOf env choices.format (waiting_entries old.waiting) old.set new to
+  waiting_added next_fits given manifest used own set to l new same_set =
+      subst (λ s. AddsTableOf env choices.format (waiting_entries old.waiting) old.set s to)
+      (sym same_set) (
+        it,
+        record {
+          live =
+              let lower = lower_stay it old.set.full.added
+              (subst (λ n. All (λ (one : NewFile). one.number < n) old.set.full.added) (sym number)
+              given) in
+              subst (λ files. Contains files it)
+              (sym (ap (λ (s : VersionSetValue). s.full.added) l.ok
+              ∙ ap (λ files. files ++ it ∷ []) lower))
+              (Contains-append_right old.set.full.added (it ∷ []) it (in_front it []));
+          fresh = omega (arith, number);
+          given = let more = ap (λ (s : VersionSetValue). s.next_file) l.ok in
+              omega (arith, number, more);
+          fits = fits;
+          there = λ modelled meaning agrees.
+              let path = table_path old.set.store file.num in
+              let same = appending_and_syncing manifest.path _ (env.observed mid).disk.files
+              (env.observed to).disk.files ((l.does modelled).now modelled) path
+              (types_apart old.set.store manifest.path path Descriptor Table
+              (own modelled manifest used) (is_table_path old.set.store file.num fits)
+              (λ e. cc)) in
+              let f = choices.format in
+              subst (λ s. HasTable s f.order (IsTableOf f.order meaning) (env.observed to).disk.files
+              table) (sym (ap (λ (s : VersionSetValue). s.store) l.ok))
+              (table_on old.set.store f.order (IsTableOf f.order meaning) (env.observed mid).disk.files
+              (env.observed to).disk.files table
+              (same_bytes ((env.observed mid).disk.files path) ((env.observed to).disk.files path) same)
+              (has_made env choices old from mid level file some each m modelled f.order refl meaning
+              agrees));
+        },
+      )
+    where
+      number : file.num ≡ old.set.next_file
+      number = m.number_is.0
+
+      fits : file.num < 2 ^ 64
+      fits = omega (arith, number, next_fits)
