@@ -1,6 +1,6 @@
 //! Files that are judged to be readable tables or not, each as a plain reader of whole files judges
 //! it.
-use crate::checks::{Given, internal_table};
+use super::checks::{Given, internal_table};
 use leveldb_base::blockhandle::BlockHandle;
 use leveldb_base::cmp::DefaultCmp;
 use leveldb_base::crc::{digest, mask_crc};
@@ -107,7 +107,7 @@ fn built<FP: FilterPolicy + Copy + Drop>(
 
 /// Options whose blocks have about so many bytes, with filters or none.
 fn small_blocks<FP>(policy: FP, block_size: usize) -> Options<DefaultCmp, FP> {
-    let mut options = crate::checks::options_under(DefaultCmp, policy);
+    let mut options = super::checks::options_under(DefaultCmp, policy);
     options.block_size = block_size;
     options
 }
