@@ -23,7 +23,7 @@ use Rattle.leveldb_store.proofs.CurrentVersionLemmas.{lower_stay}
 use Rattle.leveldb_store.proofs.TableKeepsLemmas.{appending_and_syncing, is_table_path, types_apart}
 use Rattle.leveldb_store.proofs.TableWaitingLemmas.{has_made}
 use Rattle.leveldb_store.specs.BuildTable.{MakesTable, TableChoices}
-use Rattle.leveldb_store.specs.KeptEntries.{AddsTableOf}
+use Rattle.leveldb_store.specs.KeptEntries.{AddsTableOf, IsAddedTable}
 use Rattle.leveldb_store.specs.OpenStore.{AreNumbersGiven, HasOwnManifest, OpenStoreValue}
 use Rattle.leveldb_store.specs.Written.{waiting_entries}
 
@@ -40,53 +40,59 @@ module _ {E F C D FP : Type 0} {order : CmpGhosts D} {filters : FilterGhosts FP}
   abbrev table : LiveTable
   table = record { file = it; entries = waiting_entries old.waiting }
 
-  -- once its edit is logged it has the entries that waited
-  pub waiting_added : old.set.next_file + 1 < 2 ^ 64 → AreNumbersGiven old.set old.set.full.added
-      → (manifest : OpenManifest) → old.set.manifest ≡ in_use manifest
-      → (IsTrue env.models_disk → HasOwnManifest old.set)
-      → (set : VersionSetValue) (to : E)
-      → AppendsEdit env.models_disk manifest (with_number_given old.set)
+  abbrev Logs : OpenManifest → VersionSetValue → E → Type 0
+  Logs manifest set to = AppendsEdit env.models_disk manifest (with_number_given old.set)
       (table_edit old.log.number it) (env.observed mid) (env.failures mid) (Ok tt) set
       (env.observed to) (env.failures to)
-      → (new : VersionSetValue) → new ≡ set
-      → AddsTableOf env choices.format (waiting_entries old.waiting) old.set new to
-  waiting_added next_fits given manifest used own set to l new same_set =
-      subst (λ s. AddsTableOf env choices.format (waiting_entries old.waiting) old.set s to)
-      (sym same_set) (
-        it,
-        record {
-          live =
-              let lower = lower_stay it old.set.full.added
-              (subst (λ n. All (λ (one : NewFile). one.number < n) old.set.full.added) (sym number)
-              given) in
-              subst (λ files. Contains files it)
-              (sym (ap (λ (s : VersionSetValue). s.full.added) l.ok
-              ∙ ap (λ files. files ++ it ∷ []) lower))
-              (Contains-append_right old.set.full.added (it ∷ []) it (in_front it []));
-          fresh = omega (arith, number);
-          given = let more = ap (λ (s : VersionSetValue). s.next_file) l.ok in
-              omega (arith, number, more);
-          fits = fits;
-          there = λ modelled meaning agrees.
-              let path = table_path old.set.store file.num in
-              let same = appending_and_syncing manifest.path _ (env.observed mid).disk.files
-              (env.observed to).disk.files ((l.does modelled).now modelled) path
-              (types_apart old.set.store manifest.path path Descriptor Table
-              (own modelled manifest used) (is_table_path old.set.store file.num fits)
-              (λ e. cc)) in
-              let f = choices.format in
-              subst (λ s. HasTable s f.order (IsTableOf f.order meaning) (env.observed to).disk.files
-              table) (sym (ap (λ (s : VersionSetValue). s.store) l.ok))
-              (table_on old.set.store f.order (IsTableOf f.order meaning) (env.observed mid).disk.files
-              (env.observed to).disk.files table
-              (same_bytes ((env.observed mid).disk.files path) ((env.observed to).disk.files path) same)
-              (has_made env choices old from mid level file some each m modelled f.order refl meaning
-              agrees));
-        },
-      )
+
+  -- once its edit is logged it has the entries that waited
+  its_entries : old.set.next_file + 1 < 2 ^ 64 → AreNumbersGiven old.set old.set.full.added
+      → (manifest : OpenManifest) → old.set.manifest ≡ in_use manifest
+      → (IsTrue env.models_disk → HasOwnManifest old.set)
+      → (set : VersionSetValue) (to : E) → Logs manifest set to
+      → IsAddedTable env choices.format old.set set to table
+  its_entries next_fits given manifest used own set to l = record {
+    live =
+        let lower = lower_stay it old.set.full.added
+        (subst (λ n. All (λ (one : NewFile). one.number < n) old.set.full.added) (sym number)
+        given) in
+        subst (λ files. Contains files it)
+        (sym (ap (λ (s : VersionSetValue). s.full.added) l.ok
+        ∙ ap (λ files. files ++ it ∷ []) lower))
+        (Contains-append_right old.set.full.added (it ∷ []) it (in_front it []));
+    fresh = omega (arith, number);
+    given = let more = ap (λ (s : VersionSetValue). s.next_file) l.ok in
+        omega (arith, number, more);
+    fits = fits;
+    there = λ modelled meaning agrees.
+        let path = table_path old.set.store file.num in
+        let same = appending_and_syncing manifest.path _ (env.observed mid).disk.files
+        (env.observed to).disk.files ((l.does modelled).now modelled) path
+        (types_apart old.set.store manifest.path path Descriptor Table
+        (own modelled manifest used) (is_table_path old.set.store file.num fits)
+        (λ e. cc)) in
+        let f = choices.format in
+        subst (λ s. HasTable s f.order (IsTableOf f.order meaning) (env.observed to).disk.files
+        table) (sym (ap (λ (s : VersionSetValue). s.store) l.ok))
+        (table_on old.set.store f.order (IsTableOf f.order meaning) (env.observed mid).disk.files
+        (env.observed to).disk.files table
+        (same_bytes ((env.observed mid).disk.files path) ((env.observed to).disk.files path) same)
+        (has_made env choices old from mid level file some each m modelled f.order refl meaning
+        agrees));
+  }
     where
       number : file.num ≡ old.set.next_file
       number = m.number_is.0
 
       fits : file.num < 2 ^ 64
       fits = omega (arith, number, next_fits)
+
+  pub waiting_added : old.set.next_file + 1 < 2 ^ 64 → AreNumbersGiven old.set old.set.full.added
+      → (manifest : OpenManifest) → old.set.manifest ≡ in_use manifest
+      → (IsTrue env.models_disk → HasOwnManifest old.set)
+      → (set : VersionSetValue) (to : E) → Logs manifest set to
+      → (new : VersionSetValue) → new ≡ set
+      → AddsTableOf env choices.format (waiting_entries old.waiting) old.set new to
+  waiting_added next_fits given manifest used own set to l new same =
+      subst (λ s. AddsTableOf env choices.format (waiting_entries old.waiting) old.set s to)
+      (sym same) (it, its_entries next_fits given manifest used own set to l)

@@ -151,7 +151,8 @@ module _ {E F C FP D P : Type 0} {order : CmpGhosts (InternalKeyCmp C)} {env : G
     live = λ number there. ⊎_elim
         (λ (gone : IsAmong logged.edit.deleted number).
         inl (taken number gone.0 gone.1 gone.2))
-        (λ (left : Contains (file_numbers (files_after logged.edit logged.given.full.added)) number).
+        (λ (left :
+        Contains (file_numbers (files_after logged.edit logged.given.full.added)) number).
         inr (live_now number left, same number (live_now number left)))
         (deleted_or_there logged.edit logged.given.full.added number
         (subst (λ (s : VersionSetValue). Contains (file_numbers s.full.added) number)
@@ -172,7 +173,8 @@ module _ {E F C FP D P : Type 0} {order : CmpGhosts (InternalKeyCmp C)} {env : G
       live_now : (number : ℕ)
           → Contains (file_numbers (files_after logged.edit logged.given.full.added)) number
           → Contains (file_numbers new.set.full.added) number
-      live_now number left = subst (λ (s : VersionSetValue). Contains (file_numbers s.full.added) number)
+      live_now number left = subst
+          (λ (s : VersionSetValue). Contains (file_numbers s.full.added) number)
           (sym logged.set) left
 
       same : (number : ℕ) → Contains (file_numbers new.set.full.added) number

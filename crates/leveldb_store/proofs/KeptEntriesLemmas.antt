@@ -266,43 +266,43 @@ module _ {E F : Type 0} (env : Ghosts E F) (format : Format) where
 
 -- ---- memory, where something may be compacted
 
-module _ {E F C : Type 0} (env : Ghosts E F) (format : Format) (old : OpenStoreValue C) (from : E)
-  where
-    -- nothing is done
-    pub memory_same : TablesMemory env format old from old
-    memory_same = record {
-      tabled = old;
-      at = from;
-      tables = entries_same env format old from;
-      memory = refl;
-    }
+module _ {E F C : Type 0} (env : Ghosts E F) (format : Format) (old : OpenStoreValue C)
+    (from : E) where
+  -- nothing is done
+  pub memory_same : TablesMemory env format old from old
+  memory_same = record {
+    tabled = old;
+    at = from;
+    tables = entries_same env format old from;
+    memory = refl;
+  }
 
-    -- and then compactions are done, or not
-    pub memory_compacts : {mid new : OpenStoreValue C} → TablesMemory env format old from mid
-        → new ≡ record mid { set = new.set; current = new.current }
-        → TablesMemory env format old from new
-    memory_compacts first rest = record {
-      tabled = first.tabled;
-      at = first.at;
-      tables = first.tables;
-      memory = ap (λ (v : OpenStoreValue C). in_memory v) rest ∙ first.memory;
-    }
+  -- and then compactions are done, or not
+  pub memory_compacts : {mid new : OpenStoreValue C} → TablesMemory env format old from mid
+      → new ≡ record mid { set = new.set; current = new.current }
+      → TablesMemory env format old from new
+  memory_compacts first rest = record {
+    tabled = first.tabled;
+    at = first.at;
+    tables = first.tables;
+    memory = ap (λ (v : OpenStoreValue C). in_memory v) rest ∙ first.memory;
+  }
 
-    -- tables were made
-    pub memory_tabled : {mid : OpenStoreValue C} (at : E) → KeepsEntries env format old from mid at
-        → TablesMemory env format old from mid
-    memory_tabled {mid} at kept = record { tabled = mid; at = at; tables = kept; memory = refl }
+  -- tables were made
+  pub memory_tabled : {mid : OpenStoreValue C} (at : E) → KeepsEntries env format old from mid at
+      → TablesMemory env format old from mid
+  memory_tabled {mid} at kept = record { tabled = mid; at = at; tables = kept; memory = refl }
 
-    -- the version of the files before doesn't count
-    pub memory_of_charged : (charged new : OpenStoreValue C)
-        → charged ≡ record old { current = charged.current }
-        → TablesMemory env format charged from new → TablesMemory env format old from new
-    memory_of_charged charged new only its = record {
-      tabled = its.tabled;
-      at = its.at;
-      tables = entries_of_charged env format old charged from its.tabled its.at only its.tables;
-      memory = its.memory;
-    }
+  -- the version of the files before doesn't count
+  pub memory_of_charged : (charged new : OpenStoreValue C)
+      → charged ≡ record old { current = charged.current }
+      → TablesMemory env format charged from new → TablesMemory env format old from new
+  memory_of_charged charged new only its = record {
+    tabled = its.tabled;
+    at = its.at;
+    tables = entries_of_charged env format old charged from its.tabled its.at only its.tables;
+    memory = its.memory;
+  }
 
 -- ---- a table of the entries that wait
 

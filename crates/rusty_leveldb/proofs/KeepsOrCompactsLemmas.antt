@@ -102,7 +102,8 @@ module _ {E F C : Type 0} (env : Ghosts E F) (format : Format) where
   -- nothing is done
   pub kept_as_they_are : (value : OpenStoreValue C) (at : E)
       → KeepsOrCompacts env format [] value at value at
-  kept_as_they_are value at = kept_in_tables value at value at refl (entries_same env format value at)
+  kept_as_they_are value at = kept_in_tables value at value at refl
+      (entries_same env format value at)
 
   -- tables are made, and then what the store asks for is compacted, or not
   pub kept_or_compacted : (old : OpenStoreValue C) (from : E) (mid : OpenStoreValue C) (at : E)
@@ -187,8 +188,8 @@ module _ {E F C : Type 0} (env : Ghosts E F) (format : Format) where
         set = ap (λ (v : OpenStoreValue C). (with_last n v).set) writes.rest
 
     -- those of a batch that was written are in memory
-    pub kept_beside_batch : KeepsOrCompacts env format (entries_added result (next_batch mid items)) old from
-        new to
+    pub kept_beside_batch : KeepsOrCompacts env format
+        (entries_added result (next_batch mid items)) old from new to
     kept_beside_batch = record {
       tabled = room.tabled;
       at = room.at;
@@ -206,7 +207,8 @@ module _ {E F C : Type 0} (env : Ghosts E F) (format : Format) where
       where
         in_end : (result : Result (Unit {0}) Status) (new : OpenStoreValue C)
             → WritesBatch env cmp mid at items sync result new to
-            → SameEntries (in_memory mid ++ entries_added result (next_batch mid items)) (in_memory new)
+            → SameEntries (in_memory mid ++ entries_added result (next_batch mid items))
+            (in_memory new)
         in_end (Ok nothing) new writes = subst (λ w.
             SameEntries (in_memory mid ++ next_batch mid items)
             (new.recent.entries ++ waiting_entries w))

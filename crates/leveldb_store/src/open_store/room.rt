@@ -64,8 +64,8 @@ impl<E: Env, C: UserCmp + Copy + Drop> OpenStore<E, C> {
     /// waits at most. Obsolete files are deleted after each table, and their tables closed; what
     /// fails of that is a line for `log`. An Ok has what the last of these removals returned.
     ///
-    /// After an Err the memtable is full still, or one waits. Ok or Err, and whatever the files are, no
-    /// entry is lost. The next call goes on from there, unless the store broke.
+    /// After an Err the memtable is full still, or one waits. Whatever the files are, no entry is
+    /// lost. The next call goes on from there, unless the store broke.
     pub fn make_room<FP: FilterPolicy + Copy + Drop>(
         &mut self,
         env: &mut E,
