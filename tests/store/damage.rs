@@ -271,6 +271,23 @@ fn prefixes_of_logs(rt: HostRuntime) -> Result<()> {
     Ok(())
 }
 
+/// A log is read up to a record of no bytes, which is no batch and which a crash can't leave, whatever comes after it.
+#[test]
+fn records_of_no_bytes(rt: HostRuntime) -> Result<()> {
+    let alloc = rt.alloc();
+    for lengths in [[20, 0, 7], [20, 7, 0]] {
+        let text = log_of(alloc, &lengths)?;
+        let from = 27 + if lengths[1] > 0 { 14 } else { 0 };
+        let wanted = LeftOut {
+            from,
+            count: text.len() - from,
+            has_records: true,
+        };
+        assert_eq!(rt; left_out(&text), Some(wanted));
+    }
+    Ok(())
+}
+
 /// What is left out of a log with one changed byte.
 fn left_of_changed(text: &mut [u8], at: usize, amount: u8) -> Option<LeftOut> {
     change_byte(text, at, amount);

@@ -18,10 +18,12 @@ pub struct LeftOut {
     pub has_records: bool,
 }
 
-// A whole fragment: its type, and how many bytes it has with the filler before it.
+// A whole fragment: its type, whether it has data, and how many bytes it has with the filler before
+// it.
 #[derive(Clone, Copy)]
 struct Whole {
     kind: u8,
+    has_data: bool,
     count: usize,
 }
 
@@ -34,7 +36,9 @@ struct Scan {
     records_end: usize,
     // Whether a record has begun that none of them ends.
     is_open: bool,
-    // Whether the next one is whole, and can't come there.
+    // Whether that record has data so far.
+    has_data: bool,
+    // Whether the next one is whole, and can't come there: nor may a record end that has no data.
     is_misplaced: bool,
 }
 
@@ -83,13 +87,14 @@ fn scan_of(text: &[u8], records: usize) -> Scan
         end: 0,
         records_end: 0,
         is_open: false,
+        has_data: false,
         is_misplaced: false,
     };
     while let Some(found) = whole_at(&text[scan.end..], scan.end % BLOCK_SIZE) {
         if left == 0 {
             return scan;
         }
-        if !scan.may_take(found.kind) {
+        if !scan.may_take(found) {
             scan.is_misplaced = true;
             return scan;
         }
@@ -100,11 +105,13 @@ fn scan_of(text: &[u8], records: usize) -> Scan
 }
 
 impl Scan {
-    // Whether a fragment of this type may come next.
-    fn may_take(&self, kind: u8) -> bool {
-        match kind {
-            1 | 2 => !self.is_open,
-            3 | 4 => self.is_open,
+    // Whether a fragment may come next.
+    fn may_take(&self, found: Whole) -> bool {
+        match found.kind {
+            1 => !self.is_open && found.has_data,
+            2 => !self.is_open,
+            3 => self.is_open,
+            4 => self.is_open && (self.has_data || found.has_data),
             _ => false,
         }
     }
@@ -118,6 +125,7 @@ impl Scan {
     {
         self.end += found.count;
         self.is_open = !is_last(found.kind);
+        self.has_data = self.is_open && (self.has_data || found.has_data);
         if !self.is_open {
             self.records_end = self.end;
         }
@@ -164,6 +172,7 @@ fn whole_at(rest: &[u8], offset: usize) -> Option<Whole>
     }
     Some(Whole {
         kind: fragment[6],
+        has_data: fragment.len() > HEADER_SIZE,
         count: rest.len() - body.len() + fragment.len(),
     })
 }
