@@ -3,11 +3,17 @@ use leveldb_base::error::{Result, Status, StatusCode, err};
 use std::alloc::{AllocError, Global};
 use std::io;
 
-// Whether a status prints this text. Where there was no memory for its text, it is out of memory.
-fn prints(alloc: Global, status: &Status, text: &str) -> Result<bool> {
-    if status.err.is_none() {
-        return Err(AllocError.into());
+// Out of memory, if there was none for the text of a status.
+fn check_text(status: &Status) -> Result<()> {
+    match status.err {
+        None => Err(AllocError.into()),
+        Some(_) => Ok(()),
     }
+}
+
+// Whether a status prints this text.
+fn prints(alloc: Global, status: &Status, text: &str) -> Result<bool> {
+    check_text(status)?;
     Ok(format!(in alloc; "{status}")?.as_str() == text)
 }
 
@@ -42,6 +48,7 @@ fn text_of_an_error(rt: HostRuntime) -> Result<()> {
 #[test]
 fn annotated_texts(rt: HostRuntime) -> Result<()> {
     let status = Status::new(rt.alloc(), StatusCode::Corruption, "cut");
+    check_text(&status)?;
     let status = status.annotate(rt.alloc(), "block 3");
     assert!(rt; prints(rt.alloc(), &status, "block 3: Corruption: cut")?);
     let status = Status::default().annotate(rt.alloc(), "first");
