@@ -47,6 +47,7 @@ mod WholeLogLemmas
 pub mod KeptFilesLemmas
 mod ReadLemmas
 pub mod LookUpLemmas
+mod StoreWalkLemmas
 pub mod ViewLemmas
 pub mod ViewHistoryLemmas
 pub mod GivenNumbersLemmas

@@ -30,11 +30,8 @@ use Rattle.leveldb_version.proofs.PairwiseLemmas.{Pairwise, all_pairs, as_long, 
 use Rattle.leveldb_version.proofs.SearchLemmas.{all_from_contains}
 use Rattle.leveldb_version.specs.Batches.{Each}
 use Rattle.leveldb_version.specs.Levels.{LiveTable, table_entries}
-use Rattle.leveldb_version.specs.StoreWalk.{IsStoreOver}
 use Rattle.leveldb_version.specs.VersionIter.{IsOverTables}
 use Rattle.leveldb_version.specs.VersionIters.{AreOverLayers}
-use Rattle.leveldb_version.specs.declared.store_walk.StoreWalk.{StoreWalk}
-use Rattle.leveldb_version.specs.declared.store_walk.StoreWalk.TheVariants.{Memory, Tables}
 use Rattle.leveldb_version.specs.declared.table_cache.moves.ReadTables.{ReadTables}
 use Rattle.leveldb_version.specs.declared.version_iter.VersionIter.{VersionIter}
 use Rattle.leveldb_mem.specs.MemTable.{Kept}
@@ -42,6 +39,9 @@ use Rattle.leveldb_store.specs.OpenStore.{OpenStoreValue}
 use Rattle.leveldb_store.specs.Read.{in_memory}
 use Rattle.leveldb_store.specs.View.{AreChildrenOf, IsMergeToView, IsOverMemory, any_in_order, waiting_layers}
 use Rattle.leveldb_store.specs.Written.{waiting_entries}
+use Rattle.leveldb_store.specs.StoreWalk.{IsStoreOver}
+use Rattle.leveldb_store.specs.declared.store_walk.StoreWalk.{StoreWalk}
+use Rattle.leveldb_store.specs.declared.store_walk.StoreWalk.TheVariants.{Memory, Tables}
 use Rattle.leveldb_store.proofs.ViewListsLemmas.{each_append, each_at, each_by_index, pairwise_of}
 
 -- ---- memtables

@@ -10,15 +10,15 @@ use Rattle.leveldb_env.specs.Compressor.{Codings}
 use Rattle.leveldb_env.specs.declared.env.Env.{Ghosts as EnvGhosts}
 use Rattle.leveldb_env.specs.declared.filter.FilterPolicy.{Ghosts as FilterGhosts}
 use Rattle.leveldb_iter.specs.declared.walk.Walk.{Ghosts as WalkGhosts}
-use Rattle.leveldb_version.specs.StoreWalk.{FailsInStore}
 use Rattle.leveldb_version.specs.TableCache.{MatchesFiles, TableOptions, files_at}
 use Rattle.leveldb_version.specs.VersionIter.{AreOpenGiven, FailsOr, KeepsReading}
 use Rattle.leveldb_version.specs.VersionIterLaws.{reading_stays}
-use Rattle.leveldb_version.specs.declared.store_walk.StoreWalk.TheVariants.{Memory, Tables}
 use Rattle.leveldb_version.specs.declared.table_cache.moves.ReadTables.{ReadTables}
 use Rattle.leveldb_store.specs.OpenStore.{OpenStoreValue}
 use Rattle.leveldb_store.specs.Room.{HasFailed}
 use Rattle.leveldb_store.specs.View.{CountsErrors, FailsBetween, IsWorldOf, ReadsAlone}
+use Rattle.leveldb_store.specs.StoreWalk.{FailsInStore}
+use Rattle.leveldb_store.specs.declared.store_walk.StoreWalk.TheVariants.{Memory, Tables}
 
 -- a count that isn't at its greatest rose, or a failure was counted
 pub counted_or_not : (from to : ℕ) → from < 2 ^ 64 → HasFailed from to ⊎ ((to ≡ 2 ^ 64 - 1 → ⊥) × (from < to → ⊥))

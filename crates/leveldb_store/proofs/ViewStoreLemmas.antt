@@ -26,17 +26,17 @@ use Rattle.leveldb_iter.specs.declared.walk.Walk.{Ghosts as WalkGhosts}
 use Rattle.leveldb_version.proofs.VersionLayersLemmas.{version_iters_are_layers}
 use Rattle.leveldb_version.specs.Format.{IsTableFault, Meaning}
 use Rattle.leveldb_version.specs.Levels.{table_entries}
-use Rattle.leveldb_version.specs.StoreWalk.{FailsInStore, IsStoreOver}
 use Rattle.leveldb_version.specs.VersionIter.{FailsOr}
 use Rattle.leveldb_version.specs.VersionIters.{OrdersInternalKeys}
-use Rattle.leveldb_version.specs.declared.store_walk.StoreWalk.{StoreWalk}
-use Rattle.leveldb_version.specs.declared.store_walk.StoreWalk.TheVariants.{Memory, Tables}
 use Rattle.leveldb_version.specs.declared.table_cache.moves.ReadTables.{ReadTables}
 use Rattle.leveldb_version.specs.CurrentVersion.{IsCurrent}
 use Rattle.leveldb_store.specs.OpenStore.{AreInLevels, AreNumbersGiven, OpenStoreValue}
 use Rattle.leveldb_store.specs.Read.{in_memory}
 use Rattle.leveldb_store.specs.View.{AreChildrenOf, FailsBetween, IsOfNoCompressor, ShowsIn, ViewsMerge, ViewsStore, any_in_order, options_in}
 use Rattle.leveldb_store.specs.Written.{waiting_entries}
+use Rattle.leveldb_store.specs.StoreWalk.{FailsInStore, IsStoreOver}
+use Rattle.leveldb_store.specs.declared.store_walk.StoreWalk.{StoreWalk}
+use Rattle.leveldb_store.specs.declared.store_walk.StoreWalk.TheVariants.{Memory, Tables}
 use Rattle.leveldb_store.proofs.ViewChildrenLemmas.{IsMergedView, merged_view}
 use Rattle.leveldb_store.proofs.ViewHistoryLemmas.{view_of_history}
 use Rattle.leveldb_store.proofs.ViewReadsLemmas.{fails_between}

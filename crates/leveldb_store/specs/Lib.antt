@@ -15,6 +15,8 @@ pub mod WrittenFrom
 pub mod Switch
 pub mod Damage
 pub mod Read
+pub mod StoreWalk
+pub mod StoreWalkLaws
 pub mod View
 pub mod KeptBytes
 pub mod Opening

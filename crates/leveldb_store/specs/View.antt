@@ -36,8 +36,6 @@ use Rattle.leveldb_version.specs.Format.{Agrees, Format, IsTableFault, LacksComp
 use Rattle.leveldb_version.specs.TableCache.{TableOptions, files_at}
 use Rattle.leveldb_version.specs.VersionIter.{KeepsReading, reading}
 use Rattle.leveldb_version.specs.VersionIters.{AreVersionIters}
-use Rattle.leveldb_version.specs.declared.store_walk.StoreWalk.{StoreWalk}
-use Rattle.leveldb_version.specs.declared.store_walk.StoreWalk.TheVariants.{Memory, Tables}
 use Rattle.leveldb_version.specs.declared.table_cache.TableCache.{TableCache}
 use Rattle.leveldb_version.specs.declared.table_cache.moves.ReadTables.{ReadTables}
 use Rattle.leveldb_version.specs.declared.version_iter.VersionIter.{VersionIter}
@@ -46,6 +44,8 @@ use Rattle.leveldb_store.specs.OpenTables.{AreOpenTablesOf}
 use Rattle.leveldb_store.specs.Read.{HasOpenTables}
 use Rattle.leveldb_store.specs.Room.{HasFailed}
 use Rattle.leveldb_store.specs.Written.{Shows}
+use Rattle.leveldb_store.specs.declared.store_walk.StoreWalk.{StoreWalk}
+use Rattle.leveldb_store.specs.declared.store_walk.StoreWalk.TheVariants.{Memory, Tables}
 
 module _ {E F T : Type 0} (env : Ghosts E F) where
   -- why a move fails between two worlds: out of memory, at a failure of the device that was counted,

@@ -11,4 +11,5 @@ pub mod open_store;
 pub mod opening;
 pub mod outputs;
 pub mod passing;
+pub mod store_walk;
 mod table_file;

@@ -75,7 +75,6 @@ pub mod ShownLemmas
 pub mod RecoveringLemmas
 pub mod OpeningEndLemmas
 pub mod StoreTablesLemmas
-pub mod StoreWalkLemmas
 pub mod TableCacheLemmas
 pub mod TableCacheCallLemmas
 pub mod SearchLemmas

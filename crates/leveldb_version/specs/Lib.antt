@@ -44,8 +44,6 @@ pub mod TableMoves
 pub mod VersionIter
 pub mod VersionIterLaws
 pub mod VersionIters
-pub mod StoreWalk
-pub mod StoreWalkLaws
 pub mod Search
 pub mod Compaction
 pub mod CompactionLaws

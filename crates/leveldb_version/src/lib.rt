@@ -3,7 +3,6 @@
 
 pub mod compaction;
 pub mod laws;
-pub mod store_walk;
 pub mod table_cache;
 pub mod version;
 pub mod version_edit;

@@ -53,29 +53,15 @@ pub fn new_version_iter<'a, C: UserCmp + Copy + Drop>(
 }
 
 impl<'a, C: UserCmp + Copy + Drop> VersionIter<'a, C> {
-    ghost use Rattle.leveldb_version.specs.VersionIter.{MovesToFile, StepsInFile, TurnsTo, version_here};
+    ghost use Rattle.leveldb_version.specs.VersionIter.{MovesToFile, StepsInFile, TurnsTo};
 
-    /// Moves to no position.
-    pub(crate) fn leave(&mut self)
+    // Moves to no position.
+    fn leave(&mut self)
         ensures core { LeavesPairs self.old.core self.new.core }
         ensures at { self.new.at ≡ self.old.at }
         ensures files { self.new.files ≡ self.old.files }
     {
         reset(&mut self.core);
-    }
-
-    /// The key and the value of the pair that it is at.
-    pub(crate) fn pair(&self) -> Option<(&[u8], &[u8])>
-        ensures { pair_of result ≡ version_here self.now }
-    {
-        self.core.as_ref()?.current()
-    }
-
-    /// Whether it is at a pair.
-    pub(crate) fn is_at_pair(&self) -> bool
-        ensures { result ≡ is_some (core_position self.now.core) }
-    {
-        is_at_pair(&self.core)
     }
 
     // Turns to the file of this index, where the walk begins anew if it was at another.
@@ -303,7 +289,7 @@ impl<
     }
 
     fn current(&self) -> Option<(&[u8], &[u8])> {
-        self.pair()
+        self.core.as_ref()?.current()
     }
 
     fn valid(&self) -> bool {

@@ -29,12 +29,11 @@ pub use leveldb_iter::{
 pub use leveldb_mem::skipmap::SkipMap;
 pub use leveldb_mem::write_batch::WriteBatch;
 pub use leveldb_mem::{laws as log_laws, log, memtable, skipmap, write_batch};
-pub use leveldb_store::{build, open_store};
+pub use leveldb_store::{build, open_store, store_walk};
 pub use leveldb_table::{
     block, block_builder, block_cache, cache, laws as table_laws, table_block, table_builder,
     table_reader,
 };
 pub use leveldb_version::{
-    compaction, laws as version_laws, store_walk, table_cache, version, version_edit, version_iter,
-    version_set,
+    compaction, laws as version_laws, table_cache, version, version_edit, version_iter, version_set,
 };

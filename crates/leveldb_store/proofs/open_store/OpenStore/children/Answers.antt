@@ -10,11 +10,11 @@ use Rattle.leveldb_iter.specs.declared.unlent.Unlent.{Unlent}
 use Rattle.leveldb_mem.specs.MemTable.{Kept, MemTableState}
 use Rattle.leveldb_version.specs.Batches.{Each}
 use Rattle.leveldb_version.specs.VersionIters.{AreVersionIters}
-use Rattle.leveldb_version.specs.declared.store_walk.StoreWalk.{StoreWalk}
-use Rattle.leveldb_version.specs.declared.store_walk.StoreWalk.TheVariants.{Memory, Tables}
 use Rattle.leveldb_version.specs.declared.version_iter.VersionIter.{VersionIter}
 use Rattle.leveldb_store.specs.OpenStore.{OpenStoreValue}
 use Rattle.leveldb_store.specs.View.{AreChildrenOf, IsOverMemory, waiting_layers}
+use Rattle.leveldb_store.specs.declared.store_walk.StoreWalk.{StoreWalk}
+use Rattle.leveldb_store.specs.declared.store_walk.StoreWalk.TheVariants.{Memory, Tables}
 use Rattle.leveldb_store.proofs.CurrentVersionLemmas.{current_by}
 use Rattle.leveldb_store.proofs.open_store.OpenStore.children.Goals.{in-Some+in_ok-push-2, in_default}
 use Rattle.leveldb_store.proofs.open_store.OpenStore.children.Goals as goal

@@ -1,6 +1,6 @@
 use Rattle.std.proofs.Common.{◌≡◌, ◌∷◌, [], ◌++◌, List, length, map, refl, sym, ap, subst, ◌∙◌, append_assoc, append-nil, arith}
 use Rattle.std.specs.Vec.Iter.{into_iter_items}
-use Rattle.leveldb_version.specs.declared.store_walk.StoreWalk.TheVariants.{Tables}
+use Rattle.leveldb_store.specs.declared.store_walk.StoreWalk.TheVariants.{Tables}
 use Rattle.leveldb_store.proofs.open_store.view.push_tables.Goals as goal
 
 nothing_left : {X : Type 0} (l : List X) → length l ≡ 0 → l ≡ []

@@ -1,5 +1,5 @@
-use Rattle.leveldb_version.proofs.StoreWalkLemmas.{memory_moves, tables_moves}
-use Rattle.leveldb_version.proofs.store_walk.StoreWalkWalkReadTables.seek_to_last.Goals as goal
+use Rattle.leveldb_store.proofs.StoreWalkLemmas.{memory_moves, tables_moves}
+use Rattle.leveldb_store.proofs.store_walk.StoreWalkWalkReadTables.seek_to_last.Goals as goal
 
 pub returns-in-Memory : goal.returns-in-Memory
 returns-in-Memory g c = record {

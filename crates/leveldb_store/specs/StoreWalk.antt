@@ -11,9 +11,9 @@ use Rattle.leveldb_env.specs.declared.filter.FilterPolicy.{Ghosts as FilterGhost
 use Rattle.leveldb_iter.specs.Unlent.{IsAloneOver, IsAloneAt, FailsAlone, alone_here}
 use Rattle.leveldb_iter.specs.Walk.{KeyOrder}
 use Rattle.leveldb_version.specs.VersionIter.{FailsInTables, IsAtInTables, IsOverTables, version_here}
-use Rattle.leveldb_version.specs.declared.store_walk.StoreWalk.{StoreWalk}
-use Rattle.leveldb_version.specs.declared.store_walk.StoreWalk.TheVariants.{Memory, Tables}
 use Rattle.leveldb_version.specs.declared.table_cache.moves.ReadTables.{ReadTables}
+use Rattle.leveldb_store.specs.declared.store_walk.StoreWalk.{StoreWalk}
+use Rattle.leveldb_store.specs.declared.store_walk.StoreWalk.TheVariants.{Memory, Tables}
 
 -- the pair that it is at
 abbrev pub store_here : {C M : Type 0} → IteratorGhosts M → StoreWalk C M → Option Pair

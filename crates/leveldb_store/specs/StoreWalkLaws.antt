@@ -13,12 +13,12 @@ use Rattle.leveldb_iter.specs.Unlent.{IsAloneOver, IsAloneAt}
 use Rattle.leveldb_iter.specs.declared.unlent.Unlent.{Unlent}
 use Rattle.leveldb_iter.specs.UnlentLaws.{alone_laws}
 use Rattle.leveldb_iter.specs.Walk.{IsSortedIn, KeyOrder, WalkLaws}
-use Rattle.leveldb_version.specs.StoreWalk.{FailsInStore, IsStoreAt, IsStoreOver, store_here}
 use Rattle.leveldb_version.specs.VersionIter.{KeepsReading}
 use Rattle.leveldb_version.specs.VersionIterLaws.{reading_kept, reading_kept_on, version_laws}
-use Rattle.leveldb_version.specs.declared.store_walk.StoreWalk.{StoreWalk}
-use Rattle.leveldb_version.specs.declared.store_walk.StoreWalk.TheVariants.{Memory, Tables}
 use Rattle.leveldb_version.specs.declared.table_cache.moves.ReadTables.{ReadTables}
+use Rattle.leveldb_store.specs.StoreWalk.{FailsInStore, IsStoreAt, IsStoreOver, store_here}
+use Rattle.leveldb_store.specs.declared.store_walk.StoreWalk.{StoreWalk}
+use Rattle.leveldb_store.specs.declared.store_walk.StoreWalk.TheVariants.{Memory, Tables}
 
 -- a walk over memory reads from no world
 stays_alone : {W M : Type 0} {iterator : IteratorGhosts M} (first second : W) (it : Unlent M)

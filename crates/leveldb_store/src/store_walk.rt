@@ -1,8 +1,6 @@
 //! The children of a store's merge: walks over memory, and walks over tables.
 ghost use Rattle.std.specs.Prelude.{◌≡◌};
 
-use crate::table_cache::{ReadTables, ReadsTables};
-use crate::version_iter::VersionIter;
 use leveldb_base::cmp::{Cmp, InternalKeyCmp, UserCmp};
 use leveldb_base::error::Result;
 use leveldb_base::types::LdbIterator;
@@ -10,6 +8,8 @@ use leveldb_env::env::Env;
 use leveldb_env::filter::FilterPolicy;
 use leveldb_iter::unlent::Unlent;
 use leveldb_iter::walk::Walk;
+use leveldb_version::table_cache::{ReadTables, ReadsTables};
+use leveldb_version::version_iter::VersionIter;
 
 /// A child of a store's merge. All children of a merge are of one type.
 #[derive(Drop)]
@@ -32,8 +32,8 @@ impl<
     K: ReadsTables<E, C, FP>,
     M: LdbIterator,
 > Walk<E, ReadTables<'b, E, C, FP, K>> for StoreWalk<'a, C, M> {
-    ghost use Rattle.leveldb_version.specs.StoreWalk.{IsStoreOver, IsStoreAt, FailsInStore, store_here};
-    ghost use Rattle.leveldb_version.specs.StoreWalkLaws.{store_laws};
+    ghost use Rattle.leveldb_store.specs.StoreWalk.{IsStoreOver, IsStoreAt, FailsInStore, store_here};
+    ghost use Rattle.leveldb_store.specs.StoreWalkLaws.{store_laws};
     ghost use Rattle.leveldb_version.specs.VersionIter.{KeepsReading};
 
     ghost over = { IsStoreOver ⟦<InternalKeyCmp<C> as Cmp>⟧ E.Env C.Cmp FP.FilterPolicy K.codings
@@ -101,21 +101,21 @@ impl<
     fn reset(&mut self) {
         match self {
             StoreWalk::Memory(walk) => walk.0.reset(),
-            StoreWalk::Tables(walk) => walk.leave(),
+            StoreWalk::Tables(walk) => Walk::<E, ReadTables<'b, E, C, FP, K>>::reset(walk),
         }
     }
 
     fn current(&self) -> Option<(&[u8], &[u8])> {
         match self {
             StoreWalk::Memory(walk) => walk.0.current(),
-            StoreWalk::Tables(walk) => walk.pair(),
+            StoreWalk::Tables(walk) => Walk::<E, ReadTables<'b, E, C, FP, K>>::current(walk),
         }
     }
 
     fn valid(&self) -> bool {
         match self {
             StoreWalk::Memory(walk) => walk.0.valid(),
-            StoreWalk::Tables(walk) => walk.is_at_pair(),
+            StoreWalk::Tables(walk) => Walk::<E, ReadTables<'b, E, C, FP, K>>::valid(walk),
         }
     }
 

@@ -1,5 +1,5 @@
-use Rattle.leveldb_version.proofs.StoreWalkLemmas.{memory_moves, tables_moves}
-use Rattle.leveldb_version.proofs.store_walk.StoreWalkWalkReadTables.prev.Goals as goal
+use Rattle.leveldb_store.proofs.StoreWalkLemmas.{memory_moves, tables_moves}
+use Rattle.leveldb_store.proofs.store_walk.StoreWalkWalkReadTables.prev.Goals as goal
 
 pub returns-in-Memory-clause-moves : goal.returns-in-Memory-clause-moves
 returns-in-Memory-clause-moves g c =
