@@ -304,6 +304,26 @@ there_or_empty (Some file) some = refl
 created_there : (path : List ℕ) (files : Files) → IsSome (files path) → created path files ≡ files
 created_there path files some = ap (λ file. with_file path file files) (there_or_empty (files path) some) ∙ with_file-itself path files
 
+-- a file that is there is opened, and isn't synced
+pub reopened_unsynced : {F T : Type 0} (models_disk : Bool) (path opened name : List ℕ) (old mid new : Observed) (file : F) (failed status : Status) → IsTrue models_disk → IsSome (old.disk.files path)
+    → opened ≡ path → name ≡ opened → ChangesFiles models_disk (created opened) (BeforeOrAfter (created opened)) old mid (Ok file)
+    → ChangesFiles {T = Unit {0}} models_disk (synced name) (BeforeOrAfter (synced name)) mid new (Err failed) → ChangesFiles {T = T} models_disk (synced path) (BeforeOrAfter (synced path)) old new (Err status)
+reopened_unsynced {F} {T} models_disk path opened name old mid new file failed status modelled there opened_is name_is open_does sync_does =
+    let P : List ℕ → Type 0 = λ z. ChangesFiles {T = F} models_disk (created z) (BeforeOrAfter (created z)) old mid (Ok file) in
+    let Q : List ℕ → Type 0 = λ z. ChangesFiles {T = Unit {0}} models_disk (synced z) (BeforeOrAfter (synced z)) mid new (Err failed) in
+    let opens : P path = subst P opened_is open_does in
+    let syncs : Q path = subst Q (name_is ∙ opened_is) sync_does in
+    let first : mid.disk.files ≡ old.disk.files = opens.ok modelled ∙ created_there path old.disk.files there in
+    let passes : (files : Files) → BeforeOrAfter (synced path) mid.disk.files files → BeforeOrAfter (synced path) old.disk.files files =
+    λ files passes. ⊎_elim (λ (e : files ≡ mid.disk.files). inl (e ∙ first)) (λ (e : files ≡ synced path mid.disk.files). inr (e ∙ ap (synced path) first)) passes in
+    record {
+      ok = λ t. tt;
+      now = λ t. passes new.disk.files (syncs.now t);
+      time = Within-trans
+          (Within-mono (λ files passes. ⊎_elim (λ (e : files ≡ old.disk.files). inl e) (λ (e : files ≡ created path old.disk.files). inl (e ∙ created_there path old.disk.files there)) passes) opens.time)
+          (Within-mono passes syncs.time);
+    }
+
 -- a file that is there is opened and synced
 pub reopened : {F T : Type 0} (models_disk : Bool) (path opened name : List ℕ) (old mid new : Observed) (file : F) (done : Unit {0}) (result : T) → IsTrue models_disk → IsSome (old.disk.files path)
     → opened ≡ path → name ≡ opened → ChangesFiles models_disk (created opened) (BeforeOrAfter (created opened)) old mid (Ok file)

@@ -13,7 +13,7 @@ use Rattle.leveldb_version.specs.Current.{IsCurrentText}
 use Rattle.leveldb_version.specs.Paths.{current_path}
 use Rattle.leveldb_version.specs.Recover.{IsNamed, IsRead, IsReusable, LeavesFiles, ReadManifest, ReadSetResult, RecoverResult, WhyUnrecovered, lost, no_edit, set_going_on, set_read_alone, set_starting_anew, too_long, unread, unusable, used_up}
 use Rattle.leveldb_version.specs.RecoverSteps.{IsPlan, set_settled}
-use Rattle.leveldb_version.specs.VersionSetValue.{ManifestState, OpenManifest, VersionSetValue, broken, in_use, unmade}
+use Rattle.leveldb_version.specs.VersionSetValue.{ManifestState, VersionSetValue, broken, in_use, unmade}
 use Rattle.leveldb_version.specs.declared.version_set.recover.Plan.{Plan}
 use Rattle.leveldb_version.proofs.RecoverLemmas.{some_and, and_some, why_memory, cause_of_error}
 
@@ -44,7 +44,7 @@ module _ (models_disk : Bool) (cmp : List ℕ → List ℕ → Ordering) (compar
       (record { later = omega (arith, same); ok = tt; uncounted = λ why. same; cause = inl (unread (inl (inl memory))) })
 
   module _ (plan : Plan) (is : IsPlan models_disk cmp comparator reuse limit old before.disk.files plan) where
-    pub starting_anew : set_settled old plan.left (plan.next_file + 1) plan.next_file unmade ≡ set_starting_anew old is.manifest
+    pub starting_anew : set_settled old plan false ≡ set_starting_anew old is.manifest
     starting_anew = λ i. record old {
       full = is.left.full i;
       next_file = is.next_file i + 1;
@@ -56,22 +56,20 @@ module _ (models_disk : Bool) (cmp : List ℕ → List ℕ → Ordering) (compar
       manifest = unmade;
     }
 
-    going_on : (manifest : OpenManifest) → manifest ≡ record { path = string_bytes plan.path; writer = new_writer log_block_size (plan.size % log_block_size) }
-        → set_settled old plan.left plan.next_file plan.number (in_use manifest) ≡ set_going_on old is.manifest
-    going_on manifest made =
-        ap (λ m. set_settled old plan.left plan.next_file plan.number (in_use m)) made ∙ λ i. record old {
-          full = is.left.full i;
-          next_file = is.next_file i;
-          given = None;
-          manifest_number = is.number i;
-          last_sequence = unwrap_or (is.left.last_sequence i) 0;
-          log_number = unwrap_or (is.left.log_number i) 0;
-          previous_log = unwrap_or (is.left.previous_log i) 0;
-          manifest = in_use (record { path = is.path i; writer = new_writer log_block_size (is.size i % log_block_size) });
-        }
+    going_on : set_settled old plan true ≡ set_going_on old is.manifest
+    going_on = λ i. record old {
+      full = is.left.full i;
+      next_file = is.next_file i;
+      given = None;
+      manifest_number = is.number i;
+      last_sequence = unwrap_or (is.left.last_sequence i) 0;
+      log_number = unwrap_or (is.left.log_number i) 0;
+      previous_log = unwrap_or (is.left.previous_log i) 0;
+      manifest = in_use (record { path = is.path i; writer = new_writer log_block_size (is.size i % log_block_size) });
+    }
 
     pub recovered_anew : (after : Observed) (f0 f1 : ℕ) → (IsTrue models_disk → Run (FilesUnchanged before.disk.files) before after) → SameLocks models_disk before after → f1 ≡ f0
-        → plan.reuses ≡ false → new ≡ set_settled old plan.left (plan.next_file + 1) plan.next_file unmade
+        → plan.reuses ≡ false → new ≡ set_settled old plan false
         → RecoverResult models_disk cmp comparator reuse limit old before f0 (Ok true) new after f1
     recovered_anew after f0 f1 still locks same anew is_new = record {
       ok = record {
@@ -106,19 +104,18 @@ module _ (models_disk : Bool) (cmp : List ℕ → List ℕ → Ordering) (compar
             unusable = λ none. absurd (none is.manifest.edits (is.read modelled).has_edits is.usable);
           }
 
-      pub recovered_going_on : {T : Type 0} (value : T) (manifest : OpenManifest)
+      pub recovered_going_on : {T : Type 0} (value : T)
           → (IsTrue models_disk → ChangesFiles models_disk (synced (string_bytes plan.path)) (BeforeOrAfter (synced (string_bytes plan.path))) mid after (Ok value))
-          → f2 ≡ f1 → manifest ≡ record { path = string_bytes plan.path; writer = new_writer log_block_size (plan.size % log_block_size) }
-          → new ≡ set_settled old plan.left plan.next_file plan.number (in_use manifest)
+          → f2 ≡ f1 → new ≡ set_settled old plan true
           → RecoverResult models_disk cmp comparator reuse limit old before f0 (Ok false) new after f2
-      recovered_going_on value manifest does last made is_new = record {
+      recovered_going_on value does last is_new = record {
         ok = record {
           manifest = is.manifest;
           read = is.read;
           usable = is.usable;
           goes_on = λ reusable. (
             refl,
-            is_new ∙ going_on manifest made,
+            is_new ∙ going_on,
             λ modelled. (does modelled).ok modelled ∙ ap (synced (string_bytes plan.path)) (still modelled).has ∙ ap (λ p. synced p before.disk.files) is.path,
           );
           starts_anew = λ not. absurd (not (is.reuses.0 reuses));
@@ -170,7 +167,7 @@ module _ (models_disk : Bool) (cmp : List ℕ → List ℕ → Ordering) (compar
 
   -- what was planned is read
   pub set_read : (reuse : Bool) (limit : ℕ) (plan : Plan) → IsPlan models_disk cmp comparator reuse limit old before.disk.files plan → f1 ≡ f0
-      → (set new : VersionSetValue) → set ≡ set_settled old plan.left (plan.next_file + 1) plan.next_file unmade → new ≡ record set { manifest = broken }
+      → (set new : VersionSetValue) → set ≡ set_settled old plan false → new ≡ record set { manifest = broken }
       → ReadSetResult models_disk cmp comparator old before f0 (Ok tt) new after f1
   set_read reuse limit plan is same set new set_is new_is = record {
     ok = record {

@@ -1,18 +1,19 @@
 -- What the steps of recovering a version set return, and why they fail.
-use Rattle.std.specs.Prelude.{◌≡◌, ◌<◌, ◌+◌, ◌⊎◌, ◌↔◌, ◌^◌, ℕ, Bool, List, None, Option, Result, IsSomeAnd, IsTrue, length, string_bytes}
+use Rattle.std.specs.Prelude.{◌≡◌, ◌<◌, ◌+◌, ◌⊎◌, ◌↔◌, ◌^◌, ◌%◌, ℕ, Bool, List, None, Option, Result, IsSomeAnd, IsTrue, if◌then◌else◌, length, string_bytes}
 use Rattle.std.specs.Option.{unwrap_or}
 use Rattle.std.specs.declared.cmp.Ordering.{Ordering}
 use Rattle.leveldb_base.specs.declared.error.Status.{Status}
 use Rattle.leveldb_env.specs.declared.env.Env.{Ghosts}
 use Rattle.leveldb_env.specs.Env.{File, Files, FilesUnchanged, Observed, Run, SameLocks, bytes_of, in_folder}
 use Rattle.leveldb_env.specs.WholeFiles.{IsLost}
-use Rattle.leveldb_mem.specs.Log.{End, IsLogFile}
+use Rattle.leveldb_mem.specs.Log.{End, IsLogFile, log_block_size}
 use Rattle.leveldb_mem.specs.Log.Files.{IsHuge}
+use Rattle.leveldb_mem.specs.Log.Writer.{new_writer}
 use Rattle.leveldb_version.specs.CurrentFile.{IsCurrentUnread}
 use Rattle.leveldb_version.specs.Recover.{IsNamed, IsRead, IsReusable, IsUsable, ReadManifest, RecoverResult, next_number_after}
 use Rattle.leveldb_version.specs.Replay.{AreReplayed, IsNoManifest, IsReplayOf}
 use Rattle.leveldb_version.specs.VersionEdit.{edit_of}
-use Rattle.leveldb_version.specs.VersionSetValue.{ManifestState, VersionSetValue}
+use Rattle.leveldb_version.specs.VersionSetValue.{VersionSetValue, in_use, unmade}
 use Rattle.leveldb_version.specs.declared.version_set.recover.Plan.{Plan}
 use Rattle.leveldb_version.specs.declared.version_set.replay.Replayed.{Replayed}
 
@@ -77,17 +78,21 @@ pub record IsPlan (models_disk : Bool) (cmp : List ℕ → List ℕ → Ordering
   pub next_file : plan.next_file ≡ next_number_after old manifest.edits manifest.number
   pub fits : plan.next_file + 1 < 2 ^ 64
 
--- the set that has what edits left, with this manifest and these numbers
-abbrev pub set_settled : VersionSetValue → Replayed → ℕ → ℕ → ManifestState → VersionSetValue
-set_settled old left next_file number manifest = record old {
-  full = edit_of left.full;
-  next_file = next_file;
+-- the set that was planned, with the manifest that was read where it goes on to be used, else with a
+-- new one to be made, which takes a number
+abbrev pub set_settled : VersionSetValue → Plan → Bool → VersionSetValue
+set_settled old plan goes_on = record old {
+  full = edit_of plan.left.full;
+  next_file = if goes_on then plan.next_file else plan.next_file + 1;
   given = None;
-  manifest_number = number;
-  last_sequence = unwrap_or left.last_sequence 0;
-  log_number = unwrap_or left.log_number 0;
-  previous_log = unwrap_or left.previous_log 0;
-  manifest = manifest;
+  manifest_number = if goes_on then plan.number else plan.next_file;
+  last_sequence = unwrap_or plan.left.last_sequence 0;
+  log_number = unwrap_or plan.left.log_number 0;
+  previous_log = unwrap_or plan.left.previous_log 0;
+  manifest = if goes_on then in_use (record {
+    path = string_bytes plan.path;
+    writer = new_writer log_block_size (plan.size % log_block_size);
+  }) else unmade;
 }
 
 -- Whatever reading led to the plan, so that the files stayed as they were, carrying it out does the

@@ -1,14 +1,12 @@
 //! Recovering a version set from the manifest that `CURRENT` names.
-ghost use Rattle.std.specs.Prelude.{◌≡◌, ◌<◌, ◌+◌, ◌^◌, ◌%◌, ◌↔◌, false, if◌then◌else◌, IfOk, IfSome, IsSome, IsTrue, OnOk, string_bytes};
+ghost use Rattle.std.specs.Prelude.{◌≡◌, ◌<◌, ◌+◌, ◌^◌, ◌↔◌, if◌then◌else◌, is_some, IfOk, IfSome, IsSome, IsTrue, OnOk, string_bytes};
 ghost use Rattle.leveldb_version.specs.CurrentFile.{IsCurrentUnread};
 ghost use Rattle.leveldb_version.specs.VersionEdit.{edit_of};
 ghost use Rattle.leveldb_base.specs.Error.{IsOutOfMemory};
 ghost use Rattle.leveldb_env.specs.Env.{BeforeOrAfter, ChangesFiles, FilesUnchanged, HasCause, Run, SameLocks, synced};
-ghost use Rattle.leveldb_mem.specs.Log.{bad, clean, log_block_size};
-ghost use Rattle.leveldb_mem.specs.Log.Writer.{new_writer};
+ghost use Rattle.leveldb_mem.specs.Log.{bad, clean};
 ghost use Rattle.leveldb_version.specs.Recover.{ReadSetResult, RecoverResult, WhyUnrecovered};
 ghost use Rattle.leveldb_version.specs.RecoverSteps.{CarriesOut, IsFileUnread, IsManifestAt, IsPlan, IsSizedReplay, set_settled};
-ghost use Rattle.leveldb_version.specs.VersionSetValue.{manifest_state};
 
 use super::current_file::read_current_file;
 use super::live_files::LiveFiles;
@@ -59,7 +57,7 @@ impl<E: Env> LiveFiles<E> {
             result self.new (E.observed env.new) (E.failures env.new) }
     {
         let plan = self.plan(env, options)?;
-        self.settle(plan.left, plan.next_file + 1, plan.next_file, None);
+        self.settle(plan, None);
         self.broken = true;
         Ok(())
     }
@@ -107,36 +105,39 @@ impl<E: Env> LiveFiles<E> {
         ensures files { OnOk result (self.new.full ≡ edit_of plan.left.full) }
     {
         if plan.reuses {
-            let manifest = reopen(self.alloc, env, plan.path, plan.size)?;
-            self.settle(plan.left, plan.next_file, plan.number, Some(manifest));
+            let file = reopen(env, &plan)?;
+            self.settle(plan, Some(file));
             return Ok(false);
         }
-        self.settle(plan.left, plan.next_file + 1, plan.next_file, None);
+        self.settle(plan, None);
         Ok(true)
     }
 
-    // Becomes what edits left. It takes no memory.
-    fn settle(
-        &mut self,
-        left: Replayed,
-        next_file: FileNum,
-        number: FileNum,
-        manifest: Option<LogFile<E>>,
-    )
-        requires { IfSome manifest (λ manifest.
-            (manifest.writer.broken ≡ false) × (manifest.writer.size ≡ log_block_size)) }
-        ensures { self.new
-            ≡ set_settled self.old left next_file number (manifest_state false manifest) }
+    // Becomes what was planned: with the manifest that was read if this is its file, else with a new
+    // one that the next edit begins. It takes no memory.
+    fn settle(&mut self, plan: Plan, file: Option<E::File>)
+        requires named { IfSome file (λ file.
+            IsTrue E.models_disk → E.name_of file ≡ string_bytes plan.path) }
+        requires fits { plan.next_file + 1 < 2 ^ 64 }
+        ensures { self.new ≡ set_settled self.old plan (is_some file) }
     {
+        let left = plan.left;
         self.full = left.full;
-        self.next_file = next_file;
         self.given = None;
-        self.manifest_number = number;
         self.last_sequence = left.last_sequence.unwrap_or(0);
         self.log_number = left.log_number.unwrap_or(0);
         self.previous_log = left.previous_log.unwrap_or(0);
-        self.manifest = manifest;
+        self.manifest = None;
         self.broken = false;
+        let Some(file) = file else {
+            self.manifest_number = plan.next_file;
+            self.next_file = plan.next_file + 1;
+            return;
+        };
+        let writer = WriterCore::new_with_off(self.alloc, plan.size);
+        self.manifest_number = plan.number;
+        self.next_file = plan.next_file;
+        self.manifest = Some(LogFile::new(self.alloc, plan.path, file, writer));
     }
 }
 
@@ -182,22 +183,20 @@ fn is_reusable(reuse: bool, limit: usize, is_clean: bool, size: usize) -> bool
     reuse && is_clean && size < limit
 }
 
-// Opens a manifest that is there, to be appended to, with all its bytes kept.
-fn reopen<E: Env>(alloc: Global, env: &mut E, path: String, size: usize) -> Result<LogFile<E>>
+// Opens the manifest that was read, which is there, to be appended to, with all its bytes kept.
+fn reopen<E: Env>(env: &mut E, plan: &Plan) -> Result<E::File>
     requires { IsTrue E.models_disk
-        → IsSome ((E.observed env.old).disk.files (string_bytes path)) }
+        → IsSome ((E.observed env.old).disk.files (string_bytes plan.now.path)) }
     ensures does { IsTrue E.models_disk
-        → ChangesFiles E.models_disk (synced (string_bytes path))
-        (BeforeOrAfter (synced (string_bytes path)))
+        → ChangesFiles E.models_disk (synced (string_bytes plan.now.path))
+        (BeforeOrAfter (synced (string_bytes plan.now.path)))
         (E.observed env.old) (E.observed env.new) result }
     ensures locks { SameLocks E.models_disk (E.observed env.old) (E.observed env.new) }
-    ensures manifest { IfOk result (λ manifest. manifest ≡ record {
-      path = string_bytes path;
-      writer = new_writer log_block_size (size % log_block_size);
-    }) }
+    ensures named { IfOk result (λ file.
+        IsTrue E.models_disk → E.name_of file ≡ string_bytes plan.now.path) }
     ensures cause { HasCause IsOutOfMemory (E.failures env.old) (E.failures env.new) result }
 {
-    let mut file = env.open_appendable_file(&path)?;
+    let mut file = env.open_appendable_file(&plan.path)?;
     env.sync(&mut file)?;
-    Ok(LogFile::new(alloc, path, file, WriterCore::new_with_off(alloc, size)))
+    Ok(file)
 }
