@@ -41,6 +41,7 @@ pub mod NotTabledLemmas
 pub mod SoundLemmas
 pub mod RoomLemmas
 pub mod WrittenFromLemmas
+mod PlacedFragmentsLemmas
 mod LogDamageLemmas
 mod DamageLemmas
 mod WholeLogLemmas

@@ -1,18 +1,19 @@
 -- What is left out of a log's bytes, fragment by fragment.
-use Rattle.std.specs.Prelude.{IfNone, Option, None, Some, slice_index}
-use Rattle.std.proofs.Common.{◌≡◌, ◌≢◌, ◌∙◌, nat_le, Bool, ◌≤◌, ◌<◌, ◌+◌, ◌*◌, ◌-◌, ◌%◌, ℕ, List, [], ◌∷◌, ◌++◌, length, take, drop, replicate, ap, append-nil, append_assoc, arith, length-append, length-drop, length-take, refl, subst, sym, false, true}
+use Rattle.std.specs.Prelude.{IfNone, IsTrue, Option, None, Some, if◌then◌else◌, slice_index}
+use Rattle.std.specs.List.{concat}
+use Rattle.std.proofs.Common.{◌≡◌, ◌≢◌, ◌∙◌, ◌⊎◌, ◌↔◌, ◌==◌, ◌||◌, inl, inr, ⊎_elim, nat_le, Bool, ◌≤◌, ◌<◌, ◌+◌, ◌*◌, ◌-◌, ◌%◌, ℕ, List, [], ◌∷◌, ◌++◌, length, take, drop, replicate, ap, append_assoc, arith, length-append, refl, subst, sym, false, true}
 use Rattle.std.specs.List.{All}
 use Rattle.std.proofs.Math.Seq.{take-add, take-append_seam}
 use Rattle.std.proofs.lemmas.List.{append_cancel_left, drop_all, length-replicate, length-take-le, take-append-drop}
 use Rattle.std.proofs.lemmas.List.Elements.{All-head, All-replicate, All-same, All-tail}
-use Rattle.std.proofs.lemmas.Bool.{leb-false, leb-true}
+use Rattle.std.proofs.lemmas.Bool.{eqb-true, leb-false, leb-true}
 use Rattle.leveldb_base.specs.Crc.{crc_of, masked}
 use Rattle.leveldb_base.specs.Varint.{little}
-use Rattle.leveldb_mem.proofs.FragmentLemmas.{filler-ends, filler-fits, headed_fragment, in_front, length-checksum, length-fragment, none_cut_short, none_past_block, none_short, none_unfilled, one_fragment, unchecked}
-use Rattle.leveldb_mem.proofs.LogLemmas.{offset_after_both, offset_after_none}
+use Rattle.leveldb_mem.proofs.FragmentLemmas.{filler-ends, filler-fits, headed_fragment, length-checksum, length-fragment, none_cut_short, none_past_block, none_short, none_unfilled, one_fragment, unchecked}
 use Rattle.leveldb_mem.specs.Log.{AreFragments, Fragment, IsFragment, NoFragment, checksum, filler, fragment_bytes, fragment_of, log_block_size, offset_after, room}
 use Rattle.leveldb_mem.specs.Log.Taking.{HasRightChecksum, declared_length}
-use Rattle.leveldb_store.specs.Damage.{AreWholeUpTo, EndsRecord, HasEndFrom, IsHeaded, IsWholeFront, LosesRecords, StartsWithEnd}
+use Rattle.leveldb_store.proofs.PlacedFragmentsLemmas.{begun_placed, concat_more, continue_then, log_placed, placed_then, whole_more, within_placed}
+use Rattle.leveldb_store.specs.Damage.{AreWholeUpTo, ContinuesRecord, EndsRecord, HasBegun, HasEndFrom, IsHeaded, IsOfKind, IsWholeFront, LosesRecords, StartsWithEnd, parts_after}
 
 abbrev block : ℕ
 block = log_block_size
@@ -161,13 +162,41 @@ module _ (offset : ℕ) (body fragment : List ℕ) (h : IsHeaded offset body fra
         let n : count ≡ length (filler block offset ++ fragment) = omega arith in
         (omega arith, ap (λ k. take k rest) n ∙ ap (take (length (filler block offset ++ fragment))) rest_goes ∙ take-append_seam (filler block offset ++ fragment) h.more)
 
+-- of which kind it is
+kind_of : (offset : ℕ) (body fragment : List ℕ) (h : IsHeaded offset body fragment) (has_data : Bool)
+    → (IsTrue has_data ↔ (7 < length fragment)) → IsOfKind h.header (slice_index fragment 6) has_data
+kind_of offset body fragment h has_data long = record {
+  type = sym (headed_type offset body fragment h);
+  filled = (
+    λ has none. (let more = long.0 has in
+        let empty = ap length none in
+        omega (arith, more, empty, counted)),
+    λ some. long.1 (by h.header.part refl some),
+  );
+}
+  where
+    counted : length fragment ≡ 7 + length h.header.part
+    counted =
+        let all = length-fragment false block h.header offset (filler block offset ++ fragment) h.unchecked in
+        let both = length-append (filler block offset) fragment in
+        omega arith
+
+    by : (part : List ℕ) → h.header.part ≡ part → h.header.part ≢ [] → 7 < length fragment
+    by [] is some = absurd (some is)
+    by (byte ∷ part) is some = let long = ap length is in omega (arith, counted, long)
+
 -- a whole fragment is at the front
 pub whole_front : (offset : ℕ) (body fragment : List ℕ) → IsHeaded offset body fragment → (rest : List ℕ)
     → rest ≡ filler block offset ++ body → (count : ℕ) → count ≡ length rest - length body + length fragment
-    → HasRightChecksum fragment → IsWholeFront offset rest count
-whole_front offset body fragment h rest rest_is count is right =
+    → HasRightChecksum fragment → (has_data : Bool) → (IsTrue has_data ↔ (7 < length fragment))
+    → IsWholeFront offset rest count (slice_index fragment 6) has_data
+whole_front offset body fragment h rest rest_is count is right has_data long =
     let front = headed_count offset body fragment h rest rest_is count is in
-    (h.header, subst (IsFragment true block h.header offset) (sym front.1) (headed_whole offset body fragment h right))
+    record {
+      fragment = h.header;
+      whole = subst (IsFragment true block h.header offset) (sym front.1) (headed_whole offset body fragment h right);
+      is_kind = kind_of offset body fragment h has_data long;
+    }
 
 -- no fragment begins where none does without a checksum
 pub no_end : (offset : ℕ) (rest : List ℕ) → NoFragment false block offset rest → StartsWithEnd offset rest → ⊥
@@ -175,70 +204,126 @@ no_end offset rest none it = none it.fragment it.front it.more it.bytes_are (unc
 
 -- ---- fragments in a row
 
-inside : (offset : ℕ) (bytes : List ℕ) → offset_after block offset bytes < block
-inside offset bytes = omega arith
-
--- one more fragment
-whole_more : (offset : ℕ) → offset < block → (fs : List Fragment) (a b : List ℕ) (f : Fragment) → AreFragments true block fs offset a
-    → IsFragment true block f (offset_after block offset a) b → AreFragments true block (fs ++ f ∷ []) offset (a ++ b)
-whole_more offset small [] a b f are is = record {
-  front = b;
-  rest = [];
-  bytes_are = ap (λ z. z ++ b) are ∙ sym (append-nil b);
-  is_front = subst (λ o. IsFragment true block f o b) (offset_after_none block offset small a are) is;
-  is_rest = refl;
-}
-whole_more offset small (g ∷ fs) a b f are is = record {
-  front = are.front;
-  rest = are.rest ++ b;
-  bytes_are = ap (λ z. z ++ b) are.bytes_are ∙ append_assoc are.front are.rest b;
-  is_front = are.is_front;
-  is_rest = whole_more (offset_after block offset are.front) (inside offset are.front) fs are.rest b f are.is_rest
-      (subst (λ o. IsFragment true block f o b) (sym (offset_after_both block offset are.front are.rest a are.bytes_are)) is);
+-- no record is open
+pub none_begun : HasBegun [] false false
+none_begun = record {
+  opened = ((λ never. absurd cc), λ some. absurd (some refl));
+  filled = ((λ never. absurd cc), λ some. absurd (some refl));
 }
 
-pub whole_from : (text : List ℕ) → AreWholeUpTo text 0
-whole_from text = ([], refl)
+pub whole_from : (text : List ℕ) → AreWholeUpTo text 0 false false
+whole_from text = record { fragments = []; whole = refl; parts = []; placed = refl; begun = none_begun }
 
-pub whole_on : (text : List ℕ) (end count : ℕ) → end ≤ length text → AreWholeUpTo text end → IsWholeFront (end % block) (drop end text) count
-    → AreWholeUpTo text (end + count)
-whole_on text end count within whole next =
+-- one that may be taken is taken
+pub whole_on : (text : List ℕ) (end count kind : ℕ) (is_open has_data has open_then data_then : Bool) → end ≤ length text
+    → AreWholeUpTo text end is_open has_data → IsWholeFront (end % block) (drop end text) count kind has
+    → ((parts : List (List ℕ)) → HasBegun parts is_open has_data → (f : Fragment) → IsOfKind f kind has → ContinuesRecord parts f)
+    → ((parts : List (List ℕ)) → HasBegun parts is_open has_data → (f : Fragment) → IsOfKind f kind has → HasBegun (parts_after parts f) open_then data_then)
+    → AreWholeUpTo text (end + count) open_then data_then
+whole_on text end count kind is_open has_data has open_then data_then within whole next may takes =
     let zero_end : 0 + end ≡ end = omega arith in
-    let here : offset_after block 0 (take end text) ≡ end % block = ap (λ n. (0 + n) % block) (length-take-le end text within) ∙ ap (λ n. n % block) zero_end in (
-      whole.0 ++ next.0 ∷ [],
-      subst (AreFragments true block (whole.0 ++ next.0 ∷ []) 0) (sym (take-add end count text))
-          (whole_more 0 (omega arith) whole.0 (take end text) (take count (drop end text)) next.0 whole.1
-          (subst (λ o. IsFragment true block next.0 o (take count (drop end text))) (sym here) next.1)),
-    )
-
--- whole fragments go no further than to where none begins
-within_whole : (offset : ℕ) → offset < block → (fs gs : List Fragment) (a x front rest : List ℕ) → AreFragments true block fs offset a
-    → AreFragments true block gs offset front → a ++ x ≡ front ++ rest → NoFragment true block (offset_after block offset front) rest → length a ≤ length front
-within_whole offset small [] gs a x front rest none are e stops = let nothing = ap length none in omega arith
-within_whole offset small (f ∷ fs) [] a x front rest are none e stops =
-    absurd (stops f are.front (are.rest ++ x)
-    (sym (in_front a are.front are.rest x (front ++ rest) are.bytes_are e ∙ ap (λ z. z ++ rest) none))
-    (subst (λ o. IsFragment true block f o are.front) (sym (offset_after_none block offset small front none)) are.is_front))
-within_whole offset small (f ∷ fs) (g ∷ gs) a x front rest are those e stops =
-    let both : are.front ++ (are.rest ++ x) ≡ those.front ++ (those.rest ++ rest) =
-    in_front a are.front are.rest x (front ++ rest) are.bytes_are e ∙ sym (in_front front those.front those.rest rest (front ++ rest) those.bytes_are refl) in
-    let same = one_fragment true block fits offset f g are.front those.front (are.rest ++ x) (those.rest ++ rest) are.is_front those.is_front both in
-    let moved = offset_after_both block offset those.front those.rest front those.bytes_are in
-    let further = within_whole (offset_after block offset are.front) (inside offset are.front) fs gs are.rest x those.rest rest are.is_rest
-    (subst (λ z. AreFragments true block gs (offset_after block offset z) those.rest) (sym same.1) those.is_rest) same.2
-    (subst (λ o. NoFragment true block o rest) (sym moved ∙ ap (λ z. offset_after block (offset_after block offset z) those.rest) (sym same.1)) stops) in
-    let heads = ap length same.1 in
-    let all = ap length are.bytes_are ∙ length-append are.front are.rest in
-    let others = ap length those.bytes_are ∙ length-append those.front those.rest in
-    omega arith
+    let here : offset_after block 0 (take end text) ≡ end % block = ap (λ n. (0 + n) % block) (length-take-le end text within) ∙ ap (λ n. n % block) zero_end in
+    record {
+      fragments = whole.fragments ++ next.fragment ∷ [];
+      whole = subst (AreFragments true block (whole.fragments ++ next.fragment ∷ []) 0) (sym (take-add end count text))
+          (whole_more 0 (omega arith) whole.fragments (take end text) (take count (drop end text)) next.fragment whole.whole
+          (subst (λ o. IsFragment true block next.fragment o (take count (drop end text))) (sym here) next.whole));
+      parts = parts_after whole.parts next.fragment;
+      placed = continue_then whole.fragments (next.fragment ∷ []) [] whole.parts (parts_after whole.parts next.fragment) whole.placed
+          (may whole.parts whole.begun next.fragment next.is_kind, refl);
+      begun = takes whole.parts whole.begun next.fragment next.is_kind;
+    }
 
 -- what comes after the first bad end comes after whole fragments before it
-pub lost_later : (text : List ℕ) (end : ℕ) → end ≤ length text → AreWholeUpTo text end → LosesRecords text → HasEndFrom text end
-lost_later text end within whole loses =
-    let least = within_whole 0 (omega arith) whole.0 loses.fragments (take end text) (drop end text) loses.front loses.rest whole.1 loses.whole
-    (take-append-drop end text ∙ loses.bytes_are) loses.none in
+pub lost_later : (text : List ℕ) (end : ℕ) (is_open has_data : Bool) → end ≤ length text → AreWholeUpTo text end is_open has_data
+    → LosesRecords text → HasEndFrom text end
+lost_later text end is_open has_data within whole loses =
+    let all = placed_then 0 (omega arith) loses.front loses.begun [] [] loses.parts
+    (log_placed 0 (omega arith) loses.records loses.front loses.read)
+    (begun_placed (offset_after block 0 loses.front) loses.parts loses.begun loses.laid) in
+    let least = within_placed 0 (omega arith) whole.fragments all.fragments [] whole.parts loses.parts (take end text) (drop end text) (loses.front ++ loses.begun) loses.rest
+    whole.whole whole.placed all.whole all.placed (take-append-drop end text ∙ loses.bytes_are) loses.none in
     let count = length-take-le end text within in
     (loses.later.0, omega (arith, least, count, loses.later.1), loses.later.2)
+
+-- ---- what may come next
+
+-- a record is open or isn't, by a fragment that may come next
+module _ (parts : List (List ℕ)) (is_open has_data : Bool) (begun : HasBegun parts is_open has_data) (f : Fragment) (kind : ℕ) (has : Bool) (is : IsOfKind f kind has) where
+  closed_parts : is_open ≡ false → parts ≡ []
+  closed_parts closed = by parts refl
+    where
+      by : (those : List (List ℕ)) → parts ≡ those → those ≡ []
+      by [] same = refl
+      by (first ∷ more) same = absurd (let opened : is_open ≡ true = begun.opened.1 (λ none. (let never : first ∷ more ≡ [] = sym same ∙ none in cc)) in cc)
+
+  pub first_continues : is_open ≡ false → kind ≡ 2 → ContinuesRecord parts f
+  first_continues closed two = subst (λ p. ContinuesRecord p f) (sym (closed_parts closed)) (inl (is.type ∙ two))
+
+  pub full_continues : is_open ≡ false → IsTrue has → kind ≡ 1 → ContinuesRecord parts f
+  full_continues closed filled one = subst (λ p. ContinuesRecord p f) (sym (closed_parts closed)) (inr (is.type ∙ one, is.filled.0 filled))
+
+  open_by : (those : List (List ℕ)) → parts ≡ those → is_open ≡ true → (f.type ≡ 3) ⊎ ((f.type ≡ 4) × (concat parts ++ f.part ≢ [])) → ContinuesRecord those f
+  open_by [] same opened continues = absurd (begun.opened.0 opened same)
+  open_by (first ∷ more) same opened continues = ⊎_elim
+      (λ (middle : f.type ≡ 3). inl middle)
+      (λ (last : (f.type ≡ 4) × (concat parts ++ f.part ≢ [])). inr (last.0, subst (λ p. concat p ++ f.part ≢ []) same last.1))
+      continues
+
+  pub middle_continues : is_open ≡ true → kind ≡ 3 → ContinuesRecord parts f
+  middle_continues opened three = open_by parts refl opened (inl (is.type ∙ three))
+
+  pub last_continues : is_open ≡ true → IsTrue has_data ⊎ IsTrue has → kind ≡ 4 → ContinuesRecord parts f
+  last_continues opened filled four = open_by parts refl opened (inr (
+    is.type ∙ four,
+    λ none. ⊎_elim
+        (λ (before : IsTrue has_data). begun.filled.0 before (both (concat parts) f.part none).0)
+        (λ (now : IsTrue has). is.filled.0 now (both (concat parts) f.part none).1) filled,
+  ))
+    where
+      both : (a b : List ℕ) → a ++ b ≡ [] → (a ≡ []) × (b ≡ [])
+      both [] b none = (refl, none)
+      both (x ∷ a) b none = absurd cc
+
+  -- after one that ends the record none is open
+  pub begun_ended : (kind ≡ 1) ⊎ (kind ≡ 4) → HasBegun (parts_after parts f) false false
+  begun_ended last = subst (λ t. HasBegun (if (t == 1) || (t == 4) then [] else parts ++ f.part ∷ []) false false) (sym is.type)
+      (⊎_elim (λ (one : kind ≡ 1). subst (λ t. HasBegun (if (t == 1) || (t == 4) then [] else parts ++ f.part ∷ []) false false) (sym one) none_begun)
+      (λ (four : kind ≡ 4). subst (λ t. HasBegun (if (t == 1) || (t == 4) then [] else parts ++ f.part ∷ []) false false) (sym four) none_begun) last)
+
+  -- after another one is, which has the data of both
+  pub begun_on : ((kind ≡ 1) ⊎ (kind ≡ 4) → ⊥) → (filled : Bool) → (IsTrue filled ↔ (IsTrue has_data ⊎ IsTrue has))
+      → HasBegun (parts_after parts f) true filled
+  begun_on other filled holds = by (kind == 1) (kind == 4) refl refl
+    where
+      on : HasBegun (parts ++ f.part ∷ []) true filled
+      on = record {
+        opened = ((λ yes none. nonempty parts none), λ some. refl);
+        filled = (
+          λ yes none. (let split = both (concat parts) f.part (sym (concat_more parts f.part) ∙ none) in
+              ⊎_elim (λ (before : IsTrue has_data). begun.filled.0 before split.0) (λ (now : IsTrue has). is.filled.0 now split.1) (holds.0 yes)),
+          λ some. holds.1 (either (concat parts) refl (λ none. some (concat_more parts f.part ∙ none))),
+        );
+      }
+        where
+          nonempty : (those : List (List ℕ)) → those ++ f.part ∷ [] ≡ [] → ⊥
+          nonempty [] none = cc
+          nonempty (first ∷ more) none = cc
+
+          both : (a b : List ℕ) → a ++ b ≡ [] → (a ≡ []) × (b ≡ [])
+          both [] b none = (refl, none)
+          both (x ∷ a) b none = absurd cc
+
+          either : (a : List ℕ) → concat parts ≡ a → concat parts ++ f.part ≢ [] → IsTrue has_data ⊎ IsTrue has
+          either [] same some = inr (is.filled.1 (λ none. some (ap (λ z. z ++ f.part) same ∙ none)))
+          either (x ∷ a) same some = inl (begun.filled.1 (λ none. (let never : x ∷ a ≡ [] = sym same ∙ none in cc)))
+
+      by : (one four : Bool) → (kind == 1) ≡ one → (kind == 4) ≡ four → HasBegun (parts_after parts f) true filled
+      by true four is_one is_four = absurd (other (inl (eqb-true kind 1 is_one)))
+      by false true is_one is_four = absurd (other (inr (eqb-true kind 4 is_four)))
+      by false false is_one is_four = subst (λ t. HasBegun (if (t == 1) || (t == 4) then [] else parts ++ f.part ∷ []) true filled) (sym is.type)
+          (subst (λ b. HasBegun (if b || (kind == 4) then [] else parts ++ f.part ∷ []) true filled) (sym is_one)
+          (subst (λ b. HasBegun (if b then [] else parts ++ f.part ∷ []) true filled) (sym is_four) on))
 
 -- at the end of the bytes no fragment begins
 pub no_end_past : (text : List ℕ) (at : ℕ) → length text ≤ at → StartsWithEnd (at % block) (drop at text) → ⊥

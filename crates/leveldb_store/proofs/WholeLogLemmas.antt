@@ -1,14 +1,12 @@
 -- A log that ends between two records loses none.
-use Rattle.std.proofs.Common.{◌≡◌, ◌≢◌, ◌∙◌, ℕ, ◌+◌, ◌<◌, ◌≤◌, ◌%◌, true, List, [], ◌∷◌, ◌++◌, ap, append_assoc, arith, length, refl, subst, sym, take}
-use Rattle.std.proofs.Math.Nat.{mod-lt}
+use Rattle.std.proofs.Common.{◌≡◌, ◌≢◌, ◌∙◌, ℕ, ◌≤◌, false, true, List, [], ◌∷◌, ◌++◌, ap, arith, length, refl, subst, sym, take}
 use Rattle.std.proofs.lemmas.List.{take_all}
 use Rattle.std.specs.Prelude.{IfOk, IsSomeAnd, IsTrue, Ok, Option, None, Result, Some}
 use Rattle.leveldb_base.specs.declared.error.Status.{Status}
 use Rattle.leveldb_env.proofs.EnvLemmas.{Run-trans}
 use Rattle.leveldb_env.specs.Env.{File, Files, FilesUnchanged, HasCause, Run, SameLocks, bytes_of, in_folder}
 use Rattle.leveldb_env.specs.declared.env.Env.{Ghosts}
-use Rattle.leveldb_mem.proofs.LogLemmas.{offset_after_both, offset_after_none}
-use Rattle.leveldb_mem.specs.Log.{AreFragments, Fragment, IsLogFile, LogOf, clean, fragments_of, log_block_size, offset_after}
+use Rattle.leveldb_mem.specs.Log.{AreFragments, IsLogFile, clean, log_block_size}
 use Rattle.leveldb_mem.specs.WriteBatch.{Batch}
 use Rattle.leveldb_table.specs.TableBlock.{KeepsDisk}
 use Rattle.leveldb_version.specs.Paths.{log_path}
@@ -18,59 +16,23 @@ use Rattle.leveldb_store.specs.LogReplay.{EndsCleanly, FindsBatch, HasReadBatche
 use Rattle.leveldb_store.specs.declared.log_replay.NextBatch.{NextBatch}
 use Rattle.leveldb_store.specs.declared.log_replay.NextBatch.TheVariants.{CleanEnd, More}
 use Rattle.leveldb_store.proofs.LogReplayLemmas.{has_read_same}
-use Rattle.leveldb_store.proofs.LogDamageLemmas.{lost_later, no_end_past}
+use Rattle.leveldb_store.proofs.LogDamageLemmas.{lost_later, no_end_past, none_begun}
+use Rattle.leveldb_store.proofs.PlacedFragmentsLemmas.{log_placed}
 
-abbrev block : ℕ
-block = log_block_size
-
-inside : (offset : ℕ) (bytes : List ℕ) → offset_after block offset bytes < block
-inside offset bytes = mod-lt (offset + length bytes) (omega arith)
-
--- fragments, and then others
-fragments_then : (offset : ℕ) → offset < block → (fs gs : List Fragment) (a b : List ℕ)
-    → AreFragments true block fs offset a → AreFragments true block gs (offset_after block offset a) b
-    → AreFragments true block (fs ++ gs) offset (a ++ b)
-fragments_then offset small [] gs a b none those =
-    subst (λ z. AreFragments true block gs offset (z ++ b)) (sym none)
-    (subst (λ o. AreFragments true block gs o b) (offset_after_none block offset small a none) those)
-fragments_then offset small (f ∷ fs) gs a b are those = record {
-  front = are.front;
-  rest = are.rest ++ b;
-  bytes_are = ap (λ z. z ++ b) are.bytes_are ∙ append_assoc are.front are.rest b;
-  is_front = are.is_front;
-  is_rest = fragments_then (offset_after block offset are.front) (inside offset are.front) fs gs
-      are.rest b are.is_rest
-      (subst (λ o. AreFragments true block gs o b)
-      (sym (offset_after_both block offset are.front are.rest a are.bytes_are)) those);
-}
-
--- a log with a clean end is whole fragments
-fragments_of_log : (offset : ℕ) → offset < block → (records : List (List ℕ)) (bytes : List ℕ)
-    → LogOf true block records clean offset bytes
-    → (fragments : List Fragment) × AreFragments true block fragments offset bytes
-fragments_of_log offset small [] bytes none = ([], none)
-fragments_of_log offset small (text ∷ texts) bytes log =
-    let rest = fragments_of_log (offset_after block offset log.front) (inside offset log.front) texts
-    log.rest log.is_rest in
-    let whole = log.is_front.whole in
-    let both = fragments_then offset small (fragments_of true whole.part whole.parts) rest.0
-    log.front log.rest whole.laid rest.1 in (
-      fragments_of true whole.part whole.parts ++ rest.0,
-      subst (AreFragments true block (fragments_of true whole.part whole.parts ++ rest.0) offset)
-          (sym log.bytes_are) both,
-    )
-
--- so it loses no record
+-- it is whole fragments in their places
 pub clean_loses_none : (records : List (List ℕ)) (bytes : List ℕ) → IsLogFile bytes records clean
     → LosesRecords bytes → ⊥
 clean_loses_none records bytes log loses =
-    let fragments = fragments_of_log 0 (omega arith) records bytes log in
-    let whole : AreWholeUpTo bytes (length bytes) = (
-      fragments.0,
-      subst (AreFragments true block fragments.0 0) (sym (take_all (length bytes) bytes (omega arith)))
-          fragments.1,
-    ) in
-    let later = lost_later bytes (length bytes) (omega arith) whole loses in
+    let all = log_placed 0 (omega arith) records bytes log in
+    let whole : AreWholeUpTo bytes (length bytes) false false = record {
+      fragments = all.fragments;
+      whole = subst (AreFragments true log_block_size all.fragments 0)
+          (sym (take_all (length bytes) bytes (omega arith))) all.whole;
+      parts = [];
+      placed = all.placed;
+      begun = none_begun;
+    } in
+    let later = lost_later bytes (length bytes) false false (omega arith) whole loses in
     no_end_past bytes later.0 later.1 later.2
 
 -- ---- a log that is read to its end

@@ -1,8 +1,8 @@
 //! What is left out of a log or a manifest, which is read up to its first bad end.
-ghost use Rattle.std.specs.Prelude.{◌≡◌, ◌≤◌, ◌<◌, ◌+◌, ◌^◌, ◌↔◌, ◌⊎◌, ◌++◌, All, IfNone, IfSome, IsSomeAnd, IsTrue, false, length, slice_index};
-ghost use Rattle.leveldb_mem.specs.Log.{NoFragment, filler, log_block_size, room};
+ghost use Rattle.std.specs.Prelude.{◌≡◌, ◌≤◌, ◌<◌, ◌+◌, ◌^◌, ◌↔◌, ◌⊎◌, ◌++◌, All, IfNone, IfSome, IsSomeAnd, IsTrue, List, false, length, slice_index, ℕ};
+ghost use Rattle.leveldb_mem.specs.Log.{Fragment, NoFragment, filler, log_block_size, room};
 ghost use Rattle.leveldb_mem.specs.Log.Taking.{HasRightChecksum, declared_length};
-ghost use Rattle.leveldb_store.specs.Damage.{AreWholeUpTo, HasEndFrom, IsHeaded, IsWholeFront, LosesRecords, StartsWithEnd};
+ghost use Rattle.leveldb_store.specs.Damage.{AreWholeUpTo, ContinuesRecord, HasBegun, HasEndFrom, IsHeaded, IsOfKind, IsWholeFront, LosesRecords, StartsWithEnd, parts_after};
 
 use leveldb_base::crc::{crc32, mask_crc};
 use leveldb_mem::log::{BLOCK_SIZE, HEADER_SIZE};
@@ -78,7 +78,7 @@ pub fn left_after(text: &[u8], records: usize) -> LeftOut
 // Goes through the fragments of a log, up to one that isn't whole or can't come there, or to the end
 // of so many records.
 fn scan_of(text: &[u8], records: usize) -> Scan
-    ensures whole { AreWholeUpTo text.now result.end }
+    ensures whole { AreWholeUpTo text.now result.end result.is_open result.has_data }
     ensures within { result.end ≤ length text.now }
     ensures records { result.records_end ≤ result.end }
 {
@@ -106,7 +106,11 @@ fn scan_of(text: &[u8], records: usize) -> Scan
 
 impl Scan {
     // Whether a fragment may come next.
-    fn may_take(&self, found: Whole) -> bool {
+    fn may_take(&self, found: Whole) -> bool
+        ensures { (parts : List (List ℕ)) → HasBegun parts self.now.is_open self.now.has_data
+            → (fragment : Fragment) → IsOfKind fragment found.kind found.has_data
+            → IsTrue result → ContinuesRecord parts fragment }
+    {
         match found.kind {
             1 => !self.is_open && found.has_data,
             2 => !self.is_open,
@@ -122,6 +126,9 @@ impl Scan {
         requires records { self.old.records_end ≤ self.old.end }
         ensures end { self.new.end ≡ self.old.end + found.count }
         ensures records { self.new.records_end ≤ self.new.end }
+        ensures begun { (parts : List (List ℕ)) → HasBegun parts self.old.is_open self.old.has_data
+            → (fragment : Fragment) → IsOfKind fragment found.kind found.has_data
+            → HasBegun (parts_after parts fragment) self.new.is_open self.new.has_data }
     {
         self.end += found.count;
         self.is_open = !is_last(found.kind);
@@ -161,7 +168,8 @@ fn starts_with_end(rest: &[u8], offset: usize) -> bool
 // The whole fragment with which the bytes begin, from this offset of a block on.
 fn whole_at(rest: &[u8], offset: usize) -> Option<Whole>
     requires { offset < log_block_size }
-    ensures whole { IfSome result (λ found. IsWholeFront offset rest.now found.count) }
+    ensures whole { IfSome result (λ found. IsWholeFront offset rest.now found.count found.kind
+        found.has_data) }
     ensures within { IfSome result (λ found. found.count ≤ length rest.now) }
     ensures some { IfSome result (λ found. 0 < found.count) }
 {

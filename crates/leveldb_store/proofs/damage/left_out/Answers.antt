@@ -6,11 +6,11 @@ pub returns-then-is_torn-clause-loses : goal.returns-then-is_torn-clause-loses
 returns-then-is_torn-clause-loses c = λ loses.
     let scan = c.scan_of-scan.ensures in
     let has = c.has_end_from-has_records.ensures
-    (lost_later c.args.text.now c.scan_of-scan.result.end scan.within scan.whole loses) in
+    (lost_later c.args.text.now c.scan_of-scan.result.end c.scan_of-scan.result.is_open c.scan_of-scan.result.has_data scan.within scan.whole loses) in
     let never : false ≡ true = sym c.if-not-has_records.true ∙ has in absurd (cc never)
 
 pub returns-clause-loses : goal.returns-clause-loses
 returns-clause-loses c = λ loses.
     let scan = c.scan_of-scan.ensures in
     c.has_end_from-has_records.ensures
-    (lost_later c.args.text.now c.scan_of-scan.result.end scan.within scan.whole loses)
+    (lost_later c.args.text.now c.scan_of-scan.result.end c.scan_of-scan.result.is_open c.scan_of-scan.result.has_data scan.within scan.whole loses)

@@ -4,7 +4,7 @@ use Rattle.leveldb_store.proofs.damage.scan_of.Given as goal
 
 abbrev pub invariant-loop-found : goal.invariant-loop-found
 invariant-loop-found l = record {
-  whole : AreWholeUpTo l.text l.scan.end;
+  whole : AreWholeUpTo l.text l.scan.end l.scan.is_open l.scan.has_data;
   within : l.scan.end ≤ length l.text;
   records : l.scan.records_end ≤ l.scan.end;
 }

@@ -1,4 +1,4 @@
-use Rattle.std.proofs.Common.{◌≡◌, ◌∙◌, ◌++◌, ◌⊎◌, ap, false, subst, sym, true}
+use Rattle.std.proofs.Common.{◌≡◌, ◌⊎◌, false, subst, sym}
 use Rattle.leveldb_mem.specs.Log.{NoFragment, log_block_size}
 use Rattle.leveldb_store.proofs.LogDamageLemmas.{headed_end, headed_type, no_end}
 use Rattle.leveldb_store.proofs.damage.starts_with_end.Goals as goal
