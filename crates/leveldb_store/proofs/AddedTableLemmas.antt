@@ -1,7 +1,7 @@
 -- The table of the entries that wait is added, whatever the other files are.
 use Rattle.std.specs.Prelude.{◌≢◌, All, Contains, IsTrue}
 use Rattle.std.proofs.Common.{◌≡◌, ◌∙◌, ◌∷◌, ◌++◌, ◌+◌, ◌<◌, ◌^◌, ℕ, [], map, Ok, ap, arith, refl, subst, sym}
-use Rattle.std.proofs.lemmas.List.Elements.{Contains-append_right}
+use Rattle.std.proofs.lemmas.List.Elements.{Contains-append_cases, Contains-append_right}
 use Rattle.leveldb_base.proofs.HistoryLemmas.{in_front}
 use Rattle.leveldb_base.specs.Entries.{internal_pair}
 use Rattle.leveldb_base.specs.declared.cmp.Cmp.{Ghosts as CmpGhosts}
@@ -45,6 +45,16 @@ module _ {E F C D FP : Type 0} {order : CmpGhosts D} {filters : FilterGhosts FP}
       (table_edit old.log.number it) (env.observed mid) (env.failures mid) (Ok tt) set
       (env.observed to) (env.failures to)
 
+  -- the live files are those before it, and it
+  live_with_it : AreNumbersGiven old.set old.set.full.added
+      → (manifest : OpenManifest) (set : VersionSetValue) (to : E) → Logs manifest set to
+      → set.full.added ≡ old.set.full.added ++ it ∷ []
+  live_with_it given manifest set to l =
+      let lower = lower_stay it old.set.full.added
+      (subst (λ n. All (λ (one : NewFile). one.number < n) old.set.full.added)
+      (sym m.number_is.0) given) in
+      ap (λ (s : VersionSetValue). s.full.added) l.ok ∙ ap (λ files. files ++ it ∷ []) lower
+
   -- once its edit is logged it has the entries that waited
   its_entries : old.set.next_file + 1 < 2 ^ 64 → AreNumbersGiven old.set old.set.full.added
       → (manifest : OpenManifest) → old.set.manifest ≡ in_use manifest
@@ -52,13 +62,7 @@ module _ {E F C D FP : Type 0} {order : CmpGhosts D} {filters : FilterGhosts FP}
       → (set : VersionSetValue) (to : E) → Logs manifest set to
       → IsAddedTable env choices.format old.set set to table
   its_entries next_fits given manifest used own set to l = record {
-    live =
-        let lower = lower_stay it old.set.full.added
-        (subst (λ n. All (λ (one : NewFile). one.number < n) old.set.full.added) (sym number)
-        given) in
-        subst (λ files. Contains files it)
-        (sym (ap (λ (s : VersionSetValue). s.full.added) l.ok
-        ∙ ap (λ files. files ++ it ∷ []) lower))
+    live = subst (λ files. Contains files it) (sym (live_with_it given manifest set to l))
         (Contains-append_right old.set.full.added (it ∷ []) it (in_front it []));
     fresh = omega (arith, number);
     given = let more = ap (λ (s : VersionSetValue). s.next_file) l.ok in
@@ -95,4 +99,9 @@ module _ {E F C D FP : Type 0} {order : CmpGhosts D} {filters : FilterGhosts FP}
       → AddsTableOf env choices.format (waiting_entries old.waiting) old.set new to
   waiting_added next_fits given manifest used own set to l new same =
       subst (λ s. AddsTableOf env choices.format (waiting_entries old.waiting) old.set s to)
-      (sym same) (it, its_entries next_fits given manifest used own set to l)
+      (sym same) (
+        it,
+        its_entries next_fits given manifest used own set to l,
+        λ file there. Contains-append_cases old.set.full.added (it ∷ []) file
+            (subst (λ files. Contains files file) (live_with_it given manifest set to l) there),
+      )

@@ -24,6 +24,7 @@ use Rattle.leveldb_version.specs.VersionSetValue.{VersionSetValue}
 use Rattle.leveldb_version.specs.declared.table_cache.TableCache.{TableCache}
 use Rattle.leveldb_store.proofs.CompactPickedLemmas.{failed_keeps_files}
 use Rattle.leveldb_store.proofs.NoNewEntriesLemmas.{live_table_left}
+use Rattle.leveldb_store.proofs.ReplayFilesLemmas.{GivesNumbers-refl}
 use Rattle.leveldb_store.specs.BuildTable.{TableChoices}
 use Rattle.leveldb_store.specs.Compact.{CompactsStore, LogsCompaction}
 use Rattle.leveldb_store.specs.KeptEntries.{CompactsOnceAtMost, IsTableSame, file_numbers}
@@ -116,6 +117,11 @@ module _ {C : Type 0} (cmp : List ℕ → List ℕ → Ordering) (models_disk : 
   none_compacted old from = record {
     picked = None;
     logged = tt;
+    none = λ is. record {
+      set = inl (GivesNumbers-refl old.set);
+      current = refl;
+      tables = λ number modelled fits given. refl;
+    };
     live = λ number there. inr (there, λ modelled fits given. refl);
   }
 
@@ -132,6 +138,11 @@ module _ {E F C FP D P : Type 0} {order : CmpGhosts (InternalKeyCmp C)} {env : G
   compacted_none one = record {
     picked = None;
     logged = tt;
+    none = λ is. record {
+      set = one.err.0;
+      current = one.err.1;
+      tables = λ number modelled fits given. one.given modelled number fits given;
+    };
     live = λ number there. inr (
       subst (λ (files : List NewFile). Contains (file_numbers files) number)
           (sym (ap (λ (e : Edit). e.added) (failed_keeps_files old.set new.set one.err.0))) there,
@@ -148,6 +159,7 @@ module _ {E F C FP D P : Type 0} {order : CmpGhosts (InternalKeyCmp C)} {env : G
   compacted_inputs {to = to} one tidied = record {
     picked = Some it;
     logged = logged;
+    none = λ is. absurd cc;
     live = λ number there. ⊎_elim
         (λ (gone : IsAmong logged.edit.deleted number).
         inl (taken number gone.0 gone.1 gone.2))

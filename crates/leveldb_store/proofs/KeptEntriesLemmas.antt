@@ -1,7 +1,8 @@
 -- That no entry of memory and no live table is lost, in each call on the way to room.
 use Rattle.std.specs.Prelude.{Contains, OnOk}
-use Rattle.std.proofs.Common.{◌≡◌, ◌⊎◌, ◌∙◌, ◌∷◌, ◌++◌, ◌≤◌, ⊎_elim, ℕ, Bool, List, [], None, Ok, Err, Result, ap, append-nil, arith, refl, subst, sym}
+use Rattle.std.proofs.Common.{◌≡◌, ◌⊎◌, ◌∙◌, ◌∷◌, ◌++◌, ◌≤◌, inl, inr, ⊎_elim, ℕ, Bool, List, [], None, Ok, Err, Result, ap, append-nil, arith, refl, subst, sym}
 use Rattle.std.proofs.lemmas.Grind.{flat_map-append}
+use Rattle.std.proofs.lemmas.List.{map-append}
 use Rattle.std.proofs.lemmas.List.Elements.{Contains-append_cases, Contains-append_left, Contains-append_right}
 use Rattle.std.specs.declared.cmp.Ordering.{Ordering}
 use Rattle.leveldb_base.proofs.HistoryLemmas.{in_cases, in_none}
@@ -14,18 +15,21 @@ use Rattle.leveldb_env.specs.declared.env.Env.{Ghosts}
 use Rattle.leveldb_env.specs.declared.filter.FilterPolicy.{Ghosts as FilterGhosts}
 use Rattle.leveldb_mem.specs.MemTable.{Kept}
 use Rattle.leveldb_version.proofs.ManagedLemmas.{same_bytes, table_on}
+use Rattle.leveldb_version.specs.Compaction.{files_of_tables}
 use Rattle.leveldb_version.specs.Format.{Format, IsTableOf}
 use Rattle.leveldb_version.specs.Levels.{LiveTable, table_entries}
 use Rattle.leveldb_version.specs.Paths.{table_path}
 use Rattle.leveldb_version.specs.Store.{HasTable, SameEntries}
-use Rattle.leveldb_version.specs.VersionSetValue.{VersionSetValue}
+use Rattle.leveldb_version.specs.VersionEdit.{Edit, NewFile}
+use Rattle.leveldb_version.specs.VersionSetValue.{VersionSetValue, broken, with_number_given}
+use Rattle.leveldb_store.proofs.CompactsOnceLemmas.{none_compacted}
 use Rattle.leveldb_store.proofs.NoNewEntriesLemmas.{live_table_left}
 use Rattle.leveldb_store.specs.BuildTable.{TableChoices}
-use Rattle.leveldb_store.specs.KeptEntries.{AddsTableOf, IsAddedTable, KeepsEntries, KeepsLiveTables, TablesMemory}
+use Rattle.leveldb_store.specs.KeptEntries.{AddsNoOther, AddsTableOf, CompactsInTurn, CompactsThrough, IsAddedTable, KeepsEntries, KeepsLiveTables, TablesMemory}
 use Rattle.leveldb_store.specs.OpenStore.{OpenStoreValue}
 use Rattle.leveldb_store.specs.Read.{in_memory}
 use Rattle.leveldb_store.specs.Room.{TidiesUp}
-use Rattle.leveldb_store.specs.Switch.{SwitchesLog, TablesWaiting}
+use Rattle.leveldb_store.specs.Switch.{MayGiveNumber, SwitchesLog, TablesWaiting}
 use Rattle.leveldb_store.specs.Written.{KeepsTables, waiting_entries}
 
 -- equal lists have the same entries
@@ -64,6 +68,40 @@ module _ (models_disk : Bool) where
         (second.files file (first.live file there) modelled fits (omega (arith, given, least)))
         ∙ first.files file there modelled fits given;
   }
+
+-- ---- no other table
+
+-- no file is added to the set
+adds_nothing : (old new : VersionSetValue) (files : List NewFile) → new.full ≡ old.full
+    → AddsNoOther old new files
+adds_nothing old new files same = λ file there.
+    inl (subst (λ (e : Edit). Contains e.added file) same there)
+
+-- one call after another
+others_then : (old mid new : VersionSetValue) (first second : List LiveTable)
+    → AddsNoOther old mid (files_of_tables first) → AddsNoOther mid new (files_of_tables second)
+    → AddsNoOther old new (files_of_tables (second ++ first))
+others_then old mid new first second before later = λ file there.
+    let are : files_of_tables (second ++ first) ≡ files_of_tables second ++ files_of_tables first
+    = map-append (λ (table : LiveTable). table.file) second first in
+    let among : Contains (files_of_tables second ++ files_of_tables first) file
+    → Contains old.full.added file ⊎ Contains (files_of_tables (second ++ first)) file
+    = λ one. inr (subst (λ files. Contains files file) (sym are) one) in
+    ⊎_elim
+    (λ (was : Contains mid.full.added file). ⊎_elim
+    (λ (at_first : Contains old.full.added file). inl at_first)
+    (λ (made : Contains (files_of_tables first) file).
+    among (Contains-append_right (files_of_tables second) (files_of_tables first) file made))
+    (before file was))
+    (λ (made : Contains (files_of_tables second) file).
+    among (Contains-append_left (files_of_tables second) (files_of_tables first) file made))
+    (later file there)
+
+-- numbers of files may have been given
+full_given : (old new : VersionSetValue) → MayGiveNumber old new → new.full ≡ old.full
+full_given old new may = ⊎_elim
+    (λ (same : new ≡ old). ap (λ (s : VersionSetValue). s.full) same)
+    (λ (given : new ≡ with_number_given old). ap (λ (s : VersionSetValue). s.full) given) may
 
 -- ---- tables that were added
 
@@ -106,21 +144,22 @@ module _ {E F : Type 0} (env : Ghosts E F) (format : Format) where
 
     -- memory stays
     entries_stay : (old : OpenStoreValue C) (from : E) (new : OpenStoreValue C) (to : E)
-        → in_memory new ≡ in_memory old
+        → in_memory new ≡ in_memory old → new.set.full ≡ old.set.full
         → KeepsLiveTables env.models_disk old.set (env.observed from) new.set (env.observed to)
         → KeepsEntries env format old from new to
-    entries_stay old from new to same live = record {
+    entries_stay old from new to same full live = record {
       added = [];
       each = λ table there. absurd (in_none table there);
       same = equal_entries (in_memory old) (in_memory new ++ [])
           (sym (append-nil (in_memory new) ∙ same));
       live = live;
+      others = adds_nothing old.set new.set [] full;
     }
 
     -- nothing is done
     pub entries_same : (old : OpenStoreValue C) (from : E)
         → KeepsEntries env format old from old from
-    entries_same old from = entries_stay old from old from refl
+    entries_same old from = entries_stay old from old from refl refl
         (live_still env.models_disk old.set (env.observed from))
 
     -- another version of the same files is there
@@ -129,7 +168,13 @@ module _ {E F : Type 0} (env : Ghosts E F) (format : Format) where
         → KeepsEntries env format old from new to
     entries_charged old from mid new to charged kept =
         subst (λ (v : OpenStoreValue C). KeepsEntries env format old from v to) (sym charged)
-        (record { added = kept.added; each = kept.each; same = kept.same; live = kept.live })
+        (record {
+          added = kept.added;
+          each = kept.each;
+          same = kept.same;
+          live = kept.live;
+          others = kept.others;
+        })
 
     -- so it may have been before
     pub entries_of_charged : (old charged : OpenStoreValue C) (from : E) (new : OpenStoreValue C)
@@ -138,16 +183,22 @@ module _ {E F : Type 0} (env : Ghosts E F) (format : Format) where
     entries_of_charged old charged from new to only kept =
         let its : KeepsEntries env format (record old { current = charged.current }) from new to =
         subst (λ (v : OpenStoreValue C). KeepsEntries env format v from new to) only kept in
-        record { added = its.added; each = its.each; same = its.same; live = its.live }
+        record {
+          added = its.added;
+          each = its.each;
+          same = its.same;
+          live = its.live;
+          others = its.others;
+        }
 
     -- the memtables stay
     memory_stays : (old : OpenStoreValue C) (from : E) (new : OpenStoreValue C) (to : E)
-        → new.recent ≡ old.recent → new.waiting ≡ old.waiting
+        → new.recent ≡ old.recent → new.waiting ≡ old.waiting → new.set.full ≡ old.set.full
         → KeepsTables env.models_disk old.set (env.observed from) new.set (env.observed to)
         → KeepsEntries env format old from new to
-    memory_stays old from new to recent waiting kept = entries_stay old from new to
+    memory_stays old from new to recent waiting full kept = entries_stay old from new to
         (ap (λ (kept : Kept). kept.entries ++ waiting_entries new.waiting) recent
-        ∙ ap (λ w. old.recent.entries ++ waiting_entries w) waiting)
+        ∙ ap (λ w. old.recent.entries ++ waiting_entries w) waiting) full
         (live_kept env.models_disk old.set (env.observed from) new.set (env.observed to) kept)
 
     -- the entries that waited are in a table
@@ -164,6 +215,7 @@ module _ {E F : Type 0} (env : Ghosts E F) (format : Format) where
           (λ no_other. absurd (in_none other no_other)) (in_cases table other [] there);
       same = equal_entries (in_memory old) (in_memory new ++ (waited ++ [])) (sym now);
       live = live_kept env.models_disk old.set (env.observed from) new.set (env.observed to) kept;
+      others = adds.2;
     }
       where
         waited : List Entry
@@ -191,15 +243,17 @@ module _ {E F : Type 0} (env : Ghosts E F) (format : Format) where
         ∙ sym (append-nil old.recent.entries)
         ∙ sym (ap (λ w. old.recent.entries ++ waiting_entries w) none)
         )
+        (ap (λ (s : VersionSetValue). s.full) switched.set)
         (live_kept env.models_disk old.set (env.observed from) new.set (env.observed to)
         switched.tables)
     entries_switched old from none (Err status) new to switched =
-        memory_stays old from new to switched.err.2 switched.err.3 switched.tables
+        memory_stays old from new to switched.err.2 switched.err.3
+        (full_given old.set new.set switched.err.0) switched.tables
 
     -- obsolete files were deleted
     pub entries_tidied : (cmp : List ℕ → List ℕ → Ordering) (old : OpenStoreValue C) (from to : E)
         → TidiesUp env cmp old from to → KeepsEntries env format old from old to
-    entries_tidied cmp old from to tidied = entries_stay old from old to refl (record {
+    entries_tidied cmp old from to tidied = entries_stay old from old to refl refl (record {
       live = λ file there. there;
       files = λ file there modelled fits given. live_table_left old.set file there fits
           (env.observed from).disk.files (env.observed to).disk.files (tidied.others modelled);
@@ -228,6 +282,8 @@ module _ {E F : Type 0} (env : Ghosts E F) (format : Format) where
               first.added))
               (forth entry, back entry);
           live = live_then env.models_disk store least first.live second.live;
+          others = others_then old.set mid.set new.set first.added second.added first.others
+              second.others;
         }
       where
         made : List Entry
@@ -264,43 +320,72 @@ module _ {E F : Type 0} (env : Ghosts E F) (format : Format) where
             (Contains-append_cases tabled made entry in_tables))
             (Contains-append_cases (in_memory new) (tabled ++ made) entry there)
 
+-- ---- compactions
+
+module _ {E F C : Type 0} (env : Ghosts E F) (cmp : List ℕ → List ℕ → Ordering) where
+  -- more are logged after these
+  through_then : (old : OpenStoreValue C) (from : E) (before : List (OpenStoreValue C × E))
+      (mid : OpenStoreValue C) (at : E) (after : List (OpenStoreValue C × E))
+      (new : OpenStoreValue C) (to : E) → CompactsThrough env cmp old from before mid at
+      → CompactsThrough env cmp mid at after new to
+      → CompactsThrough env cmp old from (before ++ (mid, at) ∷ after) new to
+  through_then old from [] mid at after new to first more = (first, more)
+  through_then old from (next ∷ before) mid at after new to first more =
+      (first.0, through_then next.0 next.1 before mid at after new to first.1 more)
+
+  pub in_turn_then : (old mid new : OpenStoreValue C) (from at to : E)
+      → CompactsInTurn env cmp old from mid at → CompactsInTurn env cmp mid at new to
+      → CompactsInTurn env cmp old from new to
+  in_turn_then old mid new from at to first more = (
+    first.0 ++ (mid, at) ∷ more.0,
+    through_then old from first.0 mid at more.0 new to first.1 more.1,
+  )
+
 -- ---- memory, where something may be compacted
 
 module _ {E F C : Type 0} (env : Ghosts E F) (format : Format) (old : OpenStoreValue C)
     (from : E) where
-  -- nothing is done
-  pub memory_same : TablesMemory env format old from old
-  memory_same = record {
-    tabled = old;
-    at = from;
-    tables = entries_same env format old from;
+  -- tables were made
+  pub memory_tabled : {mid : OpenStoreValue C} (at : E) → mid.set.store ≡ old.set.store
+      → KeepsEntries env format old from mid at → TablesMemory env format old from mid at
+  memory_tabled {mid} at path kept = record {
+    tabled = mid;
+    at = at;
+    path = path;
+    tables = kept;
+    compacts = ([], none_compacted format.order env.models_disk mid (env.observed at));
     memory = refl;
   }
 
-  -- and then compactions are done, or not
-  pub memory_compacts : {mid new : OpenStoreValue C} → TablesMemory env format old from mid
+  -- nothing is done
+  pub memory_same : TablesMemory env format old from old from
+  memory_same = memory_tabled from refl (entries_same env format old from)
+
+  -- and then compactions are logged, or none
+  pub memory_compacts : {mid new : OpenStoreValue C} {at to : E}
+      → TablesMemory env format old from mid at
       → new ≡ record mid { set = new.set; current = new.current }
-      → TablesMemory env format old from new
-  memory_compacts first rest = record {
+      → CompactsInTurn env format.order mid at new to → TablesMemory env format old from new to
+  memory_compacts {mid} {new} {at} {to} first rest more = record {
     tabled = first.tabled;
     at = first.at;
+    path = first.path;
     tables = first.tables;
+    compacts = in_turn_then env format.order first.tabled mid new first.at at to first.compacts
+        more;
     memory = ap (λ (v : OpenStoreValue C). in_memory v) rest ∙ first.memory;
   }
 
-  -- tables were made
-  pub memory_tabled : {mid : OpenStoreValue C} (at : E) → KeepsEntries env format old from mid at
-      → TablesMemory env format old from mid
-  memory_tabled {mid} at kept = record { tabled = mid; at = at; tables = kept; memory = refl }
-
   -- the version of the files before doesn't count
-  pub memory_of_charged : (charged new : OpenStoreValue C)
+  pub memory_of_charged : (charged new : OpenStoreValue C) (to : E)
       → charged ≡ record old { current = charged.current }
-      → TablesMemory env format charged from new → TablesMemory env format old from new
-  memory_of_charged charged new only its = record {
+      → TablesMemory env format charged from new to → TablesMemory env format old from new to
+  memory_of_charged charged new to only its = record {
     tabled = its.tabled;
     at = its.at;
+    path = its.path ∙ ap (λ (v : OpenStoreValue C). v.set.store) only;
     tables = entries_of_charged env format old charged from its.tabled its.at only its.tables;
+    compacts = its.compacts;
     memory = its.memory;
   }
 
@@ -318,4 +403,7 @@ module _ {E F C D FP : Type 0} {order : CmpGhosts D} {filters : FilterGhosts FP}
   entries_of_table (Ok unit) new to t adds =
       entries_tabled env choices.format old from new to t.recent t.none_waits t.tables adds
   entries_of_table (Err status) new to t adds =
-      memory_stays env choices.format old from new to t.recent t.waits t.tables
+      memory_stays env choices.format old from new to t.recent t.waits (⊎_elim
+      (λ (may : MayGiveNumber old.set new.set). full_given old.set new.set may)
+      (λ (broke : new.set ≡ record (with_number_given old.set) { manifest = broken }).
+      ap (λ (s : VersionSetValue). s.full) broke) t.err) t.tables

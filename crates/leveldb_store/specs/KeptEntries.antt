@@ -1,10 +1,11 @@
 -- Where the entries that were in memory are after a call, and which live tables stay, whatever the
 -- files are.
-use Rattle.std.specs.Prelude.{◌≡◌, ◌≤◌, ◌<◌, ◌^◌, ◌⊎◌, ◌++◌, ℕ, Bool, List, [], map, Contains, Option, None, Some, IfSome, IsTrue}
+use Rattle.std.specs.Prelude.{◌≡◌, ◌≤◌, ◌<◌, ◌^◌, ◌⊎◌, ◌++◌, ◌∷◌, ℕ, Bool, List, [], map, Contains, Option, None, Some, IfSome, IsTrue}
 use Rattle.std.specs.declared.cmp.Ordering.{Ordering}
 use Rattle.leveldb_base.specs.History.{Entry}
 use Rattle.leveldb_env.specs.Env.{Observed}
 use Rattle.leveldb_env.specs.declared.env.Env.{Ghosts}
+use Rattle.leveldb_version.specs.Compaction.{files_of_tables}
 use Rattle.leveldb_version.specs.Format.{Agrees, Format, IsTableOf, Meaning}
 use Rattle.leveldb_version.specs.Levels.{LiveTable, table_entries}
 use Rattle.leveldb_version.specs.Paths.{table_path}
@@ -13,7 +14,7 @@ use Rattle.leveldb_version.specs.Store.{HasTable, SameEntries}
 use Rattle.leveldb_version.specs.Version.{new_files_of}
 use Rattle.leveldb_version.specs.VersionEdit.{NewFile}
 use Rattle.leveldb_version.specs.VersionSetValue.{VersionSetValue}
-use Rattle.leveldb_store.specs.Compact.{LogsCompaction}
+use Rattle.leveldb_store.specs.Compact.{GivesNumbersOrBreaks, LogsCompaction}
 use Rattle.leveldb_store.specs.OpenStore.{OpenStoreValue}
 use Rattle.leveldb_store.specs.Read.{in_memory}
 
@@ -32,6 +33,11 @@ pub record KeepsLiveTables (models_disk : Bool) (old : VersionSetValue) (from : 
   pub files : (file : NewFile) → Contains old.full.added file
       → IsTableSame models_disk old from to file.number
 
+-- each live file was live before, or is one of these
+abbrev pub AddsNoOther : VersionSetValue → VersionSetValue → List NewFile → Type 0
+AddsNoOther old new files = (file : NewFile) → Contains new.full.added file
+    → Contains old.full.added file ⊎ Contains files file
+
 -- ---- entries
 
 module _ {E F : Type 0} (env : Ghosts E F) (format : Format) where
@@ -46,13 +52,14 @@ module _ {E F : Type 0} (env : Ghosts E F) (format : Format) where
         → HasTable new.store format.order (IsTableOf format.order meaning)
         (env.observed to).disk.files table
 
-  -- a table of these entries was added
+  -- a table of these entries was added, and no other
   abbrev pub AddsTableOf : List Entry → VersionSetValue → VersionSetValue → E → Type 0
   AddsTableOf entries old new to = (file : NewFile)
       × IsAddedTable old new to (record { file = file; entries = entries })
+      × AddsNoOther old new (file ∷ [])
 
   -- No entry is lost where tables are made of what is in memory: each is in memory still, or in
-  -- tables that were added, and nothing else is. Nor is a live table.
+  -- tables that were added, and nothing else is. Nor is a live table, and no other is added.
   pub record KeepsEntries {C : Type 0} (old : OpenStoreValue C) (from : E) (new : OpenStoreValue C)
       (to : E) : Type 0 where
     pub added : List LiveTable
@@ -60,18 +67,9 @@ module _ {E F : Type 0} (env : Ghosts E F) (format : Format) where
     pub same : SameEntries (in_memory old) (in_memory new ++ table_entries added)
     pub live : KeepsLiveTables env.models_disk old.set (env.observed from) new.set
         (env.observed to)
+    pub others : AddsNoOther old.set new.set (files_of_tables added)
 
--- What is in memory after a call, and the tables that it made of what was there before, have all
--- entries that were in memory, and no others. The tables were added before anything was compacted.
-pub record TablesMemory {E F C : Type 0} (env : Ghosts E F) (format : Format)
-    (old : OpenStoreValue C) (from : E) (new : OpenStoreValue C) : Type 0 where
-  -- the store and its environment before anything was compacted
-  pub tabled : OpenStoreValue C
-  pub at : E
-  pub tables : KeepsEntries env format old from tabled at
-  pub memory : in_memory new ≡ in_memory tabled
-
--- ---- one compaction
+-- ---- compactions
 
 -- the numbers of files
 abbrev pub file_numbers : List NewFile → List ℕ
@@ -82,13 +80,51 @@ abbrev pub files_taken : {C : Type 0} → Option (CompactionValue C) → List Ne
 files_taken None = []
 files_taken (Some it) = new_files_of it.inputs
 
+-- No compaction was logged: numbers may have been given, and the manifest may be broken. The live
+-- files and the last number stay, and no table changes whose number was given.
+pub record CompactsNone {C : Type 0} (models_disk : Bool) (old : OpenStoreValue C)
+    (from : Observed) (new : OpenStoreValue C) (to : Observed) : Type 0 where
+  pub set : GivesNumbersOrBreaks old.set new.set
+  pub current : new.current ≡ old.current
+  pub tables : (number : ℕ) → IsTableSame models_disk old.set from to number
+
 -- One compaction was logged at most. Each live table is one that it took, or stays live as it is.
 pub record CompactsOnceAtMost {C : Type 0} (cmp : List ℕ → List ℕ → Ordering)
     (models_disk : Bool) (old : OpenStoreValue C) (from : Observed) (new : OpenStoreValue C)
     (to : Observed) : Type 0 where
   pub picked : Option (CompactionValue C)
   pub logged : IfSome picked (λ it. LogsCompaction cmp it old new)
+  pub none : picked ≡ None → CompactsNone models_disk old from new to
   pub live : (number : ℕ) → Contains (file_numbers old.set.full.added) number
       → Contains (file_numbers (files_taken picked)) number
       ⊎ (Contains (file_numbers new.set.full.added) number
       × IsTableSame models_disk old.set from to number)
+
+module _ {E F C : Type 0} (env : Ghosts E F) (cmp : List ℕ → List ℕ → Ordering) where
+  -- From each of these stores to the next, and from the last of them on, one compaction was logged
+  -- at most.
+  abbrev pub CompactsThrough : OpenStoreValue C → E → List (OpenStoreValue C × E)
+      → OpenStoreValue C → E → Type 0
+  CompactsThrough old from [] new to =
+      CompactsOnceAtMost cmp env.models_disk old (env.observed from) new (env.observed to)
+  CompactsThrough old from (next ∷ more) new to =
+      CompactsOnceAtMost cmp env.models_disk old (env.observed from) next.0 (env.observed next.1)
+      × CompactsThrough next.0 next.1 more new to
+
+  -- compactions were logged, one after another, and nothing else was done
+  abbrev pub CompactsInTurn : OpenStoreValue C → E → OpenStoreValue C → E → Type 0
+  CompactsInTurn old from new to = (between : List (OpenStoreValue C × E))
+      × CompactsThrough old from between new to
+
+-- What is in memory after a call, and the tables that it made of what was there before, have all
+-- entries that were in memory, and no others. The tables were added before anything was compacted.
+pub record TablesMemory {E F C : Type 0} (env : Ghosts E F) (format : Format)
+    (old : OpenStoreValue C) (from : E) (new : OpenStoreValue C) (to : E) : Type 0 where
+  -- the store and its environment before anything was compacted
+  pub tabled : OpenStoreValue C
+  pub at : E
+  pub path : tabled.set.store ≡ old.set.store
+  pub tables : KeepsEntries env format old from tabled at
+  -- and what was done since then
+  pub compacts : CompactsInTurn env format.order tabled at new to
+  pub memory : in_memory new ≡ in_memory tabled

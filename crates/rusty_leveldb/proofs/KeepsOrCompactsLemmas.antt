@@ -16,7 +16,7 @@ use Rattle.leveldb_version.specs.VersionSetValue.{VersionSetValue}
 use Rattle.leveldb_store.proofs.CompactsOnceLemmas.{none_compacted}
 use Rattle.leveldb_store.proofs.KeptEntriesLemmas.{entries_charged, entries_same, equal_entries}
 use Rattle.leveldb_store.proofs.SwitchLemmas.{tables_same}
-use Rattle.leveldb_store.specs.Compact.{LogsCompaction}
+use Rattle.leveldb_store.specs.Compact.{GivesNumbersOrBreaks, LogsCompaction}
 use Rattle.leveldb_store.specs.KeptEntries.{CompactsOnceAtMost, KeepsEntries, file_numbers}
 use Rattle.leveldb_store.specs.OpenStore.{OpenStoreValue}
 use Rattle.leveldb_store.specs.Read.{in_memory}
@@ -172,6 +172,14 @@ module _ {E F C : Type 0} (env : Ghosts E F) (format : Format) where
         (env.observed room.at) (with_last n new) (env.observed to)
     compacts_still = record {
       picked = room.compacts.picked;
+      none = λ is.
+          let before = room.compacts.none is in
+          record {
+            set = subst (GivesNumbersOrBreaks room.tabled.set) (sym set) before.set;
+            current = ap (λ (v : OpenStoreValue C). v.current) writes.rest ∙ before.current;
+            tables = λ number modelled fits given.
+                tables_still number modelled ∙ before.tables number modelled fits given;
+          };
       logged = logged_still format.order room.compacts.picked room.tabled (with_last n mid)
           (with_last n new) set (ap (λ (v : OpenStoreValue C). v.current) writes.rest)
           room.compacts.logged;

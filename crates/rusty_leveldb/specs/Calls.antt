@@ -246,9 +246,10 @@ module _ {E C FP F P : Type 0} {B : Boxed} {keys : InternalOrder C} {key_filters
     -- Ok or Err, the last number stays
     pub last : after.store.set.last_sequence ≡ before.store.set.last_sequence
     -- Ok or Err, and whatever the files are: what was in memory is in memory, or was in tables that
-    -- were added, before anything was compacted
+    -- were added, before anything was compacted, and no others; after that compactions are logged,
+    -- one after another, and nothing else is done
     pub entries : TablesMemory env (formats_of choices (options_in before)) before.store from
-        after.store
+        after.store to
     -- Ok: no entry is in memory, all are in tables
     pub tabled : OnOk result
         ((after.store.recent.entries ≡ []) × (after.store.waiting ≡ None))

@@ -44,7 +44,7 @@ pub record EngineCompactsStore {E C FP F P : Type 0} {B : Boxed} {keys : Interna
       to after.tables
   -- what was in memory is there, or was in a table before anything was compacted
   pub entries : TablesMemory env (formats_of choices (options_in before)) before.store from
-      after.store
+      after.store to
   -- nothing else of the engine changes but the sink of the options' log, and its mode
   pub rest : ChangesStore before after
   -- it is broken where the store is

@@ -87,6 +87,8 @@ impl<E: Env, C: UserCmp + Copy + Drop> OpenStore<E, C> {
         ensures asked { OnOk result ((picked : Option (CompactionValue C))
             × IsAskedByReads (C.cmp self.old.cmp) self.old.current options.now.max_file_size picked
             × LogsPicked (C.cmp self.old.cmp) picked self.old self.new) }
+        ensures once { CompactsOnceAtMost (C.cmp self.old.cmp) E.models_disk self.old
+            (E.observed env.old) self.new (E.observed env.new) }
         ensures log { is_some log.new ≡ is_some log.old }
     {
         let picked = self.versions.compaction_by_reads(options)?;

@@ -9,7 +9,7 @@ ghost use Rattle.leveldb_version.specs.Picking.{IsCompactionOf};
 ghost use Rattle.leveldb_version.specs.TableCache.{table_options};
 ghost use Rattle.leveldb_store.specs.BuildTable.{choices_of};
 ghost use Rattle.leveldb_store.specs.Compact.{CompactsRange, CompactsTables, KeepsLevelsAbove, deepest_overlapped};
-ghost use Rattle.leveldb_store.specs.KeptEntries.{KeepsEntries, TablesMemory};
+ghost use Rattle.leveldb_store.specs.KeptEntries.{CompactsInTurn, KeepsEntries, TablesMemory};
 ghost use Rattle.leveldb_store.specs.OpenStore.{IsUnbroken};
 ghost use Rattle.leveldb_store.specs.OpenTables.{ClosesObsolete};
 ghost use Rattle.leveldb_store.specs.Room.{FailsToMakeRoom};
@@ -59,7 +59,8 @@ impl<E: Env, C: UserCmp + Copy + Drop> OpenStore<E, C> {
             (table_options choices.format options.now) self.old env.old tables.old choices smallest
             (named_range from.now to.now) result self.new env.new tables.new }
         ensures entries { TablesMemory E.Env (format_of C.Cmp FP.FilterPolicy
-            ⟦<CompressorList as Compressors>⟧.codings options.now) self.old env.old self.new }
+            ⟦<CompressorList as Compressors>⟧.codings options.now) self.old env.old self.new
+            env.new }
         ensures log { is_some log.new ≡ is_some log.old }
     {
         let begin = LookupKey::new(self.alloc, from, 0)?;
@@ -152,6 +153,8 @@ impl<E: Env, C: UserCmp + Copy + Drop> OpenStore<E, C> {
             (named_range (user_part range.entry.0.now) (user_part range.entry.1.now))
             self.new.set.full.added ≡ false) }
         ensures above { KeepsLevelsAbove level self.old.set.full.added self.new.set.full.added }
+        ensures in_turn { CompactsInTurn E.Env (C.cmp self.old.cmp) self.old env.old self.new
+            env.new }
         ensures log { is_some log.new ≡ is_some log.old }
     {
         while let Some(picked) = self.picked_in_level(options, level, range)? {

@@ -3,6 +3,7 @@ use Rattle.std.proofs.lemmas.Result.{IfOk-weaker, err_from_is_err_and}
 use Rattle.leveldb_version.specs.Picking.{IsAskedByReads}
 use Rattle.leveldb_store.proofs.AskedCompactionLemmas.{logs_picked, picked_may_be}
 use Rattle.leveldb_store.proofs.CompactedLemmas.{failed_at_once}
+use Rattle.leveldb_store.proofs.CompactsOnceLemmas.{none_compacted}
 use Rattle.leveldb_store.specs.OpenStore.{OpenStoreValue}
 use Rattle.leveldb_store.proofs.open_store.OpenStore.compact_by_reads.Goals as goal
 
@@ -16,6 +17,7 @@ returns-in_err-picked g c =
         memory = refl;
       };
       asked = tt;
+      once = none_compacted _ g.E.Env.models_disk c.args.self.now (g.E.Env.observed c.args.env.now);
       log = refl;
     })
 

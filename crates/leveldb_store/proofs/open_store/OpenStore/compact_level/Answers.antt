@@ -1,8 +1,11 @@
-use Rattle.std.proofs.Common.{◌∙◌, refl}
+use Rattle.std.proofs.Common.{◌∙◌, [], ap, refl, subst}
 use Rattle.std.proofs.lemmas.Result.{err_from_is_err_and}
 use Rattle.leveldb_store.proofs.CompactLevelLemmas.{above_replaced, keeps_above, keeps_above_then, level_has_fewer}
 use Rattle.leveldb_store.proofs.CompactedLemmas.{compacts_then, nothing_compacted}
+use Rattle.leveldb_store.proofs.CompactsOnceLemmas.{none_compacted}
+use Rattle.leveldb_store.proofs.KeptEntriesLemmas.{in_turn_then}
 use Rattle.leveldb_store.proofs.ReplacedFilesLemmas.{logged_replaces}
+use Rattle.leveldb_store.specs.KeptEntries.{CompactsOnceAtMost}
 use Rattle.leveldb_store.proofs.open_store.OpenStore.compact_level.Goals as goal
 
 pub loop-picked-init : goal.loop-picked-init
@@ -12,6 +15,7 @@ loop-picked-init g c = record {
     memory = refl;
   };
   above = keeps_above c.args.level c.args.self.now.set.full.added;
+  in_turn = ([], none_compacted _ g.E.Env.models_disk c.args.self.now (g.E.Env.observed c.args.env.now));
   log = refl;
 }
 
@@ -31,6 +35,11 @@ loop-picked-preserved g c =
       compacts = compacts_then before.compacts done.compacts;
       above = keeps_above_then c.args.level c.args.self.now.set.full.added c.loop-picked.self.set.full.added c.compact_picked.new.self.set.full.added before.above
           (above_replaced c.in_ok-picked.ensures.current one.0 one.1 c.compact_picked.new.self.set.full.added replaces);
+      in_turn = in_turn_then g.E.Env _ c.args.self.now c.loop-picked.self c.compact_picked.new.self c.args.env.now c.loop-picked.env c.compact_picked.new.env before.in_turn (
+        [],
+        subst (λ cmp. CompactsOnceAtMost cmp g.E.Env.models_disk c.loop-picked.self (g.E.Env.observed c.loop-picked.env) c.compact_picked.new.self (g.E.Env.observed c.compact_picked.new.env))
+            (ap g.C.Cmp.cmp before.compacts.keeps.rest.cmp) done.once,
+      );
       log = done.log ∙ before.log;
     }
 
@@ -38,3 +47,12 @@ pub returns-in_err-compact_picked-clause-compacts : goal.returns-in_err-compact_
 returns-in_err-compact_picked-clause-compacts g c =
     let p = err_from_is_err_and c.from_residual-in_err-compact_picked.result c.from_residual-in_err-compact_picked.ensures.1 in
     rw (p.1, p.2) (compacts_then c.loop-picked.invariant.compacts c.in_err-compact_picked.ensures.compacts)
+
+pub returns-in_err-compact_picked-clause-in_turn : goal.returns-in_err-compact_picked-clause-in_turn
+returns-in_err-compact_picked-clause-in_turn g c =
+    let before = c.loop-picked.invariant in
+    in_turn_then g.E.Env _ c.args.self.now c.loop-picked.self c.compact_picked.new.self c.args.env.now c.loop-picked.env c.compact_picked.new.env before.in_turn (
+      [],
+      subst (λ cmp. CompactsOnceAtMost cmp g.E.Env.models_disk c.loop-picked.self (g.E.Env.observed c.loop-picked.env) c.compact_picked.new.self (g.E.Env.observed c.compact_picked.new.env))
+          (ap g.C.Cmp.cmp before.compacts.keeps.rest.cmp) c.in_err-compact_picked.ensures.once,
+    )

@@ -7,6 +7,7 @@ use Rattle.leveldb_version.specs.Summary.{files_of_level}
 use Rattle.leveldb_version.specs.TableCache.{table_options}
 use Rattle.leveldb_store.specs.BuildTable.{choices_of}
 use Rattle.leveldb_store.specs.Compact.{CompactsTables, KeepsLevelsAbove}
+use Rattle.leveldb_store.specs.KeptEntries.{CompactsInTurn}
 use Rattle.leveldb_store.proofs.open_store.OpenStore.compact_level.Given as goal
 
 -- what the compactions so far keep
@@ -18,6 +19,7 @@ invariant-loop-picked g l =
     record {
       compacts : CompactsTables keys g.E.Env (table_options choices.format l.options) l.fn.self l.fn.env l.fn.tables choices l.smallest (Ok tt) l.self l.env l.tables;
       above : KeepsLevelsAbove l.level l.fn.self.set.full.added l.self.set.full.added;
+      in_turn : CompactsInTurn g.E.Env (g.C.Cmp.cmp l.fn.self.cmp) l.fn.self l.fn.env l.self l.env;
       log : is_some l.log ≡ is_some l.fn.log;
     }
 

@@ -1,4 +1,4 @@
-use Rattle.std.proofs.Common.{◌≡◌, ◌∙◌, List, Ok, ap, arith, inl, refl, sym, ℕ}
+use Rattle.std.proofs.Common.{◌≡◌, ◌∙◌, [], List, Ok, ap, arith, inl, refl, subst, sym, ℕ}
 use Rattle.std.proofs.lemmas.Result.{err_from_is_err_and}
 use Rattle.leveldb_base.specs.CmpLaws.{user_part-internal_key}
 use Rattle.leveldb_base.specs.KeyTypes.{user_part}
@@ -8,6 +8,7 @@ use Rattle.leveldb_store.proofs.CompactLevelLemmas.{clear_alike, clear_more}
 use Rattle.leveldb_store.proofs.CompactRangeLemmas.{memory_compacted, range_then}
 use Rattle.leveldb_store.proofs.CompactedLemmas.{failed_at_once}
 use Rattle.leveldb_store.proofs.KeptEntriesLemmas.{memory_compacts, memory_same, memory_tabled}
+use Rattle.leveldb_store.specs.KeptEntries.{CompactsInTurn, CompactsOnceAtMost}
 use Rattle.leveldb_store.specs.OpenStore.{OpenStoreValue}
 use Rattle.leveldb_store.proofs.open_store.OpenStore.compact_range.Goals as goal
 
@@ -80,8 +81,12 @@ loop-level-init g c =
       );
       clear = λ level less. absurd (omega (arith, less));
       entries = memory_compacts g.E.Env _ c.args.self.now c.args.env.now
-          (memory_tabled g.E.Env _ c.args.self.now c.args.env.now c.table_memory.new.env done.entries)
-          read.compacts.memory;
+          (memory_tabled g.E.Env _ c.args.self.now c.args.env.now c.table_memory.new.env done.step.rest.store done.entries)
+          read.compacts.memory (
+            [],
+            subst (λ cmp. CompactsOnceAtMost cmp g.E.Env.models_disk c.table_memory.new.self (g.E.Env.observed c.table_memory.new.env) c.compact_by_reads.new.self (g.E.Env.observed c.compact_by_reads.new.env))
+                (ap g.C.Cmp.cmp done.step.rest.cmp ∙ sym c.requires.order) read.once,
+          );
       log = read.log ∙ done.log;
     }
 
@@ -114,7 +119,9 @@ loop-level-preserved g c =
         ap (λ (v : OpenStoreValue g.row.C.Denot). v.waiting) done.compacts.memory ∙ before.tabled.1,
       );
       clear = clear_more (g.C.Cmp.cmp c.args.options.now.cmp) (named_range from to) level c.loop-level.self.set.full.added c.compact_level.new.self.set.full.added before.clear (clear_alike level c.compact_level.new.self.set.full.added same begins ends done.clear) done.above;
-      entries = memory_compacts g.E.Env _ c.args.self.now c.args.env.now before.entries done.compacts.memory;
+      entries = memory_compacts g.E.Env _ c.args.self.now c.args.env.now before.entries done.compacts.memory
+          (subst (λ cmp. CompactsInTurn g.E.Env cmp c.loop-level.self c.loop-level.env c.compact_level.new.self c.compact_level.new.env)
+          same done.in_turn);
       log = done.log ∙ before.log;
     }
 
@@ -128,14 +135,21 @@ returns-in_err-end-clause-entries g c = memory_same g.E.Env _ c.args.self.now c.
 
 pub returns-in_err-table_memory-clause-entries : goal.returns-in_err-table_memory-clause-entries
 returns-in_err-table_memory-clause-entries g c =
-    memory_tabled g.E.Env _ c.args.self.now c.args.env.now c.table_memory.new.env c.in_err-table_memory.ensures.entries
+    memory_tabled g.E.Env _ c.args.self.now c.args.env.now c.table_memory.new.env c.in_err-table_memory.ensures.step.rest.store c.in_err-table_memory.ensures.entries
 
 pub returns-in_err-compact_by_reads-clause-entries : goal.returns-in_err-compact_by_reads-clause-entries
 returns-in_err-compact_by_reads-clause-entries g c =
+    let done = c.in_ok-table_memory.ensures in
     memory_compacts g.E.Env _ c.args.self.now c.args.env.now
-    (memory_tabled g.E.Env _ c.args.self.now c.args.env.now c.table_memory.new.env c.in_ok-table_memory.ensures.entries)
-    c.in_err-compact_by_reads.ensures.compacts.memory
+    (memory_tabled g.E.Env _ c.args.self.now c.args.env.now c.table_memory.new.env done.step.rest.store done.entries)
+    c.in_err-compact_by_reads.ensures.compacts.memory (
+      [],
+      subst (λ cmp. CompactsOnceAtMost cmp g.E.Env.models_disk c.table_memory.new.self (g.E.Env.observed c.table_memory.new.env) c.compact_by_reads.new.self (g.E.Env.observed c.compact_by_reads.new.env))
+          (ap g.C.Cmp.cmp done.step.rest.cmp ∙ sym c.requires.order) c.in_err-compact_by_reads.ensures.once,
+    )
 
 pub returns-in_err-compact_level-clause-entries : goal.returns-in_err-compact_level-clause-entries
 returns-in_err-compact_level-clause-entries g c =
     memory_compacts g.E.Env _ c.args.self.now c.args.env.now c.loop-level.invariant.entries c.in_err-compact_level.ensures.compacts.memory
+    (subst (λ cmp. CompactsInTurn g.E.Env cmp c.loop-level.self c.loop-level.env c.compact_level.new.self c.compact_level.new.env)
+    (ap g.C.Cmp.cmp c.loop-level.invariant.keeps.rest.cmp ∙ sym c.requires.order) c.in_err-compact_level.ensures.in_turn)

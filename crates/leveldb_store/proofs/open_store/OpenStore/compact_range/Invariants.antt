@@ -21,6 +21,6 @@ invariant-loop-level g l =
       keeps : KeepsCompacted keys g.E.Env by l.fn.self l.fn.env l.fn.tables l.smallest (FailsToCompactRange keys g.E.Env by l.fn.self l.fn.env l.fn.tables choices) (Ok tt) l.self l.env l.tables;
       tabled : (l.self.recent.entries ≡ []) × (l.self.waiting ≡ None);
       clear : (level : ℕ) → level < l.level → is_overlapped choices.format.order level (named_range l.from l.to) l.self.set.full.added ≡ false;
-      entries : TablesMemory g.E.Env choices.format l.fn.self l.fn.env l.self;
+      entries : TablesMemory g.E.Env choices.format l.fn.self l.fn.env l.self l.env;
       log : is_some l.log ≡ is_some l.fn.log;
     }

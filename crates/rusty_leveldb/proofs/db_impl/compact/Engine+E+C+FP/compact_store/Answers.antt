@@ -17,7 +17,8 @@ returns-clause-compacts g c =
           c.compact_range-compacted.ensures.compacts));
       entries = (rw c.cmp-self-inside.ensures at (memory_of_charged g.E.Env _ c.self.inside.store
           c.args.env.now c.charge.new.store c.compact_range-compacted.new.self
-          c.charge.ensures.version c.compact_range-compacted.ensures.entries));
+          c.compact_range-compacted.new.env c.charge.ensures.version
+          c.compact_range-compacted.ensures.entries));
       rest = (rw c.cmp-self-inside.ensures refl);
       mode = c.mode_by-self-inside.ensures;
     })
