@@ -1,13 +1,13 @@
 -- What a search through the files below a level tells of a key.
 use Rattle.std.specs.Prelude.{Contains, All, is_some, not}
-use Rattle.std.proofs.Common.{◌≡◌, ◌∙◌, ◌<◌, ◌≤◌, ◌==◌, ◌+◌, ◌++◌, ◌⊎◌, inl, inr, ⊎_elim, ℕ, Bool, true, false, List, [], ◌∷◌, Option, None, Some, ap, arith, drop, get_or, leb, length, map, refl, subst, sym, take}
-use Rattle.std.proofs.lemmas.Bool.{leb-true, le-leb}
+use Rattle.std.proofs.Common.{◌≡◌, ◌∙◌, ◌<◌, ◌≤◌, ◌==◌, ◌+◌, ◌++◌, ⊎_elim, ℕ, Bool, true, false, List, ◌∷◌, Option, None, Some, ap, arith, drop, get_or, leb, length, map, refl, subst, sym, take}
+use Rattle.std.proofs.lemmas.Bool.{leb-true}
 use Rattle.std.proofs.lemmas.List.{get_or-drop, get_or-take, length-drop, length-take, map-append, take-append-drop}
-use Rattle.std.proofs.lemmas.List.Elements.{All-contains, Contains-append_cases, Contains-append_left, Contains-append_right}
+use Rattle.std.proofs.lemmas.List.Elements.{All-contains, Contains-append_cases, Contains-append_right}
 use Rattle.std.proofs.lemmas.List.Sorted.{Contains-permutation, IsPermutation-sym}
 use Rattle.std.specs.Borrow.{Bor}
 use Rattle.std.specs.List.Sorted.{IsPartitionPoint}
-use Rattle.std.specs.Option.{option_copied, option_map, option_to_list}
+use Rattle.std.specs.Option.{option_copied, option_map}
 use Rattle.std.specs.declared.cmp.Ordering.{Ordering}
 use Rattle.leveldb_base.proofs.EntriesLemmas.{in_map}
 use Rattle.leveldb_base.proofs.HistoryLemmas.{in_front, in_none}
@@ -15,9 +15,7 @@ use Rattle.leveldb_base.proofs.OrderLemmas.{is_false}
 use Rattle.leveldb_base.specs.declared.types.FileMetaData.{FileMetaData}
 use Rattle.leveldb_version.proofs.CompactionLemmas.{test_tells_base_level}
 use Rattle.leveldb_version.proofs.SearchLemmas.{in_order_back, kept_passes, passes_kept}
-use Rattle.leveldb_version.specs.Compaction.{IsBaseLevelFor, is_base_level_for}
-use Rattle.leveldb_version.specs.Levels.{IsInRange}
-use Rattle.leveldb_version.specs.Overlap.{AreDisjointRanges}
+use Rattle.leveldb_version.specs.Compaction.{is_base_level_for}
 use Rattle.leveldb_version.specs.Search.{AreDisjointLevels, TakesNextFile}
 use Rattle.leveldb_version.specs.Summary.{files_of_level}
 use Rattle.leveldb_version.specs.Version.{AreInVersionOrder}

@@ -1,19 +1,19 @@
 -- What the calls of a compaction say of its files and its edit.
-use Rattle.std.specs.Prelude.{Contains, IsPermutation, filter, nat_lt, slice_get}
-use Rattle.std.proofs.Common.{◌≡◌, ◌≢◌, ◌∙◌, ◌++◌, ◌+◌, ◌*◌, ◌<◌, ◌≤◌, ◌==◌, ◌↔◌, ◌⊎◌, inl, inr, ⊎_elim, ℕ, Bool, true, false, List, [], ◌∷◌, Option, None, Some, ap, arith, cond, length, map, refl, rules, subst, sym}
-use Rattle.std.proofs.lemmas.Bool.{eqb-true, lt-ltb, ltb-true}
+use Rattle.std.specs.Prelude.{Contains, IsPermutation, nat_lt, slice_get}
+use Rattle.std.proofs.Common.{◌≡◌, ◌∙◌, ◌++◌, ◌+◌, ◌*◌, ◌<◌, ◌↔◌, ◌⊎◌, inl, inr, ⊎_elim, ℕ, Bool, true, false, List, [], ◌∷◌, None, Some, ap, arith, length, map, refl, subst, sym}
+use Rattle.std.proofs.lemmas.Bool.{lt-ltb, ltb-true}
 use Rattle.std.proofs.lemmas.Bool.Decides.{nat_tests}
 use Rattle.std.proofs.lemmas.List.Sorted.{Contains-permutation, IsPermutation-map, IsPermutation-sym}
 use Rattle.std.proofs.lemmas.List.Elements.{Contains-append_cases, Contains-append_left, Contains-push, Contains-push_cases}
 use Rattle.std.proofs.lemmas.Map.Keys.{IsDistinct-IsPermutation}
 use Rattle.std.specs.BTreeSet.{insert_key}
 use Rattle.std.specs.List.Sorted.{IsStrictlySortedBy}
-use Rattle.std.specs.Ordering.{match_ordering, nat_cmp, ordering_then}
+use Rattle.std.specs.Ordering.{match_ordering}
 use Rattle.std.specs.declared.cmp.Ordering.{Ordering}
 use Rattle.std.specs.declared.cmp.Ordering.TheVariants.{Equal, Greater, Less}
 use Rattle.leveldb_base.proofs.HistoryLemmas.{in_cases, in_front, in_none, in_rest}
 use Rattle.leveldb_base.proofs.OrderLemmas.{both}
-use Rattle.leveldb_base.specs.KeyTypes.{internal_cmp, user_part}
+use Rattle.leveldb_base.specs.KeyTypes.{user_part}
 use Rattle.leveldb_base.specs.declared.types.FileMetaData.{FileMetaData}
 use Rattle.leveldb_version.proofs.ChoosingLemmas.{choices_go_by_sets}
 use Rattle.leveldb_version.proofs.VersionSetLemmas.{not_same}
@@ -22,9 +22,9 @@ use Rattle.leveldb_version.specs.CompactionEdit.{SetsPointer}
 use Rattle.leveldb_version.specs.Inputs.{AreKeyEnds, KeepsFiles, MayTake, input_files}
 use Rattle.leveldb_version.specs.Picking.{DeletesFiles}
 use Rattle.leveldb_version.specs.Overlap.{overlapping}
-use Rattle.leveldb_version.specs.Summary.{files_of_level, total_size}
+use Rattle.leveldb_version.specs.Summary.{total_size}
 use Rattle.leveldb_version.specs.Version.{IsVersionOf, VersionValue, borrowed_files, new_files_of, with_first_seeks}
-use Rattle.leveldb_version.specs.VersionEdit.{Edit, LevelFile, NewFile, Pointer, file_order, new_file_of}
+use Rattle.leveldb_version.specs.VersionEdit.{Edit, LevelFile, NewFile, file_order, new_file_of}
 use Rattle.leveldb_version.specs.VersionSet.{is_same_file, level_file}
 use Rattle.leveldb_version.specs.declared.compaction.inputs.Inputs.{Inputs}
 

@@ -1,14 +1,14 @@
 -- What a look-up through the files of a version finds, and why it fails.
-use Rattle.std.specs.Prelude.{All, AllPairs, Contains, IfOk, IfSome, IsErrAnd, IsPermutation, IsSome, IsSomeAnd, IsTrue, OnOk, is_some}
-use Rattle.std.proofs.Common.{◌≡◌, ◌≢◌, ◌⊎◌, inl, inr, ⊎_elim, ℕ, ◌==◌, ◌<◌, ◌≤◌, ◌^◌, Bool, true, false, List, [], ◌∷◌, ◌++◌, Option, None, Some, Result, Ok, Err, length, map, refl, sym, ◌∙◌, ap, append_assoc, get_or, subst, arith}
+use Rattle.std.specs.Prelude.{All, AllPairs, Contains, IfOk, IsErrAnd, IsPermutation, IsSome, IsTrue}
+use Rattle.std.proofs.Common.{◌≡◌, ◌⊎◌, inl, inr, ⊎_elim, ℕ, ◌==◌, ◌<◌, ◌≤◌, ◌^◌, true, false, List, [], ◌∷◌, ◌++◌, Option, None, Some, Result, Ok, Err, length, map, refl, sym, ◌∙◌, ap, append_assoc, get_or, subst, arith}
 use Rattle.std.proofs.lemmas.List.{append-nil}
-use Rattle.std.proofs.lemmas.List.Elements.{All-contains, All-head, All-nil, All-push, All-tail, Contains-append_cases, Contains-append_left, Contains-append_right, Contains-get_or, Contains-push, Contains-push_cases}
+use Rattle.std.proofs.lemmas.List.Elements.{All-contains, All-head, All-nil, All-push, All-tail, Contains-append_left, Contains-append_right, Contains-get_or, Contains-push, Contains-push_cases}
 use Rattle.std.proofs.lemmas.List.Quantifiers.{all_pairs_push}
 use Rattle.std.proofs.lemmas.List.Sorted.{Contains-permutation, IsPermutation-append_left, IsPermutation-pop_more, IsPermutation-refl, IsPermutation-sym}
-use Rattle.std.specs.Option.{option_or, option_to_list}
+use Rattle.std.specs.Option.{option_or}
 use Rattle.std.specs.declared.cmp.Ordering.{Ordering}
 use Rattle.leveldb_base.proofs.EntriesLemmas.{absent_is, map_in}
-use Rattle.leveldb_base.proofs.HistoryLemmas.{in_cases, in_front, in_none}
+use Rattle.leveldb_base.proofs.HistoryLemmas.{in_cases, in_none}
 use Rattle.leveldb_base.specs.Cmp.{IsExactOrder}
 use Rattle.leveldb_base.specs.Entries.{FindsNewest, is_absent}
 use Rattle.leveldb_base.specs.declared.types.Lookup.{Lookup}
@@ -18,18 +18,15 @@ use Rattle.leveldb_base.specs.declared.cmp.Cmp.{Ghosts as CmpGhosts}
 use Rattle.leveldb_base.specs.declared.cmp.internal.InternalKeyCmp.{InternalKeyCmp}
 use Rattle.leveldb_base.specs.declared.error.Status.{Status}
 use Rattle.leveldb_base.specs.declared.error.StatusCode.TheVariants.{NotSupported}
-use Rattle.leveldb_env.specs.Env.{Files, bytes_of}
 use Rattle.leveldb_env.specs.declared.env.Env.{Ghosts as EnvGhosts}
 use Rattle.leveldb_table.proofs.TableBlockLemmas.{KeepsDisk-refl, KeepsDisk-trans, fails_after, fails_ok, fails_refused, reads_ok, reads_refused, reads_then, same_files}
-use Rattle.leveldb_table.specs.TableBlock.{FailsFor, KeepsDisk}
-use Rattle.leveldb_version.specs.Format.{Agrees, IsTableFault, IsTableOf, LacksCompressor, Meaning}
+use Rattle.leveldb_table.specs.TableBlock.{KeepsDisk}
+use Rattle.leveldb_version.specs.Format.{Agrees, IsTableFault, LacksCompressor, Meaning}
 use Rattle.leveldb_version.specs.Levels.{IsInRange, LiveTable, table_entries}
-use Rattle.leveldb_version.specs.Overlap.{AreDisjointRanges}
 use Rattle.leveldb_version.specs.Paths.{table_path}
 use Rattle.leveldb_version.specs.Search.{AreAllTried, AreDisjointLevels, AreOpenTablesMatched, AreTriedFirst, AreVersionTables, FindsInLast, FindsInNone, FindsInTable, IsTriedBefore, IsUnreadable, LooksUpNewest, OpensTablesOf, SearchesFiles, SearchesTable, TakesNextFile, file_to_charge, lacks_block, unopened, untagged}
-use Rattle.leveldb_version.specs.Store.{HasTable}
 use Rattle.leveldb_version.specs.Summary.{files_of_level}
-use Rattle.leveldb_version.specs.TableCache.{HasBytesAt, IsOpenOrThere, IsTableUnopened, MatchesFiles, TableOptions, files_at, path_at, store_of, table_at}
+use Rattle.leveldb_version.specs.TableCache.{HasBytesAt, IsOpenOrThere, IsTableUnopened, TableOptions, files_at, path_at, store_of, table_at}
 use Rattle.leveldb_version.specs.Version.{AreInVersionOrder, VersionValue, new_files_of}
 use Rattle.leveldb_version.specs.VersionEdit.{LevelFile, NewFile}
 use Rattle.leveldb_version.specs.VersionSet.{level_file}

@@ -22,7 +22,7 @@ use Rattle.leveldb_version.proofs.SearchLemmas.{kept_passes}
 use Rattle.leveldb_version.proofs.VersionLemmas.{internal_total}
 use Rattle.leveldb_version.specs.Choosing.{AreEnds}
 use Rattle.leveldb_version.specs.Compaction.{AreOnce, MayCompact, closed_range}
-use Rattle.leveldb_version.specs.Inputs.{AreChosen, AreKeyEnds, AreWithin, IsCountPast, MayTake, input_files}
+use Rattle.leveldb_version.specs.Inputs.{AreChosen, AreKeyEnds, AreWithin, IsCountPast, MayTake}
 use Rattle.leveldb_version.specs.Overlap.{AreInputs, UserRange, overlapping, overlaps}
 use Rattle.leveldb_version.specs.Summary.{files_of_level}
 use Rattle.leveldb_version.specs.Version.{at_level, borrowed_files}

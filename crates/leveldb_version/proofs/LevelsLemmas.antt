@@ -9,7 +9,7 @@ use Rattle.leveldb_base.specs.Layers.{AreLayered, IsOlder}
 use Rattle.leveldb_version.proofs.OneStoreLemmas.{flat_in, in_flat}
 use Rattle.leveldb_version.specs.Levels.{AreDisjoint, CanBeAdded, IsBounded, IsInRange, IsSearchedBefore, LevelOrder, LiveTable, table_entries}
 use Rattle.leveldb_version.specs.VersionEdit.{NewFile}
-use Rattle.std.proofs.Common.{◌<◌, ◌∙◌, ◌∷◌, ◌≡◌, ◌≢◌, Bool, List, Option, [], ap, arith, false, inl, inr, map, refl, subst, suc, sym, true, zero, ℕ}
+use Rattle.std.proofs.Common.{◌<◌, ◌∙◌, ◌∷◌, ◌≡◌, ◌≢◌, Bool, List, [], ap, arith, false, inl, inr, map, refl, subst, suc, sym, true, zero, ℕ}
 use Rattle.std.proofs.lemmas.Cmp.{upto}
 use Rattle.std.proofs.lemmas.List.Elements.{All-map, Contains-get_or}
 use Rattle.std.proofs.lemmas.List.Kept.{AllPairs-cons}

@@ -1,11 +1,10 @@
 -- What a search that ends at the first table with an entry of the key finds, all tables together have.
 use Rattle.std.specs.Prelude.{◌≢◌, All, Contains, IsPermutation}
-use Rattle.std.proofs.Common.{◌≡◌, ◌⊎◌, inl, inr, ⊎_elim, ℕ, ◌==◌, ◌<◌, ◌≤◌, ◌^◌, true, false, List, [], ◌∷◌, ◌++◌, Option, None, Some, length, map, refl, sym, ◌∙◌, ap, subst, arith}
+use Rattle.std.proofs.Common.{◌≡◌, ◌⊎◌, inl, inr, ⊎_elim, ℕ, ◌==◌, ◌<◌, ◌≤◌, false, List, [], ◌∷◌, ◌++◌, Option, None, Some, length, map, refl, sym, ◌∙◌, ap, subst, arith}
 use Rattle.std.proofs.lemmas.Bool.{cases_lt, eqb-true}
 use Rattle.std.proofs.lemmas.List.{same_from_push}
-use Rattle.std.proofs.lemmas.List.Elements.{All-contains, Contains-append_left, Contains-append_right, Contains-push, Contains-push_cases}
+use Rattle.std.proofs.lemmas.List.Elements.{All-contains, Contains-append_left, Contains-push, Contains-push_cases}
 use Rattle.std.proofs.lemmas.List.Sorted.{Contains-permutation, IsPermutation-sym}
-use Rattle.std.specs.Cmp.{IsTotalOrder}
 use Rattle.std.specs.declared.cmp.Ordering.{Ordering}
 use Rattle.std.specs.declared.cmp.Ordering.TheVariants.{Less}
 use Rattle.leveldb_base.proofs.EntriesLemmas.{in_map, map_in}
@@ -18,7 +17,7 @@ use Rattle.leveldb_base.specs.History.{Entry}
 use Rattle.leveldb_base.specs.KeyTypes.{internal_cmp, user_part}
 use Rattle.leveldb_base.specs.Types.{Pair}
 use Rattle.leveldb_env.specs.Compressor.{Decodes}
-use Rattle.leveldb_env.specs.Env.{File, Files, bytes_of}
+use Rattle.leveldb_env.specs.Env.{Files, bytes_of}
 use Rattle.leveldb_table.proofs.TableReaderLemmas.{decodes_one, one_table as one_list}
 use Rattle.leveldb_version.proofs.BatchesLemmas.{each_one}
 use Rattle.leveldb_version.proofs.OneStoreLemmas.{flat_in, in_flat, one_entry}
@@ -28,10 +27,9 @@ use Rattle.leveldb_version.proofs.TablesLemmas.{one_store_table, tables_bounded}
 use Rattle.leveldb_version.specs.Batches.{Each}
 use Rattle.leveldb_version.specs.Format.{IsTableOf, Meaning}
 use Rattle.leveldb_version.specs.Levels.{AreDisjoint, IsBounded, IsInRange, LevelOrder, LiveTable, table_entries}
-use Rattle.leveldb_version.specs.Overlap.{AreDisjointRanges}
 use Rattle.leveldb_version.specs.Paths.{table_path}
 use Rattle.leveldb_version.specs.Search.{AreAllTried, AreDisjointLevels, AreTriedFirst, IsTriedBefore}
-use Rattle.leveldb_version.specs.Store.{HasTable, IsFirstKey, IsInternalPair, IsLastKey}
+use Rattle.leveldb_version.specs.Store.{HasTable, IsInternalPair}
 use Rattle.leveldb_version.specs.Summary.{files_of_level}
 use Rattle.leveldb_version.specs.VersionEdit.{NewFile}
 

@@ -1,6 +1,6 @@
 -- What a version set is once it is recovered, and what stands where it isn't.
-use Rattle.std.specs.Prelude.{◌%◌, IsSome, IsSomeAnd, IsTrue, Result, Ok, Err, string_bytes}
-use Rattle.std.proofs.Common.{◌≡◌, ◌⊎◌, inl, inr, ⊎_elim, ℕ, ◌≤◌, ◌+◌, Bool, true, false, List, [], Option, None, Some, refl, sym, ◌∙◌, ap, subst, arith}
+use Rattle.std.specs.Prelude.{◌%◌, IsTrue, Result, Ok, Err, string_bytes}
+use Rattle.std.proofs.Common.{◌≡◌, inl, inr, ⊎_elim, ℕ, ◌+◌, Bool, true, false, List, [], None, refl, sym, ◌∙◌, ap, subst, arith}
 use Rattle.std.specs.Option.{unwrap_or}
 use Rattle.std.specs.declared.cmp.Ordering.{Ordering}
 use Rattle.leveldb_base.specs.Error.{IsOutOfMemory}
@@ -11,11 +11,11 @@ use Rattle.leveldb_mem.specs.Log.{log_block_size}
 use Rattle.leveldb_mem.specs.Log.Writer.{new_writer}
 use Rattle.leveldb_version.specs.Current.{IsCurrentText}
 use Rattle.leveldb_version.specs.Paths.{current_path}
-use Rattle.leveldb_version.specs.Recover.{IsNamed, IsRead, IsReusable, LeavesFiles, ReadManifest, ReadSetResult, RecoverResult, WhyUnrecovered, lost, no_edit, set_going_on, set_read_alone, set_starting_anew, too_long, unread, unusable, used_up}
+use Rattle.leveldb_version.specs.Recover.{IsNamed, IsRead, LeavesFiles, ReadManifest, ReadSetResult, RecoverResult, WhyUnrecovered, lost, no_edit, set_going_on, set_starting_anew, too_long, unread, unusable, used_up}
 use Rattle.leveldb_version.specs.RecoverSteps.{IsPlan, set_settled}
-use Rattle.leveldb_version.specs.VersionSetValue.{ManifestState, VersionSetValue, broken, in_use, unmade}
+use Rattle.leveldb_version.specs.VersionSetValue.{VersionSetValue, broken, in_use, unmade}
 use Rattle.leveldb_version.specs.declared.version_set.recover.Plan.{Plan}
-use Rattle.leveldb_version.proofs.RecoverLemmas.{some_and, and_some, why_memory, cause_of_error}
+use Rattle.leveldb_version.proofs.RecoverLemmas.{and_some, why_memory, cause_of_error}
 
 is_named : (store : List ℕ) (files : Files) (manifest : ReadManifest) → IsRead store files manifest → IsNamed store files manifest.name manifest.number
 is_named store files manifest read =

@@ -1,37 +1,33 @@
 -- What a search for a key in one table finds, and why it fails, in a table that is one by what its ids mean.
-use Rattle.std.specs.Prelude.{All, Contains, IfErr, IfOk, IfSome, IsErrAnd, IsSome, IsSomeAnd, IsTrue, OnErr, OnOk}
+use Rattle.std.specs.Prelude.{Contains, IfErr, IfOk, IfSome, IsErrAnd, IsSome, IsSomeAnd, IsTrue}
 use Rattle.std.proofs.Common.{◌≡◌, ◌≢◌, ◌⊎◌, inl, inr, ⊎_elim, ℕ, ◌+◌, ◌==◌, ◌<◌, ◌≤◌, ◌^◌, Bool, true, false, List, [], ◌∷◌, length, map, Option, None, Some, Result, Ok, Err, refl, sym, ◌∙◌, ap, subst, arith, if◌then◌else◌}
-use Rattle.std.proofs.lemmas.Result.{IfOk-weaker}
-use Rattle.std.proofs.lemmas.Bool.{cases_lt}
 use Rattle.std.specs.declared.cmp.Ordering.{Ordering}
 use Rattle.leveldb_base.proofs.HistoryLemmas.{in_front}
 use Rattle.leveldb_base.specs.Cmp.{IsExactOrder}
 use Rattle.leveldb_base.specs.Entries.{FindsNewest, found_at}
 use Rattle.leveldb_base.specs.declared.types.Lookup.{Lookup}
-use Rattle.leveldb_base.specs.Error.{IsOutOfMemory}
 use Rattle.leveldb_base.specs.History.{Entry}
 use Rattle.leveldb_base.specs.KeyTypes.{internal_cmp, sequence_part, user_part}
 use Rattle.leveldb_base.specs.Types.{Pair, seek_position}
 use Rattle.leveldb_base.specs.declared.cmp.Cmp.{Ghosts as CmpGhosts}
 use Rattle.leveldb_base.specs.declared.cmp.internal.InternalKeyCmp.{InternalKeyCmp}
 use Rattle.leveldb_base.specs.declared.error.Status.{Status}
-use Rattle.leveldb_base.specs.declared.error.StatusCode.TheVariants.{Corruption, NotSupported}
+use Rattle.leveldb_base.specs.declared.error.StatusCode.TheVariants.{Corruption}
 use Rattle.leveldb_env.specs.Compressor.{Coding}
-use Rattle.leveldb_env.specs.Env.{File, Files, HasCause, bytes_of}
+use Rattle.leveldb_env.specs.Env.{File, bytes_of}
 use Rattle.leveldb_env.specs.declared.env.Env.{Ghosts as EnvGhosts}
 use Rattle.leveldb_table.proofs.TableReaderLemmas.{index_read, opened_pass, opens_well, parts_there}
 use Rattle.leveldb_table.proofs.TableBlockLemmas.{fails_ok, fails_own, fails_refused, fails_weaker, reads_ok, reads_own, reads_refused, reads_weaker}
-use Rattle.leveldb_table.specs.Table.{AllPass, Part, filter_key, index_pair}
-use Rattle.leveldb_table.specs.TableBlock.{FailsFor, HasLackCode, IsUndecodedBy, KeepsDisk, ReadsFile}
-use Rattle.leveldb_table.specs.TableReader.{IsOpenedAs, filters_of, lets, lines_of}
+use Rattle.leveldb_table.specs.Table.{index_pair}
+use Rattle.leveldb_table.specs.TableBlock.{HasLackCode, IsUndecodedBy}
+use Rattle.leveldb_table.specs.TableReader.{lets, lines_of}
 use Rattle.leveldb_table.specs.TableReaderMoves.{FindsPair, LookUpFromLine, LookUpInTable}
 use Rattle.leveldb_table.specs.TableReaderWalk.{Outcome}
-use Rattle.leveldb_version.specs.Format.{Agrees, Format, IsTableFault, IsTableOf, LacksCompressor, Meaning}
+use Rattle.leveldb_version.specs.Format.{Agrees, Format, IsTableFault, IsTableOf, Meaning}
 use Rattle.leveldb_version.specs.Levels.{LiveTable}
-use Rattle.leveldb_version.specs.Paths.{table_path}
-use Rattle.leveldb_version.specs.Search.{AreOpenTablesMatched, FindsInTable, ForPairAt, IsUnreadable, OpensTablesOf, SearchesTable, lacks_block, unopened, untagged}
+use Rattle.leveldb_version.specs.Search.{AreOpenTablesMatched, FindsInTable, IsUnreadable, OpensTablesOf, SearchesTable, lacks_block, unopened, untagged}
 use Rattle.leveldb_version.specs.Store.{HasTable}
-use Rattle.leveldb_version.specs.TableCache.{ForBytesAt, GainsOwnBlocks, GetsPair, HasBytesAt, IsNoStoreTable, IsNotOpened, IsOpenOrThere, IsOpenedWith, IsTableUnopened, LacksBlockFor, MatchesFiles, MayFail, SomeTable, StoreTable, TableOptions, UsesTable, blocks_of, empty_cache, files_at, key_matches, key_order, missing, no_table, of_none, of_open, of_opened, path_at, renewed, store_of, table_at, tables_of}
+use Rattle.leveldb_version.specs.TableCache.{GainsOwnBlocks, GetsPair, HasBytesAt, IsNoStoreTable, IsNotOpened, IsOpenOrThere, IsOpenedWith, LacksBlockFor, MatchesFiles, MayFail, StoreTable, TableOptions, UsesTable, blocks_of, empty_cache, files_at, key_matches, missing, no_table, of_none, of_open, of_opened, path_at, renewed, store_of, table_at, tables_of}
 use Rattle.leveldb_version.specs.declared.table_cache.TableCache.{TableCache}
 use Rattle.leveldb_version.proofs.NewestLemmas.{SaysNewest, accepted_key, entries_are, says_newest, store_order}
 use Rattle.leveldb_version.proofs.SearchLemmas.{same_or_not}

@@ -6,7 +6,7 @@ use Rattle.leveldb_version.specs.CompactionLaws.{KeepsLevelsAndViews}
 use Rattle.leveldb_version.specs.Levels.{LiveTable, table_entries}
 use Rattle.leveldb_version.specs.ShownFrom.{CompactionsKeepShown, KeepsFrom, ShownIsKept}
 use Rattle.leveldb_version.specs.Writing.{EngineMemory, ShowsHistory}
-use Rattle.std.proofs.Common.{◌++◌, ◌≡◌, ◌≤◌, ◌⊎◌, Bool, List, append_assoc, arith, false, inl, inr, refl, subst, sym, true, ℕ, ⊎_elim}
+use Rattle.std.proofs.Common.{◌++◌, ◌≡◌, ◌≤◌, ◌⊎◌, List, append_assoc, arith, inl, inr, subst, sym, ℕ, ⊎_elim}
 use Rattle.std.specs.Prelude.{Contains}
 use Rattle.std.specs.declared.cmp.Ordering.{Ordering}
 

@@ -1,11 +1,10 @@
 -- A move in the table of a number, through a cache of open tables: where it leads, why it fails, and what it leaves.
-use Rattle.std.specs.Prelude.{IfErr, IfOk, IsErrAnd, IsSomeAnd, IsTrue, OnErr, OnOk, is_some}
-use Rattle.std.proofs.Common.{◌≡◌, ◌≢◌, ◌⊎◌, inl, inr, ⊎_elim, ℕ, ◌+◌, ◌<◌, ◌≤◌, ◌^◌, Bool, true, List, map, Option, None, Some, Result, Ok, Err, refl, sym, ◌∙◌, ap, subst, arith}
+use Rattle.std.specs.Prelude.{IfOk, IsErrAnd, IsSomeAnd, IsTrue, OnErr, OnOk, is_some}
+use Rattle.std.proofs.Common.{◌≡◌, ◌≢◌, inl, inr, ⊎_elim, ℕ, ◌<◌, ◌^◌, Bool, List, map, Option, None, Some, Result, Ok, Err, refl, sym, ◌∙◌, ap, subst, arith}
 use Rattle.std.specs.declared.cmp.Ordering.{Ordering}
 use Rattle.std.proofs.lemmas.Result.{on_ok_weaker}
 use Rattle.leveldb_base.specs.Cmp.{IsExactOrder, internal_accepts}
 use Rattle.leveldb_base.specs.Error.{IsOutOfMemory}
-use Rattle.leveldb_base.specs.KeyTypes.{internal_cmp}
 use Rattle.leveldb_base.specs.declared.cmp.Cmp.{Ghosts as CmpGhosts}
 use Rattle.leveldb_base.specs.declared.cmp.internal.InternalKeyCmp.{InternalKeyCmp}
 use Rattle.leveldb_base.specs.declared.error.Status.{Status}
@@ -19,11 +18,11 @@ use Rattle.leveldb_table.specs.BlockWalk.{pairs_over}
 use Rattle.leveldb_table.specs.Cache.{Cached}
 use Rattle.leveldb_table.specs.OpenTable.{file_of, id_of}
 use Rattle.leveldb_table.specs.Table.{Part, index_pair}
-use Rattle.leveldb_table.specs.TableBlock.{FailsFor, FileHas, ForBytesOf, KeepsDisk, ReadsFile}
+use Rattle.leveldb_table.specs.TableBlock.{FileHas, ForBytesOf, ReadsFile}
 use Rattle.leveldb_table.specs.TableReader.{HasParts, OpenTable, lines_of}
 use Rattle.leveldb_table.specs.TableReaderBlocks.{IsIndexed}
 use Rattle.leveldb_table.specs.TableReaderSteps.{StepsInTable, step_to}
-use Rattle.leveldb_table.specs.TableReaderWalk.{IsAtPosition, TablePlace, inner_position, table_position}
+use Rattle.leveldb_table.specs.TableReaderWalk.{TablePlace, inner_position, table_position}
 use Rattle.leveldb_table.specs.declared.block_cache.CachedBlock.{CachedBlock}
 use Rattle.leveldb_table.specs.declared.table_reader.walk.TableStep.{TableStep}
 use Rattle.leveldb_table.specs.declared.table_reader.walk.TableStep.TheVariants.{First, Last, NextBlock, BlockBefore, Seek}
@@ -34,7 +33,7 @@ use Rattle.leveldb_version.proofs.SearchLemmas.{same_or_not}
 use Rattle.leveldb_version.proofs.TableCacheCallLemmas.{matches_opened, matches_unopened, own_blocks, uses_unopened}
 use Rattle.leveldb_version.proofs.TableCacheLemmas.{FileHas-at, matches_blocks, matches_later, matches_renewed, refused_ok, renewed_closes, renewed_room, renewed_store}
 use Rattle.leveldb_version.proofs.TableStepLemmas.{step_leads, step_wants}
-use Rattle.leveldb_version.specs.Format.{Agrees, Format, IsTableFault, IsTableOf, Meaning}
+use Rattle.leveldb_version.specs.Format.{Agrees, IsTableFault, IsTableOf, Meaning}
 use Rattle.leveldb_version.specs.Paths.{table_path}
 use Rattle.leveldb_version.specs.Store.{any_user_key}
 use Rattle.leveldb_version.specs.TableCache.{HasBytesAt, IsNotOpened, IsOpenedWith, IsSameOrClosed, IsTableUnopened, IsUnopened, MatchesFiles, OpensNumbered, OpensTableAt, StoreTable, TableOptions, UsesTable, blocks_of, files_at, found_key, key_order, missing, no_table, path_at, renewed, store_of, table_at, tables_of}

@@ -1,12 +1,12 @@
 -- A table of the store as a table in a file: its keys rise from the file's smallest to its largest.
 use Rattle.std.specs.Prelude.{◌≢◌, Contains, IsSomeAnd}
-use Rattle.std.proofs.Common.{◌≡◌, ◌⊎◌, ⊎_elim, ℕ, ◌<◌, ◌^◌, true, List, [], ◌∷◌, ◌++◌, Option, Some, length, refl, sym, ◌∙◌, ap, subst, arith}
+use Rattle.std.proofs.Common.{◌≡◌, ⊎_elim, ℕ, ◌<◌, ◌^◌, true, List, [], ◌∷◌, ◌++◌, Option, Some, refl, sym, ◌∙◌, ap, subst, arith}
 use Rattle.std.proofs.lemmas.List.Elements.{Contains-push}
 use Rattle.std.specs.Cmp.{IsTotalOrder}
 use Rattle.std.specs.Ordering.{nat_cmp, ordering_reverse, ordering_then}
 use Rattle.std.specs.declared.cmp.Ordering.{Ordering}
 use Rattle.std.specs.declared.cmp.Ordering.TheVariants.{Equal, Greater, Less}
-use Rattle.leveldb_base.proofs.HistoryLemmas.{each_after, in_cases, in_front, in_none, in_rest}
+use Rattle.leveldb_base.proofs.HistoryLemmas.{in_cases, in_none}
 use Rattle.leveldb_base.specs.Cmp.{internal_accepts}
 use Rattle.leveldb_base.specs.Entries.{entries_of_pairs}
 use Rattle.leveldb_base.specs.History.{AreRising, IsBeforeAll}
@@ -14,8 +14,6 @@ use Rattle.leveldb_base.specs.KeyTypes.{internal_cmp, sequence_part, user_part}
 use Rattle.leveldb_base.specs.Types.{Pair}
 use Rattle.leveldb_env.specs.Env.{File, Files, bytes_of}
 use Rattle.leveldb_table.specs.Block.{KeysRise, RiseAfter}
-use Rattle.leveldb_table.specs.Table.{Part}
-use Rattle.leveldb_table.specs.TableReader.{pairs_in}
 use Rattle.leveldb_version.proofs.NewestLemmas.{entries_are}
 use Rattle.leveldb_version.proofs.TablesInTurnLemmas.{IsRun, of_all}
 use Rattle.leveldb_version.specs.Batches.{Each}
@@ -23,7 +21,6 @@ use Rattle.leveldb_version.specs.Format.{IsTableOf, Meaning}
 use Rattle.leveldb_version.specs.Levels.{LiveTable}
 use Rattle.leveldb_version.specs.Paths.{table_path}
 use Rattle.leveldb_version.specs.Store.{HasTable, IsInternalPair, any_user_key}
-use Rattle.leveldb_version.specs.TableCache.{HasBytesAt}
 use Rattle.leveldb_version.specs.TableMoves.{FileTable, IsTableAt, table_pairs}
 
 module _ {K : Type 0} {cmp : K → K → Ordering} (total : IsTotalOrder cmp) where

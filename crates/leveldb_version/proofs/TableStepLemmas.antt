@@ -1,6 +1,6 @@
 -- Where a step by the compressors of a format leads in a table that is one by what its ids mean, and why it fails there.
-use Rattle.std.specs.Prelude.{◌≢◌, IsSomeAnd, OnOk, OnErr, IfErr, slice_get}
-use Rattle.std.proofs.Common.{◌≡◌, ◌⊎◌, inl, inr, ℕ, zero, suc, ◌+◌, ◌-◌, ◌<◌, if◌then◌else◌, nat_lt, Bool, true, List, [], ◌∷◌, ◌++◌, length, map, Option, None, Some, Result, Ok, Err, refl, sym, ◌∙◌, ap, subst, arith}
+use Rattle.std.specs.Prelude.{◌≢◌, IsSomeAnd, slice_get}
+use Rattle.std.proofs.Common.{◌≡◌, inl, inr, ℕ, zero, suc, ◌+◌, ◌-◌, ◌<◌, if◌then◌else◌, nat_lt, Bool, true, List, [], ◌∷◌, ◌++◌, length, map, Option, None, Some, Ok, Err, refl, sym, ◌∙◌, ap, subst, arith}
 use Rattle.std.proofs.lemmas.Bool.Decides.{nat_tests}
 use Rattle.std.proofs.lemmas.List.{length-append, length-map}
 use Rattle.std.specs.declared.cmp.Ordering.{Ordering}
@@ -12,16 +12,15 @@ use Rattle.leveldb_base.specs.declared.error.Status.{Status}
 use Rattle.leveldb_env.specs.Compressor.{Decodes}
 use Rattle.leveldb_table.proofs.TableLemmas.{has_one_block}
 use Rattle.leveldb_table.proofs.TableReaderLemmas.{blocks_one}
-use Rattle.leveldb_table.proofs.TableReaderMovesLemmas.{last_none}
-use Rattle.leveldb_table.proofs.TableReaderWalkLemmas.{after_none, all_at, is_there_along, lacks_some, last_block, last_of_none, pairs_cut, part_at, parts_some, position_in, position_none, position_out, previous_block, same_handle, seek_after, seek_in, seek_none, to_block}
+use Rattle.leveldb_table.proofs.TableReaderWalkLemmas.{after_none, all_at, is_there_along, last_block, last_of_none, pairs_cut, part_at, parts_some, position_in, position_none, position_out, previous_block, same_handle, seek_after, seek_in, seek_none, to_block}
 use Rattle.leveldb_table.specs.BlockWalk.{pairs_over, position_over}
 use Rattle.leveldb_table.specs.Table.{HasBlockAt, IsPart, Part, index_pair}
 use Rattle.leveldb_table.specs.TableBlock.{LacksBlock, LacksLine, lacking, unnamed}
 use Rattle.leveldb_table.specs.TableReader.{HasParts, pairs_in}
 use Rattle.leveldb_table.specs.TableReaderBlocks.{IsAfterLine, IsBeforeBlock, IsIndexed}
-use Rattle.leveldb_table.specs.TableReaderMoves.{HasLine, InsideOr, ToBlock, ToFirstPair, ToKeyByLine, ToKeyInBlock, ToLastPair}
+use Rattle.leveldb_table.specs.TableReaderMoves.{HasLine, InsideOr, ToBlock, ToFirstPair, ToKeyByLine, ToLastPair}
 use Rattle.leveldb_table.specs.TableReaderSteps.{step_to}
-use Rattle.leveldb_table.specs.TableReaderWalk.{IsAtPair, IsAtPairOrNone, TablePlace, TablePosition, table_position}
+use Rattle.leveldb_table.specs.TableReaderWalk.{IsAtPair, IsAtPairOrNone, TablePlace, TablePosition}
 use Rattle.leveldb_table.specs.declared.table_reader.walk.TableStep.{TableStep}
 use Rattle.leveldb_table.specs.declared.table_reader.walk.TableStep.TheVariants.{First, Last, NextBlock, BlockBefore, Seek}
 use Rattle.leveldb_version.proofs.ReadTableLemmas.{Wants, block_more, lacks_block, same_outcome, value_of}

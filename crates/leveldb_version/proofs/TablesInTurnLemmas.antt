@@ -1,6 +1,6 @@
 -- Tables whose user keys rise from one to the next are one list that rises.
-use Rattle.std.specs.Prelude.{◌≢◌, All, Contains}
-use Rattle.std.proofs.Common.{◌≡◌, ◌⊎◌, ⊎_elim, ℕ, Bool, true, false, List, [], ◌∷◌, ◌++◌, refl, sym, ◌∙◌, ap, subst}
+use Rattle.std.specs.Prelude.{◌≢◌, Contains}
+use Rattle.std.proofs.Common.{◌≡◌, ⊎_elim, ℕ, Bool, true, false, List, [], ◌∷◌, ◌++◌, refl, ap, subst}
 use Rattle.std.proofs.lemmas.List.Elements.{Contains-append_cases}
 use Rattle.std.specs.Cmp.{IsTotalOrder}
 use Rattle.std.specs.List.{AllByRecursion}
@@ -19,7 +19,7 @@ use Rattle.leveldb_version.specs.Batches.{Each}
 use Rattle.leveldb_version.specs.Store.{any_user_key}
 use Rattle.leveldb_version.specs.TableMoves.{FileTable, table_pairs}
 use Rattle.leveldb_version.specs.VersionEdit.{NewFile}
-use Rattle.leveldb_version.specs.VersionIter.{table_part, table_parts}
+use Rattle.leveldb_version.specs.VersionIter.{table_parts}
 
 -- what holds of each element
 pub all_of : {A : Type 0} (P : A → Type 0) (xs : List A) → ((x : A) → Contains xs x → P x) → AllByRecursion P xs

@@ -7,7 +7,7 @@ use Rattle.std.specs.Option.{option_to_list}
 use Rattle.leveldb_base.proofs.EntriesLemmas.{map_in}
 use Rattle.leveldb_version.proofs.SearchLemmas.{all_from_contains}
 use Rattle.leveldb_version.specs.Levels.{LiveTable}
-use Rattle.leveldb_version.specs.VersionEdit.{Edit, Field, FieldFits, IsEncodable, NewFile, adds, comparator_is, deletes, fields_of, last_sequence_is, log_is, next_file_is, points, previous_log_is}
+use Rattle.leveldb_version.specs.VersionEdit.{Edit, FieldFits, IsEncodable, NewFile, adds, comparator_is, deletes, fields_of, last_sequence_is, log_is, next_file_is, points, previous_log_is}
 use Rattle.leveldb_version.specs.VersionSet.{FileSet, IsFullEdit, is_same_file, level_file}
 
 -- the tables of one edit of all live files are there once

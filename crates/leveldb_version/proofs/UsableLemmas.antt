@@ -1,25 +1,23 @@
 -- When a store may begin with edits, by what they leave.
-use Rattle.std.specs.Prelude.{◌≢◌, ◌↔◌, Contains, IfErr, OnOk, Result, Ok, Err, IsSome, IsTrue, All, fold, string_bytes}
-use Rattle.std.proofs.Common.{◌≡◌, ◌⊎◌, inl, inr, ⊎_elim, ℕ, ◌≤◌, ◌<◌, ◌+◌, Bool, true, false, List, [], ◌∷◌, ◌++◌, length, map, take, drop, get_or, Option, None, Some, refl, sym, ◌∙◌, ap, subst, append_assoc, arith}
+use Rattle.std.specs.Prelude.{Contains, IfErr, OnOk, Result, Ok, Err, IsSome, IsTrue, fold, string_bytes}
+use Rattle.std.proofs.Common.{◌≡◌, ◌⊎◌, inl, inr, ⊎_elim, ℕ, ◌≤◌, ◌<◌, ◌+◌, List, [], ◌∷◌, ◌++◌, length, map, take, drop, get_or, Option, None, Some, refl, sym, ◌∙◌, ap, subst, append_assoc, arith}
 use Rattle.std.specs.Option.{option_map}
 use Rattle.std.specs.declared.cmp.Ordering.{Ordering}
 use Rattle.std.specs.declared.cmp.Ordering.TheVariants.{Less, Equal, Greater}
 use Rattle.std.proofs.lemmas.Bool.{cases_lt}
 use Rattle.std.proofs.lemmas.List.{append-nil, map_more, map-append, take-append-drop}
 use Rattle.std.proofs.lemmas.List.Elements.{All-cons, All-contains, Contains-append_left, Contains-push, Contains-push_cases}
-use Rattle.leveldb_base.proofs.HistoryLemmas.{in_none, in_front, in_rest, in_cases}
+use Rattle.leveldb_base.proofs.HistoryLemmas.{in_front, in_rest}
 use Rattle.leveldb_base.specs.KeyTypes.{internal_cmp}
 use Rattle.leveldb_base.specs.declared.error.Status.{Status}
-use Rattle.leveldb_base.specs.declared.error.StatusCode.TheVariants.{Corruption, InvalidArgument, NotSupported}
+use Rattle.leveldb_base.specs.declared.error.StatusCode.TheVariants.{Corruption, NotSupported}
 use Rattle.leveldb_base.specs.declared.types.FileMetaData.{FileMetaData}
 use Rattle.leveldb_version.specs.FullEdit.{full_after}
-use Rattle.leveldb_version.specs.Levels.{AreDisjoint}
 use Rattle.leveldb_version.specs.Recover.{AreBeside, IsUsable, Overlap, ShareUserKey, WhyUnusable, no_comparator, no_log, no_next_file, no_last, other_comparator, number_too_great, no_range, overlapping, shared_user_key}
 use Rattle.leveldb_version.specs.Replay.{IsReplayOf}
-use Rattle.leveldb_version.specs.Store.{LastNumbersFit}
-use Rattle.leveldb_version.specs.Usable.{AreAllApart, ArePeers, ClashesWith, HasClash, HasStartNumbers, IsApartFrom, IsClash, IsOtherComparator, LacksStartNumber}
+use Rattle.leveldb_version.specs.Usable.{AreAllApart, ArePeers, HasClash, HasStartNumbers, IsOtherComparator, LacksStartNumber}
 use Rattle.leveldb_version.specs.VersionEdit.{Edit, NewFile, edit_of, empty_edit, new_file_of}
-use Rattle.leveldb_version.specs.VersionSet.{HaveKeyRanges, IsFullEdit, IsKeyRange, level_file, live_after}
+use Rattle.leveldb_version.specs.VersionSet.{HaveKeyRanges, IsFullEdit, IsKeyRange, live_after}
 use Rattle.leveldb_version.specs.declared.version_set.replay.Replayed.{Replayed}
 use Rattle.leveldb_version.proofs.FullEditLemmas.{full_stays_full}
 use Rattle.leveldb_version.proofs.VersionSetLemmas.{full_edit_is_full}

@@ -1,14 +1,13 @@
 -- What the steps of a walk over the tables of files come to, and its moves.
-use Rattle.std.specs.Prelude.{IfErr, IfOk, IsErrAnd, IsSome, OnErr, OnOk, is_some, slice_get, slice_index_or}
+use Rattle.std.specs.Prelude.{IfErr, IfOk, IsErrAnd, IsSome, OnErr, OnOk, is_some, slice_get}
 use Rattle.std.proofs.Common.{◌≡◌, ◌≢◌, ◌⊎◌, inl, inr, ⊎_elim, ℕ, zero, suc, ◌+◌, ◌-◌, ◌<◌, ◌≤◌, ◌^◌, Bool, true, false, List, [], ◌∷◌, ◌++◌, length, map, Option, None, Some, Result, Ok, Err, refl, sym, ◌∙◌, ap, subst, arith}
 use Rattle.std.proofs.lemmas.Bool.{cases_lt}
 use Rattle.std.proofs.lemmas.List.{length-append, length-map}
 use Rattle.std.proofs.lemmas.Result.{on_ok_weaker}
 use Rattle.std.specs.declared.cmp.Ordering.{Ordering}
-use Rattle.leveldb_base.specs.Cmp.{IsExactOrder}
 use Rattle.leveldb_base.specs.Error.{IsOutOfMemory}
 use Rattle.leveldb_base.specs.KeyTypes.{internal_cmp}
-use Rattle.leveldb_base.specs.Types.{Pair, last_position, next_position, pair_at, position_within, previous_position, seek_position}
+use Rattle.leveldb_base.specs.Types.{Pair, last_position, next_position, pair_at, position_within}
 use Rattle.leveldb_base.specs.declared.cmp.Cmp.{Ghosts as CmpGhosts}
 use Rattle.leveldb_base.specs.declared.cmp.internal.InternalKeyCmp.{InternalKeyCmp}
 use Rattle.leveldb_base.specs.declared.error.Status.{Status}
@@ -33,7 +32,7 @@ use Rattle.leveldb_version.proofs.TableMoveLemmas.{left_indexed, left_position}
 use Rattle.leveldb_version.specs.Batches.{Each}
 use Rattle.leveldb_version.specs.Format.{IsTableFault, LacksCompressor, Meaning}
 use Rattle.leveldb_version.specs.Store.{IsLastKey}
-use Rattle.leveldb_version.specs.TableCache.{IsSameOrClosed, TableOptions, files_at, path_at, table_at}
+use Rattle.leveldb_version.specs.TableCache.{IsSameOrClosed, files_at, path_at, table_at}
 use Rattle.leveldb_version.specs.TableMoves.{FileTable, IsAtInTable, IsIndexedFor, IsLedTo, IsTableAt, IsToEnd, LeavesPairs, MovesInNumbered, StepsInBlock, core_here, core_position, table_pairs}
 use Rattle.leveldb_version.specs.VersionEdit.{new_file_of}
 use Rattle.leveldb_version.specs.VersionIter.{AreOpenGiven, AreTablesThere, FailsInTables, FailsOr, IsAtInTables, IsOverTables, KeepsReading, MovesThere, MovesToFile, StaysThere, StepsInFile, TurnsTo, reading, table_in, table_part, table_parts, version_here}

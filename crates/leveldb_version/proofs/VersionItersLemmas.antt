@@ -1,6 +1,6 @@
 -- Walks that are appended one by one.
 use Rattle.std.specs.Prelude.{All, flat_map, reverse}
-use Rattle.std.proofs.Common.{◌≡◌, ⊎_elim, ℕ, zero, suc, ◌==◌, ◌+◌, ◌-◌, ◌<◌, ◌≤◌, Bool, true, false, List, [], ◌∷◌, ◌++◌, None, length, map, take, drop, refl, sym, ◌∙◌, ap, append_assoc, subst, arith}
+use Rattle.std.proofs.Common.{◌≡◌, ⊎_elim, ℕ, zero, suc, ◌==◌, ◌-◌, ◌<◌, ◌≤◌, Bool, true, false, List, [], ◌∷◌, ◌++◌, None, length, map, take, drop, refl, sym, ◌∙◌, ap, append_assoc, subst, arith}
 use Rattle.std.proofs.lemmas.Bool.{cases_lt, eq-eqb, eqb-true}
 use Rattle.std.proofs.lemmas.List.{append-nil, length-append, map-append}
 use Rattle.std.proofs.lemmas.List.Concat.{flat_map-append}
@@ -9,7 +9,7 @@ use Rattle.std.proofs.lemmas.Grind.{reverse_onto}
 use Rattle.leveldb_base.specs.declared.types.FileMetaData.{FileMetaData}
 use Rattle.leveldb_version.proofs.SearchLemmas.{empty}
 use Rattle.leveldb_version.specs.Version.{VersionValue, at_level}
-use Rattle.leveldb_version.specs.VersionIters.{AreVersionIters, AreWalksOf, each_alone, files_of_iters, files_of_walks, if_some, levels_of_walks}
+use Rattle.leveldb_version.specs.VersionIters.{AreVersionIters, AreWalksOf, each_alone, files_of_iters, if_some, levels_of_walks}
 use Rattle.leveldb_version.specs.declared.version_iter.VersionIter.{VersionIter}
 
 -- the levels from 1 on

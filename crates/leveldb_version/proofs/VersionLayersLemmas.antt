@@ -1,6 +1,6 @@
 -- A version's walks are over layers of entries, the newer first.
 use Rattle.std.specs.Prelude.{Contains, slice_get}
-use Rattle.std.proofs.Common.{◌≡◌, ◌⊎◌, inl, inr, ℕ, zero, suc, ◌<◌, ◌^◌, List, [], ◌∷◌, None, Option, Some, length, map, refl, sym, ◌∙◌, ap, subst, arith}
+use Rattle.std.proofs.Common.{◌≡◌, inl, inr, ℕ, zero, suc, ◌<◌, ◌^◌, List, [], ◌∷◌, None, Some, map, refl, sym, ◌∙◌, ap, subst, arith}
 use Rattle.std.proofs.lemmas.List.Elements.{All-contains}
 use Rattle.leveldb_base.proofs.EntriesLemmas.{in_map, map_in}
 use Rattle.leveldb_base.proofs.HistoryLemmas.{in_front, in_rest}

@@ -1,8 +1,7 @@
 -- The tables of a version's walks, in a world where its files are tables in levels.
-use Rattle.std.specs.Prelude.{All, Contains}
+use Rattle.std.specs.Prelude.{Contains}
 use Rattle.std.proofs.Common.{◌≡◌, ⊎_elim, ℕ, ◌<◌, ◌^◌, true, List, [], ◌∷◌, None, map, refl, sym, ◌∙◌, ap, subst}
 use Rattle.std.proofs.lemmas.List.Elements.{All-contains}
-use Rattle.std.specs.Cmp.{IsTotalOrder}
 use Rattle.std.specs.declared.cmp.Ordering.{Ordering}
 use Rattle.leveldb_base.proofs.EntriesLemmas.{in_map, map_in}
 use Rattle.leveldb_base.proofs.HistoryLemmas.{in_cases, in_front, in_none, in_rest}
@@ -32,15 +31,15 @@ use Rattle.leveldb_version.proofs.VersionLemmas.{internal_total}
 use Rattle.leveldb_version.proofs.WalkFilesLemmas.{walk_turns, walk_within}
 use Rattle.leveldb_version.proofs.WalkOrderLemmas.{keys_apart}
 use Rattle.leveldb_version.specs.Batches.{Each}
-use Rattle.leveldb_version.specs.Format.{IsTableOf, Meaning}
+use Rattle.leveldb_version.specs.Format.{Meaning}
 use Rattle.leveldb_version.specs.Levels.{LiveTable}
 use Rattle.leveldb_version.specs.Paths.{table_path}
-use Rattle.leveldb_version.specs.Store.{HasTable, IsInternalPair}
-use Rattle.leveldb_version.specs.TableCache.{files_at, path_at, store_of}
+use Rattle.leveldb_version.specs.Store.{IsInternalPair}
+use Rattle.leveldb_version.specs.TableCache.{files_at, store_of}
 use Rattle.leveldb_version.specs.TableMoves.{FileTable, IsIndexedFor, IsTableAt, table_pairs}
 use Rattle.leveldb_version.specs.Version.{AreInVersionOrder, VersionValue, new_files_of}
 use Rattle.leveldb_version.specs.VersionEdit.{NewFile, new_file_of}
-use Rattle.leveldb_version.specs.VersionIter.{IsOverTables, reading, table_in, table_part, table_parts}
+use Rattle.leveldb_version.specs.VersionIter.{IsOverTables, table_in, table_part, table_parts}
 use Rattle.leveldb_version.specs.VersionIters.{AreTablesToWalk, OrdersInternalKeys, files_of_walks}
 use Rattle.leveldb_version.specs.declared.table_cache.moves.ReadTables.{ReadTables}
 use Rattle.leveldb_version.specs.declared.version_iter.VersionIter.{VersionIter}

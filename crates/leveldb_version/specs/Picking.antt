@@ -1,10 +1,10 @@
 -- Compactions: what one is, and which one a version asks for.
-use Rattle.std.specs.Prelude.{◌≡◌, ◌<◌, ◌*◌, ◌+◌, ◌⊎◌, ◌↔◌, ◌||◌, ◌==◌, ◌∷◌, [], false, true, ℕ, Bool, if◌then◌else◌, nat_lt, List, Option, None, Some, is_some, Contains, IfSome, IsSomeAnd, find, length, option_and_then, slice_get}
+use Rattle.std.specs.Prelude.{◌≡◌, ◌⊎◌, ◌↔◌, ◌||◌, ◌==◌, false, true, ℕ, Bool, if◌then◌else◌, nat_lt, List, Option, None, Some, is_some, Contains, IfSome, IsSomeAnd, find, length, option_and_then, slice_get}
 use Rattle.std.specs.List.Sorted.{IsStrictlySortedBy}
 use Rattle.std.specs.Option.{option_map_or, option_or}
 use Rattle.std.specs.Ordering.{is_gt}
 use Rattle.std.specs.declared.cmp.Ordering.{Ordering}
-use Rattle.leveldb_base.specs.KeyTypes.{internal_cmp, user_part}
+use Rattle.leveldb_base.specs.KeyTypes.{internal_cmp}
 use Rattle.leveldb_version.specs.Compaction.{MayCompact}
 use Rattle.leveldb_version.specs.CompactionEdit.{SetsPointer}
 use Rattle.leveldb_version.specs.Cut.{CutValue}

@@ -1,6 +1,5 @@
 -- Moves of a walk over the table of a number, which a cache of open tables opens where it isn't open.
-use Rattle.std.specs.Prelude.{◌≡◌, ◌≢◌, ◌⊎◌, ◌<◌, ◌≤◌, ◌^◌, ℕ, Bool, true, List, length, Option, None, Some, Result, Ok, false, IfOk, IfErr, IsErrAnd, OnErr, OnOk, IsTrue, is_some}
-use Rattle.std.specs.Borrow.{Bor}
+use Rattle.std.specs.Prelude.{◌≡◌, ◌≢◌, ◌<◌, ◌≤◌, ◌^◌, ℕ, Bool, true, List, Option, None, Some, Result, Ok, false, IfOk, IsErrAnd, OnErr, OnOk, IsTrue, is_some}
 use Rattle.std.specs.declared.cmp.Ordering.{Ordering}
 use Rattle.leveldb_base.specs.Cmp.{internal_accepts}
 use Rattle.leveldb_base.specs.Error.{IsOutOfMemory}
@@ -12,7 +11,6 @@ use Rattle.leveldb_base.specs.declared.error.StatusCode.TheVariants.{NotSupporte
 use Rattle.leveldb_env.specs.Compressor.{Codings}
 use Rattle.leveldb_env.specs.Env.{Files}
 use Rattle.leveldb_env.specs.declared.env.Env.{Ghosts as EnvGhosts}
-use Rattle.leveldb_env.specs.declared.filter.FilterPolicy.{Ghosts as FilterGhosts}
 use Rattle.leveldb_table.specs.BlockWalk.{position_over}
 use Rattle.leveldb_table.specs.Cache.{Cached}
 use Rattle.leveldb_table.specs.OpenTable.{file_of, id_of}

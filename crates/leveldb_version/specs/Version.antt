@@ -1,5 +1,5 @@
 -- A version: the files of a store by levels, and the file that is chosen for a compaction.
-use Rattle.std.specs.Prelude.{◌≡◌, ◌<◌, ◌≤◌, ◌^◌, ◌==◌, ◌-◌, ◌/◌, ◌&&◌, ℕ, Bool, false, true, if◌then◌else◌, nat_le, List, [], ◌∷◌, ◌++◌, Option, None, Some, is_none, All, IsPermutation, IsSorted, drop, filter, length, map, max, take}
+use Rattle.std.specs.Prelude.{◌≡◌, ◌<◌, ◌≤◌, ◌^◌, ◌==◌, ◌-◌, ◌/◌, ◌&&◌, ℕ, Bool, false, true, if◌then◌else◌, nat_le, List, Option, None, Some, is_none, All, IsPermutation, IsSorted, drop, filter, length, map, max, take}
 use Rattle.std.specs.Borrow.{Bor}
 use Rattle.std.specs.List.{list_any}
 use Rattle.std.specs.Ordering.{nat_cmp, ordering_then}

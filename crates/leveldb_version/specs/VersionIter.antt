@@ -1,6 +1,5 @@
 -- Walks over the tables of files, one after the other: which list such a walk is over, and where it is.
-use Rattle.std.specs.Prelude.{◌≡◌, ◌⊎◌, ◌-◌, ◌<◌, ◌≤◌, ◌^◌, ℕ, Bool, Result, IfOk, IfErr, IsSome, OnOk, OnErr, is_some, List, [], ◌∷◌, Option, None, Some, length, map, slice_get, slice_index_or}
-use Rattle.std.specs.Borrow.{Bor}
+use Rattle.std.specs.Prelude.{◌≡◌, ◌⊎◌, ◌-◌, ◌<◌, ◌≤◌, ◌^◌, ℕ, Bool, Result, IfOk, IfErr, IsSome, OnOk, OnErr, is_some, List, [], Option, None, Some, length, map, slice_index_or}
 use Rattle.std.specs.Ordering.{is_lt}
 use Rattle.std.specs.declared.cmp.Ordering.{Ordering}
 use Rattle.leveldb_base.specs.Error.{IsOutOfMemory}

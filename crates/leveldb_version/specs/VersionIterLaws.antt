@@ -1,6 +1,6 @@
 -- The laws of a walk over the tables of files. They are in specs/ since its impl of `Walk` proves them
 -- by this, and the checker takes no term of proofs/ there.
-use Rattle.std.specs.Prelude.{◌⊎◌, ◌<◌, ◌≤◌, ◌^◌, ◌-◌, IsTrue}
+use Rattle.std.specs.Prelude.{◌<◌, ◌≤◌, ◌^◌}
 use Rattle.std.proofs.Common.{◌≡◌, ℕ, List, Option, None, Some, refl, sym, ◌∙◌, ap, subst, inl, inr, arith}
 use Rattle.std.specs.Borrow.{Bor}
 use Rattle.std.specs.declared.cmp.Ordering.{Ordering}
@@ -27,7 +27,6 @@ use Rattle.leveldb_version.specs.TableCache.{TableOptions, files_at, options_by,
 use Rattle.leveldb_version.specs.TableMoves.{AreTablesMatched, FileTable, IsAtInTable, IsIndexedFor, IsTableAt, KeepsTables, core_here, table_pairs}
 use Rattle.leveldb_version.specs.VersionEdit.{new_file_of}
 use Rattle.leveldb_version.specs.VersionIter.{AreTablesThere, FailsInTables, FailsOr, IsAtInTables, IsOverTables, KeepsReading, reading, table_in, table_parts, version_here}
-use Rattle.leveldb_version.specs.declared.table_cache.TableCache.{TableCache}
 use Rattle.leveldb_version.specs.declared.table_cache.moves.ReadTables.{ReadTables}
 use Rattle.leveldb_version.specs.declared.version_iter.VersionIter.{VersionIter}
 

@@ -1,7 +1,6 @@
 -- The walks over a version's tables: one for each file of level 0, the newest first, and one for each
 -- deeper level that has files.
-use Rattle.std.specs.Prelude.{◌≡◌, ◌↔◌, ◌<◌, ◌^◌, ℕ, true, List, [], ◌∷◌, ◌++◌, All, Contains, IsPermutation, Option, None, filter, flat_map, length, map, reverse, slice_get, Some}
-use Rattle.std.specs.Borrow.{Bor}
+use Rattle.std.specs.Prelude.{◌≡◌, ◌↔◌, ◌<◌, ◌^◌, ℕ, true, List, [], ◌∷◌, ◌++◌, All, Contains, IsPermutation, None, flat_map, length, map, reverse, slice_get, Some}
 use Rattle.std.specs.List.{IsDistinct}
 use Rattle.std.specs.declared.cmp.Ordering.{Ordering}
 use Rattle.leveldb_base.specs.Cmp.{IsExactOrder, internal_accepts}
@@ -16,10 +15,10 @@ use Rattle.leveldb_base.specs.declared.types.FileMetaData.{FileMetaData}
 use Rattle.leveldb_env.specs.Compressor.{Codings}
 use Rattle.leveldb_env.specs.declared.env.Env.{Ghosts as EnvGhosts}
 use Rattle.leveldb_env.specs.declared.filter.FilterPolicy.{Ghosts as FilterGhosts}
-use Rattle.leveldb_iter.specs.Walk.{KeyOrder, key_order}
+use Rattle.leveldb_iter.specs.Walk.{key_order}
 use Rattle.leveldb_version.specs.Batches.{Each}
 use Rattle.leveldb_version.specs.Format.{Agrees, IsTableOf, Meaning}
-use Rattle.leveldb_version.specs.Levels.{IsBounded, LevelOrder, LiveTable, table_entries}
+use Rattle.leveldb_version.specs.Levels.{LevelOrder, LiveTable, table_entries}
 use Rattle.leveldb_version.specs.Store.{HasTable, IsInternalPair, any_user_key}
 use Rattle.leveldb_version.specs.TableCache.{files_at, store_of}
 use Rattle.leveldb_version.specs.TableMoves.{AreTablesMatched}

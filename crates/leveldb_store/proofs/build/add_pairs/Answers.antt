@@ -1,6 +1,6 @@
-use Rattle.std.proofs.Common.{◌≡◌, ◌+◌, ◌∙◌, inl, inr, List, Some, None, Err, ap, arith, refl, subst, sym, take}
+use Rattle.std.proofs.Common.{◌≡◌, ◌∙◌, inr, Some, None, arith, refl, subst, sym, take}
 use Rattle.std.proofs.lemmas.Result.{err_from_is_err_and}
-use Rattle.leveldb_base.specs.Types.{Pair, next_position, pair_at, position_within}
+use Rattle.leveldb_base.specs.Types.{Pair, pair_at, position_within}
 use Rattle.leveldb_env.specs.EnvFile.{opened}
 use Rattle.leveldb_env.specs.contracts.compressor.CompressorListCompressors.TheImpl.{ghosts as compressors}
 use Rattle.leveldb_iter.specs.Walk.{key_order}

@@ -1,12 +1,11 @@
 use Rattle.std.proofs.Common.{◌≡◌, ◌∙◌, inl, inr, subst, sym, refl, None, Some}
 use Rattle.std.proofs.lemmas.Result.{err_from_is_err_and}
-use Rattle.leveldb_base.specs.Types.{Pair, pair_at, position_within}
+use Rattle.leveldb_base.specs.Types.{pair_at, position_within}
 use Rattle.leveldb_base.specs.contracts.cmp.internal.InternalKeyCmpCmp.TheImpl.{ghosts as key_cmp}
 use Rattle.leveldb_env.specs.Env.{AreBytes}
 use Rattle.leveldb_env.specs.contracts.compressor.CompressorListCompressors.TheImpl.{ghosts as compressors}
 use Rattle.leveldb_env.specs.contracts.filter.internal.InternalFilterPolicyFilterPolicy.TheImpl.{ghosts as key_policy}
 use Rattle.leveldb_iter.specs.Walk.{key_order}
-use Rattle.leveldb_version.specs.Paths.{table_path}
 use Rattle.leveldb_version.specs.Store.{IsFirstKey}
 use Rattle.leveldb_store.specs.BuildTable.{choices_of}
 use Rattle.leveldb_store.proofs.BuildTableLemmas.{MakesTable-before, MakesTable-none, MakesTable-written, built_of_store, first_key_is, first_some, none_first, stays_over-none, stays_over-trans, written_why}

@@ -1,7 +1,7 @@
-use Rattle.std.proofs.Common.{◌≡◌, ◌∙◌, ◌⊎◌, List, subst, sym}
+use Rattle.std.proofs.Common.{◌∙◌, ◌⊎◌, subst, sym}
 use Rattle.std.proofs.lemmas.Result.{err_from_is_err_and}
 use Rattle.std.specs.Prelude.{[]}
-use Rattle.leveldb_base.specs.Types.{Pair, position_within}
+use Rattle.leveldb_base.specs.Types.{position_within}
 use Rattle.leveldb_base.specs.declared.types.FileMetaData.{FileMetaData}
 use Rattle.leveldb_env.specs.contracts.compressor.CompressorListCompressors.TheImpl.{ghosts as compressors}
 use Rattle.leveldb_iter.specs.Walk.{key_order}

@@ -1,4 +1,4 @@
-use Rattle.std.proofs.Common.{◌≡◌, ◌∙◌, Ok, ap, refl, subst, sym}
+use Rattle.std.proofs.Common.{◌∙◌, ap, refl, subst, sym}
 use Rattle.std.proofs.lemmas.Result.{err_from_is_err_and}
 use Rattle.leveldb_store.proofs.CompactPickedLemmas.{compacted_once, compacted_tidied}
 use Rattle.leveldb_store.proofs.CompactedLemmas.{compacts_then, nothing_compacted}

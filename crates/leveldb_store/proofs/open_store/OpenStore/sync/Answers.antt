@@ -1,7 +1,6 @@
-use Rattle.std.proofs.Common.{◌≡◌, ◌∙◌, ◌<◌, ◌^◌, List, ℕ, ap, subst, sym}
+use Rattle.std.proofs.Common.{◌≡◌, ◌∙◌, List, ℕ, ap, subst, sym}
 use Rattle.leveldb_mem.specs.Log.LogFile.{SyncsRecords}
 use Rattle.leveldb_version.specs.Paths.{log_path}
-use Rattle.leveldb_store.specs.Write.{SyncsLog}
 use Rattle.leveldb_store.proofs.SwitchLemmas.{sync_spares}
 use Rattle.leveldb_store.proofs.SoundWriteLemmas.{sync_sound}
 use Rattle.leveldb_store.proofs.SyncBatchLemmas.{syncs_batches}

@@ -1,5 +1,5 @@
 use Rattle.std.proofs.Common.{◌≡◌, ◌∙◌, ap, map, subst, sym}
-use Rattle.std.specs.Prelude.{IsTrue, string_bytes}
+use Rattle.std.specs.Prelude.{string_bytes}
 use Rattle.leveldb_env.proofs.EnvLemmas.{Run-call}
 use Rattle.leveldb_env.specs.Env.{Files, ListsChildren}
 use Rattle.leveldb_store.specs.Damage.{IsDamagedFile}

@@ -1,4 +1,4 @@
-use Rattle.std.proofs.Common.{◌≡◌, ◌∙◌, false, refl, rules, true}
+use Rattle.std.proofs.Common.{◌≡◌, false, refl, rules, true}
 use Rattle.leveldb_env.specs.Env.{in_folder}
 use Rattle.leveldb_store.proofs.DamageLemmas.{not_aside}
 use Rattle.leveldb_store.proofs.WholeLogLemmas.{clean_undamaged}

@@ -1,4 +1,4 @@
-use Rattle.std.proofs.Common.{◌≡◌, ◌∙◌, ap, arith, map, refl, subst, sym, take}
+use Rattle.std.proofs.Common.{◌≡◌, ◌∙◌, arith, map, refl, subst, sym, take}
 use Rattle.std.specs.Prelude.{Contains, string_bytes}
 use Rattle.std.proofs.lemmas.List.{length-map, take_all}
 use Rattle.leveldb_env.specs.Env.{Files}

@@ -1,10 +1,10 @@
-use Rattle.std.proofs.Common.{Err, Ok, ◌≡◌, ◌∙◌, ◌<◌, ◌^◌, ℕ, ap, false, subst, sym, true}
+use Rattle.std.proofs.Common.{Err, Ok, ◌∙◌, ap, false, subst, sym, true}
 use Rattle.std.specs.Prelude.{All, IsTrue}
 use Rattle.std.proofs.lemmas.Result.{err_from_is_err_and}
 use Rattle.leveldb_base.proofs.HistoryLemmas.{exact_order}
 use Rattle.leveldb_env.specs.Env.{FilesUnchanged, Run}
 use Rattle.leveldb_version.proofs.RecoveredLemmas.{read_is_recovered, unread_is_unrecovered}
-use Rattle.leveldb_version.specs.VersionSetValue.{VersionSetValue, broken, new_version_set, unmade}
+use Rattle.leveldb_version.specs.VersionSetValue.{VersionSetValue, new_version_set, unmade}
 use Rattle.leveldb_store.specs.Listing.{MatchesName, names_of}
 use Rattle.leveldb_store.specs.OpeningSteps.{ChecksSet, MarksNames}
 use Rattle.leveldb_store.proofs.ListingLemmas.{checks_listed, marks_listed, numbers_listed}

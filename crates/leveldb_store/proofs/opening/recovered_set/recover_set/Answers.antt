@@ -1,11 +1,10 @@
-use Rattle.std.proofs.Common.{Err, Ok, ◌≡◌, ◌⊎◌, ◌<◌, ◌^◌, ℕ, ap, subst, sym}
+use Rattle.std.proofs.Common.{Err, Ok, subst, sym}
 use Rattle.std.specs.Prelude.{All}
 use Rattle.std.proofs.lemmas.Result.{err_from_is_err_and}
 use Rattle.leveldb_base.proofs.HistoryLemmas.{exact_order}
-use Rattle.leveldb_base.specs.Error.{IsOutOfMemory}
-use Rattle.leveldb_version.specs.VersionSetValue.{AreFileNumbersUsedUp, VersionSetValue, new_version_set}
+use Rattle.leveldb_version.specs.VersionSetValue.{new_version_set}
 use Rattle.leveldb_store.specs.Listing.{MatchesName, names_of}
-use Rattle.leveldb_store.specs.OpeningSteps.{ChecksSet, HasNumber, MarksNames}
+use Rattle.leveldb_store.specs.OpeningSteps.{ChecksSet, MarksNames}
 use Rattle.leveldb_store.proofs.ListingLemmas.{checks_listed, marks_listed, numbers_listed}
 use Rattle.leveldb_store.proofs.RecoverSetLemmas.{is_recovered, not_recovered, unchecked, unlisted, unnumbered}
 use Rattle.leveldb_store.proofs.opening.recovered_set.recover_set.Goals as goal

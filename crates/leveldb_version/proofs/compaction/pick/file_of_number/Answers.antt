@@ -1,4 +1,4 @@
-use Rattle.std.proofs.Common.{◌≡◌, ◌==◌, Bool, sym}
+use Rattle.std.proofs.Common.{◌==◌, Bool, sym}
 use Rattle.std.proofs.lemmas.Bool.{eq-eqb, eqb-true}
 use Rattle.leveldb_base.proofs.OrderLemmas.{is_false}
 use Rattle.leveldb_version.specs.VersionEdit.{NewFile, new_file_of}

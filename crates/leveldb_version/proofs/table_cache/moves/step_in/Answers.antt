@@ -1,4 +1,4 @@
-use Rattle.std.proofs.Common.{◌≡◌, None, Option, Some, refl, subst, sym}
+use Rattle.std.proofs.Common.{◌≡◌, None, Option, refl, subst, sym}
 use Rattle.leveldb_version.specs.TableMoves.{IsWalkIn, stepped}
 use Rattle.leveldb_version.proofs.table_cache.moves.step_in.Goals as goal
 

@@ -1,9 +1,8 @@
-use Rattle.std.proofs.Common.{◌≡◌, ◌∙◌, ◌<◌, ◌^◌, ◌≤◌, List, None, Some, ap, arith, length, map, refl, subst, sym, ℕ}
+use Rattle.std.proofs.Common.{◌∙◌, ◌<◌, ◌^◌, List, None, Some, ap, arith, map, refl, subst, sym, ℕ}
 use Rattle.std.specs.List.Sorted.{IsNonDecreasingBy}
 use Rattle.std.specs.Prelude.{Contains}
 use Rattle.std.specs.declared.cmp.Ordering.{Ordering}
 use Rattle.leveldb_base.proofs.HistoryLemmas.{exact_order}
-use Rattle.leveldb_base.specs.KeyTypes.{user_part}
 use Rattle.leveldb_base.specs.declared.types.FileMetaData.{FileMetaData}
 use Rattle.leveldb_env.specs.contracts.compressor.CompressorListCompressors.TheImpl.{ghosts as compressors}
 use Rattle.leveldb_version.specs.Format.{format_of}

@@ -4,7 +4,7 @@ use Rattle.leveldb_version.specs.Compaction.{closed_range}
 use Rattle.leveldb_version.specs.Overlap.{UserRange, overlapping, overlaps}
 use Rattle.leveldb_version.specs.Summary.{files_of_level, total_size}
 use Rattle.leveldb_version.specs.Version.{VersionValue, new_files_of}
-use Rattle.leveldb_version.specs.VersionEdit.{NewFile, new_file_of}
+use Rattle.leveldb_version.specs.VersionEdit.{new_file_of}
 use Rattle.leveldb_version.proofs.VersionLemmas.{at_level_map}
 use Rattle.leveldb_version.proofs.version.Version.size_between.Goals as goal
 

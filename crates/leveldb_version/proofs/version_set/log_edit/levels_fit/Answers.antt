@@ -1,4 +1,4 @@
-use Rattle.std.proofs.Common.{◌≡◌, ◌∙◌, ◌<◌, ℕ, sym}
+use Rattle.std.proofs.Common.{◌∙◌, ◌<◌, sym}
 use Rattle.std.proofs.lemmas.List.Elements.{All-map}
 use Rattle.leveldb_version.specs.VersionEdit.{NewFile, Pointer, new_file_of, pointer_of}
 use Rattle.leveldb_version.proofs.LogEditLemmas.{All-unmap}

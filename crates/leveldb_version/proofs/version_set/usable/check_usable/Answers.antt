@@ -1,4 +1,4 @@
-use Rattle.std.proofs.Common.{List, Option, ap, subst, sym, ℕ}
+use Rattle.std.proofs.Common.{List, Option, subst, sym, ℕ}
 use Rattle.std.specs.Prelude.{string_bytes}
 use Rattle.std.specs.Option.{option_map}
 use Rattle.std.proofs.lemmas.Result.{err_from_is_err_and}

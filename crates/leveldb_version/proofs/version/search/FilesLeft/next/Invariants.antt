@@ -1,4 +1,4 @@
-use Rattle.std.proofs.Common.{◌≡◌, length, map, ℕ}
+use Rattle.std.proofs.Common.{◌≡◌, length, map}
 use Rattle.std.specs.Prelude.{All}
 use Rattle.leveldb_version.proofs.SearchLemmas.{AreLeft}
 use Rattle.leveldb_version.specs.VersionEdit.{new_file_of}

@@ -1,14 +1,12 @@
-use Rattle.std.proofs.Common.{◌≡◌, ◌++◌, ◌∷◌, ◌∙◌, ◌+◌, ◌-◌, ◌<◌, ◌≤◌, List, [], None, Some, Option, ap, arith, drop, length, map, refl, rules, subst, sym, take, ℕ}
-use Rattle.std.proofs.lemmas.List.{length-append, length-drop, length-map, take_all}
+use Rattle.std.proofs.Common.{◌∙◌, ◌<◌, List, None, ap, arith, length, map, refl, rules, subst, sym, ℕ}
+use Rattle.std.proofs.lemmas.List.{length-drop}
 use Rattle.std.proofs.lemmas.List.Elements.{All-drop}
-use Rattle.std.specs.Borrow.{Bor}
 use Rattle.std.specs.Option.{option_copied, option_map}
-use Rattle.std.specs.Prelude.{All, Contains, IsTrue}
+use Rattle.std.specs.Prelude.{All}
 use Rattle.leveldb_base.specs.CmpLaws.{total_order}
 use Rattle.leveldb_base.specs.declared.types.FileMetaData.{FileMetaData}
-use Rattle.leveldb_version.specs.Overlap.{AreDisjointRanges, IsFileFor}
 use Rattle.leveldb_version.specs.Search.{FilesLeftValue, TakesNextFile}
-use Rattle.leveldb_version.specs.VersionEdit.{NewFile, new_file_of}
+use Rattle.leveldb_version.specs.VersionEdit.{new_file_of}
 use Rattle.leveldb_version.proofs.SearchLemmas.{AreLeft, first_deep, left_all, left_none, level_at, level_passed, level_taken, no_first, rest_is, some_copied}
 use Rattle.leveldb_version.proofs.VersionLemmas.{levels_rise}
 use Rattle.leveldb_version.proofs.version.search.FilesLeft.next_of_deeper.Goals as goal

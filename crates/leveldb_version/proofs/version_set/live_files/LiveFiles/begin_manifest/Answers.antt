@@ -1,4 +1,4 @@
-use Rattle.std.proofs.Common.{◌≡◌, ◌∙◌, ◌∷◌, List, [], ℕ, Ok, Option, Some, ap, false, rules, sym}
+use Rattle.std.proofs.Common.{◌≡◌, ◌∙◌, ◌∷◌, List, [], ℕ, ap, false, rules}
 use Rattle.std.specs.Option.{unwrap_or}
 use Rattle.leveldb_mem.specs.Log.{log_block_size}
 use Rattle.leveldb_mem.specs.Log.Writer.{after_frame, new_writer}
@@ -7,7 +7,7 @@ use Rattle.leveldb_version.specs.LogEdit.{edit_record, new_manifest, new_records
 use Rattle.leveldb_version.specs.NewManifest.{manifest_bytes}
 use Rattle.leveldb_version.specs.Paths.{manifest_path}
 use Rattle.leveldb_version.specs.VersionEdit.{Edit, edit_bytes, edit_of}
-use Rattle.leveldb_version.specs.VersionSetValue.{OpenManifest, VersionSetValue}
+use Rattle.leveldb_version.specs.VersionSetValue.{VersionSetValue}
 use Rattle.leveldb_version.proofs.LogEditLemmas.{begun_view, log_of, made_changes, ok_cause, state_of}
 use Rattle.leveldb_version.proofs.version_set.live_files.LiveFiles.begin_manifest.Goals as goal
 

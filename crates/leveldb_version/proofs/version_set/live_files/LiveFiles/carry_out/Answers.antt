@@ -1,4 +1,4 @@
-use Rattle.std.proofs.Common.{◌≡◌, ◌∙◌, refl, rules}
+use Rattle.std.proofs.Common.{refl}
 use Rattle.std.proofs.lemmas.Result.{err_from_is_err_and}
 use Rattle.leveldb_version.proofs.RecoveredLemmas.{recovered_anew, recovered_going_on, reopening_refused}
 use Rattle.leveldb_version.proofs.version_set.live_files.LiveFiles.carry_out.Goals as goal

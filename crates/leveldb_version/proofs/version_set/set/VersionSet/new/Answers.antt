@@ -1,4 +1,4 @@
-use Rattle.std.proofs.Common.{◌≡◌, [], ap, sym, subst, refl}
+use Rattle.std.proofs.Common.{ap, sym, subst}
 use Rattle.leveldb_version.specs.CurrentVersion.{IsCurrent}
 use Rattle.leveldb_version.proofs.CurrentVersionLemmas.{none_current}
 use Rattle.leveldb_version.proofs.version_set.set.VersionSet.new.Goals as goal

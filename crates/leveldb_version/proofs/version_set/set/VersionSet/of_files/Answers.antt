@@ -1,4 +1,4 @@
-use Rattle.std.proofs.Common.{◌≡◌, subst, sym}
+use Rattle.std.proofs.Common.{subst, sym}
 use Rattle.leveldb_version.specs.CurrentVersion.{IsCurrent}
 use Rattle.leveldb_version.proofs.CurrentVersionLemmas.{made_current}
 use Rattle.leveldb_version.proofs.version_set.set.VersionSet.of_files.Goals as goal

@@ -1,4 +1,4 @@
-use Rattle.std.proofs.Common.{◌≡◌, ◌∙◌, ℕ, Err, Ok, ap, map, refl, subst, sym}
+use Rattle.std.proofs.Common.{◌∙◌, ℕ, Err, Ok, ap, map, refl, subst, sym}
 use Rattle.std.proofs.lemmas.Result.{err_from_is_err_and}
 use Rattle.leveldb_version.specs.CurrentVersion.{IsCurrent}
 use Rattle.leveldb_version.specs.Recover.{RecoverResult}
