@@ -14,7 +14,7 @@ use leveldb_env::options::{Options, in_memory};
 use leveldb_iter::merging_iter::MergeCore;
 use leveldb_iter::unlent::Unlent;
 use leveldb_iter::walk::Walk;
-use leveldb_repair::found_walk::{FoundWalk, ReadFiles, open_found};
+use leveldb_repair::found_walk::{FoundTable, FoundWalk, ReadFiles, open_found};
 use leveldb_table::table_builder::TableBuilder;
 use std::alloc::Global;
 use std::process::Abort;
@@ -24,7 +24,7 @@ type Choices = Options<DefaultCmp, BloomPolicy>;
 
 type Order = InternalKeyCmp<DefaultCmp>;
 
-type Child = FoundWalk<MemEnv, DefaultCmp, Listed<Order>>;
+type Child = FoundWalk<FoundTable<MemEnv, DefaultCmp>, Listed<Order>>;
 
 /// What walks read from.
 type Read<'a> = ReadFiles<'a, CompressorList>;

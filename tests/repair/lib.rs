@@ -9,4 +9,8 @@ mod logs;
 #[cfg(test)]
 mod looks;
 #[cfg(test)]
+mod tables;
+#[cfg(test)]
+mod whole;
+#[cfg(test)]
 mod written;

@@ -20,7 +20,7 @@ use support::{Lines, OnlyReads, Random, ShortReads, failed_with};
 /// A record of a log: a batch from this number on, of puts of these keys and then of deletions of
 /// those; or bytes that are none.
 #[derive(Clone, Copy)]
-enum Record {
+pub(super) enum Record {
     Batch(u64, &'static str, &'static str),
     Other(&'static [u8]),
 }
@@ -28,7 +28,7 @@ enum Record {
 use Record::{Batch, Other};
 
 /// A log's name, and its records.
-type Log = (&'static str, &'static [Record]);
+pub(super) type Log = (&'static str, &'static [Record]);
 
 /// The batch of a record: each key is one letter, and its value is its number's last digit.
 fn batch_of(alloc: Global, first: u64, puts: &str, deleted: &str) -> Result<WriteBatch> {
@@ -45,7 +45,7 @@ fn batch_of(alloc: Global, first: u64, puts: &str, deleted: &str) -> Result<Writ
 }
 
 /// The bytes of a log of these records.
-fn log_of(alloc: Global, records: &[Record]) -> Result<Vec<u8>> {
+pub(super) fn log_of(alloc: Global, records: &[Record]) -> Result<Vec<u8>> {
     let mut writer = LogWriter::new(alloc, Vec::new(alloc));
     for record in records {
         match *record {
@@ -62,14 +62,14 @@ fn log_of(alloc: Global, records: &[Record]) -> Result<Vec<u8>> {
 }
 
 /// Puts these bytes into a file of the folder `db`.
-fn put_file<E: Env>(alloc: Global, env: &mut E, name: &str, bytes: &[u8]) -> Result<()> {
+pub(super) fn put_file<E: Env>(alloc: Global, env: &mut E, name: &str, bytes: &[u8]) -> Result<()> {
     let path = format!(in alloc; "db/{name}")?;
     let mut file = env.open_writable_file(&path)?;
     env.append(&mut file, bytes)?;
     env.sync(&mut file)
 }
 
-fn put_logs<E: Env>(alloc: Global, env: &mut E, logs: &[Log]) -> Result<()> {
+pub(super) fn put_logs<E: Env>(alloc: Global, env: &mut E, logs: &[Log]) -> Result<()> {
     for (name, records) in logs {
         put_file(alloc, env, name, &log_of(alloc, records)?)?;
     }
@@ -77,7 +77,12 @@ fn put_logs<E: Env>(alloc: Global, env: &mut E, logs: &[Log]) -> Result<()> {
 }
 
 /// An entry as a word: its number, its key, and its value or a minus.
-fn word_of(alloc: Global, number: u64, key: &[u8], value: Option<&[u8]>) -> Result<String> {
+pub(super) fn word_of(
+    alloc: Global,
+    number: u64,
+    key: &[u8],
+    value: Option<&[u8]>,
+) -> Result<String> {
     let key = std::str::from_utf8(key).unwrap_or("?");
     Ok(match value {
         None => format!(in alloc; "{number}{key}-")?,

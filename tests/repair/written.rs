@@ -19,7 +19,7 @@ use support::failed_with;
 type Set = VersionSet<RecordEnv, DefaultCmp>;
 
 // Options under which a table ends after each block.
-fn small() -> Options<DefaultCmp, BloomPolicy> {
+pub(super) fn small() -> Options<DefaultCmp, BloomPolicy> {
     let mut options = Options::default();
     options.block_size = 1;
     options.max_file_size = 1;
@@ -41,7 +41,7 @@ fn written(
 }
 
 // Adds the pairs of a table to others.
-fn read_into(
+pub(super) fn read_into(
     alloc: Global,
     env: &mut RecordEnv,
     file: &FileMetaData,

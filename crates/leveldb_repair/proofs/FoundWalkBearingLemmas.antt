@@ -17,7 +17,7 @@ use Rattle.leveldb_store.specs.Merging.{BearsNewTables, MovesLeaveFiles}
 use Rattle.leveldb_repair.proofs.FoundWalkBesideLemmas.{walk_at_beside, walk_excuses_beside, walk_over_beside}
 use Rattle.leveldb_repair.specs.FoundWalk.{FailsInWalk, IsWalkAt, IsWalkOver}
 use Rattle.leveldb_repair.specs.FoundWalkTable.{ChangesBesideFound, KeepsFound, MakesFrom}
-use Rattle.leveldb_repair.specs.declared.found_walk.FoundWalk.{FoundWalk}
+use Rattle.leveldb_repair.specs.FoundWalkOf.{FoundWalk}
 use Rattle.leveldb_repair.specs.declared.found_walk.files.ReadFiles.{ReadFiles}
 
 module _ {E C K M F : Type 0} (order : CmpGhosts (InternalKeyCmp C)) (env : EnvGhosts E F)

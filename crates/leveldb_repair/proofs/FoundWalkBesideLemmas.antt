@@ -14,7 +14,7 @@ use Rattle.leveldb_table.specs.OpenTable.{file_of}
 use Rattle.leveldb_repair.specs.FoundWalk.{FailsInWalk, IsWalkAt, IsWalkOver}
 use Rattle.leveldb_repair.specs.FoundWalkLaws.{found_fails_before}
 use Rattle.leveldb_repair.specs.FoundWalkTable.{ChangesBesideFound, FailsInFound, IsFoundAt, IsFoundOver}
-use Rattle.leveldb_repair.specs.declared.found_walk.FoundWalk.{FoundWalk}
+use Rattle.leveldb_repair.specs.FoundWalkOf.{FoundWalk}
 use Rattle.leveldb_repair.specs.declared.found_walk.FoundWalk.TheVariants.{Memory, Table}
 use Rattle.leveldb_repair.specs.declared.found_walk.files.ReadFiles.{ReadFiles}
 use Rattle.leveldb_repair.specs.declared.found_walk.table.FoundTable.{FoundTable}

@@ -15,7 +15,7 @@ use Rattle.leveldb_repair.proofs.FoundWalkTableLemmas.{found_one_list}
 use Rattle.leveldb_repair.specs.FoundWalk.{FailsInWalk, IsWalkAt, IsWalkOver, walk_here}
 use Rattle.leveldb_repair.specs.FoundWalkLaws.{found_kept}
 use Rattle.leveldb_repair.specs.FoundWalkTable.{FailsInFound, IsFoundAt, IsFoundOver, KeepsFound, found_here}
-use Rattle.leveldb_repair.specs.declared.found_walk.FoundWalk.{FoundWalk}
+use Rattle.leveldb_repair.specs.FoundWalkOf.{FoundWalk}
 use Rattle.leveldb_repair.specs.declared.found_walk.FoundWalk.TheVariants.{Memory, Table}
 use Rattle.leveldb_repair.specs.declared.found_walk.files.ReadFiles.{ReadFiles}
 use Rattle.leveldb_repair.specs.declared.found_walk.table.FoundTable.{FoundTable}

@@ -1,6 +1,9 @@
 mod OneMergeLemmas
 mod FoundLogsLemmas
 mod FindLogsLemmas
+pub mod ReadableLemmas
+mod FindTableLemmas
+mod FoundTablesLemmas
 mod NumbersLemmas
 mod LookOverLemmas
 mod MergedListsLemmas
@@ -11,3 +14,17 @@ pub mod FoundWalkOpenLemmas
 pub mod FoundWalkLemmas
 pub mod FoundWalkBesideLemmas
 pub mod FoundWalkBearingLemmas
+pub mod ListsMergeLemmas
+pub mod RepairClashLemmas
+pub mod RepairMergeLemmas
+pub mod RepairFoundClashLemmas
+pub mod RepairNumbersLemmas
+pub mod RepairBearsLemmas
+pub mod RepairChildrenLemmas
+pub mod RepairFailsLemmas
+mod RepairStoreLemmas
+mod RepairWriteLemmas
+mod RepairLookLemmas
+mod RepairWalksLemmas
+mod RepairFindLemmas
+mod RepairWholeLemmas

@@ -10,7 +10,7 @@ use Rattle.leveldb_env.specs.declared.env.Env.{Ghosts as EnvGhosts}
 use Rattle.leveldb_iter.specs.Unlent.{IsAloneOver, IsAloneAt, FailsAlone, alone_here}
 use Rattle.leveldb_iter.specs.Walk.{KeyOrder}
 use Rattle.leveldb_repair.specs.FoundWalkTable.{FailsInFound, IsFoundAt, IsFoundOver, found_here}
-use Rattle.leveldb_repair.specs.declared.found_walk.FoundWalk.{FoundWalk}
+use Rattle.leveldb_repair.specs.FoundWalkOf.{FoundWalk}
 use Rattle.leveldb_repair.specs.declared.found_walk.FoundWalk.TheVariants.{Memory, Table}
 use Rattle.leveldb_repair.specs.declared.found_walk.files.ReadFiles.{ReadFiles}
 

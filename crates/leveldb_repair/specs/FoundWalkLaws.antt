@@ -23,7 +23,7 @@ use Rattle.leveldb_table.specs.TableReader.{pairs_in}
 use Rattle.leveldb_table.specs.TableReaderWalk.{IsAtPairOrNone, inner_pairs, inner_position}
 use Rattle.leveldb_repair.specs.FoundWalk.{FailsInWalk, IsWalkAt, IsWalkOver, walk_here}
 use Rattle.leveldb_repair.specs.FoundWalkTable.{FailsBetweenOr, FailsInFound, IsFoundAt, IsFoundOver, IsFoundThere, IsNoNewTable, KeepsFound, found_here}
-use Rattle.leveldb_repair.specs.declared.found_walk.FoundWalk.{FoundWalk}
+use Rattle.leveldb_repair.specs.FoundWalkOf.{FoundWalk}
 use Rattle.leveldb_repair.specs.declared.found_walk.FoundWalk.TheVariants.{Memory, Table}
 use Rattle.leveldb_repair.specs.declared.found_walk.files.ReadFiles.{ReadFiles}
 use Rattle.leveldb_repair.specs.declared.found_walk.table.FoundTable.{FoundTable}

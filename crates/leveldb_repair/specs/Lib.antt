@@ -1,7 +1,11 @@
 pub mod FoundLogs
+pub mod FoundTables
 pub mod LookOver
 pub mod Numbers
 pub mod WriteFound
+pub mod RepairStore
+pub mod RepairSteps
 pub mod FoundWalkTable
+pub mod FoundWalkOf
 pub mod FoundWalk
 pub mod FoundWalkLaws

@@ -17,22 +17,20 @@ pub use files::{ReadFiles, ReadsFound};
 pub use open::open_found;
 pub use table::{FoundMove, FoundTable};
 
-/// A child of a repair's merge. All children of a merge are of one type.
+/// A child of a repair's merge: over memory, or over a table by a walk of this type, `FoundTable`. All
+/// children of a merge are of one type.
 #[derive(Drop)]
-pub enum FoundWalk<E: Env, C: UserCmp + Copy + Drop, M>
-where
-    InternalKeyCmp<C>: Cmp,
-{
+pub enum FoundWalk<T, M> {
     /// Over a memtable.
     Memory(Unlent<M>),
     /// Over a table.
-    Table(FoundTable<E, C>),
+    Table(T),
 }
 
 impl<'b, E: Env, C: UserCmp + Copy + Drop, K: ReadsFound<E, C>, M: LdbIterator> Walk<
     E,
     ReadFiles<'b, K>,
-> for FoundWalk<E, C, M> {
+> for FoundWalk<FoundTable<E, C>, M> {
     ghost use Rattle.leveldb_repair.specs.FoundWalk.{IsWalkOver, IsWalkAt, FailsInWalk, walk_here};
     ghost use Rattle.leveldb_repair.specs.FoundWalkLaws.{walk_laws};
     ghost use Rattle.leveldb_repair.specs.FoundWalkTable.{KeepsFound};

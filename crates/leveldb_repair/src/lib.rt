@@ -2,7 +2,9 @@
 #![tactic(auto)]
 
 pub mod found_logs;
+pub mod found_tables;
 pub mod found_walk;
 pub mod look_over;
 pub mod numbers;
+pub mod repair_store;
 pub mod write_found;

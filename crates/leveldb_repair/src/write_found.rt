@@ -101,6 +101,7 @@ pub fn write_found<
         (λ files. files.items) (env.old, tables.old) walk.old result versions.new.set.next_file
         (env.new, tables.new) }
     ensures numbers { GivesNumbers versions.old.set versions.new.set }
+    ensures fits { versions.new.set.next_file < 2 ^ 64 }
 {
     let levels = EachKey;
     let plan = MergePlan {
@@ -110,5 +111,8 @@ pub fn write_found<
         levels: &levels,
         smallest: 0,
     };
-    merge_tables(env, tables, walk, versions, &plan, &mut NoCuts)
+    let written = merge_tables(env, tables, walk, versions, &plan, &mut NoCuts);
+    // The next number has 64 bits, whatever was written.
+    let _ = versions.next_file_num();
+    written
 }

@@ -10,4 +10,4 @@ returns-clause-writes g c = λ leaves.
     all_written _ g.E.Env c.args.store.now c.args.versions.now.set.next_file exact
     (λ pairs bytes built meaning known. built_of_store _ (g.met.C.Cmp.preorder cmp) (g.met.C.UserCmp.accepts_all cmp) (g.met.C.UserCmp.exact cmp) (g.C.Cmp.shortest_sep cmp) (g.met.C.Cmp.separates cmp)
     (g.FP.FilterPolicy.matches c.args.options.now.filter_policy) built meaning known)
-    g.W.Walk (λ files. files.items) c.merge_tables.result (c.merge_tables.ensures.merges leaves)
+    g.W.Walk (λ files. files.items) c.merge_tables-written.result (c.merge_tables-written.ensures.merges leaves)

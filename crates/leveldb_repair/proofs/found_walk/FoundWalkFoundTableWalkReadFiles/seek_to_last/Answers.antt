@@ -1,5 +1,5 @@
 use Rattle.leveldb_repair.proofs.FoundWalkLemmas.{memory_moves, table_moves}
-use Rattle.leveldb_repair.proofs.found_walk.FoundWalkWalkReadFiles.seek_to_last.Goals as goal
+use Rattle.leveldb_repair.proofs.found_walk.FoundWalkFoundTableWalkReadFiles.seek_to_last.Goals as goal
 
 pub returns-in-Memory : goal.returns-in-Memory
 returns-in-Memory g c = record {

@@ -1,6 +1,6 @@
 use Rattle.leveldb_repair.proofs.FoundWalkLemmas.{table_resets}
 use Rattle.leveldb_repair.proofs.FoundWalkTableLemmas.{walk_resets}
-use Rattle.leveldb_repair.proofs.found_walk.FoundWalkWalkReadFiles.reset.Goals as goal
+use Rattle.leveldb_repair.proofs.found_walk.FoundWalkFoundTableWalkReadFiles.reset.Goals as goal
 
 pub returns-in-Table : goal.returns-in-Table
 returns-in-Table g c =

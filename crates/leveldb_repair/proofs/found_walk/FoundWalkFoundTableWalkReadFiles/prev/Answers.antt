@@ -1,5 +1,5 @@
 use Rattle.leveldb_repair.proofs.FoundWalkLemmas.{memory_moves, table_moves}
-use Rattle.leveldb_repair.proofs.found_walk.FoundWalkWalkReadFiles.prev.Goals as goal
+use Rattle.leveldb_repair.proofs.found_walk.FoundWalkFoundTableWalkReadFiles.prev.Goals as goal
 
 pub returns-in-Memory-clause-moves : goal.returns-in-Memory-clause-moves
 returns-in-Memory-clause-moves g c =

@@ -1,0 +1,198 @@
+-- Repairs that are stopped before they begin, and those that come after calls that change no file.
+use Rattle.std.specs.Prelude.{IsTrue, Result}
+use Rattle.std.proofs.Common.{◌≡◌, ◌≤◌, ◌<◌, ◌+◌, ◌^◌, ◌⊎◌, ◌∙◌, inl, inr, ⊎_elim, ℕ, List, Option, None, Some, Ok, Err, refl, sym, ap, subst, arith}
+use Rattle.leveldb_base.specs.declared.cmp.Cmp.{Ghosts as CmpGhosts}
+use Rattle.leveldb_base.specs.declared.error.Status.{Status}
+use Rattle.leveldb_env.proofs.EnvLemmas.{Run-mono, Run-trans}
+use Rattle.leveldb_env.specs.Compressor.{Coding, Decodes, decoded_under}
+use Rattle.leveldb_env.specs.Env.{AppendedAreBytes, Files, FilesUnchanged, Run}
+use Rattle.leveldb_env.specs.declared.env.Env.{Ghosts as EnvGhosts}
+use Rattle.leveldb_env.specs.declared.filter.FilterPolicy.{Ghosts as FilterGhosts}
+use Rattle.leveldb_table.specs.TableLaws.{DecodesMore}
+use Rattle.leveldb_version.specs.Format.{Agrees, Format, Meaning}
+use Rattle.leveldb_version.specs.Found.{HasNoTableNorLog, IsAnyTable}
+use Rattle.leveldb_version.specs.Repairing.{IsRepairing}
+use Rattle.leveldb_store.specs.BuildTable.{TableChoices}
+use Rattle.leveldb_store.specs.Merging.{LeavesFiles}
+use Rattle.leveldb_store.specs.OpensStore.{IsBareFolder}
+use Rattle.leveldb_repair.proofs.RepairFailsLemmas.{fails_earlier, fails_weaker}
+use Rattle.leveldb_repair.specs.FoundWalkTable.{FailsBetweenOr}
+use Rattle.leveldb_repair.specs.RepairStore.{ArePairsFound, HasClash, HasLargeBatchInLog, HasTooFewNumbers, HasUndecodedTable, HasUnlikeDeletions, IsAtRepair, IsRepairOf, RepairsStore, WhyNotEnded, WhyNotRepaired}
+
+-- what the compressors of a format decode means the same
+pub decodes_by : {format : Format} {meaning : Meaning} → Agrees format meaning
+    → DecodesMore (Decodes format.codings) (Decodes meaning.codings)
+decodes_by {format} {meaning} agrees id stored text decoded =
+    by (format.codings id) refl decoded
+  where
+    by : (o : Option Coding) → format.codings id ≡ o → decoded_under o stored ≡ Some text
+        → Decodes meaning.codings id stored text
+    by None e found = absurd (let never : None ≡ Some text = found in cc)
+    by (Some coding) e found =
+        ap (λ (o : Option Coding). decoded_under o stored) (agrees.codings id coding e) ∙ found
+
+-- where nothing was made yet
+pub repairing_none : (store : List ℕ) {taken next : ℕ} {old now : Files}
+    → IsRepairing store taken next old now → IsRepairing store taken next old old
+repairing_none store r = record {
+  taken_is = r.taken_is;
+  others = λ path tables manifest temp current lock. refl;
+  current = inl refl;
+  lock = inl refl;
+  begun = r.begun;
+  fits = r.fits;
+}
+
+-- calls that change no file, one after another
+pub leaves_then : {E F : Type 0} (env : EnvGhosts E F) {from mid to : E} → LeavesFiles env from mid
+    → LeavesFiles env mid to → LeavesFiles env from to
+leaves_then env first second = record {
+  run = λ modelled. Run-trans (first.run modelled)
+      (λ files same. same ∙ (first.run modelled).has) (second.run modelled);
+  locks = λ modelled. second.locks modelled ∙ first.locks modelled;
+  later = let one = first.later in let other = second.later in omega (arith, one, other);
+}
+
+module _ {C FP : Type 0} {order : CmpGhosts C} {filters : FilterGhosts FP}
+    (choices : TableChoices order filters) {E F : Type 0} (env : EnvGhosts E F) (store : List ℕ) where
+  -- where the files are the same, so is why nothing is repaired
+  pub why_before : (from at : E) (status : Status) → (IsTrue env.models_disk
+      → (env.observed at).disk.files ≡ (env.observed from).disk.files)
+      → WhyNotRepaired choices env store at status
+      → WhyNotRepaired choices env store from status
+  why_before from at status same (inl (code, bare)) =
+      inl (code, λ m. subst (IsBareFolder store) (same m) (bare m))
+  why_before from at status same (inr (inl (code, none))) =
+      inr (inl (code, λ m. subst (HasNoTableNorLog store) (same m) (none m)))
+  why_before from at status same (inr (inr (inl (code, clash)))) =
+      inr (inr (inl (
+        code,
+        λ m. subst (λ (files : Files). (meaning : Meaning)
+            → Agrees choices.format meaning
+            → HasClash store files (IsAnyTable choices.format.order meaning)
+            ⊎ HasUnlikeDeletions store files (IsAnyTable choices.format.order meaning))
+            (same m) (clash m),
+      )))
+  why_before from at status same (inr (inr (inr (inl (code, large))))) =
+      inr (inr (inr (inl (
+        code,
+        λ m. subst (λ (files : Files).
+            HasLargeBatchInLog store files ⊎ HasTooFewNumbers store files) (same m) (large m),
+      ))))
+  why_before from at status same (inr (inr (inr (inr (code, undecoded))))) =
+      inr (inr (inr (inr (
+        code,
+        λ m. subst (λ (files : Files).
+            HasUndecodedTable store files choices.format status) (same m) (undecoded m),
+      ))))
+
+  -- calls that change no file failed: nothing is repaired
+  pub not_repaired : {from to : E} {status : Status} → LeavesFiles env from to
+      → FailsBetweenOr env (WhyNotRepaired choices env store from status) from to status
+      → RepairsStore choices env store from (Err status) to
+  not_repaired {from} {to} {status} leaves cause = record {
+    ok = tt;
+    moments = λ modelled meaning agrees. Run-mono (λ files same. inl same) (leaves.run modelled);
+    bytes = λ modelled appended.
+        subst AppendedAreBytes (sym (leaves.run modelled).has) appended;
+    locks = leaves.locks;
+    later = leaves.later;
+    cause = fails_weaker env from to status (λ why. inl (why, leaves.run)) cause;
+  }
+
+  module _ {from mid : E} (leaves : LeavesFiles env from mid) where
+    same_files : IsTrue env.models_disk
+        → (env.observed mid).disk.files ≡ (env.observed from).disk.files
+    same_files modelled = (leaves.run modelled).has
+
+    ok_after : {to : E} → IsTrue env.models_disk → (meaning : Meaning)
+        → ((it : IsRepairOf store choices.format meaning (env.observed mid).disk.files
+        (env.observed to).disk.files)
+        × Run (IsRepairing store it.taken it.next (env.observed mid).disk.files)
+        (env.observed mid) (env.observed to))
+        → (it : IsRepairOf store choices.format meaning (env.observed from).disk.files
+        (env.observed to).disk.files)
+        × Run (IsRepairing store it.taken it.next (env.observed from).disk.files)
+        (env.observed from) (env.observed to)
+    ok_after {to} modelled meaning (it, run) =
+        let files : Files = (env.observed mid).disk.files in
+        let before : Run (IsRepairing store it.taken it.next files) (env.observed from)
+        (env.observed mid) =
+        Run-mono (λ now same. subst (IsRepairing store it.taken it.next files)
+        (same_files modelled ∙ sym same) (repairing_none store it.repairing))
+        (leaves.run modelled) in
+        subst (λ (old : Files).
+        (made : IsRepairOf store choices.format meaning old (env.observed to).disk.files)
+        × Run (IsRepairing store made.taken made.next old) (env.observed from)
+        (env.observed to)) (same_files modelled)
+        (it, Run-trans before (λ now is. is) run)
+
+    moments_after : {to : E} → IsTrue env.models_disk → (meaning : Meaning)
+        → Run (IsAtRepair store choices.format meaning (env.observed mid).disk.files)
+        (env.observed mid) (env.observed to)
+        → Run (IsAtRepair store choices.format meaning (env.observed from).disk.files)
+        (env.observed from) (env.observed to)
+    moments_after {to} modelled meaning run =
+        let files : Files = (env.observed mid).disk.files in
+        let before : Run (IsAtRepair store choices.format meaning files) (env.observed from)
+        (env.observed mid) =
+        Run-mono (λ now same. inl (same ∙ sym (same_files modelled))) (leaves.run modelled) in
+        subst (λ (old : Files). Run (IsAtRepair store choices.format meaning old)
+        (env.observed from) (env.observed to)) (same_files modelled)
+        (Run-trans before (λ now is. is) run)
+
+    -- so is why it isn't ended
+    ended_after : {status : Status} → WhyNotEnded choices env store mid status
+        → WhyNotEnded choices env store from status
+    ended_after (inl (pairs, found, not_tabled)) = inl (
+      pairs,
+      λ modelled. subst (λ (files : Files). ArePairsFound store files choices.format pairs)
+          (same_files modelled) (found modelled),
+      not_tabled,
+    )
+    ended_after (inr rest) = inr rest
+
+    cause_after : {to : E} {status : Status} → FailsBetweenOr env
+        ((WhyNotRepaired choices env store mid status × (IsTrue env.models_disk
+        → Run (FilesUnchanged (env.observed mid).disk.files) (env.observed mid)
+        (env.observed to))) ⊎ WhyNotEnded choices env store mid status) mid to status
+        → FailsBetweenOr env
+        ((WhyNotRepaired choices env store from status × (IsTrue env.models_disk
+        → Run (FilesUnchanged (env.observed from).disk.files) (env.observed from)
+        (env.observed to))) ⊎ WhyNotEnded choices env store from status) from to status
+    cause_after {to} {status} cause = fails_earlier env from mid to status leaves.later
+        (fails_weaker env mid to status (⊎_elim
+        (λ (why : WhyNotRepaired choices env store mid status × (IsTrue env.models_disk
+        → Run (FilesUnchanged (env.observed mid).disk.files) (env.observed mid)
+        (env.observed to))).
+        inl (
+          why_before from mid status same_files why.0,
+          λ m. Run-trans (leaves.run m)
+              (λ now same. same ∙ same_files m) (why.1 m),
+        ))
+        (λ (why : WhyNotEnded choices env store mid status). inr (ended_after why))) cause)
+
+    -- a repair of the same files
+    pub repairs_after : {to : E} (result : Result (Unit {0}) Status)
+        → RepairsStore choices env store mid result to
+        → RepairsStore choices env store from result to
+    repairs_after (Ok done) r = record {
+      ok = λ modelled meaning agrees. ok_after modelled meaning (r.ok modelled meaning agrees);
+      moments = λ modelled meaning agrees.
+          moments_after modelled meaning (r.moments modelled meaning agrees);
+      bytes = λ modelled appended.
+          r.bytes modelled (subst AppendedAreBytes (sym (same_files modelled)) appended);
+      locks = λ modelled. r.locks modelled ∙ leaves.locks modelled;
+      later = let one = leaves.later in let other = r.later in omega (arith, one, other);
+      cause = tt;
+    }
+    repairs_after (Err status) r = record {
+      ok = tt;
+      moments = λ modelled meaning agrees.
+          moments_after modelled meaning (r.moments modelled meaning agrees);
+      bytes = λ modelled appended.
+          r.bytes modelled (subst AppendedAreBytes (sym (same_files modelled)) appended);
+      locks = λ modelled. r.locks modelled ∙ leaves.locks modelled;
+      later = let one = leaves.later in let other = r.later in omega (arith, one, other);
+      cause = cause_after r.cause;
+    }
