@@ -6,6 +6,7 @@ use Rattle.std.specs.Str.{bytes_eq}
 use Rattle.std.proofs.Common.{◌≡◌, ◌≤◌, ◌<◌, ◌+◌, ◌-◌, ◌^◌, ◌⊎◌, ◌∙◌, inl, inr, ⊎_elim, ℕ, List, [], ◌∷◌, ◌++◌, Ok, Err, Some, true, false, map, refl, sym, ap, subst, arith}
 use Rattle.std.proofs.lemmas.List.Elements.{All-contains, All-nil, Contains-append_left}
 use Rattle.std.specs.declared.cmp.Ordering.{Ordering}
+use Rattle.std.proofs.Math.Arith.{lt_of_le-ne}
 use Rattle.leveldb_base.proofs.EntriesLemmas.{in_map, map_in}
 use Rattle.leveldb_base.proofs.NamesLemmas.{made_name}
 use Rattle.leveldb_base.specs.Entries.{entries_of_pairs, entry_of_pair}
@@ -91,6 +92,12 @@ module _ (store : List ℕ) (taken next : ℕ) (old now : Files)
 no_deleted : IsStrictlySortedBy file_order []
 unfolding IsStrictlySortedBy
 no_deleted = tt
+
+-- a next number that isn't the last one of 64 bits has one after it
+pub next_has_one : {next set : ℕ} → next ≡ set → set < 2 ^ 64 → (next ≡ 2 ^ 64 - 1 → ⊥)
+    → set + 1 < 2 ^ 64
+next_has_one same fits not_last =
+    let below = lt_of_le-ne (omega (arith, same, fits)) not_last in omega (arith, same, below)
 
 -- what fits an edit may be the tables of a repair's edit
 pub repaired_encodable : (comparator : List ℕ) (next last : ℕ) (files : List FileMetaData)
