@@ -151,7 +151,7 @@ fn read_logs<E: Env>(
 // ---- tables
 
 /// Whether a key has a tag whose kind is a deletion's or a value's.
-fn is_internal_key(key: &[u8]) -> bool {
+pub fn is_internal_key(key: &[u8]) -> bool {
     let Some(from) = key.len().checked_sub(TAG_LEN) else {
         return false;
     };
@@ -162,7 +162,7 @@ fn is_internal_key(key: &[u8]) -> bool {
 }
 
 /// The entry that a table's pair is. The value beside a deletion's key is ignored.
-fn entry_of(alloc: Global, pair: Pair) -> Result<Entry> {
+pub fn entry_of(alloc: Global, pair: Pair) -> Result<Entry> {
     let (key, value) = pair;
     if key.len() < TAG_LEN || !is_internal_key(key.as_slice()) {
         return damaged(alloc);
