@@ -58,6 +58,11 @@ mod ReaderIteratingLemmas
 pub mod ReaderOpeningLemmas
 pub mod RunAloneLemmas
 mod ReadAloneLawsLemmas
+mod RepairedSetLemmas
+mod RepairFilesLemmas
+mod RepairStatesLemmas
+mod RepairCallLemmas
+mod RepairLawsLemmas
 mod ScanLemmas
 pub mod WriteCallLemmas
 pub mod CompactCallLemmas

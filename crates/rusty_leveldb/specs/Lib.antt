@@ -21,6 +21,8 @@ pub mod Room
 pub mod Calls
 pub mod ReadAlone
 pub mod ReadAloneLaws
+pub mod Repair
+pub mod RepairLaws
 pub mod CompactionLaws
 pub mod Shell
 pub mod RunAlone

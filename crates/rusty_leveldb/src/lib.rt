@@ -7,7 +7,7 @@ pub mod promises;
 pub mod read_samples;
 pub mod shell;
 
-pub use db_impl::DB;
+pub use db_impl::{DB, repair};
 pub use db_iter::DBIterator;
 pub use leveldb_base::cmp::{Cmp, DefaultCmp};
 pub use leveldb_base::error::{Result, Status, StatusCode};

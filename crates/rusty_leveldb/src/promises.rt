@@ -6,6 +6,7 @@ ghost use Rattle.rusty_leveldb.specs.IteratorLaws.{PrevUndoesNext};
 ghost use Rattle.rusty_leveldb.specs.Laws.{OneReading, NothingStands, CrashBetween, CrashInside, CrashSince, RefusalHasCause, StepFits, CrashFits, CrashInsideFits, LivesFit, DurableStays, SyncedStays, EachAnswerParts, HistoryIsAsked, HistoryIsPlaced, MoreIsAsked, SyncedIsRead, ViewsStay, HeldStays, SnapshotIsRead, ForwardWalkGivesView, PrevUndoesAdvance, SyncedCanBeFound};
 ghost use Rattle.leveldb_store.specs.BuildTable.{choices_of};
 ghost use Rattle.rusty_leveldb.specs.ReadAloneLaws.{ReadingKeepsStates, ReadsWhatOpens};
+ghost use Rattle.rusty_leveldb.specs.RepairLaws.{CrashSinceRepair, OpensWhatRepairFound, RepairFindsWhatOpens};
 
 use leveldb_base::cmp::{Cmp, InternalKeyCmp, UserCmp};
 use leveldb_env::compressor::{CompressorList, Compressors};
@@ -33,6 +34,37 @@ pub fn what_is_read_alone_is_what_an_opening_finds<
         ⟦<InternalKeyCmp<C> as Cmp>⟧ ⟦<InternalFilterPolicy<FP> as FilterPolicy>⟧
         ⟦<CompressorList as Compressors>⟧.codings) options.now }
     ensures keeps { ReadingKeepsStates E.Env }
+{
+    let _ = options;
+}
+
+/// Wherever an honest crash comes since a repair began, what is left represents a state that a crash
+/// leaves of the one that the disk represented, or of the set of entries that was found; if the repair
+/// has these options.
+pub fn crashes_of_repairs_leave_the_old_or_the_found<
+    E: Env,
+    C: UserCmp + Copy,
+    FP: FilterPolicy + Copy,
+>(options: &Options<C, FP>)
+    ensures { CrashSinceRepair E.Env (choices_of C.Cmp FP.FilterPolicy
+        ⟦<InternalKeyCmp<C> as Cmp>⟧ ⟦<InternalFilterPolicy<FP> as FilterPolicy>⟧
+        ⟦<CompressorList as Compressors>⟧.codings options.now) }
+{
+    let _ = options;
+}
+
+/// An opening after a repair that was Ok finds the set of entries that was found of the files: it is
+/// the whole history, and the last number is its greatest. And of a store with no table and no log
+/// beside those that it reads, what a repair finds shows what an opening finds.
+pub fn what_a_repair_finds_is_opened<E: Env, C: UserCmp + Copy, FP: FilterPolicy + Copy>(
+    options: &Options<C, FP>,
+)
+    ensures opens { OpensWhatRepairFound E.Env (choices_of C.Cmp FP.FilterPolicy
+        ⟦<InternalKeyCmp<C> as Cmp>⟧ ⟦<InternalFilterPolicy<FP> as FilterPolicy>⟧
+        ⟦<CompressorList as Compressors>⟧.codings) options.now }
+    ensures whole { RepairFindsWhatOpens E.Env (choices_of C.Cmp FP.FilterPolicy
+        ⟦<InternalKeyCmp<C> as Cmp>⟧ ⟦<InternalFilterPolicy<FP> as FilterPolicy>⟧
+        ⟦<CompressorList as Compressors>⟧.codings) options.now }
 {
     let _ = options;
 }
