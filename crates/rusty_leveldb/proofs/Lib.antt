@@ -63,6 +63,7 @@ mod RepairFilesLemmas
 mod RepairStatesLemmas
 mod RepairCallLemmas
 mod RepairLawsLemmas
+mod RepairingFolderLemmas
 mod ScanLemmas
 pub mod WriteCallLemmas
 pub mod CompactCallLemmas

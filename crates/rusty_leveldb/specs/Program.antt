@@ -1,5 +1,5 @@
--- What the program does: it reads commands, runs them, and writes the replies.
-use Rattle.std.specs.Prelude.{◌≡◌, ◌⊎◌, ◌<◌, ◌≤◌, ◌^◌, ℕ, List, [], ◌∷◌, length, map, Option, Result, Ok, IfSome, true, String, string_bytes, false, codes}
+-- What the program does: it reads commands, runs them, and writes the replies, or repairs a store.
+use Rattle.std.specs.Prelude.{◌≡◌, ◌⊎◌, ◌<◌, ◌≤◌, ◌^◌, ℕ, List, [], ◌∷◌, ◌++◌, length, map, Option, Result, Ok, IfSome, true, String, string_bytes, false, codes}
 use Rattle.std.specs.Io.KnownBytes.{Appends}
 use Rattle.std.specs.declared.alloc.Global.{Global}
 use Rattle.leveldb_base.specs.Cmp.{bytewise}
@@ -11,23 +11,31 @@ use Rattle.rusty_leveldb.specs.declared.shell.commands.Command.{Command}
 use Rattle.rusty_leveldb.specs.declared.shell.commands.Reply.{Reply}
 use Rattle.rusty_leveldb.specs.declared.shell.program.Fault.{Fault}
 use Rattle.rusty_leveldb.specs.declared.shell.program.Fault.TheVariants as fault
+use Rattle.rusty_leveldb.specs.declared.shell.program.Task.{Task}
+use Rattle.rusty_leveldb.specs.declared.shell.program.Task.TheVariants as task
 use Rattle.rusty_leveldb.specs.declared.shell.program.Way.{Way}
 use Rattle.rusty_leveldb.specs.declared.shell.program.Way.TheVariants as way
 use Rattle.rusty_leveldb.specs.Language.{IsScript, IsBadLine, reply_lines}
 use Rattle.rusty_leveldb.specs.State.{Opening}
+use Rattle.rusty_leveldb.specs.Repair.{IsNotEndedUnder, Repairs}
 use Rattle.rusty_leveldb.specs.RunAlone.{HasReadAlone}
 use Rattle.rusty_leveldb.specs.Shell.{HasRun}
 
--- The arguments name a folder, and how its store is opened: a single one is the folder, and after
--- `--read-only` its store is read alone.
-abbrev pub NamesFolder : List (String Global) → Way → List ℕ → Type 0
-NamesFolder args way.Whole folder = map string_bytes args ≡ folder ∷ []
-NamesFolder args way.Alone folder =
+-- The arguments name a folder, and what is done there: a single one is the folder, after
+-- `--read-only` its store is read alone, and after `--repair` it is repaired.
+abbrev pub NamesFolder : List (String Global) → Task → List ℕ → Type 0
+NamesFolder args (task.Run way.Whole) folder = map string_bytes args ≡ folder ∷ []
+NamesFolder args (task.Run way.Alone) folder =
     map string_bytes args ≡ codes "--read-only" ∷ folder ∷ []
+NamesFolder args task.Repair folder = map string_bytes args ≡ codes "--repair" ∷ folder ∷ []
 
 -- they name no folder so
 abbrev pub NamesNone : List (String Global) → Type 0
-NamesNone args = (one : Way) (folder : List ℕ) → NamesFolder args one folder → ⊥
+NamesNone args = (one : Task) (folder : List ℕ) → NamesFolder args one folder → ⊥
+
+-- they ask for a repair
+abbrev pub AskForRepair : List (String Global) → Type 0
+AskForRepair args = (folder : List ℕ) × NamesFolder args task.Repair folder
 
 -- the status that a fault ends the program with
 abbrev pub status_of : Fault → ℕ
@@ -99,21 +107,36 @@ module _ {E F : Type 0} (env : Ghosts E F) where
       × HasRunBy one folder ldb_opening commands from given (Ok tt) to
       × Appends held holds (reply_lines given)
 
-  -- the arguments name a folder, and the commands that the input encodes were run in it
+  -- a repair of the store in a folder, as it is asked for
+  abbrev pub HasRepaired : List ℕ → Opening → E → Result (Unit {0}) Status → E → Type 0
+  HasRepaired folder asked from ended to =
+      Repairs env folder asked from (IsNotEndedUnder env asked.format) ended to
+
+  -- the store in a folder was repaired, and the output grew by the line that says so
+  abbrev pub IsRepairAnswered : List ℕ → E → E → Option (List ℕ) → Option (List ℕ) → Type 0
+  IsRepairAnswered folder from to held holds = HasRepaired folder ldb_opening from (Ok tt) to
+      × Appends held holds (codes "repaired" ++ 10 ∷ [])
+
+  -- the arguments name a folder, and the commands that the input encodes were run in it; or its
+  -- store was repaired
   abbrev pub IsAnswered : List (String Global) → E → E → Option (List ℕ) → Option (List ℕ)
       → Option (List ℕ) → Type 0
   IsAnswered args from to input held holds =
-      (one : Way) × (folder : List ℕ) × NamesFolder args one folder
+      ((one : Way) × (folder : List ℕ) × NamesFolder args (task.Run one) folder
       × (commands : List Command) × IsInput input commands
       × (given : List Reply) × (length given ≡ length commands)
       × HasRunBy one folder ldb_opening commands from given (Ok tt) to
-      × Appends held holds (reply_lines given)
+      × Appends held holds (reply_lines given))
+      ⊎ ((folder : List ℕ) × NamesFolder args task.Repair folder
+      × IsRepairAnswered folder from to held holds)
 
   -- the program left the environment as it was, or it ran the commands that the input encodes in
-  -- the folder that the arguments name
+  -- the folder that the arguments name, or its store is as a repair leaves it
   abbrev pub IsStopped : List (String Global) → E → E → Option (List ℕ) → Type 0
   IsStopped args from to input = (to ≡ from)
-      ⊎ ((one : Way) × (folder : List ℕ) × NamesFolder args one folder
+      ⊎ ((one : Way) × (folder : List ℕ) × NamesFolder args (task.Run one) folder
       × (commands : List Command) × IsInput input commands
       × (given : List Reply) × (ended : Result (Unit {0}) Status)
       × HasRunBy one folder ldb_opening commands from given ended to)
+      ⊎ ((folder : List ℕ) × NamesFolder args task.Repair folder
+      × (ended : Result (Unit {0}) Status) × HasRepaired folder ldb_opening from ended to)

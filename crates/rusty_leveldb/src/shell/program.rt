@@ -4,7 +4,7 @@ ghost use Rattle.leveldb_base.specs.declared.error.Status.{Status};
 ghost use Rattle.std.specs.Io.KnownBytes.{Appends};
 ghost use Rattle.rusty_leveldb.specs.Language.{reply_lines};
 ghost use Rattle.rusty_leveldb.specs.Engine.{opening_of};
-ghost use Rattle.rusty_leveldb.specs.Program.{status_of, HasRunBy, IsInputFault, IsFault, IsMisasked, IsInput, IsPlayed, IsAnswered, IsStopped, NamesFolder, NamesNone, ldb_opening};
+ghost use Rattle.rusty_leveldb.specs.Program.{status_of, AskForRepair, HasRepaired, HasRunBy, IsInputFault, IsFault, IsRepairAnswered, IsMisasked, IsInput, IsPlayed, IsAnswered, IsStopped, NamesFolder, NamesNone, ldb_opening};
 ghost use Rattle.rusty_leveldb.specs.declared.shell.commands.Reply.{Reply};
 ghost use Rattle.rusty_leveldb.specs.declared.shell.program.Fault.TheVariants.{Usage};
 
@@ -13,6 +13,7 @@ use super::language::{Script, parse};
 use super::reading::run_read_only;
 use super::replies::put_replies;
 use super::runs::run;
+use crate::db_impl::repair;
 use leveldb_base::cmp::UserCmp;
 use leveldb_base::error::Status;
 use leveldb_env::compressor::{CompressorList, Compressors};
@@ -36,10 +37,19 @@ enum Way {
     Alone,
 }
 
+// What the program does in a folder.
+#[derive(Clone, Copy, Debug)]
+enum Task {
+    /// It runs the commands of its input over the store, which it opens this way.
+    Run(Way),
+    /// It repairs the store.
+    Repair,
+}
+
 // Why the program stopped.
 #[derive(Drop)]
 enum Fault {
-    /// It was not given one folder, or that and how its store is opened.
+    /// It was not given one folder, or that and what is done there.
     Usage,
     /// The line of this number, from 1, is no command.
     BadLine(usize),
@@ -52,7 +62,7 @@ enum Fault {
 impl fmt::Display for Fault {
     fn fmt<W: fmt::Write>(&self, f: &mut fmt::Formatter<W>) -> fmt::Result {
         match self {
-            Fault::Usage => f.write_str("usage: ldb [--read-only] DIR"),
+            Fault::Usage => f.write_str("usage: ldb [--repair | --read-only] DIR"),
             Fault::BadLine(number) => write!(f, "bad command in line {number}"),
             Fault::TooLong => f.write_str("input too long"),
             Fault::Refused(status) => match &status.err {
@@ -64,10 +74,11 @@ impl fmt::Display for Fault {
 }
 
 /// Runs the commands of `input` over the store in the folder that is the last argument, and writes
-/// their replies to `out`. After `--read-only` the store is read alone (`run_read_only`); a folder
-/// is the only argument else. A fault is told on `err`, and what the store says of its files is a
-/// line for `log`. The status is 0 if all was answered and written, 2 if the arguments, a line or the
-/// length of the input is wrong, and 1 if a call failed.
+/// their replies to `out`. After `--read-only` the store is read alone (`run_read_only`). After
+/// `--repair` it is repaired (`repair`): no input is read, and `repaired` is written. Else a folder is
+/// the only argument. A fault is told on `err`, and what the store says of its files is a line for
+/// `log`. The status is 0 if all was answered and written, 2 if the arguments, a line or the length of
+/// the input is wrong, and 1 if a call failed.
 pub fn ldb_main<E: Env, I: Read, O: Write, F: Write>(
     alloc: Global,
     env: &mut E,
@@ -85,6 +96,7 @@ pub fn ldb_main<E: Env, I: Read, O: Write, F: Write>(
     ensures usage { NamesNone args.now → result ≡ 2 }
     ensures stopped { result ≡ 1
         → IsStopped E.Env args.now env.old env.new (I.remaining input.old) }
+    ensures unread { AskForRepair args.now → input.new ≡ input.old }
     ensures statuses { result ≤ 2 }
 {
     match serve(alloc, env, args, log, input, out) {
@@ -123,26 +135,54 @@ fn serve<E: Env, I: Read, O: Write>(
         (IsStopped E.Env args.now env.old env.new (I.remaining input.old)) }
     ensures fault { IfErr result (IsFault args.now (I.remaining input.old)) }
     ensures usage { NamesNone args.now → IsErrAnd result (λ fault. fault ≡ Usage) }
+    ensures unread { AskForRepair args.now → input.new ≡ input.old }
 {
-    let Some((way, folder)) = task_of(args) else {
+    let Some((task, folder)) = task_of(args) else {
         return Err(Fault::Usage);
     };
-    let commands = read_commands(alloc, input)?;
-    Ok(play(alloc, env, way, folder, log, &commands, out)?)
+    match task {
+        Task::Repair => Ok(repair_folder(alloc, env, folder, log, out)?),
+        Task::Run(way) => {
+            let commands = read_commands(alloc, input)?;
+            Ok(play(alloc, env, way, folder, log, &commands, out)?)
+        }
+    }
 }
 
-// The folder that the arguments name, and how its store is opened.
-fn task_of(args: &[String]) -> Option<(Way, &str)>
+// The folder that the arguments name, and what is done there.
+fn task_of(args: &[String]) -> Option<(Task, &str)>
     ensures { MatchOption result (NamesNone args.now)
         (λ task. NamesFolder args.now task.0 task.1.now) }
 {
     match args {
-        [folder] => Some((Way::Whole, folder.as_str())),
-        [option, folder] if option.as_str() == "--read-only" => {
-            Some((Way::Alone, folder.as_str()))
-        }
+        [folder] => Some((Task::Run(Way::Whole), folder.as_str())),
+        [option, folder] => match option.as_str() {
+            "--read-only" => Some((Task::Run(Way::Alone), folder.as_str())),
+            "--repair" => Some((Task::Repair, folder.as_str())),
+            _ => None,
+        },
         _ => None,
     }
+}
+
+// Repairs the store in a folder, and writes that it did.
+fn repair_folder<E: Env, O: Write>(
+    alloc: Global,
+    env: &mut E,
+    folder: &str,
+    log: Option<Logger>,
+    out: &mut O,
+) -> Result<(), Status>
+    ensures answered { OnOk result (IsRepairAnswered E.Env folder.now env.old env.new (O.contents out.old)
+        (O.contents out.new)) }
+    ensures repaired { (ended : Result (Unit {0}) Status)
+        × HasRepaired E.Env folder.now ldb_opening env.old ended env.new }
+{
+    let mut options = Options::default();
+    options.log = log;
+    repair(alloc, folder, env, options)?;
+    out.write_all(b"repaired\n")?;
+    Ok(out.flush()?)
 }
 
 // Runs the commands, and writes the replies that were given.
