@@ -1,5 +1,6 @@
 //! The program over a disk in memory, with readers and writers that refuse.
 use leveldb_base::error::Result;
+use leveldb_env::disk_env::PosixDiskEnv;
 use leveldb_env::env::Env;
 use leveldb_env::infolog::Logger;
 use leveldb_env::mem_env::MemEnv;
@@ -279,7 +280,7 @@ fn misuse(rt: HostRuntime) -> io::Result<()> {
     let wanted = (
         2,
         b"".as_slice(),
-        b"usage: ldb [--read-only] DIR\n".as_slice(),
+        b"usage: ldb [--repair | --read-only] DIR\n".as_slice(),
     );
     let mut env = MemEnv::new(rt.alloc());
     assert_run(&rt, &mut env, rt.alloc(), &[], b"get", wanted)?;
@@ -454,5 +455,135 @@ fn a_damaged_manifest(rt: HostRuntime) -> Result<()> {
         let path = format!(in alloc; "db/{name}")?;
         assert!(rt; env.exists(&path)?);
     }
+    Ok(())
+}
+
+// ---- repairs
+
+const REPAIR: &[&str] = &["--repair", "db"];
+
+/// What a repair ends with that is done.
+const REPAIRED: (u8, &[u8], &[u8]) = (0, b"repaired\n", b"");
+
+/// Takes the manifest of a store away, which is its first.
+fn lose_manifest<E: Env>(env: &mut E, folder: &str, alloc: Global) -> Result<()> {
+    env.delete(&format!(in alloc; "{folder}/CURRENT")?)?;
+    env.delete(&format!(in alloc; "{folder}/MANIFEST-000001")?)
+}
+
+/// A store without its manifest isn't opened, is repaired without a look at the input, and then opened.
+fn repair_program<E: Env>(rt: &impl Abort, alloc: Global, env: &mut E, folder: &str) -> Result<()> {
+    let put = b"put 61 31\nput 62 32\ndel 61\n".as_slice();
+    assert_run(rt, env, alloc, &[folder], put, (0, b"ok\nok\nok\n", b""))?;
+    lose_manifest(env, folder, alloc)?;
+    let mut input = b"get 62\n".as_slice();
+    let ending = run_program(alloc, env, &[folder], &mut input)?;
+    assert!(rt; ending.status == 1 && ending.err.starts_with(b"ldb: Corruption"));
+    let words: &[&str] = &["--repair", folder];
+    let mut input = Broken(b"");
+    let ending = run_program(alloc, env, words, &mut input)?;
+    assert_ending(rt, &ending, REPAIRED.0, REPAIRED.1, REPAIRED.2);
+    let get = b"get 61\nget 62\nput 63 33\n".as_slice();
+    assert_run(
+        rt,
+        env,
+        alloc,
+        &[folder],
+        get,
+        (0, b"none\nvalue 32\nok\n", b""),
+    )?;
+    assert_run(rt, env, alloc, words, b"no command", REPAIRED)?;
+    assert_run(
+        rt,
+        env,
+        alloc,
+        &[folder],
+        b"get 63",
+        (0, b"value 33\n", b""),
+    )?;
+    Ok(())
+}
+
+#[test]
+fn a_repair(rt: HostRuntime) -> Result<()> {
+    repair_program(&rt, rt.alloc(), &mut MemEnv::new(rt.alloc()), "db")
+}
+
+#[test]
+fn a_repair_in_a_folder(rt: HostRuntime) -> Result<()> {
+    let mut env = PosixDiskEnv::new(&rt);
+    env.rmdir("repair_tests")?;
+    repair_program(&rt, rt.alloc(), &mut env, "repair_tests/db")?;
+    env.rmdir("repair_tests")
+}
+
+/// A refusal is told as that of an opening, and so is an output that is refused.
+#[test]
+fn refused_repairs(rt: HostRuntime) -> io::Result<()> {
+    let alloc = rt.alloc();
+    let mut env = MemEnv::new(alloc);
+    let nothing = b"ldb: InvalidArgument: neither a table nor a log is there\n".as_slice();
+    assert_run(&rt, &mut env, alloc, REPAIR, b"", (1, b"", nothing))?;
+    assert_run(
+        &rt,
+        &mut env,
+        alloc,
+        &["db"],
+        b"put 61 31",
+        (0, b"ok\n", b""),
+    )?;
+    for room in 0..REPAIRED.1.len() {
+        let held = Vec::new(alloc);
+        let mut out = Narrow { held, room };
+        let (status, err) = run_into(alloc, &mut env, REPAIR, &mut b"".as_slice(), &mut out)?;
+        assert!(rt; status == 1 && err.as_slice() == b"ldb: PermissionDenied\n".as_slice());
+        assert!(rt; out.held.as_slice() == &REPAIRED.1[..room]);
+    }
+    assert!(rt; env.lock("db/LOCK").is_ok());
+    let mut input = b"".as_slice();
+    assert!(rt; is_of_a_lock(&run_program(alloc, &mut env, REPAIR, &mut input)?));
+    assert!(rt; env.unlock("db/LOCK").is_ok());
+    assert_run(
+        &rt,
+        &mut env,
+        alloc,
+        &["db"],
+        b"get 61",
+        (0, b"value 31\n", b""),
+    )
+}
+
+const LEFT_OUT: &str =
+    "db/000003.log: 24 bytes from byte 24 on are left out, no whole record among them\n";
+
+/// What a repair leaves out is a line.
+#[test]
+fn a_repair_of_a_damaged_log(rt: HostRuntime) -> Result<()> {
+    let alloc = rt.alloc();
+    let mut env = MemEnv::new(alloc);
+    let put = b"put 61 31\nput 62 32\n".as_slice();
+    assert_run(&rt, &mut env, alloc, &["db"], put, (0, b"ok\nok\n", b""))?;
+    support::damage_file(alloc, &mut env, "db/000003.log", 40)?;
+    let lines = support::Lines::new(alloc)?;
+    let mut out = Vec::new(alloc);
+    let log = Some(lines.log(alloc, LEFT_OUT)?);
+    let (status, err) = run_with_log(alloc, &mut env, REPAIR, log, &mut b"".as_slice(), &mut out)?;
+    assert_ending(
+        &rt,
+        &Ending { status, out, err },
+        REPAIRED.0,
+        REPAIRED.1,
+        REPAIRED.2,
+    );
+    assert!(rt; lines.counts() == (1, 1));
+    let get = b"get 61\nget 62\n".as_slice();
+    assert_run(
+        &rt,
+        &mut env,
+        alloc,
+        &["db"],
+        get,
+        (0, b"value 31\nnone\n", b""),
+    )?;
     Ok(())
 }

@@ -105,17 +105,20 @@ fn program_that_only_reads(rt: HostRuntime) -> io::Result<()> {
     Ok(())
 }
 
-/// The usage, where the arguments are none of its two forms; a single one is a folder, whatever its name is.
+/// The usage, where the arguments are none of its three forms; a single one is a folder, whatever its name is.
 #[test]
 fn arguments(rt: HostRuntime) -> io::Result<()> {
     let alloc = rt.alloc();
     let mut env = MemEnv::new(alloc);
-    let usage = b"usage: ldb [--read-only] DIR\n".as_slice();
+    let usage = b"usage: ldb [--repair | --read-only] DIR\n".as_slice();
     for words in [
         [].as_slice(),
         ["db", "--read-only"].as_slice(),
         ["--read-onl", "db"].as_slice(),
         ["--read-only", "--read-only", "db"].as_slice(),
+        ["db", "--repair"].as_slice(),
+        ["--repai", "db"].as_slice(),
+        ["--repair", "--read-only", "db"].as_slice(),
     ] {
         assert_run(&rt, &mut env, alloc, words, b"", (2, b"", usage))?;
     }

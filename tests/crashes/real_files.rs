@@ -14,7 +14,7 @@ walk now first next prev\nrelease 0\ngetat 0 61\n";
 const REPLIES: &[u8] = b"ok\nvalue 31\nnone\nsnapshot 0\nok\nvalue 31\nat 61 32\ninvalid\n\
 invalid\nok\nrefused InvalidArgument\n";
 
-const USAGE: (u8, &[u8], &[u8]) = (2, b"", b"usage: ldb [--read-only] DIR\n");
+const USAGE: (u8, &[u8], &[u8]) = (2, b"", b"usage: ldb [--repair | --read-only] DIR\n");
 
 const BAD_LINE: (u8, &[u8], &[u8]) = (2, b"", b"bad command in line 2\n");
 

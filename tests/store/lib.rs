@@ -51,6 +51,10 @@ mod real_folders;
 #[cfg(test)]
 mod refusals;
 #[cfg(test)]
+mod repairs;
+#[cfg(test)]
+mod repairs_of_damage;
+#[cfg(test)]
 mod replays;
 #[cfg(test)]
 mod rooms;

@@ -4,6 +4,7 @@ use super::compactions_of_many::try_seeds;
 use super::merged_inputs::{crash_in_merge, fail_in_merge};
 use super::merging::compare_merges;
 use super::open_tables::damage_each;
+use super::repairs_of_damage::{self, larger_files, shuffle, small_files};
 use super::replays::{fail_reads, open_over_short_reads};
 use leveldb_base::error::Result;
 
@@ -57,5 +58,22 @@ fn each_call_of_an_opening_fails_once(rt: HostRuntime) -> Result<()> {
         let (refused, goes_on) = fail_in_openings(&rt, rt.alloc(), 1, done)?;
         assert!(rt; refused > 6 && goes_on > 10, "{done}: {refused} {goes_on}");
     }
+    Ok(())
+}
+
+#[test]
+fn repairs_after_each_change_of_a_byte(rt: HostRuntime) -> Result<()> {
+    let alloc = rt.alloc();
+    let small = repairs_of_damage::damage_each(&rt, alloc, &small_files(alloc)?, 1)?;
+    assert!(rt; small > 400, "{small}");
+    let larger = repairs_of_damage::damage_each(&rt, alloc, &larger_files(alloc)?, 1)?;
+    assert!(rt; larger > 1000, "{larger}");
+    Ok(())
+}
+
+#[test]
+fn repairs_of_several_files(rt: HostRuntime) -> Result<()> {
+    let count = shuffle(&rt, rt.alloc(), 400)?;
+    assert!(rt; count > 300, "{count}");
     Ok(())
 }

@@ -4,7 +4,7 @@ use leveldb_base::error::{Result, StatusCode};
 use leveldb_env::env::Env;
 use leveldb_env::mem_env::MemEnv;
 use leveldb_env::options::Options;
-use rusty_leveldb::DB;
+use rusty_leveldb::{DB, repair};
 use std::alloc::Global;
 use std::process::Abort;
 use support::failed_with;
@@ -177,5 +177,39 @@ fn a_compressed_block_is_refused(rt: HostRuntime) -> Result<()> {
     db.close()?;
     db.abandon()?;
     assert!(rt; file_bytes(alloc, &mut env, "000005.ldb")?.as_slice() == SNAPPY_TABLE);
+    Ok(())
+}
+
+/// Without its manifest the store isn't opened, and a repair finds all of it.
+#[test]
+fn a_store_without_its_manifest_is_repaired(rt: HostRuntime) -> Result<()> {
+    let alloc = rt.alloc();
+    let mut env = plain_store(alloc)?;
+    env.delete("db/CURRENT")?;
+    env.delete("db/MANIFEST-000006")?;
+    let opened = DB::open(alloc, STORE, &mut env, Options::default());
+    assert!(rt; failed_with(opened, StatusCode::Corruption)?);
+    repair(alloc, STORE, &mut env, Options::default())?;
+    assert!(rt; file_bytes(alloc, &mut env, "000005.ldb")?.as_slice() == DEEP_TABLE);
+    assert!(rt; finds_all(alloc, &mut env, Options::default())?);
+    assert!(rt; walks_over_all(alloc, &mut env)?);
+    assert!(rt; write_on(alloc, &mut env)?);
+    repair(alloc, STORE, &mut env, Options::default())?;
+    assert!(rt; finds_all(alloc, &mut env, Options::default())?);
+    Ok(())
+}
+
+/// A table with a block that Snappy compressed isn't left out: the repair is refused, and nothing changes.
+#[test]
+fn a_compressed_store_is_not_repaired(rt: HostRuntime) -> Result<()> {
+    let alloc = rt.alloc();
+    let mut env = MemEnv::new(alloc);
+    put_file(alloc, &mut env, "000005.ldb", SNAPPY_TABLE)?;
+    put_file(alloc, &mut env, "000008.log", LOG)?;
+    let repaired = repair(alloc, STORE, &mut env, Options::default());
+    assert!(rt; failed_with(repaired, StatusCode::NotSupported)?);
+    assert!(rt; env.children(alloc, STORE)?.len() == 3);
+    assert!(rt; file_bytes(alloc, &mut env, "000005.ldb")?.as_slice() == SNAPPY_TABLE);
+    assert!(rt; file_bytes(alloc, &mut env, "000008.log")?.as_slice() == LOG);
     Ok(())
 }

@@ -1,0 +1,574 @@
+//! Repairs: what they leave, what is found then, crashes at each of their moments, and calls that fail.
+use super::stores::{
+    DefaultOptions, Row, STORE, buffered, damage_file, file_bytes, files_of, has_files, opened_db,
+    put_all, put_file, put_log, reopen, text_of,
+};
+use leveldb_base::error::{Result, StatusCode};
+use leveldb_env::env::Env;
+use leveldb_env::infolog::Logger;
+use leveldb_env::mem_env::{MemEnv, Pick, RecordEnv};
+use leveldb_env::options::Options;
+use rusty_leveldb::repair;
+use std::alloc::Global;
+use std::process::Abort;
+use support::{Lines, Raised, ShortReads, change_byte, code_of, failed_with};
+
+/// The pairs of the small store, the first of which is in a table, and the other in a log.
+const PAIRS: &[(&str, &str)] = &[("a", "1"), ("b", "2")];
+
+/// What it shows.
+const MAP: &str = " a=1 b=2";
+
+/// Its files.
+const FILES: &str = "000004.log:24 000005.ldb:177 CURRENT:16 LOCK:0 MANIFEST-000001:81 ";
+
+/// Repairs the store with default options.
+pub fn mend<E: Env>(alloc: Global, env: &mut E) -> Result<()> {
+    repair(alloc, STORE, env, Options::default())
+}
+
+/// The pairs that a store shows which is opened with these options, in order.
+fn map_with<E: Env>(alloc: Global, env: &mut E, options: DefaultOptions) -> Result<String> {
+    let mut db = opened_db(alloc, env, options)?;
+    let mut text = String::new(alloc);
+    let mut it = db.new_iter()?;
+    while it.advance()? {
+        if let Some((key, value)) = it.current() {
+            let key = text_of(alloc, key)?;
+            let value = text_of(alloc, value)?;
+            text.push_str(&format!(in alloc; " {key}={value}")?)?;
+        }
+    }
+    drop(it);
+    db.abandon()?;
+    Ok(text)
+}
+
+/// The same with default options.
+pub fn map_of<E: Env>(alloc: Global, env: &mut E) -> Result<String> {
+    map_with(alloc, env, Options::default())
+}
+
+/// Takes `CURRENT` and the manifest away.
+fn lose_manifest<E: Env>(env: &mut E) -> Result<()> {
+    env.delete("db/CURRENT")?;
+    env.delete("db/MANIFEST-000001")
+}
+
+/// The small store on this disk, with its manifest or without.
+fn put_small<E: Env>(alloc: Global, env: &mut E, is_lost: bool) -> Result<()> {
+    put_all(alloc, env, buffered(1), PAIRS)?;
+    if is_lost {
+        lose_manifest(env)?;
+    }
+    Ok(())
+}
+
+/// Whether the lock is free.
+fn is_free<E: Env>(env: &mut E) -> Result<bool> {
+    match env.lock("db/LOCK") {
+        Ok(()) => {
+            env.unlock("db/LOCK")?;
+            Ok(true)
+        }
+        Err(status) if status.code == StatusCode::LockError => Ok(false),
+        Err(status) => Err(status),
+    }
+}
+
+/// Which files a repair leaves, with which sizes, and what the next opening finds and leaves.
+fn play_small<E: Env>(rt: &impl Abort, alloc: Global, env: &mut E) -> Result<()> {
+    put_all(alloc, env, buffered(1), PAIRS)?;
+    assert!(rt; has_files(alloc, env, FILES)?);
+    lose_manifest(env)?;
+    let opened = reopen(alloc, env, Options::default());
+    assert!(rt; failed_with(opened, StatusCode::Corruption)?);
+    mend(alloc, env)?;
+    assert!(rt; is_free(env)?);
+    let files = files_of(alloc, env)?;
+    let wanted =
+        "000004.log:24 000005.ldb:177 000007.ldb:190 CURRENT:16 LOCK:0 MANIFEST-000006:68 ";
+    assert!(rt; files.as_str() == wanted, "{files}");
+    assert!(rt; file_bytes(alloc, env, "CURRENT")?.as_slice() == b"MANIFEST-000006\n".as_slice());
+    let map = map_of(alloc, env)?;
+    assert!(rt; map.as_str() == MAP, "{map}");
+    let files = files_of(alloc, env)?;
+    assert!(rt;
+        files
+            .as_str()
+            .starts_with("000007.ldb:190 000010.log:0 CURRENT:16 LOCK:0 "),
+        "{files}"
+    );
+    Ok(())
+}
+
+#[test]
+fn a_lost_manifest(rt: HostRuntime) -> Result<()> {
+    let alloc = rt.alloc();
+    play_small(&rt, alloc, &mut MemEnv::new(alloc))?;
+    play_small(&rt, alloc, &mut RecordEnv::new(alloc))?;
+    play_small(&rt, alloc, &mut ShortReads::new(MemEnv::new(alloc)))
+}
+
+/// The manifest's one record: comparator, log number, no previous log, next file, last number, and the table.
+#[test]
+fn the_manifest(rt: HostRuntime) -> Result<()> {
+    let alloc = rt.alloc();
+    let mut env = MemEnv::new(alloc);
+    put_small(alloc, &mut env, true)?;
+    mend(alloc, &mut env)?;
+    let bytes = file_bytes(alloc, &mut env, "MANIFEST-000006")?;
+    let wanted = b"\x3d\0\x01\x01\x1aleveldb.BytewiseComparator\x02\x08\x09\0\x03\x09\x04\x02\
+\x07\x01\x07\xbe\x01\x09a\x01\x01\0\0\0\0\0\0\x09b\x01\x02\0\0\0\0\0\0";
+    let mut read = bytes.as_slice().get(4..).unwrap_or_default();
+    let mut found = Vec::new(alloc);
+    found.extend_from_slice(read)?;
+    // The fields may come in any order: as many bytes, and each field is there.
+    assert!(rt; found.len() == wanted.len(), "{}", found.len());
+    for field in [
+        b"\x01\x1aleveldb.BytewiseComparator".as_slice(),
+        b"\x02\x08".as_slice(),
+        b"\x09\0".as_slice(),
+        b"\x03\x09".as_slice(),
+        b"\x04\x02".as_slice(),
+        b"\x07\x01\x07\xbe\x01\x09a\x01\x01\0\0\0\0\0\0\x09b\x01\x02\0\0\0\0\0\0".as_slice(),
+    ] {
+        let mut is_there = false;
+        while !read.is_empty() {
+            if read.starts_with(field) {
+                is_there = true;
+                break;
+            }
+            read = read.get(1..).unwrap_or_default();
+        }
+        read = found.as_slice();
+        assert!(rt; is_there, "{field:?}");
+    }
+    Ok(())
+}
+
+/// A second repair, with an opening in between and without one, finds the same.
+#[test]
+fn repaired_twice(rt: HostRuntime) -> Result<()> {
+    let alloc = rt.alloc();
+    for opens in [false, true] {
+        let mut env = MemEnv::new(alloc);
+        put_small(alloc, &mut env, true)?;
+        mend(alloc, &mut env)?;
+        if opens {
+            assert!(rt; map_of(alloc, &mut env)?.as_str() == MAP);
+        }
+        mend(alloc, &mut env)?;
+        let map = map_of(alloc, &mut env)?;
+        assert!(rt; map.as_str() == MAP, "{map}");
+    }
+    Ok(())
+}
+
+/// A store that is whole is repaired, too, and goes on from there.
+#[test]
+fn a_whole_store(rt: HostRuntime) -> Result<()> {
+    let alloc = rt.alloc();
+    let mut env = MemEnv::new(alloc);
+    put_small(alloc, &mut env, false)?;
+    mend(alloc, &mut env)?;
+    assert!(rt; env.exists("db/MANIFEST-000001")? && env.exists("db/000004.log")?);
+    put_all(alloc, &mut env, buffered(1), &[("c", "3"), ("a", "4")])?;
+    let map = map_of(alloc, &mut env)?;
+    assert!(rt; map.as_str() == " a=4 b=2 c=3", "{map}");
+    assert!(rt; !env.exists("db/MANIFEST-000001")? && !env.exists("db/000004.log")?);
+    mend(alloc, &mut env)?;
+    let map = map_of(alloc, &mut env)?;
+    assert!(rt; map.as_str() == " a=4 b=2 c=3", "{map}");
+    Ok(())
+}
+
+// ---- what isn't repaired
+
+/// A repair of this disk fails with this code, gives back the lock, and leaves each file as it was.
+fn stays(rt: &impl Abort, alloc: Global, env: &mut MemEnv, code: StatusCode) -> Result<()> {
+    let names = env.children(alloc, STORE)?;
+    let mut before = Vec::new(alloc);
+    for name in &names {
+        before.push(file_bytes(alloc, env, name)?)?;
+    }
+    assert!(rt; failed_with(mend(alloc, env), code)?);
+    assert!(rt; is_free(env)?);
+    assert!(rt; env.children(alloc, STORE)?.len() == names.len());
+    for (name, bytes) in names.iter().zip(before.iter()) {
+        assert!(rt;
+            file_bytes(alloc, env, name)?.as_slice() == bytes.as_slice(),
+            "{name}"
+        );
+    }
+    Ok(())
+}
+
+/// Two entries of one key and number, of which one has another value, or is a deletion.
+#[test]
+fn entries_that_clash(rt: HostRuntime) -> Result<()> {
+    let alloc = rt.alloc();
+    let mut env = MemEnv::new(alloc);
+    put_small(alloc, &mut env, false)?;
+    let rows: &[Row] = &[(1, "a")];
+    put_log(alloc, &mut env, "000006.log", rows)?;
+    stays(&rt, alloc, &mut env, StatusCode::Corruption)?;
+    lose_manifest(&mut env)?;
+    stays(&rt, alloc, &mut env, StatusCode::Corruption)?;
+    env.delete("db/000005.ldb")?;
+    mend(alloc, &mut env)?;
+    assert!(rt; map_of(alloc, &mut env)?.as_str() == " a=v b=2");
+    Ok(())
+}
+
+/// Where neither a table nor a log is there: no folder, an empty store's other files, a name that is none of a store's.
+#[test]
+fn nothing_to_repair(rt: HostRuntime) -> Result<()> {
+    let alloc = rt.alloc();
+    let code = StatusCode::InvalidArgument;
+    let mut env = MemEnv::new(alloc);
+    assert!(rt; failed_with(mend(alloc, &mut env), code)?);
+    assert!(rt; has_files(alloc, &mut env, "LOCK:0 ")? && is_free(&mut env)?);
+    put_file(alloc, &mut env, "CURRENT", b"MANIFEST-000001\n")?;
+    put_file(alloc, &mut env, "MANIFEST-000001", b"")?;
+    put_file(alloc, &mut env, "notes.log", b"a")?;
+    stays(&rt, alloc, &mut env, code)
+}
+
+/// One empty log is enough: no entry is found, and there is no table.
+#[test]
+fn an_empty_log(rt: HostRuntime) -> Result<()> {
+    let alloc = rt.alloc();
+    let mut env = MemEnv::new(alloc);
+    put_file(alloc, &mut env, "000007.log", b"")?;
+    mend(alloc, &mut env)?;
+    let wanted = "000007.log:0 CURRENT:16 LOCK:0 MANIFEST-000008:43 ";
+    assert!(rt;
+        has_files(alloc, &mut env, wanted)?,
+        "{}",
+        files_of(alloc, &mut env)?
+    );
+    assert!(rt; map_of(alloc, &mut env)?.is_empty());
+    Ok(())
+}
+
+/// Names and options that don't fit make no call; whether a store must be there isn't looked at.
+#[test]
+fn names_and_options(rt: HostRuntime) -> Result<()> {
+    let alloc = rt.alloc();
+    let code = StatusCode::InvalidArgument;
+    let mut env = RecordEnv::new(alloc);
+    put_small(alloc, &mut env, true)?;
+    let moment = env.moment();
+    for name in ["", "/", "db/"] {
+        assert!(rt; failed_with(repair(alloc, name, &mut env, Options::default()), code)?);
+    }
+    let mut options: DefaultOptions = Options::default();
+    options.block_size = 0;
+    assert!(rt; failed_with(repair(alloc, STORE, &mut env, options), code)?);
+    let mut options: DefaultOptions = Options::default();
+    options.compressor = 7;
+    let repaired = repair(alloc, STORE, &mut env, options);
+    assert!(rt; failed_with(repaired, StatusCode::NotSupported)?);
+    assert!(rt; env.moment() == moment);
+    let mut options: DefaultOptions = Options::default();
+    options.error_if_exists = true;
+    options.create_if_missing = false;
+    repair(alloc, STORE, &mut env, options)?;
+    assert!(rt; map_of(alloc, &mut env)?.as_str() == MAP);
+    Ok(())
+}
+
+/// A store that is open elsewhere stays as it is, and so does its lock.
+#[test]
+fn a_locked_store(rt: HostRuntime) -> Result<()> {
+    let alloc = rt.alloc();
+    let mut env = MemEnv::new(alloc);
+    put_small(alloc, &mut env, false)?;
+    env.lock("db/LOCK")?;
+    assert!(rt; failed_with(mend(alloc, &mut env), StatusCode::LockError)?);
+    assert!(rt; !is_free(&mut env)? && has_files(alloc, &mut env, FILES)?);
+    env.unlock("db/LOCK")?;
+    assert!(rt; map_of(alloc, &mut env)?.as_str() == MAP);
+    Ok(())
+}
+
+// ---- what is left out, and how tables are made
+
+/// Repairs this disk, with lines of which this one is expected. Returns how many there were, and how many were right.
+fn mend_with_lines(alloc: Global, env: &mut MemEnv, line: &'static str) -> Result<(usize, usize)> {
+    let lines = Lines::new(alloc)?;
+    let mut options: DefaultOptions = Options::default();
+    let log: Logger = lines.log(alloc, line)?;
+    options.log = Some(log);
+    repair(alloc, STORE, env, options)?;
+    Ok(lines.counts())
+}
+
+/// A damaged table is left out, which is told, and stays until the next opening.
+#[test]
+fn a_damaged_table(rt: HostRuntime) -> Result<()> {
+    let alloc = rt.alloc();
+    let mut env = MemEnv::new(alloc);
+    put_small(alloc, &mut env, false)?;
+    damage_file(alloc, &mut env, "000005.ldb", 0)?;
+    let line = "db/000005.ldb: 177 bytes are left out, which are no readable table\n";
+    assert!(rt; mend_with_lines(alloc, &mut env, line)? == (1, 1));
+    assert!(rt; env.exists("db/000005.ldb")?);
+    let map = map_of(alloc, &mut env)?;
+    assert!(rt; map.as_str() == " b=2", "{map}");
+    assert!(rt; !env.exists("db/000005.ldb")?);
+    Ok(())
+}
+
+/// Of a damaged log what comes before the damage is found, and the rest is told.
+#[test]
+fn a_damaged_log(rt: HostRuntime) -> Result<()> {
+    let alloc = rt.alloc();
+    let mut env = MemEnv::new(alloc);
+    put_all(
+        alloc,
+        &mut env,
+        Options::default(),
+        &[("a", "1"), ("b", "2"), ("c", "3")],
+    )?;
+    damage_file(alloc, &mut env, "000003.log", 30)?;
+    let line = "db/000003.log: 48 bytes from byte 24 on are left out, whole records among them\n";
+    assert!(rt; mend_with_lines(alloc, &mut env, line)? == (1, 1));
+    let map = map_of(alloc, &mut env)?;
+    assert!(rt; map.as_str() == " a=1", "{map}");
+    Ok(())
+}
+
+/// Small tables are cut between user keys, and all versions of a key are in one, whatever the options leave out later.
+#[test]
+fn small_tables(rt: HostRuntime) -> Result<()> {
+    let alloc = rt.alloc();
+    let mut env = MemEnv::new(alloc);
+    let pairs = [("a", "1"), ("c", "2"), ("a", "3"), ("b", "4"), ("a", "5")];
+    put_all(alloc, &mut env, Options::default(), &pairs)?;
+    lose_manifest(&mut env)?;
+    let mut options: DefaultOptions = Options::default();
+    options.max_file_size = 1;
+    repair(alloc, STORE, &mut env, options)?;
+    for name in ["000005.ldb", "000006.ldb", "000007.ldb"] {
+        let path = format!(in alloc; "db/{name}")?;
+        assert!(rt; env.exists(&path)?, "{name}");
+    }
+    assert!(rt; !env.exists("db/000008.ldb")? && env.exists("db/MANIFEST-000004")?);
+    let map = map_of(alloc, &mut env)?;
+    assert!(rt; map.as_str() == " a=5 b=4 c=2", "{map}");
+    Ok(())
+}
+
+/// A table of another compressor isn't repaired without it, and nothing changes; with it, it is.
+#[test]
+fn a_compressor_that_is_not_set(rt: HostRuntime) -> Result<()> {
+    let alloc = rt.alloc();
+    let mut env = MemEnv::new(alloc);
+    let mut options = buffered(1);
+    options
+        .compressor_list
+        .set_with_id(alloc, 7, Box::new(alloc, Raised)?)?;
+    options.compressor = 7;
+    put_all(alloc, &mut env, options, PAIRS)?;
+    lose_manifest(&mut env)?;
+    stays(&rt, alloc, &mut env, StatusCode::NotSupported)?;
+    let mut options: DefaultOptions = Options::default();
+    options
+        .compressor_list
+        .set_with_id(alloc, 7, Box::new(alloc, Raised)?)?;
+    repair(alloc, STORE, &mut env, options)?;
+    assert!(rt; map_of(alloc, &mut env)?.as_str() == MAP);
+    Ok(())
+}
+
+// ---- crashes and failures
+
+/// A recording disk with the small store, all of whose bytes a crash keeps.
+fn kept_small(alloc: Global, is_lost: bool) -> Result<RecordEnv> {
+    let mut env = RecordEnv::new(alloc);
+    put_small(alloc, &mut env, is_lost)?;
+    let moment = env.moment();
+    let tails = env.tails(alloc, moment, true)?;
+    env.disk_at(alloc, moment, &Pick { tails, after: true })
+}
+
+/// The map that an opening of this disk finds, or none if it is refused as one without `CURRENT`.
+fn found_or_lost<E: Env>(alloc: Global, env: &mut E) -> Result<Option<String>> {
+    match map_of(alloc, env) {
+        Ok(map) => Ok(Some(map)),
+        Err(status) if status.code == StatusCode::Corruption => Ok(None),
+        Err(status) => Err(status),
+    }
+}
+
+/// Which bytes that weren't synced a crash leaves: none, all, all but each file's last, or all with each file's last one higher.
+#[derive(Clone, Copy, Debug)]
+enum Tails {
+    Nothing,
+    Whole,
+    Shorter,
+    Raised,
+}
+
+/// The disk that a crash at a moment leaves.
+fn left_at(
+    alloc: Global,
+    env: &RecordEnv,
+    moment: u64,
+    after: bool,
+    kind: Tails,
+) -> Result<RecordEnv> {
+    let mut tails = env.tails(alloc, moment, after)?;
+    for (_, bytes) in &mut tails {
+        let last = bytes.len().saturating_sub(1);
+        match kind {
+            Tails::Nothing => bytes.clear(),
+            Tails::Whole => {}
+            Tails::Shorter => bytes.truncate(last),
+            Tails::Raised => change_byte(bytes.as_mut_slice(), last, 1),
+        }
+    }
+    env.disk_at(alloc, moment, &Pick { tails, after })
+}
+
+/// A crash at each moment of a repair, whose store had a manifest or not: an opening finds the map, or no `CURRENT` where none was there; and another
+/// repair finds the map.
+fn crash_in_repair(rt: &impl Abort, alloc: Global, is_lost: bool, kind: Tails) -> Result<()> {
+    let mut env = kept_small(alloc, is_lost)?;
+    mend(alloc, &mut env)?;
+    let mut refused: usize = 0;
+    for moment in 0..=env.moment() {
+        for after in [false, true] {
+            let mut left = left_at(alloc, &env, moment, after, kind)?;
+            match found_or_lost(alloc, &mut left)? {
+                Some(map) => assert!(rt; map.as_str() == MAP, "{moment} {after} {kind:?}: {map}"),
+                None => {
+                    assert!(rt; is_lost, "{moment} {after} {kind:?}");
+                    refused += 1;
+                }
+            }
+            let mut left = left_at(alloc, &env, moment, after, kind)?;
+            mend(alloc, &mut left)?;
+            let map = map_of(alloc, &mut left)?;
+            assert!(rt;
+                map.as_str() == MAP,
+                "{moment} {after} {kind:?}, repaired: {map}"
+            );
+        }
+    }
+    assert!(rt; is_lost == (refused > 0) && env.moment() > 40);
+    Ok(())
+}
+
+#[test]
+fn crashes_where_the_manifest_was_lost(rt: HostRuntime) -> Result<()> {
+    crash_in_repair(&rt, rt.alloc(), true, Tails::Nothing)?;
+    crash_in_repair(&rt, rt.alloc(), true, Tails::Whole)?;
+    crash_in_repair(&rt, rt.alloc(), true, Tails::Shorter)?;
+    crash_in_repair(&rt, rt.alloc(), true, Tails::Raised)
+}
+
+#[test]
+fn crashes_where_it_was_there(rt: HostRuntime) -> Result<()> {
+    crash_in_repair(&rt, rt.alloc(), false, Tails::Nothing)?;
+    crash_in_repair(&rt, rt.alloc(), false, Tails::Whole)?;
+    crash_in_repair(&rt, rt.alloc(), false, Tails::Shorter)?;
+    crash_in_repair(&rt, rt.alloc(), false, Tails::Raised)
+}
+
+/// A second crash, at each moment of the repair after one that was cut short in its middle.
+#[test]
+fn crashes_in_a_second_repair(rt: HostRuntime) -> Result<()> {
+    let alloc = rt.alloc();
+    let mut env = kept_small(alloc, true)?;
+    mend(alloc, &mut env)?;
+    for first in [env.moment() / 2, env.moment() - 6] {
+        let mut second = left_at(alloc, &env, first, true, Tails::Whole)?;
+        mend(alloc, &mut second)?;
+        for moment in 0..=second.moment() {
+            let mut left = left_at(alloc, &second, moment, false, Tails::Nothing)?;
+            mend(alloc, &mut left)?;
+            let map = map_of(alloc, &mut left)?;
+            assert!(rt; map.as_str() == MAP, "{first} {moment}: {map}");
+        }
+    }
+    Ok(())
+}
+
+/// The nth call of a repair fails, done or not: the repair is refused for it, and its lock is free unless giving it back failed. Then the store is opened,
+/// or not, and repaired. Returns whether there was such a call.
+fn fail_in_repair(
+    rt: &impl Abort,
+    alloc: Global,
+    is_lost: bool,
+    nth: u64,
+    done: bool,
+    opens: bool,
+) -> Result<bool> {
+    let mut env = kept_small(alloc, is_lost)?;
+    env.fail(nth, done);
+    let repaired = mend(alloc, &mut env);
+    let calls = env.moment() / 2;
+    env.fail(0, false);
+    if calls < nth {
+        repaired?;
+        return Ok(false);
+    }
+    assert!(rt;
+        code_of(&repaired) == StatusCode::IOError,
+        "call {nth} of {calls}, {done}: {repaired:?}"
+    );
+    if !is_free(&mut env)? {
+        assert!(rt; nth == calls, "call {nth} {done}");
+        env.unlock("db/LOCK")?;
+    }
+    if opens {
+        match found_or_lost(alloc, &mut env)? {
+            Some(map) => assert!(rt; map.as_str() == MAP, "call {nth} {done}: {map}"),
+            None => assert!(rt; is_lost, "call {nth} {done}"),
+        }
+    }
+    mend(alloc, &mut env)?;
+    let map = map_of(alloc, &mut env)?;
+    assert!(rt; map.as_str() == MAP, "call {nth} {done}, repaired: {map}");
+    Ok(true)
+}
+
+#[test]
+fn each_call_fails_once(rt: HostRuntime) -> Result<()> {
+    let alloc = rt.alloc();
+    for is_lost in [false, true] {
+        for done in [false, true] {
+            for opens in [false, true] {
+                let mut nth = 1;
+                while fail_in_repair(&rt, alloc, is_lost, nth, done, opens)? {
+                    nth += 1;
+                }
+                assert!(rt; nth > 20, "{nth} calls");
+            }
+        }
+    }
+    Ok(())
+}
+
+/// A repair that finds no memory is made again. `tools/refuse` refuses each request in turn.
+#[test]
+fn refused_memory(rt: HostRuntime) -> Result<()> {
+    let alloc = rt.alloc();
+    for is_lost in [true, false] {
+        let mut env = MemEnv::new(alloc);
+        put_small(alloc, &mut env, is_lost)?;
+        match mend(alloc, &mut env) {
+            Ok(()) => {}
+            Err(status) => {
+                assert!(rt; status.code == StatusCode::OutOfMemory && status.err.is_none());
+                assert!(rt; is_free(&mut env)?);
+                mend(alloc, &mut env)?;
+            }
+        }
+        assert!(rt; map_of(alloc, &mut env)?.as_str() == MAP);
+    }
+    Ok(())
+}
