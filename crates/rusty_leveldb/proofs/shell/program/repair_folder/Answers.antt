@@ -34,3 +34,11 @@ returns-clause-repaired g c = (
       (asks_so c.default-options.ensures.compressors c.default-options.ensures.create c.default-options.ensures.choices.no_error (default_fits c.default-options.ensures.choices) (default_compresses c.default-options.ensures.compressors c.default-options.ensures.choices.compressor))
       c.in_ok-repair.ensures,
 )
+
+pub returns-clause-answered : goal.returns-clause-answered
+returns-clause-answered g c = (
+  repaired_folder _ g.E.Env c.args.folder.now _ c.args.env.now c.repair.new.env _ refl
+      (asks_so c.default-options.ensures.compressors c.default-options.ensures.create c.default-options.ensures.choices.no_error (default_fits c.default-options.ensures.choices) (default_compresses c.default-options.ensures.compressors c.default-options.ensures.choices.compressor))
+      c.in_ok-repair.ensures,
+  search rules,
+)
