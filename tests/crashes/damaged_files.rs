@@ -480,8 +480,11 @@ pub fn change_blocks(rt: &impl Abort, alloc: Global, steps: &[Step]) -> Result<(
         every: 1,
     };
     let counts = change_each(rt, alloc, making, steps)?;
-    assert!(rt; counts.disks > 1000, "{counts:?}");
-    assert_counts(rt, counts, counts.disks);
+    // An opening reads few bytes of the tables, so that most of these disks are opened.
+    let is_right = counts.disks > 1000
+        && counts.refused_openings > 100
+        && counts.refused_replies * 10 > counts.disks;
+    assert!(rt; is_right, "{counts:?}");
     Ok(())
 }
 
