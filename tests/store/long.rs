@@ -4,6 +4,7 @@ use super::compactions_of_many::try_seeds;
 use super::merged_inputs::{crash_in_merge, fail_in_merge};
 use super::merging::compare_merges;
 use super::open_tables::damage_each;
+use super::repairs::{crash_in_repairs, crash_in_second_repairs, fail_in_repairs};
 use super::repairs_of_damage::{self, larger_files, shuffle, small_files};
 use super::replays::{fail_reads, open_over_short_reads};
 use leveldb_base::error::Result;
@@ -59,6 +60,18 @@ fn each_call_of_an_opening_fails_once(rt: HostRuntime) -> Result<()> {
         assert!(rt; refused > 6 && goes_on > 10, "{done}: {refused} {goes_on}");
     }
     Ok(())
+}
+
+#[test]
+fn crashes_at_each_moment_of_a_repair(rt: HostRuntime) -> Result<()> {
+    crash_in_repairs(&rt, rt.alloc(), true, 1)?;
+    crash_in_repairs(&rt, rt.alloc(), false, 1)?;
+    crash_in_second_repairs(&rt, rt.alloc(), 1)
+}
+
+#[test]
+fn each_call_of_a_repair_fails_once(rt: HostRuntime) -> Result<()> {
+    fail_in_repairs(&rt, rt.alloc(), 1)
 }
 
 #[test]

@@ -433,13 +433,22 @@ fn left_at(
     env.disk_at(alloc, moment, &Pick { tails, after })
 }
 
-/// A crash at each moment of a repair, whose store had a manifest or not: an opening finds the map, or no `CURRENT` where none was there; and another
-/// repair finds the map.
-fn crash_in_repair(rt: &impl Abort, alloc: Global, is_lost: bool, kind: Tails) -> Result<()> {
+/// A crash at one of so many moments of a repair, whose store had a manifest or not: an opening finds the map, or no `CURRENT` where none was there; and
+/// another repair finds the map.
+fn crash_in_repair(
+    rt: &impl Abort,
+    alloc: Global,
+    is_lost: bool,
+    kind: Tails,
+    every: u64,
+) -> Result<()> {
     let mut env = kept_small(alloc, is_lost)?;
     mend(alloc, &mut env)?;
     let mut refused: usize = 0;
     for moment in 0..=env.moment() {
+        if moment % every > 0 {
+            continue;
+        }
         for after in [false, true] {
             let mut left = left_at(alloc, &env, moment, after, kind)?;
             match found_or_lost(alloc, &mut left)? {
@@ -462,32 +471,35 @@ fn crash_in_repair(rt: &impl Abort, alloc: Global, is_lost: bool, kind: Tails) -
     Ok(())
 }
 
+/// Such crashes with all kinds of tails.
+pub fn crash_in_repairs(rt: &impl Abort, alloc: Global, is_lost: bool, every: u64) -> Result<()> {
+    for kind in [Tails::Nothing, Tails::Whole, Tails::Shorter, Tails::Raised] {
+        crash_in_repair(rt, alloc, is_lost, kind, every)?;
+    }
+    Ok(())
+}
+
 #[test]
 fn crashes_where_the_manifest_was_lost(rt: HostRuntime) -> Result<()> {
-    crash_in_repair(&rt, rt.alloc(), true, Tails::Nothing)?;
-    crash_in_repair(&rt, rt.alloc(), true, Tails::Whole)?;
-    crash_in_repair(&rt, rt.alloc(), true, Tails::Shorter)?;
-    crash_in_repair(&rt, rt.alloc(), true, Tails::Raised)
+    crash_in_repairs(&rt, rt.alloc(), true, 5)
 }
 
 #[test]
 fn crashes_where_it_was_there(rt: HostRuntime) -> Result<()> {
-    crash_in_repair(&rt, rt.alloc(), false, Tails::Nothing)?;
-    crash_in_repair(&rt, rt.alloc(), false, Tails::Whole)?;
-    crash_in_repair(&rt, rt.alloc(), false, Tails::Shorter)?;
-    crash_in_repair(&rt, rt.alloc(), false, Tails::Raised)
+    crash_in_repairs(&rt, rt.alloc(), false, 7)
 }
 
-/// A second crash, at each moment of the repair after one that was cut short in its middle.
-#[test]
-fn crashes_in_a_second_repair(rt: HostRuntime) -> Result<()> {
-    let alloc = rt.alloc();
+/// A second crash, at one of so many moments of the repair after one that was cut short in its middle.
+pub fn crash_in_second_repairs(rt: &impl Abort, alloc: Global, every: u64) -> Result<()> {
     let mut env = kept_small(alloc, true)?;
     mend(alloc, &mut env)?;
     for first in [env.moment() / 2, env.moment() - 6] {
         let mut second = left_at(alloc, &env, first, true, Tails::Whole)?;
         mend(alloc, &mut second)?;
         for moment in 0..=second.moment() {
+            if moment % every > 0 {
+                continue;
+            }
             let mut left = left_at(alloc, &second, moment, false, Tails::Nothing)?;
             mend(alloc, &mut left)?;
             let map = map_of(alloc, &mut left)?;
@@ -495,6 +507,11 @@ fn crashes_in_a_second_repair(rt: HostRuntime) -> Result<()> {
         }
     }
     Ok(())
+}
+
+#[test]
+fn crashes_in_a_second_repair(rt: HostRuntime) -> Result<()> {
+    crash_in_second_repairs(&rt, rt.alloc(), 5)
 }
 
 /// The nth call of a repair fails, done or not: the repair is refused for it, and its lock is free unless giving it back failed. Then the store is opened,
@@ -536,21 +553,25 @@ fn fail_in_repair(
     Ok(true)
 }
 
-#[test]
-fn each_call_fails_once(rt: HostRuntime) -> Result<()> {
-    let alloc = rt.alloc();
+/// One of so many calls of a repair fails.
+pub fn fail_in_repairs(rt: &impl Abort, alloc: Global, every: u64) -> Result<()> {
     for is_lost in [false, true] {
         for done in [false, true] {
             for opens in [false, true] {
                 let mut nth = 1;
-                while fail_in_repair(&rt, alloc, is_lost, nth, done, opens)? {
-                    nth += 1;
+                while fail_in_repair(rt, alloc, is_lost, nth, done, opens)? {
+                    nth += every;
                 }
                 assert!(rt; nth > 20, "{nth} calls");
             }
         }
     }
     Ok(())
+}
+
+#[test]
+fn some_calls_fail_once(rt: HostRuntime) -> Result<()> {
+    fail_in_repairs(&rt, rt.alloc(), 5)
 }
 
 /// A repair that finds no memory is made again. `tools/refuse` refuses each request in turn.

@@ -266,18 +266,18 @@ pub fn damage_each(rt: &impl Abort, alloc: Global, files: &[File], every: usize)
 }
 
 #[test]
-fn each_byte_of_a_small_store(rt: HostRuntime) -> Result<()> {
+fn some_bytes_of_a_small_store(rt: HostRuntime) -> Result<()> {
     let alloc = rt.alloc();
-    let count = damage_each(&rt, alloc, &small_files(alloc)?, 7)?;
-    assert!(rt; count > 60, "{count}");
+    let count = damage_each(&rt, alloc, &small_files(alloc)?, 29)?;
+    assert!(rt; count > 12, "{count}");
     Ok(())
 }
 
 #[test]
 fn some_bytes_of_a_larger_store(rt: HostRuntime) -> Result<()> {
     let alloc = rt.alloc();
-    let count = damage_each(&rt, alloc, &larger_files(alloc)?, 41)?;
-    assert!(rt; count > 20, "{count}");
+    let count = damage_each(&rt, alloc, &larger_files(alloc)?, 163)?;
+    assert!(rt; count > 4, "{count}");
     Ok(())
 }
 
@@ -322,7 +322,7 @@ pub fn shuffle(rt: &impl Abort, alloc: Global, rounds: u64) -> Result<usize> {
 
 #[test]
 fn several_files(rt: HostRuntime) -> Result<()> {
-    let count = shuffle(&rt, rt.alloc(), 20)?;
-    assert!(rt; count > 14, "{count}");
+    let count = shuffle(&rt, rt.alloc(), 8)?;
+    assert!(rt; count > 4, "{count}");
     Ok(())
 }
