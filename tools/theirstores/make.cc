@@ -4,9 +4,11 @@
 //     ./make plain FOLDER     a store without compression: a table in level 2, one above it, and a log
 //     ./make snappy FOLDER    a store of one table, whose block is compressed
 //     ./make dumped FOLDER    a store whose log, manifest and table have each kind of line of a dump
+//     ./make large FOLDER     a store of several levels and of logs, after 80,000 changes at random in four openings
 #include <cstdio>
 #include <cstdlib>
 #include <memory>
+#include <random>
 #include <string>
 
 #include "leveldb/db.h"
@@ -84,6 +86,21 @@ void MakeDumped(const char* folder, const leveldb::Options& options) {
   Check(db->Write(write, &none));
 }
 
+void MakeLarge(const char* folder, leveldb::Options options) {
+  options.write_buffer_size = 64 << 10;
+  options.max_file_size = 1 << 20;
+  leveldb::WriteOptions write;
+  std::mt19937 random(7);
+  for (int opening = 0; opening < 4; ++opening) {
+    auto db = Open(folder, options);
+    for (int change = 0; change < 20000; ++change) {
+      const std::string key = "key" + std::to_string(random() % 30000);
+      if (random() % 5 == 0) Check(db->Delete(write, key));
+      else Check(db->Put(write, key, std::string(random() % 120, 'a' + char(random() % 26))));
+    }
+  }
+}
+
 }  // namespace
 
 int main(int argc, char** argv) {
@@ -96,6 +113,7 @@ int main(int argc, char** argv) {
   if (kind == "plain") MakePlain(argv[2], options);
   else if (kind == "snappy") MakeSnappy(argv[2], options);
   else if (kind == "dumped") MakeDumped(argv[2], options);
+  else if (kind == "large") MakeLarge(argv[2], options);
   else return 2;
   return 0;
 }
