@@ -3,7 +3,7 @@
 use super::changed_files::{Change, File, bytes_in, disk_with, files_on, make_file};
 use super::replies::{KEYS, has};
 use super::steps::{Step, commands_of, landings_of};
-use super::twelve_keys::OVER_ALL;
+use super::twelve_keys::{OVER_ALL, STEPS};
 use leveldb_base::cmp::DefaultCmp;
 use leveldb_base::error::{Result, StatusCode};
 use leveldb_base::names::parse_file_name;
@@ -83,7 +83,7 @@ fn options_of(making: Making) -> DefaultOptions {
 
 /// How many changes there are, how many changed disks were opened, how many of these openings failed, and how many replies of those that did not.
 #[derive(Clone, Copy, Debug)]
-struct Counts {
+pub struct Counts {
     changes: usize,
     disks: usize,
     refused_openings: usize,
@@ -187,29 +187,60 @@ fn is_told_of(replies: &[Reply], key: &str) -> bool {
         .any(|(step, reply)| tells_of(step, reply, key))
 }
 
-/// The bytes of a table's block that has this key alone, its type and its checksum, if the table has such a block: an entry that
-/// shares nothing with others, of a key and 8 bytes more, with the value's length before it.
-fn is_in_block_of(table: &[u8], key: &str, at: usize) -> bool {
-    let [letter] = key.as_bytes() else {
-        return false;
+/// The start and the end of a table's block that has this key alone, its type and its checksum: an entry that shares nothing with
+/// others, of a key and 8 bytes more, with the value's length before it. None if the table doesn't have the key.
+fn block_of(table: &[u8], key: &[u8]) -> Option<(usize, usize)> {
+    let [letter] = key else {
+        return None;
     };
     for (start, window) in table.windows(4).enumerate() {
         if window[0] == 0 && window[1] == 9 && window[3] == *letter {
-            let end = start + 12 + usize::from(window[2]) + 8 + 5;
-            return start <= at && at < end;
+            return Some((start, start + 12 + usize::from(window[2]) + 8 + 5));
         }
     }
-    false
+    None
+}
+
+/// Whether a byte of a table is in the block of this key, which is that of all keys of the map that the table has, or has one alone.
+fn is_in_block_of(
+    map: &[BorrowedPair<'_>],
+    table: &[u8],
+    key: &[u8],
+    at: usize,
+    is_shared: bool,
+) -> bool {
+    let Some((start, end)) = block_of(table, key) else {
+        return false;
+    };
+    let mut last = end;
+    for pair in map {
+        if let Some((_, end)) = block_of(table, pair.0)
+            && end > last
+        {
+            last = end;
+        }
+    }
+    at < last && is_shared || start <= at && at < end
 }
 
 /// Whether nothing is told of a key of the map whose block has the changed byte.
-fn is_untold(map: &[BorrowedPair<'_>], table: &[u8], change: Change, replies: &[Reply]) -> bool {
+fn is_untold(
+    map: &[BorrowedPair<'_>],
+    table: &[u8],
+    change: Change,
+    replies: &[Reply],
+    is_shared: bool,
+) -> bool {
     let Change::Raised(at) = change else {
         return true;
     };
     for key in &KEYS {
-        let is_there = map.iter().any(|pair| pair.0 == key.as_bytes());
-        if is_there && is_in_block_of(table, key, at) && is_told_of(replies, key) {
+        let bytes = key.as_bytes();
+        let is_there = map.iter().any(|pair| pair.0 == bytes);
+        if is_there
+            && is_in_block_of(map, table, bytes, at, is_shared)
+            && is_told_of(replies, key)
+        {
             return false;
         }
     }
@@ -357,7 +388,13 @@ fn is_allowed(
                 is_table
                     && !matches!(change, Change::TakenAway)
                     && are_replies(alloc, &map, replies, true)?
-                    && is_untold(&map, file.1.as_slice(), change, replies),
+                    && is_untold(
+                        &map,
+                        file.1.as_slice(),
+                        change,
+                        replies,
+                        sound.making.block > 1,
+                    ),
             )
         }
     }
@@ -459,7 +496,7 @@ pub fn change_two_puts(
     reuses: bool,
     every: usize,
     disks: usize,
-) -> Result<()> {
+) -> Result<Counts> {
     let making = Making {
         buffer: 1,
         block: 4096,
@@ -468,28 +505,43 @@ pub fn change_two_puts(
     };
     let counts = change_each(rt, alloc, making, TWO_PUTS)?;
     assert_counts(rt, counts, disks);
-    Ok(())
+    Ok(counts)
 }
 
-/// Changes each file of the store that these steps leave, whose tables have a block for each key.
-pub fn change_blocks(rt: &impl Abort, alloc: Global, steps: &[Step]) -> Result<()> {
+/// Changes each file of the store that these steps leave, whose tables have blocks of this size: a block of 1 byte has one key. One of so
+/// many of these changes is tried.
+pub fn change_blocks(
+    rt: &impl Abort,
+    alloc: Global,
+    steps: &[Step],
+    block: usize,
+    every: usize,
+) -> Result<Counts> {
     let making = Making {
         buffer: 300,
-        block: 1,
+        block,
         reuses: true,
-        every: 1,
+        every,
     };
     let counts = change_each(rt, alloc, making, steps)?;
     // An opening reads few bytes of the tables, so that most of these disks are opened.
-    let is_right = counts.disks > 1000
-        && counts.refused_openings > 100
+    let is_right = counts.disks * every > 1000
+        && counts.refused_openings * every > 100
         && counts.refused_replies * 10 > counts.disks;
     assert!(rt; is_right, "{counts:?}");
-    Ok(())
+    Ok(counts)
 }
 
 /// Files of 16, 5, 24, 81 and 177 bytes, and a lock.
 #[test]
 fn a_table_and_a_log(rt: HostRuntime) -> Result<()> {
-    change_two_puts(&rt, rt.alloc(), true, 5, 122)
+    change_two_puts(&rt, rt.alloc(), true, 5, 122)?;
+    Ok(())
+}
+
+/// The table of a compaction with one block for all keys.
+#[test]
+fn a_table_of_a_compaction(rt: HostRuntime) -> Result<()> {
+    change_blocks(&rt, rt.alloc(), STEPS, 4096, 31)?;
+    Ok(())
 }

@@ -8,7 +8,7 @@ use super::crashes::crash_after_each;
 use super::damaged_files::{change_blocks, change_two_puts};
 use super::lives::crash_at_each;
 use super::program::read_long_inputs;
-use super::random_commands::run_all;
+use super::random_commands::run_first;
 use super::sweep::{crash_everywhere, crash_twice_everywhere, fail_everywhere};
 use super::switches::{ANEW, REUSING};
 use super::twelve_keys::{SCRIPT as TWELVE_KEYS, STEPS};
@@ -67,25 +67,37 @@ fn each_crash_keeps_a_prefix(rt: HostRuntime) -> Result<()> {
 /// A table and a log, which is used on.
 #[test]
 fn damage_where_files_are_used_on(rt: HostRuntime) -> Result<()> {
-    change_two_puts(&rt, rt.alloc(), true, 1, 612)
+    let counts = change_two_puts(&rt, rt.alloc(), true, 1, 612)?;
+    println!(rt; "{counts:?}")?;
+    Ok(())
 }
 
 /// The opening makes a table of the log, and a new manifest.
 #[test]
 fn damage_where_no_file_is_used_on(rt: HostRuntime) -> Result<()> {
-    change_two_puts(&rt, rt.alloc(), false, 1, 630)
+    let counts = change_two_puts(&rt, rt.alloc(), false, 1, 630)?;
+    println!(rt; "{counts:?}")?;
+    Ok(())
 }
 
-/// Tables of a level, and a log.
+/// Tables of a level, and a log. Each table has a block for each of its keys, or one for all.
 #[test]
 fn damage_before_a_compaction(rt: HostRuntime) -> Result<()> {
-    change_blocks(&rt, rt.alloc(), &STEPS[..14])
+    for block in [1, 4096] {
+        let counts = change_blocks(&rt, rt.alloc(), &STEPS[..14], block, 1)?;
+        println!(rt; "{counts:?}")?;
+    }
+    Ok(())
 }
 
 /// The table of a compaction.
 #[test]
 fn damage_after_a_compaction(rt: HostRuntime) -> Result<()> {
-    change_blocks(&rt, rt.alloc(), STEPS)
+    for block in [1, 4096] {
+        let counts = change_blocks(&rt, rt.alloc(), STEPS, block, 1)?;
+        println!(rt; "{counts:?}")?;
+    }
+    Ok(())
 }
 
 #[test]
@@ -236,5 +248,5 @@ fn long_inputs(rt: HostRuntime) -> io::Result<()> {
 
 #[test]
 fn six_thousand_commands(rt: HostRuntime) -> Result<()> {
-    run_all(&rt, rt.alloc())
+    run_first(&rt, rt.alloc(), 6000)
 }

@@ -9,6 +9,7 @@ use leveldb_env::env::Env;
 use leveldb_env::mem_env::{Pick, RecordEnv};
 use leveldb_env::options::Options;
 use rusty_leveldb::Snapshot;
+use rusty_leveldb::shell::{Move, Step};
 use slow_store::{has_levels, read_store};
 use std::alloc::Global;
 use std::process::Abort;
@@ -400,6 +401,22 @@ fn have_value(trial: &mut Trial, value: u8) -> Result<bool> {
     Ok(true)
 }
 
+/// Whether a walk from the first pair on is over each letter, with this value, and nothing more.
+fn walks_over_letters(trial: &mut Trial, value: u8) -> Result<bool> {
+    let mut moves = Vec::new(trial.alloc);
+    moves.push(Move::First)?;
+    for _ in b'a'..=b'z' {
+        moves.push(Move::Next)?;
+    }
+    let mut led = Vec::new(trial.alloc);
+    trial.engine.walk(&mut trial.env, None, &moves, &mut led)?;
+    let is_at_end = matches!(led.pop(), Some(Step::Invalid));
+    let are_letters = led.iter().zip(b'a'..=b'z').all(|(step, letter)| {
+        matches!(step, Step::At(key, found) if key.as_slice() == [letter].as_slice() && found.as_slice() == [value].as_slice())
+    });
+    Ok(is_at_end && led.len() == 26 && are_letters)
+}
+
 /// How many tables are in the store's folder, and how many entries the store's files have.
 fn tables_and_entries(trial: &mut Trial) -> Result<(usize, usize)> {
     let tables = count_tables(trial.alloc, &mut trial.env)?;
@@ -413,11 +430,11 @@ fn letters_put_twice(rt: HostRuntime) -> Result<()> {
     put_letters(&mut trial, b'1')?;
     put_letters(&mut trial, b'2')?;
     trial.compact("", "")?;
-    assert!(rt; have_value(&mut trial, b'2')?);
+    assert!(rt; have_value(&mut trial, b'2')? && walks_over_letters(&mut trial, b'2')?);
     let found = tables_and_entries(&mut trial)?;
     assert!(rt; found == (26, 26), "{found:?}");
     trial.play(&rt, &[Act::Reopen])?;
-    assert!(rt; have_value(&mut trial, b'2')?);
+    assert!(rt; have_value(&mut trial, b'2')? && walks_over_letters(&mut trial, b'2')?);
     let found = tables_and_entries(&mut trial)?;
     assert!(rt; found == (26, 26), "{found:?}");
     trial.engine.abandon(&mut trial.env)

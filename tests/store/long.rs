@@ -64,23 +64,32 @@ fn each_call_of_an_opening_fails_once(rt: HostRuntime) -> Result<()> {
 
 #[test]
 fn crashes_at_each_moment_of_a_repair(rt: HostRuntime) -> Result<()> {
-    crash_in_repairs(&rt, rt.alloc(), true, 1)?;
-    crash_in_repairs(&rt, rt.alloc(), false, 1)?;
-    crash_in_second_repairs(&rt, rt.alloc(), 1)
+    let lost = crash_in_repairs(&rt, rt.alloc(), true, 1)?;
+    let there = crash_in_repairs(&rt, rt.alloc(), false, 1)?;
+    let second = crash_in_second_repairs(&rt, rt.alloc(), 1)?;
+    assert!(rt;
+        lost > 300 && there > 300 && second > 80,
+        "{lost} {there} {second}"
+    );
+    println!(rt; "{lost} and {there} crashes, {second} second ones")?;
+    Ok(())
 }
 
 #[test]
 fn each_call_of_a_repair_fails_once(rt: HostRuntime) -> Result<()> {
-    fail_in_repairs(&rt, rt.alloc(), 1)
+    let failed = fail_in_repairs(&rt, rt.alloc(), 1)?;
+    assert!(rt; failed > 160, "{failed}");
+    println!(rt; "{failed} repairs failed")?;
+    Ok(())
 }
 
 #[test]
 fn repairs_after_each_change_of_a_byte(rt: HostRuntime) -> Result<()> {
     let alloc = rt.alloc();
     let small = repairs_of_damage::damage_each(&rt, alloc, &small_files(alloc)?, 1)?;
-    assert!(rt; small > 400, "{small}");
     let larger = repairs_of_damage::damage_each(&rt, alloc, &larger_files(alloc)?, 1)?;
-    assert!(rt; larger > 1000, "{larger}");
+    assert!(rt; small.1 > 400 && larger.1 > 1000, "{small:?} {larger:?}");
+    println!(rt; "folders, and repairs that were Ok: {small:?} {larger:?}")?;
     Ok(())
 }
 
@@ -88,5 +97,6 @@ fn repairs_after_each_change_of_a_byte(rt: HostRuntime) -> Result<()> {
 fn repairs_of_several_files(rt: HostRuntime) -> Result<()> {
     let count = shuffle(&rt, rt.alloc(), 400)?;
     assert!(rt; count > 300, "{count}");
+    println!(rt; "{count} repairs were Ok")?;
     Ok(())
 }

@@ -1,7 +1,7 @@
 //! Repairs: what they leave, what is found then, crashes at each of their moments, and calls that fail.
 use super::stores::{
-    DefaultOptions, Row, STORE, buffered, damage_file, file_bytes, files_of, has_files, opened_db,
-    put_all, put_file, put_log, reopen, text_of,
+    DefaultOptions, STORE, buffered, damage_file, file_bytes, files_of, has_files, opened_db,
+    put_all, put_file, put_log_of, reopen, text_of,
 };
 use leveldb_base::error::{Result, StatusCode};
 use leveldb_env::env::Env;
@@ -210,14 +210,13 @@ fn entries_that_clash(rt: HostRuntime) -> Result<()> {
     let alloc = rt.alloc();
     let mut env = MemEnv::new(alloc);
     put_small(alloc, &mut env, false)?;
-    let rows: &[Row] = &[(1, "a")];
-    put_log(alloc, &mut env, "000006.log", rows)?;
+    put_log_of(alloc, &mut env, "000006.log", &[(1, "a", "9")])?;
     stays(&rt, alloc, &mut env, StatusCode::Corruption)?;
     lose_manifest(&mut env)?;
     stays(&rt, alloc, &mut env, StatusCode::Corruption)?;
     env.delete("db/000005.ldb")?;
     mend(alloc, &mut env)?;
-    assert!(rt; map_of(alloc, &mut env)?.as_str() == " a=v b=2");
+    assert!(rt; map_of(alloc, &mut env)?.as_str() == " a=9 b=2");
     Ok(())
 }
 
@@ -434,16 +433,17 @@ fn left_at(
 }
 
 /// A crash at one of so many moments of a repair, whose store had a manifest or not: an opening finds the map, or no `CURRENT` where none was there; and
-/// another repair finds the map.
+/// another repair finds the map. Returns how many crashes there were.
 fn crash_in_repair(
     rt: &impl Abort,
     alloc: Global,
     is_lost: bool,
     kind: Tails,
     every: u64,
-) -> Result<()> {
+) -> Result<usize> {
     let mut env = kept_small(alloc, is_lost)?;
     mend(alloc, &mut env)?;
+    let mut crashes: usize = 0;
     let mut refused: usize = 0;
     for moment in 0..=env.moment() {
         if moment % every > 0 {
@@ -465,34 +465,46 @@ fn crash_in_repair(
                 map.as_str() == MAP,
                 "{moment} {after} {kind:?}, repaired: {map}"
             );
+            crashes += 1;
         }
     }
     assert!(rt; is_lost == (refused > 0) && env.moment() > 40);
-    Ok(())
+    Ok(crashes)
 }
 
 /// Such crashes with all kinds of tails.
-pub fn crash_in_repairs(rt: &impl Abort, alloc: Global, is_lost: bool, every: u64) -> Result<()> {
+pub fn crash_in_repairs(
+    rt: &impl Abort,
+    alloc: Global,
+    is_lost: bool,
+    every: u64,
+) -> Result<usize> {
+    let mut crashes = 0;
     for kind in [Tails::Nothing, Tails::Whole, Tails::Shorter, Tails::Raised] {
-        crash_in_repair(rt, alloc, is_lost, kind, every)?;
+        crashes += crash_in_repair(rt, alloc, is_lost, kind, every)?;
     }
-    Ok(())
+    Ok(crashes)
 }
 
 #[test]
 fn crashes_where_the_manifest_was_lost(rt: HostRuntime) -> Result<()> {
-    crash_in_repairs(&rt, rt.alloc(), true, 5)
+    let crashes = crash_in_repairs(&rt, rt.alloc(), true, 5)?;
+    assert!(rt; crashes > 60, "{crashes}");
+    Ok(())
 }
 
 #[test]
 fn crashes_where_it_was_there(rt: HostRuntime) -> Result<()> {
-    crash_in_repairs(&rt, rt.alloc(), false, 7)
+    let crashes = crash_in_repairs(&rt, rt.alloc(), false, 7)?;
+    assert!(rt; crashes > 40, "{crashes}");
+    Ok(())
 }
 
-/// A second crash, at one of so many moments of the repair after one that was cut short in its middle.
-pub fn crash_in_second_repairs(rt: &impl Abort, alloc: Global, every: u64) -> Result<()> {
+/// A second crash, at one of so many moments of the repair after one that was cut short in its middle. Returns how many there were.
+pub fn crash_in_second_repairs(rt: &impl Abort, alloc: Global, every: u64) -> Result<usize> {
     let mut env = kept_small(alloc, true)?;
     mend(alloc, &mut env)?;
+    let mut crashes = 0;
     for first in [env.moment() / 2, env.moment() - 6] {
         let mut second = left_at(alloc, &env, first, true, Tails::Whole)?;
         mend(alloc, &mut second)?;
@@ -504,14 +516,17 @@ pub fn crash_in_second_repairs(rt: &impl Abort, alloc: Global, every: u64) -> Re
             mend(alloc, &mut left)?;
             let map = map_of(alloc, &mut left)?;
             assert!(rt; map.as_str() == MAP, "{first} {moment}: {map}");
+            crashes += 1;
         }
     }
-    Ok(())
+    Ok(crashes)
 }
 
 #[test]
 fn crashes_in_a_second_repair(rt: HostRuntime) -> Result<()> {
-    crash_in_second_repairs(&rt, rt.alloc(), 5)
+    let crashes = crash_in_second_repairs(&rt, rt.alloc(), 5)?;
+    assert!(rt; crashes > 10, "{crashes}");
+    Ok(())
 }
 
 /// The nth call of a repair fails, done or not: the repair is refused for it, and its lock is free unless giving it back failed. Then the store is opened,
@@ -553,25 +568,29 @@ fn fail_in_repair(
     Ok(true)
 }
 
-/// One of so many calls of a repair fails.
-pub fn fail_in_repairs(rt: &impl Abort, alloc: Global, every: u64) -> Result<()> {
+/// One of so many calls of a repair fails. Returns how many repairs failed so.
+pub fn fail_in_repairs(rt: &impl Abort, alloc: Global, every: u64) -> Result<usize> {
+    let mut failed = 0;
     for is_lost in [false, true] {
         for done in [false, true] {
             for opens in [false, true] {
                 let mut nth = 1;
                 while fail_in_repair(rt, alloc, is_lost, nth, done, opens)? {
                     nth += every;
+                    failed += 1;
                 }
                 assert!(rt; nth > 20, "{nth} calls");
             }
         }
     }
-    Ok(())
+    Ok(failed)
 }
 
 #[test]
 fn some_calls_fail_once(rt: HostRuntime) -> Result<()> {
-    fail_in_repairs(&rt, rt.alloc(), 5)
+    let failed = fail_in_repairs(&rt, rt.alloc(), 5)?;
+    assert!(rt; failed > 30, "{failed}");
+    Ok(())
 }
 
 /// A repair that finds no memory is made again. `tools/refuse` refuses each request in turn.

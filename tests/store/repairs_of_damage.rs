@@ -241,9 +241,15 @@ fn disk_with(alloc: Global, files: &[File], index: usize, change: Change) -> Res
     Ok(env)
 }
 
-/// Each file taken away, and one of so many of its bytes raised or the file cut there. Returns how many repairs were Ok.
-pub fn damage_each(rt: &impl Abort, alloc: Global, files: &[File], every: usize) -> Result<usize> {
-    let mut count = 0;
+/// Each file taken away, and one of so many of its bytes raised or the file cut there. Returns how many folders there were, and of how many the repair was Ok.
+pub fn damage_each(
+    rt: &impl Abort,
+    alloc: Global,
+    files: &[File],
+    every: usize,
+) -> Result<(usize, usize)> {
+    let mut folders = 0;
+    let mut repaired = 0;
     let mut turn: usize = 0;
     for (index, (name, bytes)) in files.iter().enumerate() {
         let mut changes = Vec::new(alloc);
@@ -259,25 +265,26 @@ pub fn damage_each(rt: &impl Abort, alloc: Global, files: &[File], every: usize)
         for change in changes {
             let mut env = disk_with(alloc, files, index, change)?;
             let what = format!(in alloc; "{name}, {change:?}")?;
-            count += usize::from(repair_beside_slow(rt, alloc, &mut env, &what)?);
+            folders += 1;
+            repaired += usize::from(repair_beside_slow(rt, alloc, &mut env, &what)?);
         }
     }
-    Ok(count)
+    Ok((folders, repaired))
 }
 
 #[test]
 fn some_bytes_of_a_small_store(rt: HostRuntime) -> Result<()> {
     let alloc = rt.alloc();
-    let count = damage_each(&rt, alloc, &small_files(alloc)?, 29)?;
-    assert!(rt; count > 12, "{count}");
+    let (_, repaired) = damage_each(&rt, alloc, &small_files(alloc)?, 29)?;
+    assert!(rt; repaired > 12, "{repaired}");
     Ok(())
 }
 
 #[test]
 fn some_bytes_of_a_larger_store(rt: HostRuntime) -> Result<()> {
     let alloc = rt.alloc();
-    let count = damage_each(&rt, alloc, &larger_files(alloc)?, 163)?;
-    assert!(rt; count > 4, "{count}");
+    let (_, repaired) = damage_each(&rt, alloc, &larger_files(alloc)?, 163)?;
+    assert!(rt; repaired > 4, "{repaired}");
     Ok(())
 }
 

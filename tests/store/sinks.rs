@@ -28,13 +28,24 @@ impl InfoSink for Deaf {
 type Lines<'a> = Option<&'a Rc<Cell<usize>>>;
 
 /// Runs, one after another, that each open the store anew.
-const RUNS: [&[u8]; 6] = [
+const RUNS: [&[u8]; 9] = [
     b"",
     b"put 61 31\nwrite 1 +62=32\nput 63 33\nget 61\nget 63\n",
     b"write 1 +64=34\nget 61\nget 63\ngetat 0 61\nclose\nget 61\n",
     b"put 6b 31\nsnap\nput 6b 32\ngetat 0 6b\nget 6b\nrelease 0\ngetat 0 6b\ndel 6b\nget 6b\n",
     b"put 61 31\nput 62 32\nput 63 33\ndel 62\nwalk now seek=63 prev prev prev next\n",
     b"put . .\nget .\nwalk now first next seek=.\nflush\n",
+    b"put 6b 31\nsnap\nput 6b 32\ncompact . .\ngetat 0 6b\nget 6b\nrelease 0\ngetat 0 6b\n",
+    b"compact . .\ndel 6b\ncompact . .\nget 6b\n",
+    b"get 6b\nwalk now first next next next next\n",
+];
+
+/// A compaction of a table that an earlier one left, and calls after it, in the third run.
+const COMPACTED: [&[u8]; 4] = [
+    b"put 6b 31\ncompact . .\n",
+    b"write 1 +6b=32 +61=31\n",
+    b"get 6b\ncompact . .\nput 62 31\nget 6b\nget 62\n",
+    b"get 6b\nget 61\nget 62\ncompact . .\nget 6b\n",
 ];
 
 pub fn commands_of(alloc: Global, text: &[u8]) -> Result<Vec<Command>> {
@@ -80,11 +91,14 @@ fn show(
     Ok(())
 }
 
+/// The call that fails, none if it is 0, and whether its change is made.
+type Failing = (u64, bool);
+
 /// What runs of a store show, each after a crash that leaves no tails. In the third one a call fails.
 fn show_all(
     alloc: Global,
     setting: Setting,
-    nth: u64,
+    failing: Failing,
     lines: Lines<'_>,
     runs: &[&[u8]],
 ) -> Result<Vec<u8>> {
@@ -92,7 +106,7 @@ fn show_all(
     let mut env = RecordEnv::new(alloc);
     for (at, text) in runs.iter().enumerate() {
         if at == 2 {
-            env.fail(nth, true);
+            env.fail(failing.0, failing.1);
         }
         show(&mut env, setting, lines, text, &mut shown)?;
         let pick = Pick {
@@ -108,12 +122,12 @@ fn show_all(
 fn shows_the_same(
     alloc: Global,
     setting: Setting,
-    nth: u64,
+    failing: Failing,
     lines: &Rc<Cell<usize>>,
     runs: &[&[u8]],
 ) -> Result<bool> {
-    let shown = show_all(alloc, setting, nth, None, runs)?;
-    Ok(show_all(alloc, setting, nth, Some(lines), runs)?.as_slice() == shown.as_slice())
+    let shown = show_all(alloc, setting, failing, None, runs)?;
+    Ok(show_all(alloc, setting, failing, Some(lines), runs)?.as_slice() == shown.as_slice())
 }
 
 #[test]
@@ -124,7 +138,7 @@ fn a_deaf_sink_changes_no_reply(rt: HostRuntime) -> Result<()> {
         Setting::Reuses(false, false),
         Setting::Buffer(1),
     ] {
-        assert!(rt; shows_the_same(rt.alloc(), setting, 0, &lines, &RUNS)?);
+        assert!(rt; shows_the_same(rt.alloc(), setting, (0, false), &lines, &RUNS)?);
     }
     Ok(())
 }
@@ -135,9 +149,34 @@ fn a_deaf_sink_changes_no_failure(rt: HostRuntime) -> Result<()> {
     let lines = Rc::new(rt.alloc(), Cell::new(0))?;
     let setting = Setting::Reuses(false, false);
     for nth in 1..50 {
-        let is_same = shows_the_same(rt.alloc(), setting, nth, &lines, &RUNS[..3])?;
+        let is_same = shows_the_same(rt.alloc(), setting, (nth, true), &lines, &RUNS[..3])?;
         assert!(rt; is_same, "call {nth}");
     }
     assert!(rt; lines.get() > 0);
+    Ok(())
+}
+
+/// What the third run of `COMPACTED` replies where its compaction broke the store.
+const BROKEN: &[u8] = b"value 32\nrefused IOError\nrefused IOError\nvalue 32\nnone\n";
+
+/// Each call of a run with a compaction fails once: among them is the sync of its edit, which breaks the store.
+#[test]
+fn a_deaf_sink_changes_no_failed_compaction(rt: HostRuntime) -> Result<()> {
+    let alloc = rt.alloc();
+    let lines = Rc::new(alloc, Cell::new(0))?;
+    let mut broken: usize = 0;
+    for nth in 1..60 {
+        for done in [false, true] {
+            let failing = (nth, done);
+            let shown = show_all(alloc, Setting::Defaults, failing, None, &COMPACTED)?;
+            broken += usize::from(shown.windows(BROKEN.len()).any(|part| part == BROKEN));
+            let refused = show_all(alloc, Setting::Defaults, failing, Some(&lines), &COMPACTED)?;
+            assert!(rt;
+                refused.as_slice() == shown.as_slice(),
+                "call {nth}, {done}"
+            );
+        }
+    }
+    assert!(rt; broken > 0 && lines.get() > 0, "{broken} {}", lines.get());
     Ok(())
 }

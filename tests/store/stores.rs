@@ -207,10 +207,24 @@ pub type Row = (SequenceNumber, &'static str);
 
 /// Makes a log of these rows, each in a batch of its own: 24 bytes for a key of one byte.
 pub fn put_log<E: Env>(alloc: Global, env: &mut E, name: &str, rows: &[Row]) -> Result<()> {
-    let mut writer = LogWriter::new(alloc, Vec::new(alloc));
+    let mut puts = Vec::new(alloc);
     for (sequence, key) in rows {
+        puts.push((*sequence, *key, "v"))?;
+    }
+    put_log_of(alloc, env, name, &puts)
+}
+
+/// The same of numbers, each with its key and value.
+pub fn put_log_of<E: Env>(
+    alloc: Global,
+    env: &mut E,
+    name: &str,
+    puts: &[(SequenceNumber, &str, &str)],
+) -> Result<()> {
+    let mut writer = LogWriter::new(alloc, Vec::new(alloc));
+    for (sequence, key, value) in puts {
         let mut batch = WriteBatch::new(alloc)?;
-        batch.put(key.as_bytes(), b"v")?;
+        batch.put(key.as_bytes(), value.as_bytes())?;
         batch.set_sequence(*sequence);
         writer.add_record(batch.contents())?;
     }
