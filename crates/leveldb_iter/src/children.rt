@@ -173,8 +173,9 @@ pub(crate) fn best_of<'x, E, T, C: Cmp, I: Walk<E, T>>(
     }
 }
 
-// The one found so far, or this child where its key is before that one's in this direction.
-#[inline]
+// The one found so far, or this child where its key is before that one's in this direction. A call
+// for each child of each move would copy both.
+#[inline(always)]
 fn better<'x, C: Cmp>(
     cmp: &C,
     direction: Direction,

@@ -4,6 +4,7 @@ pub mod BlockWalkLemmas
 pub mod BlockBuilderLemmas
 pub mod FooterLemmas
 pub mod CacheLemmas
+mod CacheKeyLemmas
 pub mod BlockCacheLemmas
 pub mod TableLemmas
 pub mod TableBlockLemmas

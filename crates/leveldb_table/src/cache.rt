@@ -8,11 +8,14 @@ ghost use Rattle.leveldb_base.specs.Error.{IsOutOfMemory};
 ghost use Rattle.leveldb_base.specs.declared.error.StatusCode.TheVariants.{NotSupported};
 ghost use Rattle.leveldb_table.specs.Cache.{value_of, others, put_first};
 
+use key::Key;
 use leveldb_base::error::{Result, StatusCode, err};
 use lru::LruCache;
 use std::alloc::Global;
 use std::marker::Model;
 use std::num::NonZeroUsize;
+
+mod key;
 
 /// What a value is found by: the number of a cache's user and its own number.
 pub type CacheKey = [u8; 16];
@@ -23,7 +26,7 @@ pub type CacheID = u64;
 /// Values under keys, the one that was used last first. A cache with room for none keeps nothing.
 #[derive(Drop)]
 pub struct Cache<T: Drop> {
-    recent: LruCache<CacheKey, T>,
+    recent: LruCache<Key, T>,
 
     // whether there is room for a value; else `recent` isn't used
     keeps: bool,
@@ -121,7 +124,7 @@ impl<T: Drop> Cache<T> {
         if self.cap() == 0 {
             return Ok(());
         }
-        self.recent.put(*key, elem)?;
+        self.recent.put(Key(*key), elem)?;
         Ok(())
     }
 
@@ -133,7 +136,7 @@ impl<T: Drop> Cache<T> {
         if !self.keeps {
             return None;
         }
-        self.recent.get(key)
+        self.recent.get(&Key(*key))
     }
 
     /// The value under a key, which doesn't count as used.
@@ -143,7 +146,7 @@ impl<T: Drop> Cache<T> {
         if !self.keeps {
             return None;
         }
-        self.recent.peek(key)
+        self.recent.peek(&Key(*key))
     }
 
     /// Takes the value under a key out.
@@ -155,6 +158,6 @@ impl<T: Drop> Cache<T> {
         if self.count() == 0 {
             return None;
         }
-        self.recent.pop(key)
+        self.recent.pop(&Key(*key))
     }
 }
