@@ -56,6 +56,16 @@ tables_then {old} {mid} {new} first second these those = record {
   logs = edits_then old mid new these.edits those.edits these.logs those.logs;
 }
 
+-- fewer than that many, too
+pub more_tables : {old new : VersionSetValue} {count : ℕ} (more : ℕ) → LogsTableEdits count old new
+    → LogsTableEdits (count + more) old new
+more_tables more these = record {
+  edits = these.edits;
+  each = these.each;
+  at_most = omega (arith, these.at_most);
+  logs = these.logs;
+}
+
 -- the edit of one
 pub one_table : {cmp : List ℕ → List ℕ → Ordering} {old : VersionSetValue} {log : ℕ}
     {new : VersionSetValue} → LogsTable cmp old log new → LogsTableEdits 1 old new

@@ -1,7 +1,7 @@
 -- The files that take the place of those of a compaction: where its tables are merged, where its one
 -- file is moved, and where memory is out before either.
 use Rattle.std.specs.Prelude.{Contains, IfOk, Result}
-use Rattle.std.proofs.Common.{◌≡◌, ◌↔◌, ◌+◌, inl, ℕ, List, Ok, Err, map, refl, sym, ap, subst, arith}
+use Rattle.std.proofs.Common.{◌≡◌, ◌↔◌, ◌+◌, inl, ℕ, List, Ok, Err, refl, sym, ap, subst, arith}
 use Rattle.std.specs.declared.cmp.Ordering.{Ordering}
 use Rattle.leveldb_base.specs.Entries.{entries_of_pairs}
 use Rattle.leveldb_base.specs.Error.{IsOutOfMemory}
@@ -24,13 +24,13 @@ use Rattle.leveldb_version.specs.Picking.{CompactionValue}
 use Rattle.leveldb_version.specs.Store.{SameEntries}
 use Rattle.leveldb_version.specs.TableCache.{TableOptions, files_at}
 use Rattle.leveldb_version.specs.Version.{VersionValue, new_files_of}
-use Rattle.leveldb_version.specs.VersionEdit.{NewFile, new_file_of}
+use Rattle.leveldb_version.specs.VersionEdit.{NewFile}
 use Rattle.leveldb_version.specs.VersionSetValue.{VersionSetValue}
 use Rattle.leveldb_version.specs.declared.table_cache.TableCache.{TableCache}
 use Rattle.leveldb_version.specs.declared.table_cache.moves.ReadTables.{ReadTables}
 use Rattle.leveldb_version.specs.declared.version_iter.VersionIter.{VersionIter}
 use Rattle.leveldb_store.specs.BuildTable.{TableChoices}
-use Rattle.leveldb_store.specs.Compact.{AreReplacements, HasTablesWritten, MakesReplacements}
+use Rattle.leveldb_store.specs.Compact.{AreReplacements, HasTablesWritten, MakesReplacements, of_level}
 use Rattle.leveldb_store.specs.Merging.{MergesInto, MergesTables, merge_of}
 use Rattle.leveldb_store.specs.OpenStore.{AreNumbersGiven, OpenStoreValue}
 use Rattle.leveldb_store.specs.OpenTables.{AreOpenTablesOf}
@@ -43,10 +43,6 @@ use Rattle.leveldb_store.proofs.MergedMadeLemmas.{BuildsForStore, dropped_live, 
 use Rattle.leveldb_store.proofs.MergedOpenLemmas.{open_on}
 use Rattle.leveldb_store.proofs.OutputsLemmas.{new-none}
 use Rattle.leveldb_store.proofs.ReplayFilesLemmas.{GivesNumbers-refl}
-
--- the new files of a level
-abbrev pub of_level : ℕ → List FileMetaData → List NewFile
-of_level level files = map (λ (file : FileMetaData). new_file_of (level, file)) files
 
 -- ---- tables that are merged
 

@@ -31,11 +31,10 @@ use Rattle.leveldb_version.specs.VersionEdit.{NewFile, new_file_of}
 use Rattle.leveldb_version.specs.VersionSet.{live_after}
 use Rattle.leveldb_version.specs.declared.table_cache.TableCache.{TableCache}
 use Rattle.leveldb_store.specs.BuildTable.{TableChoices}
-use Rattle.leveldb_store.specs.Compact.{AreReplacements, HasTablesWritten, IsMovedAlone, IsOfStore, MakesReplacements}
+use Rattle.leveldb_store.specs.Compact.{AreReplacements, HasTablesWritten, IsMovedAlone, IsOfStore, MakesReplacements, of_level}
 use Rattle.leveldb_store.specs.OpenStore.{AreNumbersGiven, OpenStoreValue}
 use Rattle.leveldb_store.proofs.LevelForLemmas.{size_alike}
 use Rattle.leveldb_store.proofs.MergedInputsLemmas.{input_files, input_fits, input_given, inputs, inputs_live, inputs_may, live_has}
-use Rattle.leveldb_store.proofs.MergeFilesLemmas.{of_level}
 use Rattle.leveldb_store.proofs.OutputsLemmas.{new-none}
 use Rattle.leveldb_store.proofs.ReplayFilesLemmas.{GivesNumbers-refl}
 

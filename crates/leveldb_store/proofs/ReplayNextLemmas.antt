@@ -47,12 +47,6 @@ still_clean : (these it both : Bool) → IsBoth these it both → it ≡ true �
 still_clean these it both (inl is) clean = is.1 ∙ clean ∙ sym is.0
 still_clean these it both (inr is) clean = is.1 ∙ sym is.0
 
--- a log after a bad end is empty
-pub empty_after : (these : Bool) (size : ℕ) → ((these ≡ false) × (size ≤ 0)) ⊎ (these ≡ true)
-    → these ≡ false → size ≡ 0
-empty_after these size (inl torn) is = let none = torn.1 in omega (arith, none)
-empty_after these size (inr clean) is = absurd (let never : true ≡ false = sym clean ∙ is in cc)
-
 -- a memtable with the entries of a log that aren't too many isn't full
 not_full : {C : Type 0} (limit : ℕ) (log : ReplayedLog C) → IsNotFull limit log → (kept : Kept)
     → kept.entries ≡ log.rest.kept.entries → IsFull limit kept → ⊥

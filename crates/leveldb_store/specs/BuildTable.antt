@@ -169,9 +169,9 @@ choices_of cmp filters keys key_filters codings options = record {
 
 module _ {C FP : Type 0} {order : CmpGhosts C} {filters : FilterGhosts FP}
     (choices : TableChoices order filters) (pairs : List Pair) where
-  -- Why no table of the pairs is built, whatever sink it is put into: out of memory; or a new builder
-  -- of these choices takes some of the pairs, and fails at the next one or at the end for a cause of
-  -- its own.
+  -- Why no table of the pairs is built, whatever sink it is put into: out of memory; or a new
+  -- builder of these choices takes some of the pairs, and fails at the next one or at the end for a
+  -- cause of its own.
   abbrev pub IsNotTabled : Status → Type 0
   IsNotTabled status =
       IsOutOfMemory status

@@ -1,6 +1,6 @@
 -- Compactions of an open store: what one of them leaves, what those of a range leave, and why they
 -- fail.
-use Rattle.std.specs.Prelude.{◌≢◌, ◌≡◌, ◌≤◌, ◌<◌, ◌⊎◌, ◌↔◌, ◌+◌, ◌++◌, ◌^◌, ◌∷◌, [], false, if◌then◌else◌, ℕ, List, All, Contains, Option, None, Some, Result, IfOk, OnErr, OnOk, IsTrue, fold, Bool}
+use Rattle.std.specs.Prelude.{◌≢◌, ◌≡◌, ◌≤◌, ◌<◌, ◌⊎◌, ◌↔◌, ◌+◌, ◌++◌, ◌^◌, ◌∷◌, [], false, if◌then◌else◌, ℕ, List, All, Contains, Option, None, Some, Result, IfOk, OnErr, OnOk, IsTrue, fold, map, Bool}
 use Rattle.std.specs.declared.cmp.Ordering.{Ordering}
 use Rattle.std.specs.declared.cmp.Ordering.TheVariants.{Less}
 use Rattle.leveldb_base.specs.Entries.{entry_of_pair}
@@ -80,6 +80,10 @@ pub record AreReplacements {C : Type 0} (cmp : List ℕ → List ℕ → Orderin
   -- an edit may have them
   pub fit : All FitsEdit files
 
+-- the files of a level, from their metadata
+abbrev pub of_level : ℕ → List FileMetaData → List NewFile
+of_level level files = map (λ (file : FileMetaData). new_file_of (level, file)) files
+
 -- ---- the edit
 
 -- numbers of files were given, and then a call on the manifest may have failed
@@ -132,8 +136,8 @@ pub record CompactsIfAsked {C : Type 0} (cmp : List ℕ → List ℕ → Orderin
 
 -- ---- one compaction
 
--- `by` says what tables are opened with; the store, the environment and the open tables are those at
--- the beginning.
+-- `by` says what tables are opened with; the store, the environment and the open tables are those
+-- at the beginning.
 module _ {E F C FP : Type 0} (order : CmpGhosts (InternalKeyCmp C)) (env : Ghosts E F)
     (by : TableOptions C FP) (old : OpenStoreValue C) (from : E)
     (tables : TableCache E C FP F) where
@@ -144,8 +148,8 @@ module _ {E F C FP : Type 0} (order : CmpGhosts (InternalKeyCmp C)) (env : Ghost
     pub written : IsWritten by.format.order meaning old (files_at env from)
     pub has_live : HasLiveTables by.format.order meaning old (files_at env from) live
 
-  -- whatever a call returns that may drop entries, each history stays at each moment on the way, and
-  -- is shown from the smallest held number on, where the open tables are the store's
+  -- whatever a call returns that may drop entries, each history stays at each moment on the way,
+  -- and is shown from the smallest held number on, where the open tables are the store's
   abbrev pub KeepsTablesFrom : ℕ → OpenStoreValue C → E → Type 0
   KeepsTablesFrom smallest new to = HasOpenTables order env by old from tables
       → (meaning : Meaning) → Agrees by.format meaning
@@ -174,9 +178,9 @@ module _ {E F C FP : Type 0} (order : CmpGhosts (InternalKeyCmp C)) (env : Ghost
       pub theirs : (meaning : Meaning) (live : List LiveTable) → HasTablesWritten meaning live
           → All (λ pair. Contains (in_memory old ++ table_entries live) (entry_of_pair pair)) pairs
 
-    -- Why the tables of a compaction aren't merged, where the device didn't fail: out of memory; the
-    -- numbers of files are used up; no table is built of what it leaves; or a table that it takes
-    -- can't be read.
+    -- Why the tables of a compaction aren't merged, where the device didn't fail: out of memory;
+    -- the numbers of files are used up; no table is built of what it leaves; or a table that it
+    -- takes can't be read.
     abbrev pub FailsToMerge : OpenStoreValue C → Status → Type 0
     FailsToMerge new status = IsOutOfMemory status
         ⊎ AreFileNumbersUsedUp new.set.next_file status
@@ -272,14 +276,15 @@ KeepsLevelsAbove level before after = (other : ℕ) → other < level
 
 -- the last that was done is a removal of the obsolete files of this store
 abbrev pub EndsByRemoval : {E F C : Type 0} → Ghosts E F → OpenStoreValue C → E → Type 0
-EndsByRemoval env value to = (removal : Result (Unit {0}) Status) × RemovesAtLast env value removal to
+EndsByRemoval env value to =
+    (removal : Result (Unit {0}) Status) × RemovesAtLast env value removal to
 
 module _ {E F C FP : Type 0} (order : CmpGhosts (InternalKeyCmp C)) (env : Ghosts E F)
     (by : TableOptions C FP) (old : OpenStoreValue C) (from : E)
     (tables : TableCache E C FP F) where
   -- What several compactions in a row, or none, keep of an open store that isn't broken, with the
-  -- deletions after each. `Excused` says why one fails, by the store that is left. What is said of a
-  -- store that is written holds where its open tables are its own.
+  -- deletions after each. `Excused` says why one fails, by the store that is left. What is said of
+  -- a store that is written holds where its open tables are its own.
   pub record KeepsCompacted (smallest : ℕ) (Excused : OpenStoreValue C → Status → Type 0)
       (result : Result (Unit {0}) Status) (new : OpenStoreValue C) (to : E)
       (now : TableCache E C FP F) : Type 0 where
@@ -294,8 +299,9 @@ module _ {E F C FP : Type 0} (order : CmpGhosts (InternalKeyCmp C)) (env : Ghost
     pub none_new : OnOk result (HasOpenTables order env by old from tables → (meaning : Meaning)
         → Agrees by.format meaning → IsWritten by.format.order meaning old (files_at env from)
         → AddsNoEntry by.format.order meaning old (files_at env from) new (files_at env to))
-    pub sound : IsSoundCall env by.format.order (λ meaning. HasOpenTables order env by old from tables
-        × Agrees by.format meaning) old from result new to
+    pub sound : IsSoundCall env by.format.order
+        (λ meaning. HasOpenTables order env by old from tables × Agrees by.format meaning) old from
+        result new to
     pub cause : FailsFor (Excused new) (env.failures from) (env.failures to) result
 
   module _ {D P : Type 0} {keys : CmpGhosts D} {filters : FilterGhosts P}

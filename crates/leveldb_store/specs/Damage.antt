@@ -29,8 +29,8 @@ abbrev pub HasEndFrom : List ℕ → ℕ → Type 0
 HasEndFrom bytes from =
     (at : ℕ) × (from ≤ at) × StartsWithEnd (at % log_block_size) (drop at bytes)
 
--- a fragment goes on with a record that these parts have begun: it has the next part, or the last one,
--- if the record has a byte then
+-- a fragment goes on with a record that these parts have begun: it has the next part, or the last
+-- one, if the record has a byte then
 abbrev pub ContinuesRecord : List (List ℕ) → Fragment → Type 0
 ContinuesRecord [] fragment = (fragment.type ≡ record_type true false)
     ⊎ ((fragment.type ≡ record_type true true) × (fragment.part ≢ []))

@@ -68,7 +68,8 @@ pub record IsBatchTooLarge (batches : List Batch) (status : Status) : Type 0 whe
   pub too_large : 2 ^ 31 ≤ memory_of_entries (all_entries kept)
       + (64 * length batch.items + bytes_in batch.items)
 
--- the logs of these numbers, in rising order, begin with batches that are too large for one memtable
+-- the logs of these numbers, in rising order, begin with batches that are too large for one
+-- memtable
 pub record AreLogsTooLarge (models_disk : Bool) (store : List ℕ) (files : Files) (numbers : List ℕ)
     (status : Status) : Type 0 where
   pub batches : List Batch

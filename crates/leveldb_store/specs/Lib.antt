@@ -32,6 +32,7 @@ pub mod LoggedEdits
 pub mod RoomSteps
 pub mod Compact
 pub mod KeptEntries
+pub mod CompactPicked
 pub mod EndsOpening
 pub mod ReadLogs
 pub mod OpensToRead

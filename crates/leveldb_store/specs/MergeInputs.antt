@@ -1,5 +1,5 @@
--- The walk that merges the tables of files: which pairs it is over where they are there, and that new
--- tables leave it where it is.
+-- The walk that merges the tables of files: which pairs it is over where they are there, and that
+-- new tables leave it where it is.
 use Rattle.std.specs.Prelude.{◌≡◌, ◌≤◌, ℕ, List}
 use Rattle.leveldb_base.specs.Entries.{entries_of_pairs}
 use Rattle.leveldb_base.specs.History.{AreRising}
@@ -48,11 +48,13 @@ module _ {E F C FP K : Type 0} (keys : CmpGhosts (InternalKeyCmp C)) (env : EnvG
       pub over : (world : E × ReadTables E C FP K F) (meaning : Meaning) (tables : List LiveTable)
           → AreTablesToWalk keys env cmp filters codings inputs meaning world tables
           → cmp.cmp compares ≡ cmp.cmp inputs.cmp
-          → (pairs : List Pair) × walk.over world it (key_order keys (record { 0 = compares })) pairs
+          → (pairs : List Pair)
+          × walk.over world it (key_order keys (record { 0 = compares })) pairs
           × AreRising (internal_cmp (cmp.cmp compares)) pairs
           × SameEntries (entries_of_pairs pairs) (table_entries tables)
           × Each IsInternalPair pairs (entries_of_pairs pairs)
-      -- and a move fails since the format lacks a compressor, if memory and failures don't explain it
+      -- and a move fails since the format lacks a compressor, if memory and failures don't explain
+      -- it
       pub lacks : (world : E × ReadTables E C FP K F) (meaning : Meaning) (tables : List LiveTable)
           → AreTablesToWalk keys env cmp filters codings inputs meaning world tables
           → cmp.cmp compares ≡ cmp.cmp inputs.cmp

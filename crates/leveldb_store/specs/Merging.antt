@@ -1,5 +1,5 @@
--- How the pairs of a walk are merged into new tables: what is left of them, what the walk has to bear
--- meanwhile, and why it fails.
+-- How the pairs of a walk are merged into new tables: what is left of them, what the walk has to
+-- bear meanwhile, and why it fails.
 use Rattle.std.specs.Prelude.{◌≡◌, ◌⊎◌, ◌≤◌, ℕ, Bool, true, not, length, List, [], ◌∷◌, ◌++◌, flat_map, Contains, Option, None, Some, Result, IfErr, IfOk, IsTrue, OnOk}
 use Rattle.std.specs.List.{filter}
 use Rattle.std.specs.declared.cmp.Ordering.{Ordering}
@@ -76,8 +76,8 @@ module _ {E F T W : Type 0} (env : EnvGhosts E F) (walk : WalkGhosts W E T) (sto
         (status : Status) → walk.fails (to, tables) it later status
         → walk.fails (at, tables) it later status
 
-  -- A move failed, in a world to which the walk came; where it bears new tables, it might have failed
-  -- in the beginning.
+  -- A move failed, in a world to which the walk came; where it bears new tables, it might have
+  -- failed in the beginning.
   pub record FailsOnWay (start : E × T) (it : W) (end : E × T) (status : Status) : Type 0 where
     pub at : E × T
     pub now : W
@@ -135,8 +135,8 @@ module _ {C FP : Type 0} {order : CmpGhosts C} {filters : FilterGhosts FP}
       ⊎ ((status.code ≡ Corruption) × (AreRead read → ⊥))
 
   module _ {E F : Type 0} (env : EnvGhosts E F) (first : ℕ) where
-    -- These pairs were read: the outputs have what is left of them, and the last of them was the one
-    -- just before.
+    -- These pairs were read: the outputs have what is left of them, and the last of them was the
+    -- one just before.
     pub record HasMerged (read : List Pair) (next : ℕ) (at : E) (passing : Passing)
         (outputs : OutputsValue E C FP F) : Type 0 where
       pub are_read : AreRead read
@@ -179,8 +179,8 @@ module _ {C FP : Type 0} {order : CmpGhosts C} {filters : FilterGhosts FP}
       pub changes : ChangesNewTables env merge.store first later start.0 end.0
       -- moves of the walk and new tables lead to where it ends, so that what both keep is kept
       pub comes : ComesOf env walk merge.store first start end
-      -- A move failed; or, after some pairs were read, at last a call that writes. Where the walk is
-      -- over a list, and bears new tables, they are the first of it.
+      -- A move failed; or, after some pairs were read, at last a call that writes. Where the walk
+      -- is over a list, and bears new tables, they are the first of it.
       pub cause : IfErr result (λ status.
           FailsOnWay env walk merge.store first start it end status
           ⊎ ((mid : ℕ) × (env.failures start.0 ≤ mid) × (read : List Pair)

@@ -44,8 +44,8 @@ abbrev pub HasOwnManifest : VersionSetValue → Type 0
 HasOwnManifest set = (manifest : OpenManifest) → set.manifest ≡ in_use manifest
     → IsFilePath Descriptor set.store manifest.path
 
--- files of a set: those of each level from 1 on are apart, each is listed once, and where the disk is
--- modelled there are seven levels
+-- files of a set: those of each level from 1 on are apart, each is listed once, and where the disk
+-- is modelled there are seven levels
 pub record AreInLevels (models_disk : Bool) (order : List ℕ → List ℕ → Ordering)
     (files : List NewFile) : Type 0 where
   pub apart : AreDisjointLevels order files

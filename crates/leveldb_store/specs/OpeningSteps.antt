@@ -428,8 +428,8 @@ module _ {E F D FP : Type 0} (env : Ghosts E F) {order : CmpGhosts D} {filters :
         old.next_file) (env.failures from) (env.failures to) result
 
 module _ {E F : Type 0} (env : Ghosts E F) where
-  -- Which log is used on: none unless that is wanted. Where it is, the last one is, unless it is below
-  -- the manifest's log number, ends badly or fills a memtable.
+  -- Which log is used on: none unless that is wanted. Where it is, the last one is, unless it is
+  -- below the manifest's log number, ends badly or fills a memtable.
   pub record UsesLastLog {C : Type 0} (wanted : Bool) (limit : ℕ) (old : VersionSetValue)
       (numbers : List ℕ) (from : E) (result : Result (Replay C) Status) : Type 0 where
     pub used : IfOk result (λ replay. IsSome replay.used → IsTrue wanted)
@@ -442,16 +442,16 @@ module _ {E F : Type 0} (env : Ghosts E F) where
 
 module _ {E F : Type 0} (env : Ghosts E F) (store : List ℕ) (set : VersionSetValue)
     (names : List (List ℕ)) (from : E) where
-  -- why a set isn't one of these files: the table of a live one is missing, or its number isn't given;
-  -- or a log has another name than its number's
+  -- why a set isn't one of these files: the table of a live one is missing, or its number isn't
+  -- given; or a log has another name than its number's
   abbrev pub WhyUnchecked : Status → Type 0
   WhyUnchecked status = (status.code ≡ Corruption) × ((IsTrue env.models_disk
       → LacksTable store (env.observed from).disk.files set.full.added)
       ⊎ (AreNumbersGiven set set.full.added → ⊥)
       ⊎ HasMisnamedLog names set.log_number set.previous_log)
 
-  -- The live tables of the set are there, their numbers were given, the next one fits into 64 bits, and
-  -- these are the numbers of the logs that are replayed.
+  -- The live tables of the set are there, their numbers were given, the next one fits into 64 bits,
+  -- and these are the numbers of the logs that are replayed.
   pub record IsChecked (logs : List ℕ) : Type 0 where
     pub tables : IsTrue env.models_disk
         → AreTablesThere store (env.observed from).disk.files set.full.added
@@ -531,8 +531,8 @@ module _ {E F : Type 0} (env : Ghosts E F) (format : Format) (reuse : Bool) (lim
     pub cause : HasCauseOr WhyNotRecovered (env.failures from) (env.failures to) result
 
 module _ {E F : Type 0} (env : Ghosts E F) (format : Format) (store : List ℕ) (from : E) where
-  -- The set is read alone: but for its manifest, which is broken, it is recovered as where no manifest
-  -- is used on, and so without a change of a file. These are the numbers of its logs.
+  -- The set is read alone: but for its manifest, which is broken, it is recovered as where no
+  -- manifest is used on, and so without a change of a file. These are the numbers of its logs.
   pub record IsSetToRead (set : VersionSetValue) (logs : List ℕ) (to : E) : Type 0 where
     pub broken_is : set.manifest ≡ broken
     pub recovered : IsRecoveredSet env format false 0 store from true
@@ -552,8 +552,8 @@ module _ {E F : Type 0} (env : Ghosts E F) (format : Format) (store : List ℕ) 
 -- ---- the store
 
 -- The set of a store that may be written once its logs are replayed: its numbers fit, those of live
--- tables were given, which are there and in levels in this order of user keys, and it may log edits.
--- Its manifest is in use, unless the next edit begins a new one.
+-- tables were given, which are there and in levels in this order of user keys, and it may log
+-- edits. Its manifest is in use, unless the next edit begins a new one.
 pub record MayBeWritten (models_disk : Bool) (order : List ℕ → List ℕ → Ordering)
     (store : List ℕ) (anew : Bool) (set : VersionSetValue) (files : Files) : Type 0 where
   pub path : set.store ≡ store

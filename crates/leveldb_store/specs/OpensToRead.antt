@@ -28,9 +28,9 @@ pub record IsReadAlone {C : Type 0} (value : OpenStoreValue C) : Type 0 where
   pub manifest : value.set.manifest ≡ broken
   pub log : value.log.writer.broken ≡ true
 
--- The store is open as one with these contents: its last number is theirs, and it shows each history
--- that they match, from its end on. `cmp` is the order of user keys, and `meaning` what names and ids
--- in the files mean.
+-- The store is open as one with these contents: its last number is theirs, and it shows each
+-- history that they match, from its end on. `cmp` is the order of user keys, and `meaning` what
+-- names and ids in the files mean.
 pub record IsReadAs {C : Type 0} (cmp : List ℕ → List ℕ → Ordering) (meaning : Meaning)
     (contents : Contents) (value : OpenStoreValue C) (files : Files) : Type 0 where
   pub last : value.set.last_sequence ≡ contents.last
@@ -50,9 +50,9 @@ module _ {E F : Type 0} (env : Ghosts E F) (store : List ℕ) (format : Format) 
   HasLogsTooLarge status = (numbers : List ℕ) × IsStrictlySortedBy nat_cmp numbers
       × AreLogsTooLarge env.models_disk store (env.observed from).disk.files numbers status
 
-  -- Why a store that has `CURRENT` can't be read: its comparator is another; it is damaged; it isn't
-  -- supported, since tables share a user key, or its manifest or a number is too great; or what its
-  -- logs have is too large for memory.
+  -- Why a store that has `CURRENT` can't be read: its comparator is another; it is damaged; it
+  -- isn't supported, since tables share a user key, or its manifest or a number is too great; or
+  -- what its logs have is too large for memory.
   abbrev pub IsUnreadable : Status → Type 0
   IsUnreadable status =
       ((status.code ≡ InvalidArgument) × of_modelled (HasOtherComparator store format))
@@ -92,7 +92,8 @@ module _ {E F : Type 0} (env : Ghosts E F) (store : List ℕ) (format : Format) 
     -- a store without `CURRENT` isn't opened
     pub missing : IsTrue env.models_disk
         → (env.observed from).disk.files (current_path store) ≡ None → OnOk result ⊥
-    -- nor is one whose `CURRENT` names no manifest with edits to begin with, as of another comparator
+    -- nor is one whose `CURRENT` names no manifest with edits to begin with, as of another
+    -- comparator
     pub unusable : IsTrue env.models_disk
         → LacksUsableEdits store format (env.observed from).disk.files → OnOk result ⊥
     -- no file changes at any moment, nor does a lock

@@ -1,5 +1,5 @@
--- Tables that are written one after another: which pairs each has, where one ends, what their writing
--- leaves of the disk, and why it fails.
+-- Tables that are written one after another: which pairs each has, where one ends, what their
+-- writing leaves of the disk, and why it fails.
 use Rattle.std.specs.Prelude.{◌≡◌, ◌≢◌, ◌⊎◌, ◌≤◌, ◌<◌, ◌+◌, ◌-◌, ◌^◌, ◌&&◌, ◌||◌, ℕ, Bool, true, false, not, nat_lt, min, length, List, [], ◌∷◌, ◌++◌, map, Option, None, Some, Result, IfOk, IfSome, IsTrue, OnOk}
 use Rattle.std.specs.Str.{bytes_eq}
 use Rattle.std.specs.declared.cmp.Ordering.TheVariants.{Less}
@@ -90,7 +90,8 @@ numbers_of done None = map (λ file. file.num) done
 numbers_of done (Some table) = map (λ file. file.num) done ++ table.number ∷ []
 
 module _ {C FP : Type 0} {order : CmpGhosts C} {filters : FilterGhosts FP}
-    (choices : TableChoices order filters) {E F : Type 0} (env : EnvGhosts E F) (store : List ℕ) where
+    (choices : TableChoices order filters) {E F : Type 0} (env : EnvGhosts E F)
+    (store : List ℕ) where
   -- The table is open under its number, and its builder has taken these pairs since it was a new
   -- one of the choices: what it put is in its file, and a crash keeps none of it yet.
   pub record IsOpenTable (at : E) (table : TableFile E C FP F) (pairs : List Pair) : Type 0 where
@@ -188,8 +189,8 @@ module _ {C FP : Type 0} {order : CmpGhosts C} {filters : FilterGhosts FP}
 module _ {C FP : Type 0} {order : CmpGhosts C} {filters : FilterGhosts FP}
     (choices : TableChoices order filters) {E F : Type 0} (env : EnvGhosts E F) (store : List ℕ)
     (first : ℕ) (tables : List (List Pair)) (pairs : List Pair) where
-  -- What putting a pair leaves of outputs that have these pairs: it is in the open table, or that one
-  -- ended and it is the first of a new one.
+  -- What putting a pair leaves of outputs that have these pairs: it is in the open table, or that
+  -- one ended and it is the first of a new one.
   pub record PutsPair (limit : ℕ) (pair : Pair) (from : E) (old : OutputsValue E C FP F)
       (result : Result (Unit {0}) Status) (later : ℕ) (to : E) (new : OutputsValue E C FP F)
       : Type 0 where

@@ -61,8 +61,8 @@ with_charge value charge = record value { current = (charged value.current charg
 
 -- ---- the call
 
--- `by` says what tables are opened with; the store, the environment and the open tables are those at
--- the beginning.
+-- `by` says what tables are opened with; the store, the environment and the open tables are those
+-- at the beginning.
 module _ {E F C FP : Type 0} (order : CmpGhosts (InternalKeyCmp C)) (env : Ghosts E F)
     (by : TableOptions C FP) (old : OpenStoreValue C) (from : E)
     (tables : TableCache E C FP F) where
@@ -79,9 +79,9 @@ module _ {E F C FP : Type 0} (order : CmpGhosts (InternalKeyCmp C)) (env : Ghost
     pub has_live : HasLiveTables by.format.order meaning old (files_at env from) live
     pub levels : LevelOrder by.format.order live
 
-  -- A value of a key, or none, is found in tables and passes over none that can't be read: these are
-  -- the first of the version's files that may have the key, in order; of each the table was read, and
-  -- has nothing of the key unless it is the last.
+  -- A value of a key, or none, is found in tables and passes over none that can't be read: these
+  -- are the first of the version's files that may have the key, in order; of each the table was
+  -- read, and has nothing of the key unless it is the last.
   pub record PassesOverNone (sequence : ℕ) (key : List ℕ) (value : Option (List ℕ)) : Type 0 where
     pub looked : List NewFile
     pub first : AreTriedFirst by.format.order key (new_files_of old.current) looked

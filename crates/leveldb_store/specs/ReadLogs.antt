@@ -35,9 +35,9 @@ module _ (models_disk : Bool) (store : List ℕ) (files : Files) where
     pub bad_is : log.is_clean ≡ false
         → (one : StoreLog) × Contains logs one × (one.end ≡ bad)
 
-  -- why logs of these numbers aren't read to memory, where nothing was counted, beside out of memory:
-  -- they are too large for a memtable, or damaged; or a record has 2^64 bytes, as in no file of a disk
-  -- that is modelled
+  -- why logs of these numbers aren't read to memory, where nothing was counted, beside out of
+  -- memory: they are too large for a memtable, or damaged; or a record has 2^64 bytes, as in no
+  -- file of a disk that is modelled
   abbrev pub WhyLogsUnread : List ℕ → Status → Type 0
   WhyLogsUnread numbers status = AreLogsTooLarge models_disk store files numbers status
       ⊎ ((status.code ≡ Corruption) × (IsTrue models_disk → AreDamagedLogs store files numbers))

@@ -45,6 +45,18 @@ log_in_memory log = record {
   size = log.size;
 }
 
+-- No record of a log of this size was replayed: no table was made of it, and nothing of it is in
+-- memory. The last number is that before it.
+pub record HasReplayedNone {C : Type 0} (cmp : C) (last size : ℕ) (log : ReplayedLog C)
+    : Type 0 where
+  pub tables : log.tables.items ≡ []
+  pub rest : log.rest.kept.entries ≡ []
+  pub places : log.rest.kept.places ≡ 0
+  pub cmp_is : log.rest.cmp ≡ cmp
+  pub last_is : log.last ≡ last
+  pub size_is : log.size ≡ size
+  pub bad : log.is_clean ≡ false
+
 -- no entry is in the memtable, or it has less memory than this
 abbrev pub IsNotFull : {C : Type 0} → ℕ → ReplayedLog C → Type 0
 IsNotFull limit log = (log.rest.kept.entries ≡ [])

@@ -1,5 +1,5 @@
 -- The steps on the way to room in the memtable.
-use Rattle.std.specs.Prelude.{◌⊎◌, ℕ, List, Result, OnOk, IsTrue}
+use Rattle.std.specs.Prelude.{◌≡◌, ◌≢◌, ◌⊎◌, ◌≤◌, ◌+◌, ℕ, List, None, Result, OnErr, OnOk, IsTrue}
 use Rattle.std.specs.declared.cmp.Ordering.{Ordering}
 use Rattle.leveldb_base.specs.Error.{IsOutOfMemory}
 use Rattle.leveldb_base.specs.declared.cmp.Cmp.{Ghosts as CmpGhosts}
@@ -8,9 +8,13 @@ use Rattle.leveldb_env.specs.declared.env.Env.{Ghosts}
 use Rattle.leveldb_env.specs.declared.filter.FilterPolicy.{Ghosts as FilterGhosts}
 use Rattle.leveldb_version.specs.TableCache.{files_at}
 use Rattle.leveldb_version.specs.VersionSetValue.{AreFileNumbersUsedUp}
+use Rattle.leveldb_version.specs.declared.table_cache.TableCache.{TableCache}
 use Rattle.leveldb_store.specs.BuildTable.{TableChoices}
 use Rattle.leveldb_version.specs.Format.{Agrees, Format, Meaning}
+use Rattle.leveldb_store.specs.KeptEntries.{KeepsEntries}
+use Rattle.leveldb_store.specs.LoggedEdits.{LogsTableEdits}
 use Rattle.leveldb_store.specs.OpenStore.{IsUnbroken, OpenStoreValue}
+use Rattle.leveldb_store.specs.OpenTables.{ClosesObsolete}
 use Rattle.leveldb_store.specs.Room.{AreEntriesNotTabled, FailsFor, IsFileLost}
 use Rattle.leveldb_store.specs.SoundCall.{IsSoundCall}
 use Rattle.leveldb_store.specs.Written.{IsWritten, KeepsWritten, SparesRest}
@@ -44,3 +48,30 @@ module _ {E F C : Type 0} (env : Ghosts E F) (cmp : List ℕ → List ℕ → Or
   AddsNone format old from new to = IsTrue env.models_disk → (meaning : Meaning)
       → Agrees format meaning → IsWritten cmp meaning old (files_at env from)
       → AddsNoEntry cmp meaning old (files_at env from) new (files_at env to)
+
+  -- What a call leaves of the entries in memory that makes tables of them, this many at most, and
+  -- deletes obsolete files after each.
+  pub record TablesEntries {FP : Type 0} (format : Format) (count : ℕ) (old : OpenStoreValue C)
+      (from : E) (tables : TableCache E C FP F) (result : Result (Unit {0}) Status)
+      (new : OpenStoreValue C) (to : E) (now : TableCache E C FP F) : Type 0 where
+    -- whatever the files are, Ok or Err, no entry is lost, nor is a live table
+    pub entries : KeepsEntries env format old from new to
+    -- Ok: of a store that is written no entry is new
+    pub none_new : OnOk result (AddsNone format old from new to)
+    -- Ok: the edits of these tables were logged, and nothing else
+    pub logs : OnOk result (LogsTableEdits count old.set new.set)
+    -- a table is closed before its file is deleted
+    pub closes : ClosesObsolete env old.set from tables to now
+
+  -- what making a table of the entries that wait leaves, if some do
+  pub record TablesIfWaiting {D FP : Type 0} {order : CmpGhosts D} {filters : FilterGhosts FP}
+      (choices : TableChoices order filters) (old : OpenStoreValue C) (from : E)
+      (result : Result (Unit {0}) Status) (new : OpenStoreValue C) (to : E) : Type 0 where
+    pub step : IsStepToRoom choices.format (FailsToTableIfWaiting choices old from) old from result
+        new to
+    -- Ok: none wait, and one number was given at most
+    pub none_waits : OnOk result (new.waiting ≡ None)
+    pub numbers : OnOk result (new.set.next_file ≤ old.set.next_file + 1)
+    -- Err: they wait still
+    pub waits : OnErr result (new.waiting ≢ None)
+    pub recent : new.recent ≡ old.recent

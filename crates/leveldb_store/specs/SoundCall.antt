@@ -39,8 +39,8 @@ pub record IsSoundCall {E F C T : Type 0} (env : Ghosts E F) (cmp : List ℕ →
       → IfErr result (λ status. IsUnbroken new ⊎ IsOutOfMemory status
       ⊎ HasFailed (env.failures from) (env.failures to))
 
--- Whatever the files are, a call that fails breaks a store that isn't broken only if the manifest is
--- lost, memory was out as an edit was appended to it, or the device failed.
+-- Whatever the files are, a call that fails breaks a store that isn't broken only if the manifest
+-- is lost, memory was out as an edit was appended to it, or the device failed.
 abbrev pub BreaksForCause : {E F C T : Type 0} → Ghosts E F → OpenStoreValue C → E
     → Result T Status → OpenStoreValue C → E → Type 0
 BreaksForCause env old from result new to = IsUnbroken old

@@ -1,5 +1,5 @@
--- The laws of the children of a store's merge, by cases. They are in specs/ since their impl of `Walk`
--- proves them by this, and the checker takes no term of proofs/ there.
+-- The laws of the children of a store's merge, by cases. They are in specs/ since their impl of
+-- `Walk` proves them by this, and the checker takes no term of proofs/ there.
 use Rattle.std.specs.Prelude.{◌≡◌, ℕ, List, Option}
 use Rattle.leveldb_base.specs.Types.{IsPosition, Pair, pair_at}
 use Rattle.leveldb_base.specs.declared.cmp.Cmp.{Ghosts as CmpGhosts}

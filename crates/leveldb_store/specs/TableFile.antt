@@ -56,7 +56,8 @@ module _ {E F : Type 0} (env : EnvGhosts E F) where
 -- ---- what a table's file is known by
 
 -- the metadata of a table under this number, of this first and this last key: no seeks are counted
-pub record IsMetadataOf (number : ℕ) (smallest largest : List ℕ) (file : FileMetaData) : Type 0 where
+pub record IsMetadataOf (number : ℕ) (smallest largest : List ℕ) (file : FileMetaData)
+    : Type 0 where
   pub number_is : file.num ≡ number
   pub seeks : file.allowed_seeks ≡ 0
   pub smallest_is : file.smallest ≡ smallest
@@ -91,8 +92,8 @@ module _ {C FP : Type 0} (order : CmpGhosts C) (filters : FilterGhosts FP) (codi
       pub counted : new.count < 2 ^ 64
       pub unbroken : new.broken ≡ false
 
-    -- these pairs were added to a builder that had none: the blocks that were closed are appended to
-    -- the file
+    -- these pairs were added to a builder that had none: the blocks that were closed are appended
+    -- to the file
     pub record AddsAllToFile (core : TableBuilt C FP) (from : Opened E F) (pairs : List Pair)
         (new : TableBuilt C FP) (to : Opened E F) : Type 0 where
       pub bytes : List ℕ

@@ -48,8 +48,8 @@ use Rattle.leveldb_store.specs.declared.store_walk.StoreWalk.{StoreWalk}
 use Rattle.leveldb_store.specs.declared.store_walk.StoreWalk.TheVariants.{Memory, Tables}
 
 module _ {E F T : Type 0} (env : Ghosts E F) where
-  -- why a move fails between two worlds: out of memory, at a failure of the device that was counted,
-  -- or for this cause
+  -- why a move fails between two worlds: out of memory, at a failure of the device that was
+  -- counted, or for this cause
   abbrev pub FailsBetween : E × T → E × T → (Status → Type 0) → Status → Type 0
   FailsBetween from to Why status = IsOutOfMemory status
       ⊎ HasFailed (env.failures from.0) (env.failures to.0) ⊎ Why status
@@ -148,14 +148,14 @@ module _ {E F C FP K : Type 0} (keys : CmpGhosts (InternalKeyCmp C)) (env : Ghos
 
 -- ---- moves in the view
 
--- why a move fails between two counts of failed calls: out of memory, at a failure that was counted,
--- for this cause, or since its key is too long
+-- why a move fails between two counts of failed calls: out of memory, at a failure that was
+-- counted, for this cause, or since its key is too long
 abbrev pub MoveFails : (Status → Type 0) → ℕ → ℕ → Move → Status → Type 0
 MoveFails Why from to one status = IsOutOfMemory status ⊎ HasFailed from to ⊎ Why status
     ⊎ ((status.code ≡ InvalidArgument) × SeeksLongKey one)
 
--- moves in a list of pairs, one after another, with the steps that say where they lead, each between
--- the count of failed calls at the end of the one before and its own
+-- moves in a list of pairs, one after another, with the steps that say where they lead, each
+-- between the count of failed calls at the end of the one before and its own
 abbrev pub MakesMoves : (List ℕ → List ℕ → Ordering) → (Status → Type 0) → List Pair → Option ℕ → ℕ
     → List Move → List Step → ℕ → Type 0
 MakesMoves cmp Why pairs position from [] [] to = to ≡ from
@@ -166,8 +166,8 @@ MakesMoves cmp Why pairs position from (one ∷ moves) (step ∷ steps) to =
     × MakesMoves cmp Why pairs next mid moves steps to
 MakesMoves cmp Why pairs position from moves steps to = ⊥
 
--- What a call does that makes moves of a walk over the view of a store at a sequence number, from no
--- position on: `given` are the steps that it adds, `by` says what tables are opened with.
+-- What a call does that makes moves of a walk over the view of a store at a sequence number, from
+-- no position on: `given` are the steps that it adds, `by` says what tables are opened with.
 pub record WalksStore {E F C FP : Type 0} (keys : CmpGhosts (InternalKeyCmp C)) (env : Ghosts E F)
     (by : TableOptions C FP) (value : OpenStoreValue C) (from : E)
     (tables : TableCache E C FP F) (sequence : ℕ) (moves : List Move) (given : List Step)

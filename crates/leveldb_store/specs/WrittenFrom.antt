@@ -26,7 +26,8 @@ module _ {C : Type 0} (cmp : List ℕ → List ℕ → Ordering) (meaning : Mean
     pub written : IsUnbroken new → IsWritten cmp meaning new to.disk.files
     -- what it showed it shows, from the smallest held number on
     pub shows : (history : History) → KeepsFrom smallest history
-        (Shows cmp meaning old from.disk.files history) (Shows cmp meaning new to.disk.files history)
+        (Shows cmp meaning old from.disk.files history)
+        (Shows cmp meaning new to.disk.files history)
 
   -- the same, if the store was written before the call, whichever stores may be there: those that
   -- pass a test
@@ -36,8 +37,8 @@ module _ {C : Type 0} (cmp : List ℕ → List ℕ → Ordering) (meaning : Mean
       → IsWritten cmp meaning old from.disk.files
       → KeepsStoreFrom smallest (λ store. IsTrue (allowed store)) old from new to
 
-  -- The store has live tables after a call, and no entry is new that is in memory or in one of them:
-  -- it was in memory or in a live table before.
+  -- The store has live tables after a call, and no entry is new that is in memory or in one of
+  -- them: it was in memory or in a live table before.
   abbrev pub AddsNoEntry : OpenStoreValue C → Files → OpenStoreValue C → Files → Type 0
   AddsNoEntry old before new after = (live : List LiveTable)
       → HasLiveTables cmp meaning old before live → (now : List LiveTable)

@@ -1,5 +1,5 @@
 //! Tables made of the entries that a store has in memory.
-ghost use Rattle.std.specs.Prelude.{◌≡◌, ◌⊎◌, List, [], IfOk, IfErr, OnOk, map};
+ghost use Rattle.std.specs.Prelude.{◌≡◌, ◌⊎◌, List, [], IfErr, OnOk, map};
 ghost use Rattle.leveldb_base.specs.Entries.{internal_pair};
 ghost use Rattle.leveldb_base.specs.History.{AreRising};
 ghost use Rattle.leveldb_base.specs.KeyTypes.{internal_cmp};
@@ -9,11 +9,10 @@ ghost use Rattle.leveldb_iter.specs.Walk.{key_order};
 ghost use Rattle.leveldb_table.specs.TableBuilder.{order_of};
 ghost use Rattle.leveldb_version.specs.Batches.{Each};
 ghost use Rattle.leveldb_version.specs.Store.{IsInternalPair};
-ghost use Rattle.leveldb_store.specs.BuildTable.{IsUnused, MakesTable, ReadsNoFile, StaysOver, StopsAtPair, StopsBuilding, WalkFails, choices_of, puts_all};
-ghost use Rattle.leveldb_store.specs.TableFile.{AddsAllToFile, ChangesOneFile, FailsToWrite, IsThere, StopsWriting, WritesTable};
+ghost use Rattle.leveldb_store.specs.BuildTable.{IsUnused, MakesTable, ReadsNoFile, StaysOver, StopsAtPair, WalkFails, choices_of, puts_all};
+ghost use Rattle.leveldb_store.specs.TableFile.{AddsAllToFile, IsThere, StopsWriting};
 
-use crate::table_file::{TableFile, copied_key};
-use bytes::Bytes;
+use crate::table_file::{TableFile, copied_key, new_builder};
 use leveldb_base::cmp::{Cmp, InternalKeyCmp, UserCmp};
 use leveldb_base::error::Result;
 use leveldb_base::names::table_file_name;
@@ -25,7 +24,6 @@ use leveldb_env::options::Options;
 use leveldb_iter::unlent::Unlent;
 use leveldb_iter::walk::Walk;
 use leveldb_mem::memtable::MemTable;
-use leveldb_table::table_builder::builder_core::BuilderCore;
 use std::alloc::Global;
 
 /// Makes the table of the pairs that a walk over internal keys goes to, from the first on, under
@@ -67,20 +65,10 @@ pub fn build_table<
         });
     };
     let smallest = copied_key(alloc, first)?;
-    let policy = InternalFilterPolicy::new(options.filter_policy);
-    let core = BuilderCore::under(alloc, InternalKeyCmp(options.cmp), policy, options);
-    let compressors = &options.compressor_list;
-    write_table(
-        alloc,
-        env,
-        tables,
-        &path,
-        number,
-        core,
-        smallest,
-        compressors,
-        from,
-    )
+    let core = new_builder(alloc, options);
+    let mut table = TableFile::create(alloc, env, &path, number, core, smallest)?;
+    add_pairs(&mut table, env, tables, &options.compressor_list, from)?;
+    table.finish(env, &options.compressor_list)
 }
 
 /// Makes the table of a memtable's entries under the name of a number in the store's folder, as
@@ -105,43 +93,6 @@ pub fn build_memtable<E: Env, C: UserCmp + Copy + Drop, FP: FilterPolicy + Copy 
 {
     let mut walk = Unlent(memtable.iter());
     build_table(alloc, env, &mut (), store, options, &mut walk, number)
-}
-
-// Creates or empties a file, and writes the table of the pairs of a walk that is at the first one,
-// which has the smallest key.
-fn write_table<E: Env, T, W: Walk<E, T>, C: Cmp + Copy + Drop, FP: FilterPolicy + Drop>(
-    alloc: Global,
-    env: &mut E,
-    tables: &mut T,
-    path: &str,
-    number: FileNum,
-    core: BuilderCore<C, FP>,
-    smallest: Bytes,
-    compressors: &CompressorList,
-    from: &mut W,
-) -> Result<FileMetaData>
-    requires unused { IsUnused C.Cmp FP.FilterPolicy (⟦<CompressorList as Compressors>⟧.codings
-        compressors.now) core }
-    requires reads { ReadsNoFile W.Walk }
-    requires first { (pairs : List Pair) × W.is_at (env.old, tables.old) from.old
-        (key_order C.Cmp (order_of core)) pairs (position_within pairs 0) }
-    ensures writes { let codings = ⟦<CompressorList as Compressors>⟧.codings compressors.now in
-        (pairs : List Pair) → W.is_at (env.old, tables.old) from.old
-        (key_order C.Cmp (order_of core)) pairs (position_within pairs 0)
-        → IfOk result (λ made. WritesTable C.Cmp FP.FilterPolicy codings E.Env core path.now number
-        smallest pairs made env.old env.new) }
-    ensures changes { ChangesOneFile E.Env path.now env.old env.new }
-    ensures cause { let codings = ⟦<CompressorList as Compressors>⟧.codings compressors.now in
-        (pairs : List Pair) → W.is_at (env.old, tables.old) from.old
-        (key_order C.Cmp (order_of core)) pairs (position_within pairs 0)
-        → FailsToWrite (λ status. StopsBuilding C.Cmp FP.FilterPolicy codings core pairs status
-        ⊎ WalkFails W.Walk (env.old, tables.old) from.old status)
-        (E.failures env.old) (E.failures env.new) result }
-    ensures walk { StaysOver W.Walk (env.old, tables.old) from.old (env.new, tables.new) from.new }
-{
-    let mut table = TableFile::create(alloc, env, path, number, core, smallest)?;
-    add_pairs(&mut table, env, tables, compressors, from)?;
-    table.finish(env, compressors)
 }
 
 // Adds the pairs of a walk that is at the first one to a table that has none.

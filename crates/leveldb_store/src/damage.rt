@@ -42,8 +42,8 @@ struct Scan {
     is_misplaced: bool,
 }
 
-/// What comes after the first bad end of these bytes, a log's, if they have one. None where this end
-/// is torn, as a crash leaves it: the bytes end in a fragment, or in zeros in its place, and no
+/// What comes after the first bad end of these bytes, a log's, if they have one. None where this
+/// end is torn, as a crash leaves it: the bytes end in a fragment, or in zeros in its place, and no
 /// record ends after it.
 pub fn left_out(text: &[u8]) -> Option<LeftOut>
     ensures loses { LosesRecords text.now → IsSomeAnd result (λ left. IsTrue left.has_records) }
@@ -62,8 +62,8 @@ pub fn left_out(text: &[u8]) -> Option<LeftOut>
     })
 }
 
-/// What comes after the first `records` records of these bytes, a log's, or after all that there are
-/// up to its first bad end.
+/// What comes after the first `records` records of these bytes, a log's, or after all that there
+/// are up to its first bad end.
 pub fn left_after(text: &[u8], records: usize) -> LeftOut
     ensures { result.from + result.count ≡ length text.now }
 {
@@ -75,8 +75,8 @@ pub fn left_after(text: &[u8], records: usize) -> LeftOut
     }
 }
 
-// Goes through the fragments of a log, up to one that isn't whole or can't come there, or to the end
-// of so many records.
+// Goes through the fragments of a log, up to one that isn't whole or can't come there, or to the
+// end of so many records.
 fn scan_of(text: &[u8], records: usize) -> Scan
     ensures whole { AreWholeUpTo text.now result.end result.is_open result.has_data }
     ensures within { result.end ≤ length text.now }
@@ -151,7 +151,8 @@ fn has_end_from(text: &[u8], from: usize) -> bool
     false
 }
 
-// Whether the bytes, from this offset of a block on, begin with a whole fragment that ends a record.
+// Whether the bytes, from this offset of a block on, begin with a whole fragment that ends a
+// record.
 fn starts_with_end(rest: &[u8], offset: usize) -> bool
     requires { offset < log_block_size }
     ensures { StartsWithEnd offset rest.now → IsTrue result }
@@ -243,8 +244,8 @@ fn room_at(offset: usize) -> usize
     space - HEADER_SIZE
 }
 
-// Whether the bytes that are left, from this offset of a block on, are the first part of a fragment,
-// or zeros, as a crash leaves them.
+// Whether the bytes that are left, from this offset of a block on, are the first part of a
+// fragment, or zeros, as a crash leaves them.
 fn is_torn(rest: &[u8], offset: usize) -> bool
     requires { offset < log_block_size }
 {

@@ -14,8 +14,8 @@ use leveldb_version::version::Version;
 use leveldb_version::version_iter::VersionIter;
 use std::alloc::Global;
 
-/// A walk that merges the tables of files. It borrows their metadata for `'v`; each move borrows the
-/// environment and the store's open tables.
+/// A walk that merges the tables of files. It borrows their metadata for `'v`; each move borrows
+/// the environment and the store's open tables.
 pub type InputWalk<'v, C> = MergeCore<InternalKeyCmp<C>, VersionIter<'v, C>>;
 
 /// The walk over all entries of the tables of a version's files, as those that a compaction takes,

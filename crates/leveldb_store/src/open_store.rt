@@ -91,11 +91,11 @@ impl<E: Env, C: Cmp> Model for OpenStore<E, C> {
       keeps_files = it.keeps_files;
     } };
 
-    // The version set is of the store's path, the log's file has the path of the log's number, which
-    // has 64 bits, and both memtables have the store's order. A manifest in use is in the store's
-    // folder. The manifest is in use or broken. No entry of the log's memtable has a number past the
-    // last one, and a memtable that waits has entries. The version has the store's order. The number
-    // of each live file was given, and they are in levels.
+    // The version set is of the store's path, the log's file has the path of the log's number,
+    // which has 64 bits, and both memtables have the store's order. A manifest in use is in the
+    // store's folder. The manifest is in use or broken. No entry of the log's memtable has a number
+    // past the last one, and a memtable that waits has entries. The version has the store's order.
+    // The number of each live file was given, and they are in levels.
     ghost invariant = { λ it. (it.versions.set.store ≡ string_bytes it.name)
         × ((it.log.file.path ≡ log_path (string_bytes it.name) it.log.number)
         × (it.log.number < 2 ^ 64))

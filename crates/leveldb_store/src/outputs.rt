@@ -10,7 +10,7 @@ ghost use Rattle.leveldb_store.specs.Outputs.{AddsPair, AreCutBefore, AreTables,
 ghost use Rattle.leveldb_store.specs.Switch.{MayGiveNumber};
 ghost use Rattle.leveldb_store.specs.TableFile.{FailsToWrite};
 
-use crate::table_file::{TableFile, copied_key};
+use crate::table_file::{TableFile, copied_key, new_builder};
 use leveldb_base::cmp::{Cmp, InternalKeyCmp, UserCmp};
 use leveldb_base::error::{Result, StatusCode, err};
 use leveldb_base::key_types::{TAG_LEN, split_sequence};
@@ -20,7 +20,6 @@ use leveldb_env::compressor::{CompressorList, Compressors};
 use leveldb_env::env::Env;
 use leveldb_env::filter::{FilterPolicy, InternalFilterPolicy};
 use leveldb_env::options::Options;
-use leveldb_table::table_builder::builder_core::BuilderCore;
 use leveldb_version::version_set::VersionSet;
 use std::alloc::Global;
 use std::marker::Model;
@@ -44,7 +43,8 @@ impl<E: Env, C: UserCmp + Copy + Drop, FP: FilterPolicy + Copy + Drop> Model for
 
     ghost Value = { OutputsValue E (InternalKeyCmp C) FP E.File };
 
-    ghost view = { λ it. record { unfinished = it.unfinished; ends = it.ends; done = it.done.items } };
+    ghost view = { λ it.
+        record { unfinished = it.unfinished; ends = it.ends; done = it.done.items } };
 }
 
 impl<E: Env, C: UserCmp + Copy + Drop, FP: FilterPolicy + Copy + Drop> Outputs<E, C, FP> {
@@ -71,8 +71,8 @@ impl<E: Env, C: UserCmp + Copy + Drop, FP: FilterPolicy + Copy + Drop> Outputs<E
 
     /// Puts a pair into the open table, or into a new one of the next number: where none is open,
     /// and where the key is of another user key than the last one and the open table is past
-    /// `max_file_size` bytes or was to end, which finishes it. `Corruption` where the key has no tag
-    /// or isn't after the last one. After an Err no pair may be put.
+    /// `max_file_size` bytes or was to end, which finishes it. `Corruption` where the key has no
+    /// tag or isn't after the last one. After an Err no pair may be put.
     pub fn put(
         &mut self,
         env: &mut E,
@@ -221,9 +221,7 @@ impl<E: Env, C: UserCmp + Copy + Drop, FP: FilterPolicy + Copy + Drop> Outputs<E
         let smallest = copied_key(self.alloc, key)?;
         let number = versions.new_file_number()?;
         let path = table_file_name(self.alloc, store, number)?;
-        let cmp = InternalKeyCmp(options.cmp);
-        let policy = InternalFilterPolicy::new(options.filter_policy);
-        let core = BuilderCore::under(self.alloc, cmp, policy, options);
+        let core = new_builder(self.alloc, options);
         let mut table = TableFile::create(self.alloc, env, &path, number, core, smallest)?;
         table.add(env, &options.compressor_list, key, value)?;
         self.unfinished = Some(table);

@@ -28,8 +28,8 @@ pub trait MergeLevels {
     fn is_base_level_for(&self, user: &[u8]) -> bool
         ensures { result ≡ is_base self.now user.now };
 
-    /// Whether the inputs may have a user key: it isn't before the ranges of all of their files, nor
-    /// after them.
+    /// Whether the inputs may have a user key: it isn't before the ranges of all of their files,
+    /// nor after them.
     fn is_among_inputs(&self, user: &[u8]) -> bool
         ensures { result ≡ is_among self.now user.now };
 }

@@ -4,16 +4,17 @@ ghost use Rattle.std.specs.declared.cmp.Ordering.TheVariants.{Less};
 ghost use Rattle.leveldb_base.specs.Error.{IsOutOfMemory};
 ghost use Rattle.leveldb_env.specs.Env.{AreBytes, BeforeOrAfter, ChangesFiles, HasCause, SameLocks, emptied};
 ghost use Rattle.leveldb_env.specs.EnvFile.{opened};
-ghost use Rattle.leveldb_table.specs.TableBuilder.{KeepsChoices, last_of, order_of, table_estimate};
+ghost use Rattle.leveldb_table.specs.TableBuilder.{IsNewBuilder, KeepsChoices, last_of, order_of, table_estimate};
 ghost use Rattle.leveldb_store.specs.TableFile.{AddsToFile, FinishesFile, IsAddFault, IsFinishFault, IsMetadataOf, IsThere, StopsWriting};
 
 use bytes::Bytes;
-use leveldb_base::cmp::Cmp;
+use leveldb_base::cmp::{Cmp, InternalKeyCmp, UserCmp};
 use leveldb_base::error::Result;
 use leveldb_base::types::{FileMetaData, FileNum};
 use leveldb_env::compressor::{CompressorList, Compressors};
 use leveldb_env::env::{Env, EnvFile};
-use leveldb_env::filter::FilterPolicy;
+use leveldb_env::filter::{FilterPolicy, InternalFilterPolicy};
+use leveldb_env::options::Options;
 use leveldb_table::table_builder::builder_core::BuilderCore;
 use std::alloc::Global;
 
@@ -58,6 +59,20 @@ fn finish_table<E: Env, C: Cmp + Copy + Drop, FP: FilterPolicy + Drop>(
         env.new) }
 {
     core.finish(&mut EnvFile { env, file }, compressors)
+}
+
+// A builder of the table of internal keys by a store's options.
+pub(crate) fn new_builder<C: UserCmp + Copy + Drop, FP: FilterPolicy + Copy + Drop>(
+    alloc: Global,
+    options: &Options<C, FP>,
+) -> BuilderCore<InternalKeyCmp<C>, InternalFilterPolicy<FP>>
+    ensures { IsNewBuilder ⟦<InternalKeyCmp<C> as Cmp>⟧
+        ⟦<InternalFilterPolicy<FP> as FilterPolicy>⟧ (record { 0 = options.now.cmp })
+        options.now.filter_policy options.now.compressor options.now.block_size
+        options.now.block_restart_interval result }
+{
+    let policy = InternalFilterPolicy::new(options.filter_policy);
+    BuilderCore::under(alloc, InternalKeyCmp(options.cmp), policy, options)
 }
 
 // A table under construction: the number and the open file that it has, what its builder knows, and

@@ -1,16 +1,14 @@
 //! One compaction of an open store: other files take the place of those that it takes, and its edit
 //! is logged.
-ghost use Rattle.std.specs.Prelude.{◌≡◌, ◌⊎◌, ◌++◌, Bool, IfErr, IfSome, None, Ok, Option, OnErr, OnOk, is_some, map};
+ghost use Rattle.std.specs.Prelude.{◌≡◌, ◌⊎◌, ◌++◌, IfErr, IfSome, None, Option, OnOk, is_some, map};
 ghost use Rattle.leveldb_base.specs.Error.{IsOutOfMemory};
 ghost use Rattle.leveldb_version.specs.Format.{format_of};
 ghost use Rattle.leveldb_version.specs.Picking.{CompactionValue, IsAskedByReads, IsCompactionOf};
 ghost use Rattle.leveldb_version.specs.TableCache.{table_options};
 ghost use Rattle.leveldb_store.specs.BuildTable.{choices_of};
-ghost use Rattle.leveldb_store.specs.Compact.{CompactsIfAsked, CompactsStore, CompactsTables, EndsByRemoval, LogsCompaction, LogsPicked};
-ghost use Rattle.leveldb_store.specs.KeptBytes.{NewTablesLoseNothing};
-ghost use Rattle.leveldb_store.specs.KeptEntries.{CompactsOnceAtMost};
+ghost use Rattle.leveldb_store.specs.Compact.{CompactsIfAsked, CompactsStore, CompactsTables, EndsByRemoval, LogsPicked};
+ghost use Rattle.leveldb_store.specs.CompactPicked.{CompactsPicked, CompactsWithoutLoss};
 ghost use Rattle.leveldb_store.specs.OpenStore.{IsUnbroken};
-ghost use Rattle.leveldb_store.specs.SoundCall.{BreaksForCause};
 
 use super::OpenStore;
 use leveldb_base::cmp::{Cmp, InternalKeyCmp, UserCmp};
@@ -27,10 +25,10 @@ use leveldb_version::version_edit::VersionEdit;
 
 impl<E: Env, C: UserCmp + Copy + Drop> OpenStore<E, C> {
     /// Does the compaction for which the current version asks, by the score of a level or else by
-    /// reads, if it asks for one, and deletes the files that are obsolete then; what fails of that is
-    /// a line for `log`. Entries that are
-    /// shadowed at `smallest`, the smallest number at which the store is read, may go, and deletions
-    /// up to it that no deeper level needs. No memtable waits.
+    /// reads, if it asks for one, and deletes the files that are obsolete then; what fails of that
+    /// is a line for `log`. Entries that are shadowed at `smallest`, the smallest number at which
+    /// the store is read, may go, and deletions up to it that no deeper level needs. No memtable
+    /// waits.
     ///
     /// After an Err the tables are those that they were, no file has lost a byte, and the next call
     /// tries again, unless the store broke.
@@ -53,12 +51,10 @@ impl<E: Env, C: UserCmp + Copy + Drop> OpenStore<E, C> {
             result self.new env.new tables.new }
         ensures asked { CompactsIfAsked (C.cmp self.old.cmp) options.now.max_file_size self.old
             result self.new }
-        ensures removes { OnOk result ((self.new ≡ self.old) ⊎ EndsByRemoval E.Env self.new env.new) }
-        ensures once { CompactsOnceAtMost (C.cmp self.old.cmp) E.models_disk self.old
-            (E.observed env.old) self.new (E.observed env.new) }
-        ensures kept { OnErr result (NewTablesLoseNothing E.Env self.old.set.store env.old env.new
-            self.old.set.next_file) }
-        ensures breaks { BreaksForCause E.Env self.old env.old result self.new env.new }
+        ensures removes { OnOk result
+            ((self.new ≡ self.old) ⊎ EndsByRemoval E.Env self.new env.new) }
+        ensures keeps { CompactsWithoutLoss E.Env (C.cmp self.old.cmp) self.old env.old result
+            self.new env.new }
         ensures log { is_some log.new ≡ is_some log.old }
     {
         let picked = self.versions.pick_compaction(options)?;
@@ -87,8 +83,8 @@ impl<E: Env, C: UserCmp + Copy + Drop> OpenStore<E, C> {
         ensures asked { OnOk result ((picked : Option (CompactionValue C))
             × IsAskedByReads (C.cmp self.old.cmp) self.old.current options.now.max_file_size picked
             × LogsPicked (C.cmp self.old.cmp) picked self.old self.new) }
-        ensures once { CompactsOnceAtMost (C.cmp self.old.cmp) E.models_disk self.old
-            (E.observed env.old) self.new (E.observed env.new) }
+        ensures keeps { CompactsWithoutLoss E.Env (C.cmp self.old.cmp) self.old env.old result
+            self.new env.new }
         ensures log { is_some log.new ≡ is_some log.old }
     {
         let picked = self.versions.compaction_by_reads(options)?;
@@ -117,18 +113,10 @@ impl<E: Env, C: UserCmp + Copy + Drop> OpenStore<E, C> {
             CompactsTables ⟦<InternalKeyCmp<C> as Cmp>⟧ E.Env
             (table_options choices.format options.now) self.old env.old tables.old choices smallest
             result self.new env.new tables.new }
-        ensures logged { OnOk result (IfSome picked (λ it.
-            LogsCompaction (C.cmp self.old.cmp) it self.old self.new)) }
-        ensures removes { OnOk result (IfSome picked (λ it.
-            EndsByRemoval E.Env self.new env.new)) }
-        ensures none { picked ≡ None → (result ≡ Ok tt) × (self.new ≡ self.old)
-            × (env.new ≡ env.old) × (tables.new ≡ tables.old) }
-        ensures err { OnErr result (self.new.set.full ≡ self.old.set.full) }
-        ensures once { CompactsOnceAtMost (C.cmp self.old.cmp) E.models_disk self.old
-            (E.observed env.old) self.new (E.observed env.new) }
-        ensures kept { OnErr result (NewTablesLoseNothing E.Env self.old.set.store env.old env.new
-            self.old.set.next_file) }
-        ensures breaks { BreaksForCause E.Env self.old env.old result self.new env.new }
+        ensures does { CompactsPicked E.Env (C.cmp self.old.cmp) picked self.old env.old tables.old
+            result self.new env.new tables.new }
+        ensures keeps { CompactsWithoutLoss E.Env (C.cmp self.old.cmp) self.old env.old result
+            self.new env.new }
         ensures log { is_some log.new ≡ is_some log.old }
     {
         let Some(compaction) = picked else {

@@ -9,11 +9,10 @@ ghost use Rattle.leveldb_version.specs.Picking.{IsCompactionOf};
 ghost use Rattle.leveldb_version.specs.TableCache.{table_options};
 ghost use Rattle.leveldb_store.specs.BuildTable.{choices_of};
 ghost use Rattle.leveldb_store.specs.Compact.{CompactsRange, CompactsTables, KeepsLevelsAbove, deepest_overlapped};
-ghost use Rattle.leveldb_store.specs.KeptEntries.{CompactsInTurn, KeepsEntries, TablesMemory};
+ghost use Rattle.leveldb_store.specs.KeptEntries.{CompactsInTurn, TablesMemory};
 ghost use Rattle.leveldb_store.specs.OpenStore.{IsUnbroken};
-ghost use Rattle.leveldb_store.specs.OpenTables.{ClosesObsolete};
 ghost use Rattle.leveldb_store.specs.Room.{FailsToMakeRoom};
-ghost use Rattle.leveldb_store.specs.RoomSteps.{AddsNone, IsStepToRoom};
+ghost use Rattle.leveldb_store.specs.RoomSteps.{IsStepToRoom, TablesEntries};
 
 use super::OpenStore;
 use leveldb_base::cmp::{Cmp, InternalKeyCmp, UserCmp};
@@ -34,12 +33,13 @@ impl<E: Env, C: UserCmp + Copy + Drop> OpenStore<E, C> {
     /// file overlapped the range between two user keys, ends included, when the call began, or to
     /// level 1: then no file of these levels overlaps it. An empty key is an open end. Entries that
     /// are shadowed at `smallest`, the smallest number at which the store is read, may go, and
-    /// deletions up to it that no deeper level needs. Obsolete files are deleted after each edit, and
-    /// their tables closed; what fails of that is a line for `log`.
+    /// deletions up to it that no deeper level needs. Obsolete files are deleted after each edit,
+    /// and their tables closed; what fails of that is a line for `log`.
     ///
     /// After an Err some of this may be done; of a store that is written no entry that is read is
-    /// lost. Whatever the files are, each entry that was in memory is there still, or was in a table
-    /// before anything was compacted. The next call goes on from there, unless the store broke.
+    /// lost. Whatever the files are, each entry that was in memory is there still, or was in a
+    /// table before anything was compacted. The next call goes on from there, unless the store
+    /// broke.
     pub fn compact_range<FP: FilterPolicy + Copy + Drop>(
         &mut self,
         env: &mut E,
@@ -107,15 +107,11 @@ impl<E: Env, C: UserCmp + Copy + Drop> OpenStore<E, C> {
             IsStepToRoom E.Env (C.cmp self.old.cmp) choices.format
             (FailsToMakeRoom E.Env (C.cmp self.old.cmp) self.old env.old choices)
             self.old env.old result self.new env.new }
-        ensures none_new { let format = format_of C.Cmp FP.FilterPolicy
-            ⟦<CompressorList as Compressors>⟧.codings options.now in OnOk result
-            (AddsNone E.Env (C.cmp self.old.cmp) format self.old env.old self.new env.new) }
-        ensures entries { KeepsEntries E.Env (format_of C.Cmp FP.FilterPolicy
-            ⟦<CompressorList as Compressors>⟧.codings options.now) self.old env.old self.new
-            env.new }
+        ensures tables { TablesEntries E.Env (C.cmp self.old.cmp) (format_of C.Cmp FP.FilterPolicy
+            ⟦<CompressorList as Compressors>⟧.codings options.now) 2 self.old env.old tables.old
+            result self.new env.new tables.new }
         ensures tabled { OnOk result
             ((self.new.recent.entries ≡ []) × (self.new.waiting ≡ None)) }
-        ensures closes { ClosesObsolete E.Env self.old.set env.old tables.old env.new tables.new }
         ensures log { is_some log.new ≡ is_some log.old }
     {
         let _ = self.table_if_waiting(env, options, tables, log)?;

@@ -21,10 +21,11 @@ use leveldb_version::table_cache::TableCache;
 use std::alloc::Global;
 
 impl<E: Env, C: UserCmp + Copy + Drop> OpenStore<E, C> {
-    /// Looks at each log and each manifest that is obsolete. One that is damaged is a line for `log`:
-    /// where whole records are left out of it, or what is left out isn't the end that a crash
-    /// leaves. If there is one, or if one can't be read, the store keeps its files: it deletes none
-    /// while it is open, so that a repair can find what was left out, and the tables that it names.
+    /// Looks at each log and each manifest that is obsolete. One that is damaged is a line for
+    /// `log`: where whole records are left out of it, or what is left out isn't the end that a
+    /// crash leaves. If there is one, or if one can't be read, the store keeps its files: it
+    /// deletes none while it is open, so that a repair can find what was left out, and the tables
+    /// that it names.
     pub(super) fn keep_damaged_files(&mut self, env: &mut E, log: &mut Option<Logger>)
         ensures same { self.new ≡ record self.old { keeps_files = self.new.keeps_files } }
         ensures damaged { IsTrue E.models_disk
@@ -37,8 +38,8 @@ impl<E: Env, C: UserCmp + Copy + Drop> OpenStore<E, C> {
         self.keeps_files = self.tell_damage(env, log);
     }
 
-    // Tells of each damaged file that was left aside. Returns whether there is one, or one that can't
-    // be read.
+    // Tells of each damaged file that was left aside. Returns whether there is one, or one that
+    // can't be read.
     fn tell_damage(&self, env: &mut E, log: &mut Option<Logger>) -> bool
         ensures damaged { IsTrue E.models_disk
             → HasDamagedFile self.now.set (E.observed env.old).disk.files → IsTrue result }
@@ -148,8 +149,8 @@ fn read_through<E: Env>(alloc: Global, env: &mut E, store: &str, number: FileNum
     }
 }
 
-// Tells what was left out of a file. The line is lost if the sink fails or there is no memory for it,
-// which is no error.
+// Tells what was left out of a file. The line is lost if the sink fails or there is no memory for
+// it, which is no error.
 fn tell(alloc: Global, path: &str, left: LeftOut, log: &mut Option<Logger>)
     ensures { is_some log.new ≡ is_some log.old }
 {

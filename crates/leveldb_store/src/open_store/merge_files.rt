@@ -1,18 +1,18 @@
 //! The files that take the place of those of a compaction: those of new tables, into which its own
 //! are merged, or the one file that it moves.
-ghost use Rattle.std.specs.Prelude.{◌≡◌, ◌≢◌, ◌+◌, ◌↔◌, IfSome, IsTrue, map};
+ghost use Rattle.std.specs.Prelude.{◌≡◌, ◌≢◌, ◌+◌, ◌↔◌, IfSome, IsTrue};
 ghost use Rattle.std.specs.declared.cmp.Ordering.TheVariants.{Less};
 ghost use Rattle.leveldb_base.specs.KeyTypes.{user_part};
 ghost use Rattle.leveldb_env.specs.Env.{AreBytes};
 ghost use Rattle.leveldb_version.specs.Compaction.{is_base_level_for};
 ghost use Rattle.leveldb_version.specs.Contradictions.{is_among_inputs};
+ghost use Rattle.leveldb_version.specs.Format.{format_of};
 ghost use Rattle.leveldb_version.specs.Picking.{IsCompactionOf};
 ghost use Rattle.leveldb_version.specs.TableCache.{options_by, table_options};
 ghost use Rattle.leveldb_version.specs.Version.{new_files_of};
-ghost use Rattle.leveldb_version.specs.VersionEdit.{new_file_of};
 ghost use Rattle.leveldb_version.specs.VersionIter.{reading as reading_by};
 ghost use Rattle.leveldb_store.specs.BuildTable.{choices_of};
-ghost use Rattle.leveldb_store.specs.Compact.{IsMovedAlone, IsOfStore, MakesReplacements};
+ghost use Rattle.leveldb_store.specs.Compact.{IsMovedAlone, IsOfStore, MakesReplacements, of_level};
 
 use super::OpenStore;
 use crate::merge_inputs::merge_inputs;
@@ -50,8 +50,8 @@ impl<E: Env, C: UserCmp + Copy + Drop> OpenStore<E, C> {
             ⟦<CompressorList as Compressors>⟧.codings options.now in
             MakesReplacements ⟦<InternalKeyCmp<C> as Cmp>⟧ E.Env
             (table_options choices.format options.now) self.old env.old tables.old choices smallest
-            compaction.now (λ files. map (λ file. new_file_of (compaction.now.level + 1, file))
-            files.items) result self.new env.new tables.new }
+            compaction.now (λ files. of_level (compaction.now.level + 1) files.items) result
+            self.new env.new tables.new }
     {
         // The compaction has a copy of this version.
         let _version = self.versions.current();
@@ -105,18 +105,17 @@ impl<E: Env, C: UserCmp + Copy + Drop> OpenStore<E, C> {
     ) -> Result<Vec<FileMetaData>>
         requires order { C.cmp options.now.cmp ≡ C.cmp self.old.cmp }
         requires known { IsOfStore E.models_disk (C.cmp options.now.cmp) self.old compaction.now }
-        requires reads { let choices = choices_of C.Cmp FP.FilterPolicy
-            ⟦<InternalKeyCmp<C> as Cmp>⟧ ⟦<InternalFilterPolicy<FP> as FilterPolicy>⟧
+        requires reads { let format = format_of C.Cmp FP.FilterPolicy
             ⟦<CompressorList as Compressors>⟧.codings options.now in
             options_by C.Cmp FP.FilterPolicy (K.codings compressors.now) options.now.cmp
-            options.now.filter_policy ≡ table_options choices.format options.now }
+            options.now.filter_policy ≡ table_options format options.now }
         ensures makes { let choices = choices_of C.Cmp FP.FilterPolicy
             ⟦<InternalKeyCmp<C> as Cmp>⟧ ⟦<InternalFilterPolicy<FP> as FilterPolicy>⟧
             ⟦<CompressorList as Compressors>⟧.codings options.now in
             MakesReplacements ⟦<InternalKeyCmp<C> as Cmp>⟧ E.Env
             (table_options choices.format options.now) self.old env.old tables.old choices smallest
-            compaction.now (λ files. map (λ file. new_file_of (compaction.now.level + 1, file))
-            files.items) result self.new env.new tables.new }
+            compaction.now (λ files. of_level (compaction.now.level + 1) files.items) result
+            self.new env.new tables.new }
     {
         let mut reading = self.reading(options.cmp, options.filter_policy, compressors, tables);
         let merged = self.merge_in(env, options, &mut reading, smallest, compaction);
@@ -136,24 +135,21 @@ impl<E: Env, C: UserCmp + Copy + Drop> OpenStore<E, C> {
     ) -> Result<Vec<FileMetaData>>
         requires order { C.cmp options.now.cmp ≡ C.cmp self.old.cmp }
         requires known { IsOfStore E.models_disk (C.cmp options.now.cmp) self.old compaction.now }
-        requires reads { let choices = choices_of C.Cmp FP.FilterPolicy
-            ⟦<InternalKeyCmp<C> as Cmp>⟧ ⟦<InternalFilterPolicy<FP> as FilterPolicy>⟧
+        requires reads { let format = format_of C.Cmp FP.FilterPolicy
             ⟦<CompressorList as Compressors>⟧.codings options.now in
             reading_by E.Env C.Cmp FP.FilterPolicy K.codings reading.old
-            ≡ table_options choices.format options.now }
+            ≡ table_options format options.now }
         requires below { reading.old.below ≡ self.old.set.next_file }
         ensures makes { let choices = choices_of C.Cmp FP.FilterPolicy
             ⟦<InternalKeyCmp<C> as Cmp>⟧ ⟦<InternalFilterPolicy<FP> as FilterPolicy>⟧
             ⟦<CompressorList as Compressors>⟧.codings options.now in
             MakesReplacements ⟦<InternalKeyCmp<C> as Cmp>⟧ E.Env
             (table_options choices.format options.now) self.old env.old reading.old.cache.now
-            choices smallest compaction.now
-            (λ files. map (λ file. new_file_of (compaction.now.level + 1, file)) files.items)
-            result self.new env.new reading.new.cache.now }
+            choices smallest compaction.now (λ files. of_level (compaction.now.level + 1)
+            files.items) result self.new env.new reading.new.cache.now }
         ensures reference { reading.new.cache.ghost_name ≡ reading.old.cache.ghost_name }
     {
-        let inputs = compaction.inputs();
-        let mut walk = merge_inputs::<E, C, FP, K>(self.alloc, options.cmp, inputs)?;
+        let mut walk = merge_inputs::<E, C, FP, K>(self.alloc, options.cmp, compaction.inputs())?;
         let levels = InputLevels { compaction };
         let mut cuts = InputCuts {
             compaction,

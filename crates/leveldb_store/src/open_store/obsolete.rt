@@ -23,9 +23,9 @@ impl<E: Env, C: UserCmp + Copy + Drop> OpenStore<E, C> {
     /// Deletes the files of the store's folder that are obsolete: logs below the log number,
     /// manifests below the one in use, tables that aren't live, and temporary files. A table is
     /// closed before its file is deleted. It goes on after a deletion that fails, and returns the
-    /// first error, or `OutOfMemory` if memory was out for one of them. Where a call on the manifest
-    /// failed it deletes nothing, since the manifest may know of more than the set does. Where the
-    /// store keeps its files it makes no call and returns `Corruption`.
+    /// first error, or `OutOfMemory` if memory was out for one of them. Where a call on the
+    /// manifest failed it deletes nothing, since the manifest may know of more than the set does.
+    /// Where the store keeps its files it makes no call and returns `Corruption`.
     pub fn remove_obsolete<FP: FilterPolicy + Copy + Drop>(
         &self,
         env: &mut E,

@@ -1,15 +1,12 @@
 //! Room in the memtable: entries of one that is full become a table, and obsolete files are
 //! deleted.
-ghost use Rattle.std.specs.Prelude.{◌≡◌, ◌≢◌, ◌↔◌, ◌≤◌, ◌+◌, None, Contains, IfOk, IsTrue, OnErr, OnOk, is_some};
+ghost use Rattle.std.specs.Prelude.{◌≡◌, ◌≢◌, ◌↔◌, None, IfOk, IsTrue, is_some};
 ghost use Rattle.leveldb_store.specs.BuildTable.{choices_of};
 ghost use Rattle.leveldb_version.specs.Format.{Agrees, format_of};
-ghost use Rattle.leveldb_version.specs.VersionEdit.{NewFile};
-ghost use Rattle.leveldb_store.specs.KeptEntries.{KeepsEntries};
-ghost use Rattle.leveldb_store.specs.LoggedEdits.{LogsTableEdits};
 ghost use Rattle.leveldb_store.specs.OpenStore.{IsUnbroken};
 ghost use Rattle.leveldb_store.specs.OpenTables.{ClosesObsolete};
 ghost use Rattle.leveldb_store.specs.Room.{IsFull, MakesRoom, RemovesAtLast, TidiesUp, but_removal};
-ghost use Rattle.leveldb_store.specs.RoomSteps.{AddsNone, FailsToTableIfWaiting, IsStepToRoom};
+ghost use Rattle.leveldb_store.specs.RoomSteps.{TablesEntries, TablesIfWaiting};
 ghost use Rattle.leveldb_store.specs.SoundCall.{BytesAreAppended, IsSoundCall, TimeGoesOn};
 ghost use Rattle.leveldb_store.specs.Switch.{RemovesObsolete};
 
@@ -85,14 +82,9 @@ impl<E: Env, C: UserCmp + Copy + Drop> OpenStore<E, C> {
         ensures sound { IsSoundCall E.Env (C.cmp self.old.cmp) (Agrees (format_of C.Cmp
             FP.FilterPolicy ⟦<CompressorList as Compressors>⟧.codings options.now)) self.old
             env.old (but_removal result) self.new env.new }
-        ensures none_new { let format = format_of C.Cmp FP.FilterPolicy
-            ⟦<CompressorList as Compressors>⟧.codings options.now in OnOk (but_removal result)
-            (AddsNone E.Env (C.cmp self.old.cmp) format self.old env.old self.new env.new) }
-        ensures entries { KeepsEntries E.Env (format_of C.Cmp FP.FilterPolicy
-            ⟦<CompressorList as Compressors>⟧.codings options.now) self.old env.old self.new
-            env.new }
-        ensures tables { OnOk result (LogsTableEdits 2 self.old.set self.new.set) }
-        ensures closes { ClosesObsolete E.Env self.old.set env.old tables.old env.new tables.new }
+        ensures tables { TablesEntries E.Env (C.cmp self.old.cmp) (format_of C.Cmp FP.FilterPolicy
+            ⟦<CompressorList as Compressors>⟧.codings options.now) 2 self.old env.old tables.old
+            (but_removal result) self.new env.new tables.new }
         ensures log { is_some log.new ≡ is_some log.old }
     {
         if !self.is_full(options.write_buffer_size) {
@@ -114,28 +106,15 @@ impl<E: Env, C: UserCmp + Copy + Drop> OpenStore<E, C> {
     ) -> Result<Result<()>>
         requires usable { IsUnbroken self.old }
         requires order { C.cmp options.now.cmp ≡ C.cmp self.old.cmp }
-        ensures step { let choices = choices_of C.Cmp FP.FilterPolicy
-            ⟦<InternalKeyCmp<C> as Cmp>⟧ ⟦<InternalFilterPolicy<FP> as FilterPolicy>⟧
-            ⟦<CompressorList as Compressors>⟧.codings options.now in
-            IsStepToRoom E.Env (C.cmp self.old.cmp) choices.format
-            (FailsToTableIfWaiting E.Env (C.cmp self.old.cmp) choices self.old env.old)
-            self.old env.old (but_removal result) self.new env.new }
+        ensures waiting { TablesIfWaiting E.Env (C.cmp self.old.cmp) (choices_of C.Cmp
+            FP.FilterPolicy ⟦<InternalKeyCmp<C> as Cmp>⟧
+            ⟦<InternalFilterPolicy<FP> as FilterPolicy>⟧ ⟦<CompressorList as Compressors>⟧.codings
+            options.now) self.old env.old (but_removal result) self.new env.new }
         ensures removes { IfOk result (λ removal. self.old.waiting ≢ None
             → RemovesAtLast E.Env self.new removal env.new) }
-        ensures entries { KeepsEntries E.Env (format_of C.Cmp FP.FilterPolicy
-            ⟦<CompressorList as Compressors>⟧.codings options.now) self.old env.old self.new
-            env.new }
-        ensures tables { OnOk result (LogsTableEdits 1 self.old.set self.new.set) }
-        ensures numbers { OnOk result (self.new.set.next_file ≤ self.old.set.next_file + 1) }
-        ensures none_new { let format = format_of C.Cmp FP.FilterPolicy
-            ⟦<CompressorList as Compressors>⟧.codings options.now in OnOk (but_removal result)
-            (AddsNone E.Env (C.cmp self.old.cmp) format self.old env.old self.new env.new) }
-        ensures none_waits { OnOk (but_removal result) (self.new.waiting ≡ None) }
-        ensures waits { OnErr (but_removal result) (self.new.waiting ≢ None) }
-        ensures recent { self.new.recent ≡ self.old.recent }
-        ensures live { (file : NewFile) → Contains self.old.set.full.added file
-            → Contains self.new.set.full.added file }
-        ensures closes { ClosesObsolete E.Env self.old.set env.old tables.old env.new tables.new }
+        ensures tables { TablesEntries E.Env (C.cmp self.old.cmp) (format_of C.Cmp FP.FilterPolicy
+            ⟦<CompressorList as Compressors>⟧.codings options.now) 1 self.old env.old tables.old
+            (but_removal result) self.new env.new tables.new }
         ensures log { is_some log.new ≡ is_some log.old }
     {
         if !self.has_waiting() {

@@ -84,8 +84,8 @@ impl<E: Env, C: UserCmp + Copy + Drop> OpenStore<E, C> {
         }
     }
 
-    /// Makes moves of a walk over the view at a sequence number, from no position on. `steps`, which
-    /// has room for them, gains where each led.
+    /// Makes moves of a walk over the view at a sequence number, from no position on. `steps`,
+    /// which has room for them, gains where each led.
     pub fn walk<FP: FilterPolicy + Copy + Drop>(
         &self,
         env: &mut E,
@@ -131,8 +131,8 @@ impl<E: Env, C: UserCmp + Copy + Drop> OpenStore<E, C> {
     ) -> Result<()>
         requires order { C.cmp cmp ≡ C.cmp self.now.cmp }
         requires room { vec_len steps.old + length moves.now ≤ vec_capacity steps.old }
-        ensures { let by = options_by C.Cmp FP.FilterPolicy (K.codings compressors.now) cmp policy in
-            (given : List Step) × (steps.new.items ≡ steps.old.items ++ given)
+        ensures { let by = options_by C.Cmp FP.FilterPolicy (K.codings compressors.now) cmp policy
+            in (given : List Step) × (steps.new.items ≡ steps.old.items ++ given)
             × WalksStore ⟦<InternalKeyCmp<C> as Cmp>⟧ E.Env by self.now env.old tables.old sequence
             moves.now given result env.new tables.new }
     {
@@ -194,7 +194,8 @@ fn push_tables<'a, C: UserCmp + Copy + Drop>(
     walks: Vec<VersionIter<'a, C>>,
     children: &mut Vec<Child<'a, C>>,
 ) -> Result<()>
-    ensures ok { OnOk result (children.new.items ≡ children.old.items ++ map Tables walks.entry.items) }
+    ensures ok { OnOk result
+        (children.new.items ≡ children.old.items ++ map Tables walks.entry.items) }
     ensures memory { IfErr result IsOutOfMemory }
 {
     for walk in walks {

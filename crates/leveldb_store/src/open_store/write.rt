@@ -70,8 +70,8 @@ impl<E: Env, C: UserCmp + Copy> OpenStore<E, C> {
         self.log.file.sync(env)
     }
 
-    // Appends the record of a batch to the log. If that fails once it has begun, the store is broken,
-    // and the batch may be found when it is opened again.
+    // Appends the record of a batch to the log. If that fails once it has begun, the store is
+    // broken, and the batch may be found when it is opened again.
     pub(super) fn append(&mut self, env: &mut E, batch: &WriteBatch) -> Result<()>
         ensures appends { AppendsToLog E.Env self.old env.old
             (batch_bytes batch.now.first batch.now.items) result self.new env.new }

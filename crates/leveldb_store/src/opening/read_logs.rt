@@ -3,18 +3,18 @@ ghost use Rattle.std.specs.Prelude.{◌≡◌};
 ghost use Rattle.leveldb_base.specs.History.{AreUpTo};
 ghost use Rattle.leveldb_store.specs.ReadLogs.{ReadsLog, ReadsLogs};
 
-use super::replay_log::{ReplayedLog, check_follows};
+use super::replay_log::{ReplayedLog, check_empty_if_torn, check_follows};
 use crate::log_replay::{LogReplay, NextBatch};
 use leveldb_base::cmp::UserCmp;
-use leveldb_base::error::{Result, StatusCode, err};
+use leveldb_base::error::Result;
 use leveldb_base::types::FileNum;
 use leveldb_env::env::Env;
 use leveldb_mem::write_batch::WriteBatch;
 use std::alloc::Global;
 use std::collections::BTreeSet;
 
-// Reads the logs of these numbers in rising order, each up to its first bad end. No table is made of
-// them. `Corruption` if they are no logs of one store.
+// Reads the logs of these numbers in rising order, each up to its first bad end. No table is made
+// of them. `Corruption` if they are no logs of one store.
 pub(super) fn read_logs<E: Env, C: UserCmp + Copy + Drop>(
     alloc: Global,
     env: &mut E,
@@ -45,13 +45,7 @@ fn read_log<E: Env, C: UserCmp + Copy + Drop>(
     ensures { ReadsLog E.Env store.now number logs.old env.old result logs.new env.new }
 {
     let mut log = LogReplay::open(alloc, env, store, number)?;
-    if !logs.is_clean && log.size() > 0 {
-        return err(
-            alloc,
-            StatusCode::Corruption,
-            "a log is torn, and one after it isn't empty",
-        );
-    }
+    check_empty_if_torn(alloc, logs.is_clean, log.size())?;
     let mut batch = WriteBatch::new(alloc)?;
     'batches: loop {
         match log.next_batch(env, &mut batch)? {

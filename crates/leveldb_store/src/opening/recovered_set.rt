@@ -61,8 +61,8 @@ pub(super) fn recover_set<E: Env, C: UserCmp, FP: FilterPolicy>(
     })
 }
 
-// Reads the set of the manifest that `CURRENT` names, to be read alone, with the numbers of the logs
-// that are replayed. They are checked as those of a set that is recovered.
+// Reads the set of the manifest that `CURRENT` names, to be read alone, with the numbers of the
+// logs that are replayed. They are checked as those of a set that is recovered.
 pub(super) fn read_set<E: Env, C: UserCmp, FP: FilterPolicy>(
     alloc: Global,
     env: &mut E,

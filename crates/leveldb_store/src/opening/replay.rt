@@ -7,9 +7,9 @@ ghost use Rattle.leveldb_version.specs.Format.{format_of};
 ghost use Rattle.leveldb_store.specs.OpeningSteps.{ReplaysLogs, ReplaysNext, TablesAll, UsesLastLog};
 ghost use Rattle.leveldb_store.specs.ReplayLog.{FailsToTableRest, HasCauseOr, IsUnusable, MakesTablesOnly};
 
-use super::replay_log::{ReplayedLog, replay_log};
+use super::replay_log::{ReplayedLog, check_empty_if_torn, replay_log};
 use leveldb_base::cmp::{Cmp, InternalKeyCmp, UserCmp};
-use leveldb_base::error::{Result, StatusCode, err};
+use leveldb_base::error::Result;
 use leveldb_base::types::{FileMetaData, FileNum, SequenceNumber};
 use leveldb_env::compressor::{CompressorList, Compressors};
 use leveldb_env::env::Env;
@@ -51,7 +51,7 @@ pub(super) fn replay_logs<E: Env, C: UserCmp + Copy + Drop, FP: FilterPolicy + C
     store: &str,
     options: &Options<C, FP>,
     versions: &mut LiveFiles<E>,
-    logs: BTreeSet<FileNum>,
+    mut logs: BTreeSet<FileNum>,
 ) -> Result<Replay<C>>
     requires store { store.now ≡ versions.old.store }
     ensures replays { ReplaysLogs E.Env (choices_of C.Cmp FP.FilterPolicy
@@ -63,7 +63,6 @@ pub(super) fn replay_logs<E: Env, C: UserCmp + Copy + Drop, FP: FilterPolicy + C
     ensures order { IfOk result (λ replay.
         IfSome replay.used (λ used. used.entries.cmp ≡ options.now.cmp)) }
 {
-    let mut logs = logs;
     let mut replay = Replay {
         tables: Vec::new(alloc),
         used: None,
@@ -112,13 +111,7 @@ fn replay_next<E: Env, C: UserCmp + Copy + Drop, FP: FilterPolicy + Copy + Drop>
         (IfSome replay.new.used (λ used. used.entries.cmp ≡ options.now.cmp)) }
 {
     let log = replay_log(alloc, env, store, options, versions, replay.last, number)?;
-    if !replay.is_clean && log.size > 0 {
-        return err(
-            alloc,
-            StatusCode::Corruption,
-            "a log is torn, and one after it isn't empty",
-        );
-    }
+    check_empty_if_torn(alloc, replay.is_clean, log.size)?;
     replay.last = log.last;
     replay.is_clean = replay.is_clean && log.is_clean;
     if may_go_on && log.is_clean && log.tables.is_empty() {

@@ -1,11 +1,11 @@
 //! The replay of a log: its batches go into a memtable, one after another, and each memtable that
 //! is full becomes a table.
-ghost use Rattle.std.specs.Prelude.{◌≡◌, ◌≢◌, ◌⊎◌, [], false, IfErr, IfOk, OnOk, length};
+ghost use Rattle.std.specs.Prelude.{◌≡◌, ◌≢◌, ◌⊎◌, ◌<◌, [], IfErr, IfOk, OnOk, false, length};
 ghost use Rattle.leveldb_base.specs.History.{AreUpTo};
 ghost use Rattle.leveldb_base.specs.declared.error.StatusCode.TheVariants.{Corruption};
 ghost use Rattle.leveldb_mem.specs.MemTable.{FailsToPrepare, bytes_in};
 ghost use Rattle.leveldb_store.specs.BuildTable.{choices_of};
-ghost use Rattle.leveldb_store.specs.ReplayLog.{TakesBatch, Follows, MakesRestTable, ReplaysFile, TakesNextBatch};
+ghost use Rattle.leveldb_store.specs.ReplayLog.{Follows, HasReplayedNone, MakesRestTable, ReplaysFile, TakesBatch, TakesNextBatch};
 
 use crate::build::build_memtable;
 use crate::log_replay::{LogReplay, NextBatch};
@@ -21,8 +21,8 @@ use leveldb_mem::write_batch::WriteBatch;
 use leveldb_version::version_set::LiveFiles;
 use std::alloc::Global;
 
-/// What is in memory of a log that was replayed, and the number of the last entry. Where no table is
-/// made, as of a store that is read alone, that is also said of several logs.
+/// What is in memory of a log that was replayed, and the number of the last entry. Where no table
+/// is made, as of a store that is read alone, that is also said of several logs.
 #[derive(Drop)]
 pub(crate) struct ReplayedLog<C: Cmp> {
     /// The tables that were made of it, one after another.
@@ -77,13 +77,7 @@ pub(crate) fn replay_log<E: Env, C: UserCmp + Copy + Drop, FP: FilterPolicy + Co
 impl<C: UserCmp + Copy + Drop> ReplayedLog<C> {
     // No record is read of a log of this size.
     pub(super) fn begun(alloc: Global, cmp: C, last: SequenceNumber, size: usize) -> ReplayedLog<C>
-        ensures tables { result.tables.items ≡ [] }
-        ensures rest { result.rest.kept.entries ≡ [] }
-        ensures places { result.rest.kept.places ≡ 0 }
-        ensures cmp { result.rest.cmp ≡ cmp }
-        ensures last { result.last ≡ last }
-        ensures bad { result.is_clean ≡ false }
-        ensures size { result.size ≡ size }
+        ensures { HasReplayedNone cmp last size result }
     {
         ReplayedLog {
             tables: Vec::new(alloc),
@@ -159,6 +153,23 @@ impl<C: UserCmp + Copy + Drop> ReplayedLog<C> {
         self.rest = MemTable::new(alloc, options.cmp);
         Ok(())
     }
+}
+
+// A log is empty that comes after one with a bad end: `is_clean` says whether none before it has
+// one.
+pub(super) fn check_empty_if_torn(alloc: Global, is_clean: bool, size: usize) -> Result<()>
+    ensures ok { OnOk result (is_clean ≡ false → size ≡ 0) }
+    ensures cause { IfErr result (λ status.
+        (status.code ≡ Corruption) × (is_clean ≡ false) × (0 < size)) }
+{
+    if !is_clean && size > 0 {
+        return err(
+            alloc,
+            StatusCode::Corruption,
+            "a log is torn, and one after it isn't empty",
+        );
+    }
+    Ok(())
 }
 
 // A batch begins above all entries before it, and its numbers fit.

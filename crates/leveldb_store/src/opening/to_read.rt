@@ -27,10 +27,10 @@ use std::alloc::Global;
 
 impl<E: Env, C: UserCmp + Copy + Drop> OpenStore<E, C> {
     /// Opens the store under this path to be read alone: no call changes a file or a lock, neither
-    /// this one nor a later one, since the store is broken from the start. All that its logs have comes
-    /// to one memtable. `InvalidArgument` if there is no store, whatever the options say, or its
-    /// comparator is another; `Corruption` where the files are no store; `NotSupported` if the memtable
-    /// can't have what the logs have.
+    /// this one nor a later one, since the store is broken from the start. All that its logs have
+    /// comes to one memtable. `InvalidArgument` if there is no store, whatever the options say, or
+    /// its comparator is another; `Corruption` where the files are no store; `NotSupported` if the
+    /// memtable can't have what the logs have.
     pub fn open_to_read<FP: FilterPolicy + Copy + Drop>(
         alloc: Global,
         env: &mut E,

@@ -4,6 +4,7 @@ use Rattle.leveldb_version.specs.Picking.{IsAskedByReads}
 use Rattle.leveldb_store.proofs.AskedCompactionLemmas.{logs_picked, picked_may_be}
 use Rattle.leveldb_store.proofs.CompactedLemmas.{failed_at_once}
 use Rattle.leveldb_store.proofs.CompactsOnceLemmas.{none_compacted}
+use Rattle.leveldb_store.proofs.KeptBytesLemmas.{meanwhile_none}
 use Rattle.leveldb_store.specs.OpenStore.{OpenStoreValue}
 use Rattle.leveldb_store.proofs.open_store.OpenStore.compact_by_reads.Goals as goal
 
@@ -17,7 +18,11 @@ returns-in_err-picked g c =
         memory = refl;
       };
       asked = tt;
-      once = none_compacted _ g.E.Env.models_disk c.args.self.now (g.E.Env.observed c.args.env.now);
+      keeps = record {
+        once = none_compacted _ g.E.Env.models_disk c.args.self.now (g.E.Env.observed c.args.env.now);
+        kept = λ modelled below. meanwhile_none g.E.Env c.args.self.now.set.store c.args.env.now;
+        breaks = λ unbroken. inl unbroken;
+      };
       log = refl;
     })
 
@@ -40,4 +45,4 @@ returns-clause-asked g c =
     let asked = subst (λ k. IsAskedByReads (g.C.Cmp.cmp k) versions.current size picked) c.self.invariant.8 c.in_ok-picked.ensures.ok in
     let here = subst (λ (v : OpenStoreValue g.row.C.Denot). IsAskedByReads (g.C.Cmp.cmp v.cmp) v.current size picked) c.self.view_is asked in
     IfOk-weaker c.compact_picked.result _ _ (λ unit logs. (picked, here, logs))
-    (logs_picked (g.C.Cmp.cmp c.args.self.now.cmp) c.args.self.now c.compact_picked.new.self picked c.compact_picked.result done.logged (λ none. (done.none none).1))
+    (logs_picked (g.C.Cmp.cmp c.args.self.now.cmp) c.args.self.now c.compact_picked.new.self picked c.compact_picked.result done.does.logged (λ none. (done.does.none none).1))

@@ -21,9 +21,11 @@ returns-in_err-picked g c =
       };
       asked = record { logged = tt; by_score = tt; err = refl };
       removes = tt;
-      once = none_compacted _ g.E.Env.models_disk c.args.self.now (g.E.Env.observed c.args.env.now);
-      kept = λ modelled below. meanwhile_none g.E.Env c.args.self.now.set.store c.args.env.now;
-      breaks = λ unbroken. inl unbroken;
+      keeps = record {
+        once = none_compacted _ g.E.Env.models_disk c.args.self.now (g.E.Env.observed c.args.env.now);
+        kept = λ modelled below. meanwhile_none g.E.Env c.args.self.now.set.store c.args.env.now;
+        breaks = λ unbroken. inl unbroken;
+      };
       log = refl;
     })
 
@@ -39,7 +41,7 @@ compact_picked-requires-clause-chosen g c =
 
 pub returns-clause-asked : goal.returns-clause-asked
 returns-clause-asked g c =
-    let done = c.compact_picked.ensures in
+    let done = c.compact_picked.ensures.does in
     let size = c.args.options.now.max_file_size in
     let picked = c.in_ok-picked.picked in
     let versions = c.self.inside.versions in
@@ -51,5 +53,5 @@ returns-clause-asked g c =
 
 pub returns-clause-removes : goal.returns-clause-removes
 returns-clause-removes g c =
-    let done = c.compact_picked.ensures in
+    let done = c.compact_picked.ensures.does in
     picked_ends _ c.in_ok-picked.picked c.compact_picked.result done.removes (λ none. (done.none none).1)

@@ -22,7 +22,7 @@ loop-picked-init g c = record {
 pub loop-picked-smaller : goal.loop-picked-smaller
 loop-picked-smaller g c =
     let one = rw c.in-Some.is at c.in_ok-picked.ensures.each in
-    let replaces = logged_replaces c.in_ok-compact_picked.ensures.logged one.0.may in
+    let replaces = logged_replaces c.in_ok-compact_picked.ensures.does.logged one.0.may in
     level_has_fewer c.in_ok-picked.ensures.current one.0 one.1 c.compact_picked.new.self.set.full.added replaces
 
 pub loop-picked-preserved : goal.loop-picked-preserved
@@ -30,7 +30,7 @@ loop-picked-preserved g c =
     let before = c.loop-picked.invariant in
     let one = rw c.in-Some.is at c.in_ok-picked.ensures.each in
     let done = c.in_ok-compact_picked.ensures in
-    let replaces = logged_replaces done.logged one.0.may in
+    let replaces = logged_replaces done.does.logged one.0.may in
     record {
       compacts = compacts_then before.compacts done.compacts;
       above = keeps_above_then c.args.level c.args.self.now.set.full.added c.loop-picked.self.set.full.added c.compact_picked.new.self.set.full.added before.above
@@ -38,7 +38,7 @@ loop-picked-preserved g c =
       in_turn = in_turn_then g.E.Env _ c.args.self.now c.loop-picked.self c.compact_picked.new.self c.args.env.now c.loop-picked.env c.compact_picked.new.env before.in_turn (
         [],
         subst (λ cmp. CompactsOnceAtMost cmp g.E.Env.models_disk c.loop-picked.self (g.E.Env.observed c.loop-picked.env) c.compact_picked.new.self (g.E.Env.observed c.compact_picked.new.env))
-            (ap g.C.Cmp.cmp before.compacts.keeps.rest.cmp) done.once,
+            (ap g.C.Cmp.cmp before.compacts.keeps.rest.cmp) done.keeps.once,
       );
       log = done.log ∙ before.log;
     }
@@ -54,5 +54,5 @@ returns-in_err-compact_picked-clause-in_turn g c =
     in_turn_then g.E.Env _ c.args.self.now c.loop-picked.self c.compact_picked.new.self c.args.env.now c.loop-picked.env c.compact_picked.new.env before.in_turn (
       [],
       subst (λ cmp. CompactsOnceAtMost cmp g.E.Env.models_disk c.loop-picked.self (g.E.Env.observed c.loop-picked.env) c.compact_picked.new.self (g.E.Env.observed c.compact_picked.new.env))
-          (ap g.C.Cmp.cmp before.compacts.keeps.rest.cmp) c.in_err-compact_picked.ensures.once,
+          (ap g.C.Cmp.cmp before.compacts.keeps.rest.cmp) c.in_err-compact_picked.ensures.keeps.once,
     )

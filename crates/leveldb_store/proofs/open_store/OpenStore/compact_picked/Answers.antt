@@ -1,4 +1,4 @@
-use Rattle.std.proofs.Common.{◌∙◌, ap, refl, subst, sym}
+use Rattle.std.proofs.Common.{◌∙◌, ap, refl, rules, subst, sym}
 use Rattle.std.proofs.lemmas.Result.{err_from_is_err_and}
 use Rattle.leveldb_store.proofs.CompactPickedLemmas.{compacted_once, compacted_tidied}
 use Rattle.leveldb_store.proofs.CompactedLemmas.{compacts_then, nothing_compacted}
@@ -32,17 +32,60 @@ returns-in_default-clause-compacts g c = record {
   memory = refl;
 }
 
--- ---- the live tables
+-- ---- the compaction
 
-pub returns-in_default-clause-once : goal.returns-in_default-clause-once
-returns-in_default-clause-once g c = none_compacted _ g.E.Env.models_disk c.args.self.now (g.E.Env.observed c.args.env.now)
+pub returns-in_default-clause-does : goal.returns-in_default-clause-does
+returns-in_default-clause-does g c = record {
+  logged = search rules;
+  removes = search rules;
+  none = λ is. (refl, refl, refl, refl);
+  err = tt;
+}
 
-pub returns-in_err-compact-clause-once : goal.returns-in_err-compact-clause-once
-returns-in_err-compact-clause-once g c =
-    subst (λ cmp. CompactsOnceAtMost cmp g.E.Env.models_disk c.args.self.now (g.E.Env.observed c.args.env.now) c.compact.new.self (g.E.Env.observed c.compact.new.env)) c.requires.order
-    (compacted_none c.in_err-compact.ensures.compacts)
+pub returns-in_err-compact-clause-does : goal.returns-in_err-compact-clause-does
+returns-in_err-compact-clause-does g c =
+    let p = err_from_is_err_and c.from_residual.result c.from_residual.ensures.1 in
+    rw (p.1, p.2)
+    (record {
+      logged = tt;
+      removes = tt;
+      none = search rules;
+      err = search rules;
+    })
 
-pub returns-clause-once : goal.returns-clause-once
-returns-clause-once g c =
-    subst (λ cmp. CompactsOnceAtMost cmp g.E.Env.models_disk c.args.self.now (g.E.Env.observed c.args.env.now) c.compact.new.self (g.E.Env.observed c.tidy_up.new.env)) c.requires.order
-    (compacted_inputs c.in_ok-compact.ensures.compacts c.tidy_up.ensures.tidies)
+pub returns-clause-does : goal.returns-clause-does
+returns-clause-does g c = record {
+  logged = search rules;
+  removes = search rules;
+  none = search rules;
+  err = tt;
+}
+
+-- ---- what is lost
+
+pub returns-in_default-clause-keeps : goal.returns-in_default-clause-keeps
+returns-in_default-clause-keeps g c = record {
+  once = none_compacted _ g.E.Env.models_disk c.args.self.now (g.E.Env.observed c.args.env.now);
+  kept = tt;
+  breaks = λ unbroken. tt;
+}
+
+pub returns-in_err-compact-clause-keeps : goal.returns-in_err-compact-clause-keeps
+returns-in_err-compact-clause-keeps g c =
+    let p = err_from_is_err_and c.from_residual.result c.from_residual.ensures.1 in
+    let failed = c.in_err-compact.ensures.compacts in
+    rw (p.1, p.2)
+    (record {
+      once = subst (λ cmp. CompactsOnceAtMost cmp g.E.Env.models_disk c.args.self.now (g.E.Env.observed c.args.env.now) c.compact.new.self (g.E.Env.observed c.compact.new.env)) c.requires.order
+          (compacted_none failed);
+      kept = failed.kept;
+      breaks = failed.breaks;
+    })
+
+pub returns-clause-keeps : goal.returns-clause-keeps
+returns-clause-keeps g c = record {
+  once = subst (λ cmp. CompactsOnceAtMost cmp g.E.Env.models_disk c.args.self.now (g.E.Env.observed c.args.env.now) c.compact.new.self (g.E.Env.observed c.tidy_up.new.env)) c.requires.order
+      (compacted_inputs c.in_ok-compact.ensures.compacts c.tidy_up.ensures.tidies);
+  kept = tt;
+  breaks = λ unbroken. tt;
+}

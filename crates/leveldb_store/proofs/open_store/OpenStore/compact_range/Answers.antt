@@ -40,7 +40,7 @@ returns-in_err-table_memory-clause-compacts g c =
     let failed = c.in_err-table_memory.ensures in
     rw (p.1, p.2)
     (record {
-      keeps = memory_compacted _ g.E.Env _ c.args.self.now c.args.env.now c.args.tables.now _ refl _ (sym c.requires.order) _ c.table_memory.new.self c.table_memory.new.env c.table_memory.new.tables failed.step failed.none_new failed.closes;
+      keeps = memory_compacted _ g.E.Env _ c.args.self.now c.args.env.now c.args.tables.now _ refl _ (sym c.requires.order) _ c.table_memory.new.self c.table_memory.new.env c.table_memory.new.tables failed.step failed.tables.none_new failed.tables.closes;
       tabled = tt;
       clear = tt;
     })
@@ -61,7 +61,7 @@ returns-in_err-compact_by_reads-clause-compacts g c =
     rw (p.1, p.2)
     (record {
       keeps = range_then _ g.E.Env _ c.args.self.now c.args.env.now c.args.tables.now _ refl _
-          (memory_compacted _ g.E.Env _ c.args.self.now c.args.env.now c.args.tables.now _ refl _ (sym c.requires.order) (Ok tt) c.table_memory.new.self c.table_memory.new.env c.table_memory.new.tables done.step done.none_new done.closes)
+          (memory_compacted _ g.E.Env _ c.args.self.now c.args.env.now c.args.tables.now _ refl _ (sym c.requires.order) (Ok tt) c.table_memory.new.self c.table_memory.new.env c.table_memory.new.tables done.step done.tables.none_new done.tables.closes)
           c.in_err-compact_by_reads.ensures.compacts;
       tabled = tt;
       clear = tt;
@@ -73,7 +73,7 @@ loop-level-init g c =
     let read = c.in_ok-compact_by_reads.ensures in
     record {
       keeps = range_then _ g.E.Env _ c.args.self.now c.args.env.now c.args.tables.now _ refl _
-          (memory_compacted _ g.E.Env _ c.args.self.now c.args.env.now c.args.tables.now _ refl _ (sym c.requires.order) (Ok tt) c.table_memory.new.self c.table_memory.new.env c.table_memory.new.tables done.step done.none_new done.closes)
+          (memory_compacted _ g.E.Env _ c.args.self.now c.args.env.now c.args.tables.now _ refl _ (sym c.requires.order) (Ok tt) c.table_memory.new.self c.table_memory.new.env c.table_memory.new.tables done.step done.tables.none_new done.tables.closes)
           read.compacts;
       tabled = (
         ap (λ (v : OpenStoreValue g.row.C.Denot). v.recent.entries) read.compacts.memory ∙ done.tabled.0,
@@ -81,11 +81,11 @@ loop-level-init g c =
       );
       clear = λ level less. absurd (omega (arith, less));
       entries = memory_compacts g.E.Env _ c.args.self.now c.args.env.now
-          (memory_tabled g.E.Env _ c.args.self.now c.args.env.now c.table_memory.new.env done.step.rest.store done.entries)
+          (memory_tabled g.E.Env _ c.args.self.now c.args.env.now c.table_memory.new.env done.step.rest.store done.tables.entries)
           read.compacts.memory (
             [],
             subst (λ cmp. CompactsOnceAtMost cmp g.E.Env.models_disk c.table_memory.new.self (g.E.Env.observed c.table_memory.new.env) c.compact_by_reads.new.self (g.E.Env.observed c.compact_by_reads.new.env))
-                (ap g.C.Cmp.cmp done.step.rest.cmp ∙ sym c.requires.order) read.once,
+                (ap g.C.Cmp.cmp done.step.rest.cmp ∙ sym c.requires.order) read.keeps.once,
           );
       log = read.log ∙ done.log;
     }
@@ -135,17 +135,17 @@ returns-in_err-end-clause-entries g c = memory_same g.E.Env _ c.args.self.now c.
 
 pub returns-in_err-table_memory-clause-entries : goal.returns-in_err-table_memory-clause-entries
 returns-in_err-table_memory-clause-entries g c =
-    memory_tabled g.E.Env _ c.args.self.now c.args.env.now c.table_memory.new.env c.in_err-table_memory.ensures.step.rest.store c.in_err-table_memory.ensures.entries
+    memory_tabled g.E.Env _ c.args.self.now c.args.env.now c.table_memory.new.env c.in_err-table_memory.ensures.step.rest.store c.in_err-table_memory.ensures.tables.entries
 
 pub returns-in_err-compact_by_reads-clause-entries : goal.returns-in_err-compact_by_reads-clause-entries
 returns-in_err-compact_by_reads-clause-entries g c =
     let done = c.in_ok-table_memory.ensures in
     memory_compacts g.E.Env _ c.args.self.now c.args.env.now
-    (memory_tabled g.E.Env _ c.args.self.now c.args.env.now c.table_memory.new.env done.step.rest.store done.entries)
+    (memory_tabled g.E.Env _ c.args.self.now c.args.env.now c.table_memory.new.env done.step.rest.store done.tables.entries)
     c.in_err-compact_by_reads.ensures.compacts.memory (
       [],
       subst (λ cmp. CompactsOnceAtMost cmp g.E.Env.models_disk c.table_memory.new.self (g.E.Env.observed c.table_memory.new.env) c.compact_by_reads.new.self (g.E.Env.observed c.compact_by_reads.new.env))
-          (ap g.C.Cmp.cmp done.step.rest.cmp ∙ sym c.requires.order) c.in_err-compact_by_reads.ensures.once,
+          (ap g.C.Cmp.cmp done.step.rest.cmp ∙ sym c.requires.order) c.in_err-compact_by_reads.ensures.keeps.once,
     )
 
 pub returns-in_err-compact_level-clause-entries : goal.returns-in_err-compact_level-clause-entries

@@ -10,13 +10,15 @@ use Rattle.leveldb_store.proofs.RoomLemmas.{fails_first, no_room_made, room_trie
 use Rattle.leveldb_store.specs.Room.{but_removal}
 use Rattle.leveldb_store.proofs.open_store.OpenStore.make_room.Goals as goal
 
+-- ---- room
+
 pub returns-in_err-table_if_waiting-clause-makes : goal.returns-in_err-table_if_waiting-clause-makes
 returns-in_err-table_if_waiting-clause-makes g c =
     let old = c.args.self.now in
     let from = c.args.env.now in
     let cmp = g.C.Cmp.cmp old.cmp in
     let p = err_from_is_err_and c.from_residual.result c.from_residual.ensures.1 in
-    let failed = c.in_err-table_if_waiting.ensures in
+    let failed = c.in_err-table_if_waiting.ensures.waiting in
     rw (p.1, p.2)
     (no_room_made g.E.Env cmp _ _ old from _ c.table_if_waiting.new.self c.table_if_waiting.new.env (c.if-not-is_full.ensures.0 refl)
     (step_for g.E.Env cmp _ (fails_first g.E.Env cmp _ old from) old from _ c.table_if_waiting.new.self c.table_if_waiting.new.env failed.step) (inl failed.recent))
@@ -24,7 +26,7 @@ returns-in_err-table_if_waiting-clause-makes g c =
 pub returns-in_err-table_if_waiting-clause-sound : goal.returns-in_err-table_if_waiting-clause-sound
 returns-in_err-table_if_waiting-clause-sound g c =
     let p = err_from_is_err_and c.from_residual.result c.from_residual.ensures.1 in
-    rw (p.1, p.2) c.in_err-table_if_waiting.ensures.step.sound
+    rw (p.1, p.2) c.in_err-table_if_waiting.ensures.waiting.step.sound
 
 pub returns-in_err-switch_log-clause-makes : goal.returns-in_err-switch_log-clause-makes
 returns-in_err-switch_log-clause-makes g c =
@@ -35,7 +37,7 @@ returns-in_err-switch_log-clause-makes g c =
     let at = c.table_if_waiting.new.env in
     let new = c.switch_log.new.self in
     let to = c.switch_log.new.env in
-    let first = c.in_ok-table_if_waiting.ensures in
+    let first = c.in_ok-table_if_waiting.ensures.waiting in
     let failed = c.in_err-switch_log.ensures in
     let p = err_from_is_err_and c.from_residual-in_err-switch_log.result c.from_residual-in_err-switch_log.ensures.1 in
     rw (p.1, p.2)
@@ -45,7 +47,7 @@ returns-in_err-switch_log-clause-makes g c =
 
 pub returns-in_err-switch_log-clause-sound : goal.returns-in_err-switch_log-clause-sound
 returns-in_err-switch_log-clause-sound g c =
-    let first = c.in_ok-table_if_waiting.ensures in
+    let first = c.in_ok-table_if_waiting.ensures.waiting in
     let failed = c.in_err-switch_log.ensures in
     let p = err_from_is_err_and c.from_residual-in_err-switch_log.result c.from_residual-in_err-switch_log.ensures.1 in
     let step = step_switched g.E.Env g.C.Cmp.cmp _ c.args.self.now c.table_if_waiting.new.self c.args.env.now c.table_if_waiting.new.env first.step first.numbers _ c.switch_log.new.self c.switch_log.new.env failed.switches failed.keeps failed.sound in
@@ -53,7 +55,7 @@ returns-in_err-switch_log-clause-sound g c =
 
 pub table_if_waiting-requires-2-clause-usable : goal.table_if_waiting-requires-2-clause-usable
 table_if_waiting-requires-2-clause-usable g c =
-    let first = c.in_ok-table_if_waiting.ensures in
+    let first = c.in_ok-table_if_waiting.ensures.waiting in
     let done = c.in_ok-switch_log.ensures in
     usable_switched g.E.Env c.table_if_waiting.new.self c.table_if_waiting.new.env first.step.usable (Ok tt) c.switch_log.new.self c.switch_log.new.env done.switches
 
@@ -69,9 +71,9 @@ returns-clause-makes g c =
     let new = c.table_if_waiting-2.new.self in
     let to = c.table_if_waiting-2.new.env in
     let result = but_removal c.table_if_waiting-2.result in
-    let first = c.in_ok-table_if_waiting.ensures in
+    let first = c.in_ok-table_if_waiting.ensures.waiting in
     let done = c.in_ok-switch_log.ensures in
-    let last = c.table_if_waiting-2.ensures in
+    let last = c.table_if_waiting-2.ensures.waiting in
     let second = step_switched g.E.Env order _ old mid from at first.step first.numbers (Ok tt) switched begun done.switches done.keeps done.sound in
     room_tried g.E.Env (order old.cmp) _ _ old from result new to (c.if-not-is_full.ensures.0 refl)
     (step_tabled g.E.Env order _ old mid from at first.step first.numbers first.recent switched begun done.switches second result new to last.step)
@@ -86,11 +88,11 @@ returns-clause-sound g c =
     let at = c.table_if_waiting.new.env in
     let switched = c.switch_log.new.self in
     let begun = c.switch_log.new.env in
-    let first = c.in_ok-table_if_waiting.ensures in
+    let first = c.in_ok-table_if_waiting.ensures.waiting in
     let done = c.in_ok-switch_log.ensures in
     let second = step_switched g.E.Env order _ old mid from at first.step first.numbers (Ok tt) switched begun done.switches done.keeps done.sound in
     let all = step_tabled g.E.Env order _ old mid from at first.step first.numbers first.recent switched begun done.switches second (but_removal c.table_if_waiting-2.result) c.table_if_waiting-2.new.self c.table_if_waiting-2.new.env
-    c.table_if_waiting-2.ensures.step in
+    c.table_if_waiting-2.ensures.waiting.step in
     all.sound
 
 -- ---- the removal
@@ -104,42 +106,43 @@ returns-clause-removes g c =
     IfOk-weaker c.table_if_waiting-2.result _ _ (λ removal removes full. removes (λ none. let never : Some c.table_if_waiting.new.self.recent ≡ None = sym done.waits ∙ none in cc))
     c.table_if_waiting-2.ensures.removes
 
--- ---- the open tables
-
-pub returns-then-not-is_full-clause-closes : goal.returns-then-not-is_full-clause-closes
-returns-then-not-is_full-clause-closes g c =
-    no_removal g.E.Env c.args.self.now.set c.args.env.now c.args.env.now c.args.tables.now (λ modelled. refl)
-
-pub returns-in_err-switch_log-clause-closes : goal.returns-in_err-switch_log-clause-closes
-returns-in_err-switch_log-clause-closes g c =
-    let first = c.in_ok-table_if_waiting.ensures in
-    closes_then g.E.Env c.args.self.now.set c.table_if_waiting.new.self.set first.step.rest.store first.step.rest.numbers first.live first.closes
-    (closes_none g.E.Env c.table_if_waiting.new.self.set c.switch_log.new.self.set c.in_err-switch_log.ensures.switches.tables c.table_if_waiting.new.tables)
-
-pub returns-clause-closes : goal.returns-clause-closes
-returns-clause-closes g c =
-    let first = c.in_ok-table_if_waiting.ensures in
-    let done = c.in_ok-switch_log.ensures.switches in
-    closes_then g.E.Env c.args.self.now.set c.table_if_waiting.new.self.set first.step.rest.store first.step.rest.numbers first.live first.closes
-    (closes_after g.E.Env c.table_if_waiting.new.self.set c.switch_log.new.self.set done.rest.store done.rest.numbers done.tables c.table_if_waiting-2.ensures.closes)
-
--- ---- what is logged
+-- ---- the tables
 
 pub returns-then-not-is_full-clause-tables : goal.returns-then-not-is_full-clause-tables
-returns-then-not-is_full-clause-tables g c = no_tables 2 (GivesNumbers-refl c.args.self.now.set)
+returns-then-not-is_full-clause-tables g c = record {
+  entries = entries_same g.E.Env _ c.args.self.now c.args.env.now;
+  none_new = λ modelled meaning agrees w. adds_none (g.C.Cmp.cmp c.args.self.now.cmp) meaning c.args.self.now (files_at g.E.Env c.args.env.now);
+  logs = no_tables 2 (GivesNumbers-refl c.args.self.now.set);
+  closes = no_removal g.E.Env c.args.self.now.set c.args.env.now c.args.env.now c.args.tables.now (λ modelled. refl);
+}
+
+pub returns-in_err-table_if_waiting-clause-tables : goal.returns-in_err-table_if_waiting-clause-tables
+returns-in_err-table_if_waiting-clause-tables g c =
+    let p = err_from_is_err_and c.from_residual.result c.from_residual.ensures.1 in
+    let failed = c.in_err-table_if_waiting.ensures.tables in
+    rw (p.1, p.2) (record { entries = failed.entries; none_new = tt; logs = tt; closes = failed.closes })
+
+pub returns-in_err-switch_log-clause-tables : goal.returns-in_err-switch_log-clause-tables
+returns-in_err-switch_log-clause-tables g c =
+    let mid = c.table_if_waiting.new.self in
+    let at = c.table_if_waiting.new.env in
+    let new = c.switch_log.new.self in
+    let rest = c.in_ok-table_if_waiting.ensures.waiting.step.rest in
+    let first = c.in_ok-table_if_waiting.ensures.tables in
+    let switched = c.in_err-switch_log.ensures.switches in
+    let p = err_from_is_err_and c.from_residual-in_err-switch_log.result c.from_residual-in_err-switch_log.ensures.1 in
+    rw (p.1, p.2)
+    (record {
+      entries = entries_then g.E.Env _ rest.store rest.numbers switched.rest.store switched.rest.numbers first.entries
+          (entries_switched g.E.Env _ mid at c.in_ok-table_if_waiting.ensures.waiting.none_waits _ new c.switch_log.new.env switched);
+      none_new = tt;
+      logs = tt;
+      closes = closes_then g.E.Env c.args.self.now.set mid.set rest.store rest.numbers first.entries.live.live first.closes
+          (closes_none g.E.Env mid.set new.set switched.tables c.table_if_waiting.new.tables);
+    })
 
 pub returns-clause-tables : goal.returns-clause-tables
 returns-clause-tables g c =
-    IfOk-weaker c.table_if_waiting-2.result _ _ (λ removal tables. two_tables c.in_ok-table_if_waiting.ensures.tables c.in_ok-switch_log.ensures.switches.set tables)
-    c.table_if_waiting-2.ensures.tables
-
--- ---- no entry is new
-
-pub returns-then-not-is_full-clause-none_new : goal.returns-then-not-is_full-clause-none_new
-returns-then-not-is_full-clause-none_new g c = λ modelled meaning agrees w. adds_none (g.C.Cmp.cmp c.args.self.now.cmp) meaning c.args.self.now (files_at g.E.Env c.args.env.now)
-
-pub returns-clause-none_new : goal.returns-clause-none_new
-returns-clause-none_new g c =
     let order = g.C.Cmp.cmp in
     let old = c.args.self.now in
     let from = c.args.env.now in
@@ -149,43 +152,24 @@ returns-clause-none_new g c =
     let begun = c.switch_log.new.env in
     let new = c.table_if_waiting-2.new.self in
     let to = c.table_if_waiting-2.new.env in
-    let first = c.in_ok-table_if_waiting.ensures in
+    let result = but_removal c.table_if_waiting-2.result in
+    let one = c.in_ok-table_if_waiting.ensures.waiting in
+    let first = c.in_ok-table_if_waiting.ensures.tables in
     let done = c.in_ok-switch_log.ensures in
-    let second = step_switched g.E.Env order _ old mid from at first.step first.numbers (Ok tt) switched begun done.switches done.keeps done.sound in
-    IfOk-weaker (but_removal c.table_if_waiting-2.result) _ _
-    (λ unit last. steps_add_none g.E.Env _ (order old.cmp) old switched new from begun to second
-    (steps_add_none g.E.Env _ (order old.cmp) old mid switched from at begun first.step first.none_new (switch_adds_none g.E.Env _ (order old.cmp) mid at switched begun done.switches))
-    (adds_none_in_order g.E.Env _ order switched begun new to second.rest.cmp last))
-    c.table_if_waiting-2.ensures.none_new
-
--- ---- no entry is lost
-
-pub returns-then-not-is_full-clause-entries : goal.returns-then-not-is_full-clause-entries
-returns-then-not-is_full-clause-entries g c = entries_same g.E.Env _ c.args.self.now c.args.env.now
-
-pub returns-in_err-switch_log-clause-entries : goal.returns-in_err-switch_log-clause-entries
-returns-in_err-switch_log-clause-entries g c =
-    let mid = c.table_if_waiting.new.self in
-    let at = c.table_if_waiting.new.env in
-    let first = c.in_ok-table_if_waiting.ensures in
-    let switched = c.in_err-switch_log.ensures.switches in
-    entries_then g.E.Env _ first.step.rest.store first.step.rest.numbers switched.rest.store switched.rest.numbers first.entries
-    (entries_switched g.E.Env _ mid at first.none_waits _ c.switch_log.new.self c.switch_log.new.env switched)
-
-pub returns-clause-entries : goal.returns-clause-entries
-returns-clause-entries g c =
-    let old = c.args.self.now in
-    let from = c.args.env.now in
-    let order = g.C.Cmp.cmp in
-    let mid = c.table_if_waiting.new.self in
-    let at = c.table_if_waiting.new.env in
-    let switched = c.switch_log.new.self in
-    let begun = c.switch_log.new.env in
-    let first = c.in_ok-table_if_waiting.ensures in
-    let done = c.in_ok-switch_log.ensures in
-    let last = c.table_if_waiting-2.ensures in
-    let second = step_switched g.E.Env order _ old mid from at first.step first.numbers (Ok tt) switched begun done.switches done.keeps done.sound in
-    entries_then g.E.Env _ second.rest.store second.rest.numbers last.step.rest.store last.step.rest.numbers
-    (entries_then g.E.Env _ first.step.rest.store first.step.rest.numbers done.switches.rest.store done.switches.rest.numbers first.entries
-    (entries_switched g.E.Env _ mid at first.none_waits (Ok tt) switched begun done.switches))
-    last.entries
+    let last = c.table_if_waiting-2.ensures.tables in
+    let second = step_switched g.E.Env order _ old mid from at one.step one.numbers (Ok tt) switched begun done.switches done.keeps done.sound in
+    let rest = c.table_if_waiting-2.ensures.waiting.step.rest in
+    record {
+      entries = entries_then g.E.Env _ second.rest.store second.rest.numbers rest.store rest.numbers
+          (entries_then g.E.Env _ one.step.rest.store one.step.rest.numbers done.switches.rest.store done.switches.rest.numbers first.entries
+          (entries_switched g.E.Env _ mid at one.none_waits (Ok tt) switched begun done.switches))
+          last.entries;
+      none_new = IfOk-weaker result _ _
+          (λ unit none. steps_add_none g.E.Env _ (order old.cmp) old switched new from begun to second
+          (steps_add_none g.E.Env _ (order old.cmp) old mid switched from at begun one.step first.none_new (switch_adds_none g.E.Env _ (order old.cmp) mid at switched begun done.switches))
+          (adds_none_in_order g.E.Env _ order switched begun new to second.rest.cmp none))
+          last.none_new;
+      logs = IfOk-weaker result _ _ (λ unit logs. two_tables first.logs done.switches.set logs) last.logs;
+      closes = closes_then g.E.Env old.set mid.set one.step.rest.store one.step.rest.numbers first.entries.live.live first.closes
+          (closes_after g.E.Env mid.set switched.set done.switches.rest.store done.switches.rest.numbers done.switches.tables last.closes);
+    }

@@ -43,11 +43,11 @@ returns-clause-makes g c =
     let it = c.args.compaction.now in
     let cmp = c.args.options.now.cmp in
     let exact = exact_order (g.C.Cmp.accepts cmp) (g.C.Cmp.cmp cmp) (g.met.C.UserCmp.accepts_all cmp) (g.met.C.Cmp.preorder cmp) (g.met.C.UserCmp.exact cmp) in
-    let merges = rw c.inputs-inputs.ensures.inputs at c.in_ok-walk.ensures.merges in
+    let merges = rw c.inputs.ensures.inputs at c.in_ok-walk.ensures.merges in
     let known = subst (λ v. IsOfStore g.E.Env.models_disk (g.C.Cmp.cmp cmp) v c.args.compaction.now) (sym c.self.view_is) c.requires.known in
     let order = c.requires.order ∙ ap (λ (v : OpenStoreValue g.row.C.Denot). g.C.Cmp.cmp v.cmp) (sym c.self.view_is) in
     let below = c.requires.below ∙ ap (λ (v : OpenStoreValue g.row.C.Denot). v.set.next_file) (sym c.self.view_is) in
-    let m = merge_of_store g.E.Env g.C.Cmp g.FP.FilterPolicy g.K.Compressors.codings g.met.E.Env.counts exact order refl known (c.inputs-inputs.ensures.order) c.requires.reads below merges in
+    let m = merge_of_store g.E.Env g.C.Cmp g.FP.FilterPolicy g.K.Compressors.codings g.met.E.Env.counts exact order refl known (c.inputs.ensures.order) c.requires.reads below merges in
     let merged = c.merge_tables.ensures.merges (inputs_leave g.E.Env g.C.Cmp g.FP.FilterPolicy g.K.Compressors.codings merges) in
     let named = c.deref.ensures ∙ sym c.self.invariant.0 in
     rw (← c.self.view_is)
@@ -69,6 +69,6 @@ returns-clause-makes g c =
 
 pub returns-clause-reference : goal.returns-clause-reference
 returns-clause-reference g c =
-    let merges = rw c.inputs-inputs.ensures.inputs at c.in_ok-walk.ensures.merges in
+    let merges = rw c.inputs.ensures.inputs at c.in_ok-walk.ensures.merges in
     let merged = c.merge_tables.ensures.merges (inputs_leave g.E.Env g.C.Cmp g.FP.FilterPolicy g.K.Compressors.codings merges) in
     inputs_reference g.E.Env g.C.Cmp g.FP.FilterPolicy g.K.Compressors.codings merges merged.comes

@@ -1,4 +1,4 @@
-use Rattle.std.proofs.Common.{◌≡◌, Ok, arith, false, refl, true}
+use Rattle.std.proofs.Common.{◌≡◌, ◌∙◌, Ok, arith, false, refl, sym, true}
 use Rattle.std.proofs.lemmas.Result.{err_from_is_err_and}
 use Rattle.leveldb_version.specs.TableCache.{files_at}
 use Rattle.leveldb_store.proofs.KeptEntriesLemmas.{entries_of_table, entries_same, entries_then, entries_tidied}
@@ -9,15 +9,6 @@ use Rattle.leveldb_store.proofs.ReplayFilesLemmas.{GivesNumbers-refl}
 use Rattle.leveldb_store.proofs.RoomLemmas.{number_tabled, step_in_order, step_of_none, step_of_table, step_of_tidying, step_then, usable_tabled}
 use Rattle.leveldb_store.proofs.open_store.OpenStore.table_if_waiting.Goals as goal
 
-pub returns-in_err-table_waiting-clause-step : goal.returns-in_err-table_waiting-clause-step
-returns-in_err-table_waiting-clause-step g c =
-    let p = err_from_is_err_and c.from_residual.result c.from_residual.ensures.1 in
-    let failed = c.in_err-table_waiting.ensures in
-    rw (p.1, p.2)
-    (step_of_table g.E.Env _ _ c.args.self.now c.args.env.now c.requires.usable
-    (λ none. let never : true ≡ false = c.if-not-has_waiting.ensures.1 none in absurd (cc never)) _ c.table_waiting.new.self c.table_waiting.new.env
-    failed.tables failed.keeps failed.sound)
-
 pub tidy_up-requires : goal.tidy_up-requires
 tidy_up-requires g c =
     let old = c.args.self.now in
@@ -26,62 +17,61 @@ tidy_up-requires g c =
           c.in_ok-table_waiting.ensures.tables;
     }
 
-pub returns-then-not-has_waiting-clause-step : goal.returns-then-not-has_waiting-clause-step
-returns-then-not-has_waiting-clause-step g c = step_of_none g.E.Env (g.C.Cmp.cmp c.args.self.now.cmp) _ c.args.self.now c.args.env.now c.requires.usable
+-- ---- none wait
 
-pub returns-clause-step : goal.returns-clause-step
-returns-clause-step g c =
-    let old = c.args.self.now in
-    let from = c.args.env.now in
-    let order = g.C.Cmp.cmp in
-    let mid = c.table_waiting.new.self in
-    let at = c.table_waiting.new.env in
-    let to = c.tidy_up.new.env in
-    let made = c.in_ok-table_waiting.ensures in
-    let tabled = step_of_table g.E.Env (order old.cmp) _ old from c.requires.usable
-    (λ none. let never : true ≡ false = c.if-not-has_waiting.ensures.1 none in absurd (cc never)) (Ok tt) mid at made.tables made.keeps made.sound in
-    step_then g.E.Env (order old.cmp) _ old mid from at tabled (λ status never. absurd never) (Ok tt) mid to
-    (step_in_order g.E.Env order _ (λ cmp status. ⊥) mid at (Ok tt) mid to tabled.rest.cmp
-    (step_of_tidying g.E.Env (order mid.cmp) _ mid at to tabled.usable c.tidy_up.ensures.tidies c.tidy_up.ensures.time c.tidy_up.ensures.bytes))
+pub returns-then-not-has_waiting-clause-waiting : goal.returns-then-not-has_waiting-clause-waiting
+returns-then-not-has_waiting-clause-waiting g c = record {
+  step = step_of_none g.E.Env (g.C.Cmp.cmp c.args.self.now.cmp) _ c.args.self.now c.args.env.now c.requires.usable;
+  none_waits = c.if-not-has_waiting.ensures.0 refl;
+  numbers = omega arith;
+  waits = tt;
+  recent = refl;
+}
 
 pub returns-then-not-has_waiting-clause-removes : goal.returns-then-not-has_waiting-clause-removes
 returns-then-not-has_waiting-clause-removes g c = λ waits. absurd (waits (c.if-not-has_waiting.ensures.0 refl))
 
-pub returns-clause-removes : goal.returns-clause-removes
-returns-clause-removes g c = λ waits. (c.table_waiting.new.env, c.tidy_up.ensures.removes)
+pub returns-then-not-has_waiting-clause-tables : goal.returns-then-not-has_waiting-clause-tables
+returns-then-not-has_waiting-clause-tables g c = record {
+  entries = entries_same g.E.Env _ c.args.self.now c.args.env.now;
+  none_new = λ modelled meaning agrees w. adds_none (g.C.Cmp.cmp c.args.self.now.cmp) meaning c.args.self.now (files_at g.E.Env c.args.env.now);
+  logs = no_tables 1 (GivesNumbers-refl c.args.self.now.set);
+  closes = no_removal g.E.Env c.args.self.now.set c.args.env.now c.args.env.now c.args.tables.now (λ modelled. refl);
+}
 
-pub returns-clause-numbers : goal.returns-clause-numbers
-returns-clause-numbers g c =
-    number_tabled g.E.Env (g.C.Cmp.cmp c.args.self.now.cmp) _ c.args.self.now c.args.env.now c.requires.usable c.table_waiting.new.self c.table_waiting.new.env
-    c.in_ok-table_waiting.ensures.tables
+-- ---- no table is made
 
--- ---- the open tables
+pub returns-in_err-table_waiting-clause-waiting : goal.returns-in_err-table_waiting-clause-waiting
+returns-in_err-table_waiting-clause-waiting g c =
+    let p = err_from_is_err_and c.from_residual.result c.from_residual.ensures.1 in
+    let failed = c.in_err-table_waiting.ensures in
+    rw (p.1, p.2)
+    (record {
+      step = step_of_table g.E.Env _ _ c.args.self.now c.args.env.now c.requires.usable
+          (λ none. let never : true ≡ false = c.if-not-has_waiting.ensures.1 none in absurd (cc never)) _ c.table_waiting.new.self c.table_waiting.new.env
+          failed.tables failed.keeps failed.sound;
+      none_waits = tt;
+      numbers = tt;
+      waits = λ none. let never : true ≡ false = c.if-not-has_waiting.ensures.1 (sym failed.tables.waits ∙ none) in absurd (cc never);
+      recent = failed.tables.recent;
+    })
 
-pub returns-in_err-table_waiting-clause-closes : goal.returns-in_err-table_waiting-clause-closes
-returns-in_err-table_waiting-clause-closes g c =
-    closes_none g.E.Env c.args.self.now.set c.table_waiting.new.self.set c.in_err-table_waiting.ensures.tables.tables c.args.tables.now
+pub returns-in_err-table_waiting-clause-tables : goal.returns-in_err-table_waiting-clause-tables
+returns-in_err-table_waiting-clause-tables g c =
+    let p = err_from_is_err_and c.from_residual.result c.from_residual.ensures.1 in
+    let failed = c.in_err-table_waiting.ensures.tables in
+    rw (p.1, p.2)
+    (record {
+      entries = entries_of_table g.E.Env _ c.args.self.now c.args.env.now _ _ c.table_waiting.new.self c.table_waiting.new.env failed tt;
+      none_new = tt;
+      logs = tt;
+      closes = closes_none g.E.Env c.args.self.now.set c.table_waiting.new.self.set failed.tables c.args.tables.now;
+    })
 
-pub returns-in_err-table_waiting-clause-live : goal.returns-in_err-table_waiting-clause-live
-returns-in_err-table_waiting-clause-live g c = c.in_err-table_waiting.ensures.tables.tables.live
+-- ---- one is made
 
-pub returns-then-not-has_waiting-clause-closes : goal.returns-then-not-has_waiting-clause-closes
-returns-then-not-has_waiting-clause-closes g c = no_removal g.E.Env c.args.self.now.set c.args.env.now c.args.env.now c.args.tables.now (λ modelled. refl)
-
-pub returns-clause-live : goal.returns-clause-live
-returns-clause-live g c = c.in_ok-table_waiting.ensures.tables.tables.live
-
-pub returns-clause-closes : goal.returns-clause-closes
-returns-clause-closes g c =
-    let made = c.in_ok-table_waiting.ensures.tables in
-    closes_after g.E.Env c.args.self.now.set c.table_waiting.new.self.set made.rest.store made.rest.numbers made.tables c.tidy_up.ensures.closes
-
--- ---- no entry is new
-
-pub returns-then-not-has_waiting-clause-none_new : goal.returns-then-not-has_waiting-clause-none_new
-returns-then-not-has_waiting-clause-none_new g c = λ modelled meaning agrees w. adds_none (g.C.Cmp.cmp c.args.self.now.cmp) meaning c.args.self.now (files_at g.E.Env c.args.env.now)
-
-pub returns-clause-none_new : goal.returns-clause-none_new
-returns-clause-none_new g c =
+pub returns-clause-waiting : goal.returns-clause-waiting
+returns-clause-waiting g c =
     let old = c.args.self.now in
     let from = c.args.env.now in
     let order = g.C.Cmp.cmp in
@@ -91,31 +81,36 @@ returns-clause-none_new g c =
     let made = c.in_ok-table_waiting.ensures in
     let tabled = step_of_table g.E.Env (order old.cmp) _ old from c.requires.usable
     (λ none. let never : true ≡ false = c.if-not-has_waiting.ensures.1 none in absurd (cc never)) (Ok tt) mid at made.tables made.keeps made.sound in
-    steps_add_none g.E.Env _ (order old.cmp) old mid mid from at to tabled made.none_new
-    (λ modelled meaning agrees w. adds_none_removed (order old.cmp) meaning mid (files_at g.E.Env at) (files_at g.E.Env to) w (c.tidy_up.ensures.tidies.others modelled))
+    record {
+      step = step_then g.E.Env (order old.cmp) _ old mid from at tabled (λ status never. absurd never) (Ok tt) mid to
+          (step_in_order g.E.Env order _ (λ cmp status. ⊥) mid at (Ok tt) mid to tabled.rest.cmp
+          (step_of_tidying g.E.Env (order mid.cmp) _ mid at to tabled.usable c.tidy_up.ensures.tidies c.tidy_up.ensures.time c.tidy_up.ensures.bytes));
+      none_waits = made.tables.none_waits;
+      numbers = number_tabled g.E.Env (order old.cmp) _ old from c.requires.usable mid at made.tables;
+      waits = tt;
+      recent = made.tables.recent;
+    }
 
--- ---- what is logged
-
-pub returns-then-not-has_waiting-clause-tables : goal.returns-then-not-has_waiting-clause-tables
-returns-then-not-has_waiting-clause-tables g c = no_tables 1 (GivesNumbers-refl c.args.self.now.set)
+pub returns-clause-removes : goal.returns-clause-removes
+returns-clause-removes g c = λ waits. (c.table_waiting.new.env, c.tidy_up.ensures.removes)
 
 pub returns-clause-tables : goal.returns-clause-tables
-returns-clause-tables g c = one_table c.in_ok-table_waiting.ensures.tables.logged
-
--- ---- no entry is lost
-
-pub returns-then-not-has_waiting-clause-entries : goal.returns-then-not-has_waiting-clause-entries
-returns-then-not-has_waiting-clause-entries g c = entries_same g.E.Env _ c.args.self.now c.args.env.now
-
-pub returns-in_err-table_waiting-clause-entries : goal.returns-in_err-table_waiting-clause-entries
-returns-in_err-table_waiting-clause-entries g c =
-    entries_of_table g.E.Env _ c.args.self.now c.args.env.now _ _ c.table_waiting.new.self c.table_waiting.new.env c.in_err-table_waiting.ensures.tables tt
-
-pub returns-clause-entries : goal.returns-clause-entries
-returns-clause-entries g c =
+returns-clause-tables g c =
+    let old = c.args.self.now in
+    let from = c.args.env.now in
+    let order = g.C.Cmp.cmp in
     let mid = c.table_waiting.new.self in
     let at = c.table_waiting.new.env in
+    let to = c.tidy_up.new.env in
     let made = c.in_ok-table_waiting.ensures in
-    entries_then g.E.Env _ made.tables.rest.store made.tables.rest.numbers refl (omega arith)
-    (entries_of_table g.E.Env _ c.args.self.now c.args.env.now _ (Ok tt) mid at made.tables made.added)
-    (entries_tidied g.E.Env _ (g.C.Cmp.cmp mid.cmp) mid at c.tidy_up.new.env c.tidy_up.ensures.tidies)
+    let tabled = step_of_table g.E.Env (order old.cmp) _ old from c.requires.usable
+    (λ none. let never : true ≡ false = c.if-not-has_waiting.ensures.1 none in absurd (cc never)) (Ok tt) mid at made.tables made.keeps made.sound in
+    record {
+      entries = entries_then g.E.Env _ made.tables.rest.store made.tables.rest.numbers refl (omega arith)
+          (entries_of_table g.E.Env _ old from _ (Ok tt) mid at made.tables made.added)
+          (entries_tidied g.E.Env _ (order mid.cmp) mid at to c.tidy_up.ensures.tidies);
+      none_new = steps_add_none g.E.Env _ (order old.cmp) old mid mid from at to tabled made.none_new
+          (λ modelled meaning agrees w. adds_none_removed (order old.cmp) meaning mid (files_at g.E.Env at) (files_at g.E.Env to) w (c.tidy_up.ensures.tidies.others modelled));
+      logs = one_table made.tables.logged;
+      closes = closes_after g.E.Env old.set mid.set made.tables.rest.store made.tables.rest.numbers made.tables.tables c.tidy_up.ensures.closes;
+    }

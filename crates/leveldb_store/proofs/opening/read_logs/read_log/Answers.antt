@@ -1,7 +1,6 @@
-use Rattle.std.proofs.Common.{◌≡◌, ◌∙◌, arith, false, sym, true}
+use Rattle.std.proofs.Common.{◌≡◌, arith, false}
 use Rattle.std.proofs.lemmas.Result.{err_from_is_err_and}
 use Rattle.leveldb_store.proofs.ReadLogsLemmas.{ReadingLog-more, ReadingLog-none, ReadsLog-bad, ReadsLog-clean, ReadsLog-out_of_memory, ReadsLog-stopped, ReadsLog-torn, ReadsLog-unfollowed, ReadsLog-unopened, ReadsLog-untaken}
-use Rattle.leveldb_store.proofs.opening.read_logs.read_log.Goals.{else-not-logs-via-then-not-logs+else-size-gt0, else-not-logs-via-else-not-logs}
 use Rattle.leveldb_store.proofs.opening.read_logs.read_log.Goals as goal
 
 pub returns-in_err-log : goal.returns-in_err-log
@@ -9,29 +8,27 @@ returns-in_err-log g c =
     let failed = err_from_is_err_and c.from_residual.result c.from_residual.ensures.1 in
     rw (failed.1, failed.2) (ReadsLog-unopened g.E.Env c.args.store.now c.args.number c.args.logs.now c.args.env.now _ c.in_err-log.ensures.run c.in_err-log.ensures.locks c.in_err-log.ensures.cause)
 
-pub returns-then-size-gt0 : goal.returns-then-size-gt0
-returns-then-size-gt0 g c =
-    let failed = err_from_is_err_and c.err.result c.err.ensures.code in
-    rw failed.1 (ReadsLog-torn g.E.Env c.args.store.now c.args.number c.args.logs.now c.args.env.now c.in_ok-log.log _ c.in_ok-log.ensures.run c.in_ok-log.ensures.locks c.in_ok-log.ensures.cause.ok
-    c.in_ok-log.ensures.opens c.if-not-logs.true (omega (arith, c.if-size-gt0.true, c.size.ensures)) failed.2)
+pub returns-in_err-check_empty_if_torn : goal.returns-in_err-check_empty_if_torn
+returns-in_err-check_empty_if_torn g c =
+    let failed = err_from_is_err_and c.from_residual-in_err-check_empty_if_torn.result c.from_residual-in_err-check_empty_if_torn.ensures.1 in
+    let why = c.in_err-check_empty_if_torn.ensures.cause in
+    let some = why.2 in
+    rw (failed.1, failed.2) (ReadsLog-torn g.E.Env c.args.store.now c.args.number c.args.logs.now c.args.env.now c.in_ok-log.log _ c.in_ok-log.ensures.run c.in_ok-log.ensures.locks c.in_ok-log.ensures.cause.ok
+    c.in_ok-log.ensures.opens why.1 (omega (arith, some, c.size.ensures)) why.0)
 
 pub returns-in_err-batch : goal.returns-in_err-batch
 returns-in_err-batch g c =
     let failed = err_from_is_err_and c.from_residual-in_err-batch.result c.from_residual-in_err-batch.ensures.1 in
-    let empty : c.args.logs.now.is_clean ≡ false → c.in_ok-log.log.size ≡ 0 = elim c.else-not-logs.branch [
-      | else-not-logs-via-then-not-logs+else-size-gt0 w ↦ (λ torn. omega (arith, w.if-size-gt0.false, w.size.ensures))
-      | else-not-logs-via-else-not-logs w ↦ (λ torn. absurd (let never : true ≡ false = sym w.if-not-logs.false ∙ torn in cc))
-    ] in
+    let empty : c.args.logs.now.is_clean ≡ false → c.in_ok-log.log.size ≡ 0 = λ torn.
+    let none = c.in_ok-check_empty_if_torn.ensures.ok torn in omega (arith, none, c.size.ensures) in
     rw (failed.1, failed.2) (ReadsLog-out_of_memory g.E.Env c.args.store.now c.args.number c.args.logs.now c.args.env.now
     (ReadingLog-none g.E.Env c.args.store.now c.args.number c.args.logs.now c.args.env.now c.in_ok-log.log c.in_ok-log.ensures.run c.in_ok-log.ensures.locks c.in_ok-log.ensures.cause.ok c.in_ok-log.ensures.opens
     c.requires.up_to empty) _ c.in_err-batch.ensures.memory)
 
 pub batches-init : goal.batches-init
 batches-init g c =
-    let empty : c.args.logs.now.is_clean ≡ false → c.in_ok-log.log.size ≡ 0 = elim c.else-not-logs.branch [
-      | else-not-logs-via-then-not-logs+else-size-gt0 w ↦ (λ torn. omega (arith, w.if-size-gt0.false, w.size.ensures))
-      | else-not-logs-via-else-not-logs w ↦ (λ torn. absurd (let never : true ≡ false = sym w.if-not-logs.false ∙ torn in cc))
-    ] in
+    let empty : c.args.logs.now.is_clean ≡ false → c.in_ok-log.log.size ≡ 0 = λ torn.
+    let none = c.in_ok-check_empty_if_torn.ensures.ok torn in omega (arith, none, c.size.ensures) in
     ReadingLog-none g.E.Env c.args.store.now c.args.number c.args.logs.now c.args.env.now c.in_ok-log.log c.in_ok-log.ensures.run c.in_ok-log.ensures.locks c.in_ok-log.ensures.cause.ok c.in_ok-log.ensures.opens
     c.requires.up_to empty
 

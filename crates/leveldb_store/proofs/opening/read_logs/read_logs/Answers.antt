@@ -6,7 +6,7 @@ use Rattle.leveldb_store.proofs.opening.read_logs.read_logs.Goals as goal
 pub loop-number-init : goal.loop-number-init
 loop-number-init g c =
     let new = c.begun-logs.ensures in
-    ReadingLogs-none g.E.Env c.args.store.now c.args.cmp c.args.numbers.keys c.args.env.now _ new.rest new.places new.last refl new.cmp
+    ReadingLogs-none g.E.Env c.args.store.now c.args.cmp c.args.numbers.keys c.args.env.now _ new.rest new.places new.last_is refl new.cmp_is
 
 pub loop-number-preserved : goal.loop-number-preserved
 loop-number-preserved g c =

@@ -15,14 +15,14 @@ returns-in_err-batch-clause-replays g c =
     let new = c.begun-replayed.ensures in
     rw (failed.1, failed.2) (ReplaysFile-out_of_memory g.E.Env _ _ c.args.versions.now c.args.last c.args.number c.args.env.now
     (Replaying-none g.E.Env _ _ c.args.versions.now c.args.last c.args.number c.args.env.now _ c.begun-replayed.result c.in_ok-log.log c.in_ok-log.ensures.run c.in_ok-log.ensures.locks
-    c.in_ok-log.ensures.cause.ok (rw c.requires.store at c.in_ok-log.ensures.opens) new.tables new.rest new.places new.last new.cmp (new.size ∙ c.size.ensures) new.bad)
+    c.in_ok-log.ensures.cause.ok (rw c.requires.store at c.in_ok-log.ensures.opens) new.tables new.rest new.places new.last_is new.cmp_is (new.size_is ∙ c.size.ensures) new.bad)
     _ c.in_err-batch.ensures.memory)
 
 pub batches-init : goal.batches-init
 batches-init g c =
     let new = c.begun-replayed.ensures in
     Replaying-none g.E.Env _ _ c.args.versions.now c.args.last c.args.number c.args.env.now _ c.begun-replayed.result c.in_ok-log.log c.in_ok-log.ensures.run c.in_ok-log.ensures.locks
-    c.in_ok-log.ensures.cause.ok (rw c.requires.store at c.in_ok-log.ensures.opens) new.tables new.rest new.places new.last new.cmp (new.size ∙ c.size.ensures) new.bad
+    c.in_ok-log.ensures.cause.ok (rw c.requires.store at c.in_ok-log.ensures.opens) new.tables new.rest new.places new.last_is new.cmp_is (new.size_is ∙ c.size.ensures) new.bad
 
 pub returns-in_err-next_batch-clause-replays : goal.returns-in_err-next_batch-clause-replays
 returns-in_err-next_batch-clause-replays g c =

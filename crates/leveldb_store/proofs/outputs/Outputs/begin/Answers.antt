@@ -25,7 +25,7 @@ returns-in_err-add-clause-cause g c =
     let number_is = c.in_ok-number.ensures.number in
     let failed = err_from_is_err_and c.from_residual-in_err-add.result c.from_residual-in_err-add.ensures.1 in
     let choices = choices_of g.C.Cmp g.FP.FilterPolicy (key_cmp g.row.C g.C.UserCmp g.C.UserCmp-dict g.C.Cmp g.C.Cmp-dict) (key_policy g.row.FP g.FP.FilterPolicy g.FP.FilterPolicy-dict) (compressors g.dyn-2).codings c.args.options.now in
-    let new = rw c.new-policy.ensures at c.under-core.ensures in
+    let new = c.new_builder-core.ensures in
     rw failed.1 (rw failed.2 (none_cause g.E.Env c.args.store.now o.does o.locks o.cause o.file (c.deref.ensures ∙ c.in_ok-path.ensures.ok) number_is (omega (arith, number_is, c.in_ok-number.ensures.fits)) (ap (λ v. v.set.next_file) c.in_ok-number.ensures.ok)
     (λ own. inl (not_begun choices g.E.Env c.args.store.now (c.args.key.now, c.args.value.now) new o.is.1 own)) c.in_err-add.ensures.err))
 
@@ -37,7 +37,7 @@ returns-clause-begins g c = λ first tables are cut.
     let path_is = c.deref.ensures ∙ c.in_ok-path.ensures.ok in
     let fits : c.in_ok-number.number < 2 ^ 64 = omega (arith, number_is, c.in_ok-number.ensures.fits) in
     let choices = choices_of g.C.Cmp g.FP.FilterPolicy (key_cmp g.row.C g.C.UserCmp g.C.UserCmp-dict g.C.Cmp g.C.Cmp-dict) (key_policy g.row.FP g.FP.FilterPolicy g.FP.FilterPolicy-dict) (compressors g.dyn-2).codings c.args.options.now in
-    let new = rw c.new-policy.ensures at c.under-core.ensures in
+    let new = c.new_builder-core.ensures in
     let adds = c.in_ok-add.ensures.ok in
     let same = c.add.ensures.same in
     outputs_begun choices g.E.Env c.args.store.now refl (c.reserve.ensures.items ∙ ap (λ v. v.done) c.self.view_is) are cut number_is (ap (λ v. v.set.next_file) c.in_ok-number.ensures.ok) fits (same.0 ∙ o.is.0)

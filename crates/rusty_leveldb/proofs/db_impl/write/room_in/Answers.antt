@@ -21,7 +21,7 @@ returns-in_err-make_room-clause-makes g c =
     let failed = c.in_err-make_room.ensures in
     rw (p.1, p.2) (room_not_made _ g.E.Env _ c.args.store.now c.args.env.now c.args.tables.now _
     refl _ _ (sym c.requires.order) _ c.make_room.new.self c.make_room.new.env
-    c.make_room.new.tables failed.makes failed.sound failed.closes failed.entries)
+    c.make_room.new.tables failed.makes failed.sound failed.tables.closes failed.tables.entries)
 
 pub returns-clause-makes : goal.returns-clause-makes
 returns-clause-makes g c =
@@ -29,9 +29,10 @@ returns-clause-makes g c =
     let charged = c.charge.ensures.version in
     room_compacted _ g.E.Env _ c.args.store.now c.args.env.now c.args.tables.now _ refl _ _
     (sym c.requires.order) (c.if-not-is_full.ensures.0 refl) c.make_room.new.self
-    c.make_room.new.env c.make_room.new.tables made.makes made.sound made.closes made.none_new
-    made.tables made.entries c.compact_if_asked.result c.compact_if_asked.new.self c.compact_if_asked.new.env
-    c.compact_if_asked.new.tables (charged_tables _ g.E.Env _ c.make_room.new.self
+    c.make_room.new.env c.make_room.new.tables made.makes made.sound made.tables.closes
+    made.tables.none_new made.tables.logs made.tables.entries c.compact_if_asked.result
+    c.compact_if_asked.new.self c.compact_if_asked.new.env c.compact_if_asked.new.tables
+    (charged_tables _ g.E.Env _ c.make_room.new.self
     c.make_room.new.env c.make_room.new.tables _ made.makes.usable _ c.charge.new.store charged
     c.compact_if_asked.result c.compact_if_asked.new.self c.compact_if_asked.new.env
     c.compact_if_asked.new.tables c.compact_if_asked.ensures.compacts)
@@ -42,4 +43,4 @@ returns-clause-makes g c =
     (subst (λ (s : OpenStoreValue g.row.C.Denot). CompactsOnceAtMost (g.C.Cmp.cmp s.cmp)
     g.E.Env.models_disk c.charge.new.store (g.E.Env.observed c.make_room.new.env)
     c.compact_if_asked.new.self (g.E.Env.observed c.compact_if_asked.new.env)) charged
-    c.compact_if_asked.ensures.once)
+    c.compact_if_asked.ensures.keeps.once)
