@@ -1,6 +1,6 @@
 -- What an opening finds after a repair, and what a repair of a whole store finds.
 use Rattle.std.specs.declared.cmp.Ordering.{Ordering}
-use Rattle.std.proofs.Common.{◌≡◌, ◌≤◌, ◌+◌, ◌⊎◌, ◌∙◌, ⊎_elim, inl, inr, ℕ, List, [], ◌∷◌, refl, sym, ap, subst, arith, append-nil, Option, None, Some}
+use Rattle.std.proofs.Common.{◌≡◌, ◌≤◌, ◌+◌, ◌∙◌, ⊎_elim, inl, inr, ℕ, List, [], ◌∷◌, refl, sym, ap, subst, arith, append-nil, Option, None, Some}
 use Rattle.leveldb_base.proofs.HistoryLemmas.{in_front}
 use Rattle.leveldb_base.specs.declared.cmp.Cmp.{Ghosts as CmpGhosts}
 use Rattle.leveldb_base.specs.History.{Entry, History, SameView, count_of, entries_of, greatest}
