@@ -112,7 +112,7 @@ fn a_log_without_entries_is_an_empty_store(rt: HostRuntime) -> Result<()> {
 #[test]
 fn what_cannot_be_repaired_stays(rt: HostRuntime) -> Result<()> {
     let alloc = rt.alloc();
-    let rows: [(&[Log], StatusCode); 4] = [
+    let rows: [(&[Log], StatusCode); 5] = [
         // two values of one entry, and a value and a deletion
         (
             &[
@@ -132,6 +132,11 @@ fn what_cannot_be_repaired_stays(rt: HostRuntime) -> Result<()> {
             &[("18446744073709551614.log", &[Batch(1, "a", "")])],
             StatusCode::NotSupported,
         ),
+        // also where there is nothing to write
+        (
+            &[("18446744073709551613.log", &[])],
+            StatusCode::NotSupported,
+        ),
         // no file at all
         (&[], StatusCode::InvalidArgument),
     ];
@@ -142,6 +147,27 @@ fn what_cannot_be_repaired_stays(rt: HostRuntime) -> Result<()> {
         assert!(rt; failed_with(repair(alloc, &mut env), *code)?, "row {i}");
         assert!(rt; folder(alloc, &mut env)? == before, "row {i}");
     }
+    Ok(())
+}
+
+/// Where numbers are left for a manifest and a log, but not for a table, nothing names the table that
+/// was written. A store of no table is made, but none is left for its opening.
+#[test]
+fn numbers_may_end_on_the_way(rt: HostRuntime) -> Result<()> {
+    let alloc = rt.alloc();
+    let mut env = RecordEnv::new(alloc);
+    put_logs(
+        alloc,
+        &mut env,
+        &[("18446744073709551612.log", &[Batch(1, "a", "")])],
+    )?;
+    assert!(rt; failed_with(repair(alloc, &mut env), StatusCode::NotSupported)?);
+    assert!(rt; env.exists("db/18446744073709551614.ldb")? && !env.exists("db/CURRENT")?);
+    let mut env = RecordEnv::new(alloc);
+    put_logs(alloc, &mut env, &[("18446744073709551612.log", &[])])?;
+    repair(alloc, &mut env)?;
+    assert!(rt; env.exists("db/MANIFEST-18446744073709551613")? && env.exists("db/CURRENT")?);
+    assert!(rt; failed_with(repaired(alloc, &mut env), StatusCode::NotSupported)?);
     Ok(())
 }
 

@@ -112,17 +112,21 @@ fn no_pair_is_no_table(rt: HostRuntime) -> Result<()> {
     Ok(())
 }
 
-/// The last two numbers are a manifest's and the next one, which no table may take.
+/// Three numbers are a manifest's, the next log's and one after it. The last one no table may take.
 #[test]
 fn numbers_that_are_used_up_are_not_supported(rt: HostRuntime) -> Result<()> {
     let alloc = rt.alloc();
-    for greatest in [u64::MAX, u64::MAX - 1] {
+    for greatest in [u64::MAX, u64::MAX - 1, u64::MAX - 2] {
         assert!(rt; failed_with(set_of(alloc, greatest), StatusCode::NotSupported)?);
     }
     let mut env = RecordEnv::new(alloc);
-    let mut set = set_of(alloc, u64::MAX - 2)?;
+    let mut set = set_of(alloc, u64::MAX - 3)?;
     let mut merge = merge_of(alloc, &[&[(b'a', 1, None)]])?;
+    let files = written(alloc, &mut env, &mut merge, &mut set)?;
+    assert!(rt; files.len() == 1 && set.next_file_num() == u64::MAX);
+    let moment = env.moment();
+    let mut merge = merge_of(alloc, &[&[(b'b', 2, None)]])?;
     let made = written(alloc, &mut env, &mut merge, &mut set);
-    assert!(rt; failed_with(made, StatusCode::NotSupported)? && env.moment() == 0);
+    assert!(rt; failed_with(made, StatusCode::NotSupported)? && env.moment() == moment);
     Ok(())
 }

@@ -310,6 +310,7 @@ module _ {E F C : Type 0} (env : Ghosts E F) (store : List ℕ) (file : ListedFi
               batch,
               subst (λ p. BeginsAt (files p) (so_far.batches ++ batch ∷ [])) path_more
                   (has_begun_at found_more.read modelled),
+              found_more.numbered,
               large.1,
             ),
           ))) why))

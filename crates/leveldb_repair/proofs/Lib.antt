@@ -28,3 +28,4 @@ mod RepairLookLemmas
 mod RepairWalksLemmas
 mod RepairFindLemmas
 mod RepairWholeLemmas
+pub mod RepairAgainLemmas

@@ -1,6 +1,7 @@
 -- The loop of a look over a walk's pairs: which were read, and what was found in them.
-use Rattle.std.proofs.Common.{◌≡◌, ◌≢◌, ◌<◌, ◌≤◌, ◌+◌, inl, inr, ⊎_elim, ℕ, List, [], ◌∷◌, ◌++◌, length, true, false, Option, None, Some, Ok, Err, refl, sym, ◌∙◌, ap, subst, arith, append_assoc, append-nil}
+use Rattle.std.proofs.Common.{◌≡◌, ◌≢◌, ◌<◌, ◌≤◌, ◌+◌, ◌/◌, ◌^◌, inl, inr, ⊎_elim, ℕ, List, [], ◌∷◌, ◌++◌, length, true, false, Option, None, Some, Ok, Err, refl, sym, ◌∙◌, ap, subst, arith, append_assoc, append-nil}
 use Rattle.std.specs.Prelude.{Contains, max}
+use Rattle.std.proofs.Math.Nat.{mod-lt}
 use Rattle.std.proofs.lemmas.List.{length-append, map-append}
 use Rattle.std.proofs.lemmas.List.Elements.{Contains-append_right, Contains-push, Contains-push_cases}
 use Rattle.leveldb_base.proofs.HistoryLemmas.{in_front, in_none}
@@ -8,7 +9,7 @@ use Rattle.leveldb_base.proofs.PositionLemmas.{at_seam, at_within, position_in, 
 use Rattle.leveldb_base.specs.Entries.{entries_of_pairs, entry_of_pair}
 use Rattle.leveldb_base.specs.Error.{IsOutOfMemory}
 use Rattle.leveldb_base.specs.History.{Entry, greatest}
-use Rattle.leveldb_base.specs.KeyTypes.{sequence_part}
+use Rattle.leveldb_base.specs.KeyTypes.{sequence_part, tag_part}
 use Rattle.leveldb_base.specs.Types.{Pair, next_position, pair_at, position_within}
 use Rattle.leveldb_base.specs.declared.error.Status.{Status}
 use Rattle.leveldb_base.specs.declared.error.StatusCode.TheVariants.{Corruption}
@@ -54,6 +55,18 @@ looked_more {read} {found} pair so_far tag {sequence} {last} number is = record 
       ∙ ap greatest (sym (map-append entry_of_pair read (pair ∷ [])));
   any = ((λ is. some_pushed read pair), (λ some. refl));
 }
+
+-- the numbers of entries of pairs have 56 bits, and so has the greatest
+greatest_fits : (pairs : List Pair) → greatest (entries_of_pairs pairs) < 2 ^ 56
+greatest_fits [] = omega arith
+greatest_fits (pair ∷ pairs) =
+    let one : sequence_part pair.0 < 2 ^ 56 = mod-lt (tag_part pair.0 / 256) (omega arith) in
+    let rest = greatest_fits pairs in omega (arith, one, rest)
+
+pub looked_fits : {pairs : List Pair} {found : LookedOver} → AreLookedOver pairs found
+    → found.last < 2 ^ 64
+looked_fits {pairs} looked =
+    let last = looked.last in let fits = greatest_fits pairs in omega (arith, last, fits)
 
 -- ---- positions
 

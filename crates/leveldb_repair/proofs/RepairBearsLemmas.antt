@@ -1,15 +1,12 @@
 -- The walks of a repair's merge: it changes no file, and bears new tables in each world from which
 -- these are made.
-use Rattle.std.proofs.Common.{◌≡◌, ℕ, List, Option, subst, sym}
-use Rattle.leveldb_base.specs.Types.{Pair}
+use Rattle.std.proofs.Common.{ℕ, List, subst, sym}
 use Rattle.leveldb_base.specs.declared.cmp.Cmp.{Ghosts as CmpGhosts}
 use Rattle.leveldb_base.specs.declared.cmp.internal.InternalKeyCmp.{InternalKeyCmp}
-use Rattle.leveldb_base.specs.declared.error.Status.{Status}
 use Rattle.leveldb_base.specs.declared.types.LdbIterator.{Ghosts as IteratorGhosts}
 use Rattle.leveldb_env.specs.Compressor.{Codings}
 use Rattle.leveldb_env.specs.declared.env.Env.{Ghosts as EnvGhosts}
 use Rattle.leveldb_iter.specs.MergingIter.{FailsMerged, IsMergeAt, IsMergeOver, merged_here}
-use Rattle.leveldb_iter.specs.Walk.{KeyOrder}
 use Rattle.leveldb_iter.specs.declared.merging_iter.MergeCore.{MergeCore}
 use Rattle.leveldb_iter.specs.declared.walk.Walk.{Ghosts as WalkGhosts}
 use Rattle.leveldb_store.proofs.BearingLemmas.{IsMergeOf}

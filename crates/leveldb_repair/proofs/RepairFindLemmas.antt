@@ -1,19 +1,18 @@
 -- What is found in a store's folder: walks over its tables and memtables of its logs, or why it isn't.
-use Rattle.std.specs.Prelude.{◌≢◌, ◌↔◌, All, Any, Contains, IsSome, IsTrue, Result, Vec, string_bytes}
+use Rattle.std.specs.Prelude.{◌↔◌, Any, Contains, IsSome, IsTrue, Result, Vec, string_bytes}
 use Rattle.std.specs.Global.{Global}
-use Rattle.std.proofs.Common.{◌≡◌, ◌≤◌, ◌<◌, ◌+◌, ◌-◌, ◌^◌, ◌⊎◌, ◌∙◌, inl, inr, ⊎_elim, Bool, ℕ, true, false, List, [], ◌∷◌, Option, None, Some, Ok, Err, refl, sym, ap, subst, arith}
+use Rattle.std.proofs.Common.{◌≡◌, ◌+◌, ◌-◌, ◌^◌, ◌⊎◌, ◌∙◌, inl, inr, ⊎_elim, ℕ, true, false, List, [], ◌∷◌, Option, None, Some, Ok, Err, refl, sym, ap, subst, arith}
 use Rattle.std.proofs.lemmas.List.Elements.{All-contains}
 use Rattle.std.specs.declared.cmp.Ordering.{Ordering}
 use Rattle.leveldb_base.proofs.EntriesLemmas.{map_in}
 use Rattle.leveldb_base.specs.Error.{IsOutOfMemory}
-use Rattle.leveldb_base.specs.History.{Entry}
 use Rattle.leveldb_base.specs.KeyTypes.{internal_cmp}
 use Rattle.leveldb_base.specs.Names.{IsFileName}
 use Rattle.leveldb_base.specs.Types.{Pair}
 use Rattle.leveldb_base.specs.declared.cmp.Cmp.{Ghosts as CmpGhosts}
 use Rattle.leveldb_base.specs.declared.cmp.internal.InternalKeyCmp.{InternalKeyCmp}
 use Rattle.leveldb_base.specs.declared.error.Status.{Status}
-use Rattle.leveldb_base.specs.declared.error.StatusCode.TheVariants.{Corruption, InvalidArgument, NotSupported}
+use Rattle.leveldb_base.specs.declared.error.StatusCode.TheVariants.{Corruption, InvalidArgument}
 use Rattle.leveldb_base.specs.declared.types.FileType.TheVariants.{Log, Table}
 use Rattle.leveldb_env.specs.Compressor.{Codings, Decodes}
 use Rattle.leveldb_env.specs.Env.{File, Files, FilesUnchanged, ListsChildren, Run, SameLocks, bytes_of, in_folder}
@@ -39,12 +38,12 @@ use Rattle.leveldb_repair.proofs.RepairFailsLemmas.{fails_earlier, fails_weaker}
 use Rattle.leveldb_repair.proofs.RepairNumbersLemmas.{greatest_in_folder}
 use Rattle.leveldb_repair.proofs.RepairStoreLemmas.{decodes_by, leaves_then, why_before}
 use Rattle.leveldb_repair.specs.FoundLogs.{FindsLogs, HaveEntry, IsInLog, WhyNotFound}
-use Rattle.leveldb_repair.specs.FoundTables.{AreFoundTables, FindsTables, IsInTable, IsMissingTable, IsNewWalkOver, IsTablePair, IsUndecodedTable, WhyNoTables, entries_of_lists}
+use Rattle.leveldb_repair.specs.FoundTables.{AreFoundTables, FindsTables, IsInTable, IsNewWalkOver, IsTablePair, WhyNoTables, entries_of_lists}
 use Rattle.leveldb_repair.specs.FoundWalkLaws.{found_laws}
 use Rattle.leveldb_repair.specs.FoundWalkTable.{FailsBetweenOr, KeepsFound}
 use Rattle.leveldb_repair.specs.Numbers.{IsGreatestNumber}
-use Rattle.leveldb_repair.specs.RepairSteps.{AreFoundIn, FindsAll, HasFound, IsToRepair}
-use Rattle.leveldb_repair.specs.RepairStore.{WhyNotRepaired}
+use Rattle.leveldb_repair.specs.RepairSteps.{AreFoundIn, FindsAll}
+use Rattle.leveldb_repair.specs.RepairStore.{WhyNotBegun}
 use Rattle.leveldb_repair.specs.declared.found_walk.files.ReadFiles.{ReadFiles}
 use Rattle.leveldb_repair.specs.declared.found_walk.table.FoundTable.{FoundTable}
 use Rattle.leveldb_repair.specs.declared.repair_store.find.Found.{Found}
@@ -154,7 +153,7 @@ module _ {E C K F FP : Type 0} {order : CmpGhosts (InternalKeyCmp C)} {filters :
   old = (env.observed from).disk.files
 
   abbrev Why : Status → Type 0
-  Why = WhyNotRepaired choices env store from
+  Why = WhyNotBegun env choices.format store from
 
   abbrev Finds : Result (Found E C F) Status → E → Type 0
   Finds = FindsAll choices env cmp codings compressors compares store from
@@ -213,7 +212,7 @@ module _ {E C K F FP : Type 0} {order : CmpGhosts (InternalKeyCmp C)} {filters :
     matches file there = All-contains MatchesName listed file are.2.named there
 
     abbrev WhyAt : Status → Type 0
-    WhyAt = WhyNotRepaired choices env store at
+    WhyAt = WhyNotBegun env choices.format store at
 
     why_at : {to : E} {status : Status} → LeavesFiles env at to
         → FailsBetweenOr env (WhyAt status) at to status → Finds (Err status) to

@@ -1,6 +1,6 @@
 -- Repairs that are stopped before they begin, and those that come after calls that change no file.
 use Rattle.std.specs.Prelude.{IsTrue, Result}
-use Rattle.std.proofs.Common.{◌≡◌, ◌≤◌, ◌<◌, ◌+◌, ◌^◌, ◌⊎◌, ◌∙◌, inl, inr, ⊎_elim, ℕ, List, Option, None, Some, Ok, Err, refl, sym, ap, subst, arith}
+use Rattle.std.proofs.Common.{◌≡◌, ◌⊎◌, ◌∙◌, inl, inr, ⊎_elim, ℕ, List, Option, None, Some, Ok, Err, refl, sym, ap, subst, arith}
 use Rattle.leveldb_base.specs.declared.cmp.Cmp.{Ghosts as CmpGhosts}
 use Rattle.leveldb_base.specs.declared.error.Status.{Status}
 use Rattle.leveldb_env.proofs.EnvLemmas.{Run-mono, Run-trans}
@@ -17,7 +17,7 @@ use Rattle.leveldb_store.specs.Merging.{LeavesFiles}
 use Rattle.leveldb_store.specs.OpensStore.{IsBareFolder}
 use Rattle.leveldb_repair.proofs.RepairFailsLemmas.{fails_earlier, fails_weaker}
 use Rattle.leveldb_repair.specs.FoundWalkTable.{FailsBetweenOr}
-use Rattle.leveldb_repair.specs.RepairStore.{ArePairsFound, HasClash, HasLargeBatchInLog, HasTooFewNumbers, HasUndecodedTable, HasUnlikeDeletions, IsAtRepair, IsRepairOf, RepairsStore, WhyNotEnded, WhyNotRepaired}
+use Rattle.leveldb_repair.specs.RepairStore.{ArePairsFound, HasClash, HasLargeBatchInLog, HasTooFewNumbers, HasUndecodedTable, HasUnlikeDeletions, IsMomentOfRepair, HoldsAllFound, RepairsStore, WhyNotEnded, WhyNotBegun}
 
 -- what the compressors of a format decode means the same
 pub decodes_by : {format : Format} {meaning : Meaning} → Agrees format meaning
@@ -58,8 +58,8 @@ module _ {C FP : Type 0} {order : CmpGhosts C} {filters : FilterGhosts FP}
   -- where the files are the same, so is why nothing is repaired
   pub why_before : (from at : E) (status : Status) → (IsTrue env.models_disk
       → (env.observed at).disk.files ≡ (env.observed from).disk.files)
-      → WhyNotRepaired choices env store at status
-      → WhyNotRepaired choices env store from status
+      → WhyNotBegun env choices.format store at status
+      → WhyNotBegun env choices.format store from status
   why_before from at status same (inl (code, bare)) =
       inl (code, λ m. subst (IsBareFolder store) (same m) (bare m))
   why_before from at status same (inr (inl (code, none))) =
@@ -88,7 +88,7 @@ module _ {C FP : Type 0} {order : CmpGhosts C} {filters : FilterGhosts FP}
 
   -- calls that change no file failed: nothing is repaired
   pub not_repaired : {from to : E} {status : Status} → LeavesFiles env from to
-      → FailsBetweenOr env (WhyNotRepaired choices env store from status) from to status
+      → FailsBetweenOr env (WhyNotBegun env choices.format store from status) from to status
       → RepairsStore choices env store from (Err status) to
   not_repaired {from} {to} {status} leaves cause = record {
     ok = tt;
@@ -106,11 +106,11 @@ module _ {C FP : Type 0} {order : CmpGhosts C} {filters : FilterGhosts FP}
     same_files modelled = (leaves.run modelled).has
 
     ok_after : {to : E} → IsTrue env.models_disk → (meaning : Meaning)
-        → ((it : IsRepairOf store choices.format meaning (env.observed mid).disk.files
+        → ((it : HoldsAllFound store choices.format meaning (env.observed mid).disk.files
         (env.observed to).disk.files)
         × Run (IsRepairing store it.taken it.next (env.observed mid).disk.files)
         (env.observed mid) (env.observed to))
-        → (it : IsRepairOf store choices.format meaning (env.observed from).disk.files
+        → (it : HoldsAllFound store choices.format meaning (env.observed from).disk.files
         (env.observed to).disk.files)
         × Run (IsRepairing store it.taken it.next (env.observed from).disk.files)
         (env.observed from) (env.observed to)
@@ -122,22 +122,22 @@ module _ {C FP : Type 0} {order : CmpGhosts C} {filters : FilterGhosts FP}
         (same_files modelled ∙ sym same) (repairing_none store it.repairing))
         (leaves.run modelled) in
         subst (λ (old : Files).
-        (made : IsRepairOf store choices.format meaning old (env.observed to).disk.files)
+        (made : HoldsAllFound store choices.format meaning old (env.observed to).disk.files)
         × Run (IsRepairing store made.taken made.next old) (env.observed from)
         (env.observed to)) (same_files modelled)
         (it, Run-trans before (λ now is. is) run)
 
     moments_after : {to : E} → IsTrue env.models_disk → (meaning : Meaning)
-        → Run (IsAtRepair store choices.format meaning (env.observed mid).disk.files)
+        → Run (IsMomentOfRepair store choices.format meaning (env.observed mid).disk.files)
         (env.observed mid) (env.observed to)
-        → Run (IsAtRepair store choices.format meaning (env.observed from).disk.files)
+        → Run (IsMomentOfRepair store choices.format meaning (env.observed from).disk.files)
         (env.observed from) (env.observed to)
     moments_after {to} modelled meaning run =
         let files : Files = (env.observed mid).disk.files in
-        let before : Run (IsAtRepair store choices.format meaning files) (env.observed from)
+        let before : Run (IsMomentOfRepair store choices.format meaning files) (env.observed from)
         (env.observed mid) =
         Run-mono (λ now same. inl (same ∙ sym (same_files modelled))) (leaves.run modelled) in
-        subst (λ (old : Files). Run (IsAtRepair store choices.format meaning old)
+        subst (λ (old : Files). Run (IsMomentOfRepair store choices.format meaning old)
         (env.observed from) (env.observed to)) (same_files modelled)
         (Run-trans before (λ now is. is) run)
 
@@ -153,16 +153,16 @@ module _ {C FP : Type 0} {order : CmpGhosts C} {filters : FilterGhosts FP}
     ended_after (inr rest) = inr rest
 
     cause_after : {to : E} {status : Status} → FailsBetweenOr env
-        ((WhyNotRepaired choices env store mid status × (IsTrue env.models_disk
+        ((WhyNotBegun env choices.format store mid status × (IsTrue env.models_disk
         → Run (FilesUnchanged (env.observed mid).disk.files) (env.observed mid)
         (env.observed to))) ⊎ WhyNotEnded choices env store mid status) mid to status
         → FailsBetweenOr env
-        ((WhyNotRepaired choices env store from status × (IsTrue env.models_disk
+        ((WhyNotBegun env choices.format store from status × (IsTrue env.models_disk
         → Run (FilesUnchanged (env.observed from).disk.files) (env.observed from)
         (env.observed to))) ⊎ WhyNotEnded choices env store from status) from to status
     cause_after {to} {status} cause = fails_earlier env from mid to status leaves.later
         (fails_weaker env mid to status (⊎_elim
-        (λ (why : WhyNotRepaired choices env store mid status × (IsTrue env.models_disk
+        (λ (why : WhyNotBegun env choices.format store mid status × (IsTrue env.models_disk
         → Run (FilesUnchanged (env.observed mid).disk.files) (env.observed mid)
         (env.observed to))).
         inl (

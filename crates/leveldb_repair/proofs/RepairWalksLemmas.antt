@@ -31,6 +31,7 @@ use Rattle.leveldb_store.proofs.BearingLemmas.{IsMergeOf}
 use Rattle.leveldb_store.specs.BuildTable.{TableChoices}
 use Rattle.leveldb_store.specs.View.{any_in_order}
 use Rattle.leveldb_repair.proofs.FoundWalkBearingLemmas.{IsFoundChild, merge_bears_new_tables, merge_leaves_files}
+use Rattle.leveldb_repair.proofs.LookOverLemmas.{looked_fits}
 use Rattle.leveldb_repair.proofs.RepairBearsLemmas.{still_makes}
 use Rattle.leveldb_repair.proofs.RepairChildrenLemmas.{children_have_merge, merge_over}
 use Rattle.leveldb_repair.proofs.RepairClashLemmas.{HaveClash, clash_of}
@@ -160,6 +161,7 @@ module _ {C FP : Type 0} {order : CmpGhosts C} {filters : FilterGhosts FP}
             (λ lacks. (lacks, none))
             (found.fails later status (looks.excuses later status failed)))
             either_disk;
+        fits = let ok = looks.ok in looked_fits ok.1;
         over = λ modelled.
             let has = found.over modelled in
             let lists = has.3 in

@@ -1,18 +1,18 @@
 -- A repair of a store's files from its steps: what was found goes to walks over it, and these to a store.
 use Rattle.std.specs.Prelude.{All, Contains, IsTrue, Result}
-use Rattle.std.proofs.Common.{◌≡◌, ◌≤◌, ◌<◌, ◌+◌, ◌^◌, ◌⊎◌, inl, inr, ⊎_elim, ℕ, List, [], ◌∷◌, ◌++◌, Ok, Err, None, map, refl, sym, subst, arith}
+use Rattle.std.proofs.Common.{◌≡◌, ◌≤◌, ◌<◌, ◌+◌, ◌⊎◌, inl, inr, ⊎_elim, ℕ, List, [], ◌∷◌, ◌++◌, Ok, Err, map, sym, subst, arith}
 use Rattle.std.proofs.lemmas.List.Elements.{All-contains, All-head, All-tail, Contains-append_cases}
 use Rattle.leveldb_base.specs.Cmp.{IsExactOrder}
 use Rattle.leveldb_base.specs.Entries.{entries_of_pairs}
 use Rattle.leveldb_base.specs.Error.{IsOutOfMemory}
-use Rattle.leveldb_base.specs.History.{AreUpTo, Entry}
+use Rattle.leveldb_base.specs.History.{AreUpTo}
 use Rattle.leveldb_base.specs.KeyTypes.{greatest_sequence}
 use Rattle.leveldb_base.specs.Types.{Pair}
 use Rattle.leveldb_base.specs.declared.cmp.Cmp.{Ghosts as CmpGhosts}
 use Rattle.leveldb_base.specs.declared.cmp.internal.InternalKeyCmp.{InternalKeyCmp}
 use Rattle.leveldb_base.specs.declared.error.Status.{Status}
 use Rattle.leveldb_base.specs.declared.types.LdbIterator.{Ghosts as IteratorGhosts}
-use Rattle.leveldb_env.specs.Compressor.{Codings, Decodes}
+use Rattle.leveldb_env.specs.Compressor.{Codings}
 use Rattle.leveldb_env.specs.Env.{Files, bytes_of}
 use Rattle.leveldb_env.specs.declared.env.Env.{Ghosts as EnvGhosts}
 use Rattle.leveldb_env.specs.declared.filter.FilterPolicy.{Ghosts as FilterGhosts}
@@ -21,12 +21,10 @@ use Rattle.leveldb_iter.specs.MergedEntries.{internal_order}
 use Rattle.leveldb_iter.specs.Walk.{key_order}
 use Rattle.leveldb_iter.specs.declared.unlent.Unlent.{Unlent}
 use Rattle.leveldb_mem.specs.MemTable.{MemTableState}
-use Rattle.leveldb_table.specs.TableLaws.{DecodesMore}
 use Rattle.leveldb_version.proofs.OneStoreLemmas.{flat_in}
 use Rattle.leveldb_version.proofs.SearchLemmas.{all_from_contains}
 use Rattle.leveldb_version.specs.Batches.{Each}
-use Rattle.leveldb_version.specs.Format.{Agrees, Meaning}
-use Rattle.leveldb_version.specs.Found.{AreFound, IsAnyTable}
+use Rattle.leveldb_version.specs.Found.{IsAnyTable}
 use Rattle.leveldb_store.specs.BuildTable.{TableChoices}
 use Rattle.leveldb_store.specs.Switch.{AreFileNumbersTooFew}
 use Rattle.leveldb_store.specs.View.{IsOverMemory, any_in_order}
@@ -35,9 +33,9 @@ use Rattle.leveldb_repair.proofs.RepairChildrenLemmas.{children_over}
 use Rattle.leveldb_repair.proofs.RepairFoundClashLemmas.{listed_cases, log_pair}
 use Rattle.leveldb_repair.proofs.RepairMergeLemmas.{lists_are_found, log_numbered, logs_in_lists, logs_up_to, memory_lists, memory_of_entries}
 use Rattle.leveldb_repair.proofs.RepairStoreLemmas.{not_repaired, repairs_after}
-use Rattle.leveldb_repair.specs.FoundTables.{AreNumberedPairs, IsNewWalkOver, entries_of_lists}
+use Rattle.leveldb_repair.specs.FoundTables.{AreNumberedPairs, IsNewWalkOver}
 use Rattle.leveldb_repair.specs.FoundWalk.{IsWalkOver}
-use Rattle.leveldb_repair.specs.FoundWalkTable.{IsFoundOver, MakesFrom}
+use Rattle.leveldb_repair.specs.FoundWalkTable.{IsFoundOver}
 use Rattle.leveldb_repair.specs.RepairSteps.{AreFoundIn, AreOverFound, AreOverMemory, FindsAll, HasFound, HaveFound, IsToRepair}
 use Rattle.leveldb_repair.specs.RepairStore.{RepairsStore}
 use Rattle.leveldb_repair.specs.FoundWalkOf.{FoundWalk}
@@ -63,11 +61,11 @@ module _ {E C K F FP : Type 0} {order : CmpGhosts (InternalKeyCmp C)} {filters :
 
   pub no_numbers : {from mid : E} {found : Found E C F} {status : Status}
       → Finds from (Ok found) mid
-      → IsOutOfMemory status ⊎ AreFileNumbersTooFew found.greatest 2 status
+      → IsOutOfMemory status ⊎ AreFileNumbersTooFew found.greatest 3 status
       → RepairsStore choices env store from (Err status) mid
   no_numbers {found = found} {status = status} finds cause = not_repaired choices env store finds.leaves (⊎_elim
       (λ (memory : IsOutOfMemory status). inl memory)
-      (λ (few : AreFileNumbersTooFew found.greatest 2 status).
+      (λ (few : AreFileNumbersTooFew found.greatest 3 status).
       inr (inr (inr (inr (inr (inr (inl (
         few.code,
         λ modelled.

@@ -1,9 +1,8 @@
 -- New tables of all that is found, and a manifest that names them: at each moment a repair is being made,
 -- and at its end it is.
-use Rattle.std.specs.Prelude.{All, Contains, IfErr, IsTrue, IsUtf8, Result}
+use Rattle.std.specs.Prelude.{All, Contains, IsTrue, IsUtf8, Result}
 use Rattle.std.specs.List.Sorted.{IsStrictlySortedBy}
-use Rattle.std.specs.Str.{bytes_eq}
-use Rattle.std.proofs.Common.{◌≡◌, ◌≤◌, ◌<◌, ◌+◌, ◌-◌, ◌^◌, ◌⊎◌, ◌∙◌, inl, inr, ⊎_elim, ℕ, List, [], ◌∷◌, ◌++◌, Ok, Err, Some, true, false, map, refl, sym, ap, subst, arith}
+use Rattle.std.proofs.Common.{◌≡◌, ◌≤◌, ◌<◌, ◌+◌, ◌-◌, ◌^◌, ◌⊎◌, ◌∙◌, inl, inr, ⊎_elim, ℕ, List, [], ◌∷◌, ◌++◌, Ok, Err, refl, sym, ap, subst, arith}
 use Rattle.std.proofs.lemmas.List.Elements.{All-contains, All-nil, Contains-append_left}
 use Rattle.std.specs.declared.cmp.Ordering.{Ordering}
 use Rattle.std.proofs.Math.Arith.{lt_of_le-ne}
@@ -17,7 +16,7 @@ use Rattle.leveldb_base.specs.Names.{file_name}
 use Rattle.leveldb_base.specs.Types.{Pair}
 use Rattle.leveldb_base.specs.declared.cmp.Cmp.{Ghosts as CmpGhosts}
 use Rattle.leveldb_base.specs.declared.error.Status.{Status}
-use Rattle.leveldb_base.specs.declared.error.StatusCode.TheVariants.{Corruption, NotSupported}
+use Rattle.leveldb_base.specs.declared.error.StatusCode.TheVariants.{NotSupported}
 use Rattle.leveldb_base.specs.declared.types.FileMetaData.{FileMetaData}
 use Rattle.leveldb_base.specs.declared.types.FileType.TheVariants.{Current, DBLock, Table}
 use Rattle.leveldb_env.proofs.EnvLemmas.{Run-call, Run-mono, Run-trans}
@@ -38,24 +37,22 @@ use Rattle.leveldb_version.specs.Compaction.{files_of_tables}
 use Rattle.leveldb_version.specs.CurrentFile.{temp_path}
 use Rattle.leveldb_version.specs.Format.{Agrees, IsTableOf, Meaning}
 use Rattle.leveldb_version.specs.Found.{AreFound, IsAnyTable}
-use Rattle.leveldb_version.specs.Levels.{table_entries}
 use Rattle.leveldb_version.specs.NewManifest.{MakingManifest, with_manifest}
 use Rattle.leveldb_version.specs.NewStore.{MakesManifest}
 use Rattle.leveldb_version.specs.Opening.{FitsEdit}
-use Rattle.leveldb_version.specs.Paths.{current_path, lock_path, table_path}
+use Rattle.leveldb_version.specs.Paths.{current_path, lock_path}
 use Rattle.leveldb_version.specs.Repairing.{IsGreatestInFolder, IsRepaired, IsRepairing, ManifestRepairs, repaired_edit, repaired_manifest}
 use Rattle.leveldb_version.specs.VersionEdit.{Edit, IsEncodable, NewFile, file_order, new_file_of}
-use Rattle.leveldb_version.specs.VersionSetValue.{AreFileNumbersUsedUp}
 use Rattle.leveldb_store.specs.BuildTable.{TableChoices}
 use Rattle.leveldb_store.specs.Merging.{AreRead, BearsNewTables, FailsOnWay, IsMergeFault, LeavesFiles}
 use Rattle.leveldb_store.specs.Outputs.{ChangesNewTables, SameButNewTables}
 use Rattle.leveldb_store.specs.TableFile.{FailsToWrite}
-use Rattle.leveldb_repair.proofs.RepairFailsLemmas.{fails_earlier, fails_weaker}
+use Rattle.leveldb_repair.proofs.RepairFailsLemmas.{fails_weaker}
 use Rattle.leveldb_repair.proofs.RepairNumbersLemmas.{AreRepairedOf, tables_repaired}
 use Rattle.leveldb_repair.proofs.RepairStoreLemmas.{decodes_by}
 use Rattle.leveldb_repair.specs.FoundWalkTable.{FailsBetweenOr}
 use Rattle.leveldb_repair.specs.RepairSteps.{AreAllFound, IsOverAll, IsToRepair}
-use Rattle.leveldb_repair.specs.RepairStore.{ArePairsFound, IsAtRepair, IsInRepair, IsRepairOf, RepairsStore, WhyNotEnded, WhyNotRepaired}
+use Rattle.leveldb_repair.specs.RepairStore.{ArePairsFound, IsMomentOfRepair, HoldsAllFound, RepairsStore, WhyNotEnded, WhyNotBegun}
 use Rattle.leveldb_repair.specs.WriteFound.{HasWritten, WritesFound, files_of_level_one, merge_of_all}
 use Rattle.leveldb_repair.specs.declared.look_over.LookedOver.{LookedOver}
 
@@ -157,7 +154,7 @@ module _ {C FP : Type 0} {order : CmpGhosts C} {filters : FilterGhosts FP}
   module _ (meaning : Meaning) (is : IsToRepair store old taken) {next : ℕ}
       (begun : taken + 2 ≤ next) (fits : next < 2 ^ 64) where
     at_tables : (now : Files) → SameButNewTables store (taken + 2) next old now
-        → IsAtRepair store choices.format meaning old now
+        → IsMomentOfRepair store choices.format meaning old now
     at_tables now same = inr (record {
       taken = taken;
       next = next;
@@ -205,7 +202,7 @@ module _ {C FP : Type 0} {order : CmpGhosts C} {filters : FilterGhosts FP}
       unfoldable is_repair : (now : Files) → IsRepairing store taken next old now
           → IsRepaired store choices.format.order (IsTableOf choices.format.order meaning) name
           (taken + 1) next found.last repaired.tables now
-          → IsRepairOf store choices.format meaning old now
+          → HoldsAllFound store choices.format meaning old now
       is_repair now repairing done = record {
         taken = taken;
         next = next;
@@ -229,7 +226,7 @@ module _ {C FP : Type 0} {order : CmpGhosts C} {filters : FilterGhosts FP}
           (tables_repair store taken next old at_end tables.has is.taken_is begun fits) making
 
       at_named : (now : Files) → MakingManifest store (taken + 1) bytes at_end now
-          → IsAtRepair store choices.format meaning old now
+          → IsMomentOfRepair store choices.format meaning old now
       at_named now making = inr (record {
         taken = taken;
         next = next;
@@ -250,7 +247,7 @@ module _ {C FP : Type 0} {order : CmpGhosts C} {filters : FilterGhosts FP}
           (makes : ChangesFiles env.models_disk (with_manifest store (taken + 1) bytes)
           (MakingManifest store (taken + 1) bytes) (env.observed end) (env.observed to) result)
         where
-          named_moments : Run (IsAtRepair store choices.format meaning old) (env.observed from)
+          named_moments : Run (IsMomentOfRepair store choices.format meaning old) (env.observed from)
               (env.observed to)
           named_moments = Run-trans (Run-mono at_tables tables) at_named (Run-call modelled makes)
 
@@ -262,7 +259,7 @@ module _ {C FP : Type 0} {order : CmpGhosts C} {filters : FilterGhosts FP}
           -- once it is named, all is repaired
           named_repair : (env.observed to).disk.files
               ≡ with_manifest store (taken + 1) bytes at_end
-              → (it : IsRepairOf store choices.format meaning old (env.observed to).disk.files)
+              → (it : HoldsAllFound store choices.format meaning old (env.observed to).disk.files)
               × Run (IsRepairing store it.taken it.next old) (env.observed from)
               (env.observed to)
           unfolding is_repair
@@ -415,10 +412,10 @@ module _ {C FP : Type 0} {order : CmpGhosts C} {filters : FilterGhosts FP}
       (written : HasWritten choices env store (taken + 2) read next files end)
       (all : BearsNewTables env walk store (taken + 2) start → (pairs : List Pair)
       → walk.over start it (key_order order choices.cmp) pairs → pairs ≡ read)
-      (text : IsUtf8 choices.format.order_name) (small : found.last < 2 ^ 64) where
+      (text : IsUtf8 choices.format.order_name) where
     can : IsEncodable (repaired_edit choices.format.order_name next found.last
         (files_of_level_one files))
-    can = repaired_encodable choices.format.order_name next found.last files text fits small
+    can = repaired_encodable choices.format.order_name next found.last files text fits is.fits
         written.fit
 
     small_next : next < 2 ^ 64
@@ -438,7 +435,7 @@ module _ {C FP : Type 0} {order : CmpGhosts C} {filters : FilterGhosts FP}
         (env.failures end) result (env.observed to) (env.failures to)) where
       ended_moments : IsTrue env.models_disk → (meaning : Meaning)
           → Agrees choices.format meaning
-          → Run (IsAtRepair store choices.format meaning before) (env.observed from)
+          → Run (IsMomentOfRepair store choices.format meaning before) (env.observed from)
           (env.observed to)
       ended_moments modelled meaning agrees = named_moments choices env store taken from meaning
           (is.over modelled).0 begun small_next modelled agrees (all_read modelled) written
@@ -457,7 +454,7 @@ module _ {C FP : Type 0} {order : CmpGhosts C} {filters : FilterGhosts FP}
         → IsLostUnobserved env.models_disk (temp_path store (taken + 1)) (env.failures end)
         (env.failures to) status ⊎ (env.failures to ≡ env.failures end + 1)
         ⊎ ((env.failures end ≡ 2 ^ 64 - 1) × (env.failures to ≡ env.failures end))
-        → FailsBetweenOr env ((WhyNotRepaired choices env store from status
+        → FailsBetweenOr env ((WhyNotBegun env choices.format store from status
         × (IsTrue env.models_disk → Run (FilesUnchanged before) (env.observed from)
         (env.observed to))) ⊎ WhyNotEnded choices env store from status) from to status
     ended_cause least (inl (inl memory)) = inl memory

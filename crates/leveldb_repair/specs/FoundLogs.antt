@@ -12,7 +12,7 @@ use Rattle.leveldb_mem.specs.WriteBatch.{Batch}
 use Rattle.leveldb_version.specs.Batches.{Each, all_entries, batch_entries}
 use Rattle.leveldb_version.specs.Found.{LogHas}
 use Rattle.leveldb_store.specs.Listing.{AreFilesIn}
-use Rattle.leveldb_store.specs.NextFound.{BeginsAt, IsFoundAt}
+use Rattle.leveldb_store.specs.NextFound.{BeginsAt, HasEntryNumbers, IsFoundAt}
 use Rattle.leveldb_store.specs.ReplayLog.{HasCauseOr}
 use Rattle.leveldb_store.specs.declared.opening.listing.ListedFile.{ListedFile}
 use Rattle.leveldb_repair.specs.declared.found_logs.memtables.Memtables.{Memtables}
@@ -113,12 +113,12 @@ module _ (store : List ℕ) (files : Files) where
   IsMissingLog file = (file.kind ≡ Log)
       × (files (in_folder store (string_bytes file.name)) ≡ None)
 
-  -- the file is a log that begins with batches of which the last is too large for a memtable of its
-  -- own
+  -- The file is a log that begins with batches whose numbers entries may have, and which are found so;
+  -- the last of them is too large for a memtable of its own.
   abbrev pub HasLargeBatch : ListedFile → Type 0
   HasLargeBatch file = (file.kind ≡ Log) × (batches : List Batch) × (batch : Batch)
       × BeginsAt (files (in_folder store (string_bytes file.name))) (batches ++ batch ∷ [])
-      × IsLarge batch
+      × All HasEntryNumbers (batches ++ batch ∷ []) × IsLarge batch
 
 -- the entries of batches that are found of files, those of one file after those of another
 abbrev pub found_entries : List (List Batch) → List Entry

@@ -5,6 +5,7 @@ pub mod Numbers
 pub mod WriteFound
 pub mod RepairStore
 pub mod RepairSteps
+pub mod RepairLaws
 pub mod FoundWalkTable
 pub mod FoundWalkOf
 pub mod FoundWalk

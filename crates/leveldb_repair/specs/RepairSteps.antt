@@ -1,6 +1,6 @@
 -- The steps of a repair: the lists of pairs that have all that is found, walks over them, and what is
 -- made of these.
-use Rattle.std.specs.Prelude.{◌≡◌, ◌↔◌, ◌+◌, ℕ, List, All, Contains, Result, IfErr, IfOk, IsTrue}
+use Rattle.std.specs.Prelude.{◌≡◌, ◌↔◌, ◌+◌, ◌<◌, ◌^◌, ℕ, List, All, Contains, Result, IfErr, IfOk, IsTrue}
 use Rattle.leveldb_base.specs.Entries.{entries_of_pairs}
 use Rattle.leveldb_base.specs.History.{AreRising, Entry}
 use Rattle.leveldb_base.specs.KeyTypes.{internal_cmp}
@@ -35,7 +35,7 @@ use Rattle.leveldb_repair.specs.FoundWalk.{IsWalkOver}
 use Rattle.leveldb_repair.specs.FoundWalkTable.{FailsBetweenOr, MakesFrom}
 use Rattle.leveldb_repair.specs.LookOver.{AreLookedOver, IsOverMerges}
 use Rattle.leveldb_repair.specs.Numbers.{IsGreatestNumber}
-use Rattle.leveldb_repair.specs.RepairStore.{IsFoundPair, WhyNotRepaired}
+use Rattle.leveldb_repair.specs.RepairStore.{IsFoundPair, WhyNotBegun}
 use Rattle.leveldb_repair.specs.FoundWalkOf.{FoundWalk}
 use Rattle.leveldb_repair.specs.declared.found_walk.files.ReadFiles.{ReadFiles}
 use Rattle.leveldb_repair.specs.declared.found_walk.table.FoundTable.{FoundTable}
@@ -109,6 +109,8 @@ module _ {C FP : Type 0} {order : CmpGhosts C} {filters : FilterGhosts FP}
     pub fails : (later : E × T) (status : Status) → walk.fails start it later status
         → FailsBetweenOr env (HasLackCode env choices.format.codings status
         × (IsTrue env.models_disk → ⊥)) from later.0 status
+    -- the greatest number has 64 bits
+    pub fits : found.last < 2 ^ 64
     pub over : IsTrue env.models_disk
         → IsToRepair store (env.observed from).disk.files taken × (pairs : List Pair)
         × walk.over start it (key_order order choices.cmp) pairs
@@ -182,4 +184,4 @@ module _ {E C K F FP : Type 0} {order : CmpGhosts (InternalKeyCmp C)} {filters :
     pub leaves : LeavesFiles env from to
     pub ok : IfOk result (HasFound from to)
     pub cause : IfErr result (λ status.
-        FailsBetweenOr env (WhyNotRepaired choices env store from status) from to status)
+        FailsBetweenOr env (WhyNotBegun env choices.format store from status) from to status)

@@ -37,8 +37,9 @@ use Rattle.leveldb_repair.specs.FoundWalkTable.{FailsBetweenOr}
 -- `store` is the store's path; the format is that of the options, and the meaning that of the names
 -- and ids in the files.
 module _ (store : List ℕ) (format : Format) (meaning : Meaning) (old : Files) where
-  -- A repair of the old files left these: its tables have exactly the entries that were found.
-  pub record IsRepairOf (new : Files) : Type 0 where
+  -- The new files are what a repair of the old ones left: a store of tables that have exactly the
+  -- entries that were found.
+  pub record HoldsAllFound (new : Files) : Type 0 where
     -- the greatest number that a name in the folder had
     pub taken : ℕ
     -- the number after the last one that a table took
@@ -56,18 +57,18 @@ module _ (store : List ℕ) (format : Format) (meaning : Meaning) (old : Files) 
     pub found : (more : Meaning) → DecodesMore (Decodes format.codings) (Decodes more.codings)
         → AreFound store (IsAnyTable format.order more) old (table_entries tables)
 
-  -- A repair of the old files, which have a table or a log, is being made: `CURRENT` is as it was,
-  -- or all is done.
-  pub record IsInRepair (now : Files) : Type 0 where
+  -- A repair of the old files, which have a table or a log, has come to these: no file has changed but
+  -- those of a repair, and `CURRENT` is as it was, or all is done.
+  pub record HoldsOldOrAllFound (now : Files) : Type 0 where
     pub taken : ℕ
     pub next : ℕ
     pub repairing : IsRepairing store taken next old now
     pub some : HasNoTableNorLog store old → ⊥
-    pub current : (now (current_path store) ≡ old (current_path store)) ⊎ IsRepairOf now
+    pub current : (now (current_path store) ≡ old (current_path store)) ⊎ HoldsAllFound now
 
-  -- the files at a moment of it: as they were, or in repair
-  abbrev pub IsAtRepair : Files → Type 0
-  IsAtRepair now = (now ≡ old) ⊎ IsInRepair now
+  -- the files at a moment of a repair: as they were, or as it has come to them
+  abbrev pub IsMomentOfRepair : Files → Type 0
+  IsMomentOfRepair now = (now ≡ old) ⊎ HoldsOldOrAllFound now
 
 -- ---- why nothing is repaired
 
@@ -116,9 +117,33 @@ module _ (store : List ℕ) (files : Files) where
   abbrev pub HasLargeBatchInLog : Type 0
   HasLargeBatchInLog = (file : ListedFile) × MatchesName file × HasLargeBatch store files file
 
-  -- 64 bits don't have the number of a manifest above all names' numbers, and the next one
+  -- 64 bits don't have three numbers above those of all names: the manifest's, the next log's, and one
+  -- after it
   abbrev pub HasTooFewNumbers : Type 0
-  HasTooFewNumbers = (taken : ℕ) × IsGreatestInFolder store files taken × (2 ^ 64 ≤ taken + 2)
+  HasTooFewNumbers = (taken : ℕ) × IsGreatestInFolder store files taken × (2 ^ 64 ≤ taken + 3)
+
+module _ {E F : Type 0} (env : EnvGhosts E F) (format : Format) (store : List ℕ) (from : E) where
+  -- Why the files of a folder aren't repaired: neither a table nor a log is there; two found entries
+  -- clash, or two pairs of one deletion; a batch is too large for memory, or the numbers of files are
+  -- used up; or a block's id has no compressor, or that one fails for it. Where no disk is modelled a
+  -- file that is listed may be missing, too, or lack a block.
+  abbrev pub WhyNotRepaired : Status → Type 0
+  WhyNotRepaired status =
+      let where_modelled : (Files → Type 0) → Type 0
+      = λ P. IsTrue env.models_disk → P (env.observed from).disk.files in
+      ((status.code ≡ InvalidArgument) × where_modelled (HasNoTableNorLog store))
+      ⊎ ((status.code ≡ Corruption) × where_modelled (λ files. (meaning : Meaning)
+      → Agrees format meaning → HasClash store files (IsAnyTable format.order meaning)
+      ⊎ HasUnlikeDeletions store files (IsAnyTable format.order meaning)))
+      ⊎ ((status.code ≡ NotSupported) × where_modelled (λ files.
+      HasLargeBatchInLog store files ⊎ HasTooFewNumbers store files))
+      ⊎ (HasLackCode env format.codings status × where_modelled (λ files.
+      HasUndecodedTable store files format status))
+
+  -- Why no repair is begun: the folder has no file at all, or its files aren't repaired.
+  abbrev pub WhyNotBegun : Status → Type 0
+  WhyNotBegun status = ((status.code ≡ Corruption) × (IsTrue env.models_disk
+      → IsBareFolder store (env.observed from).disk.files)) ⊎ WhyNotRepaired status
 
 module _ {C FP : Type 0} {order : CmpGhosts C} {filters : FilterGhosts FP}
     (choices : TableChoices order filters) {E F : Type 0} (env : EnvGhosts E F) where
@@ -134,37 +159,18 @@ module _ {C FP : Type 0} {order : CmpGhosts C} {filters : FilterGhosts FP}
         ⊎ ((number : ℕ) × AreFileNumbersUsedUp number status)
         ⊎ (HasLackCode env choices.format.codings status × (IsTrue env.models_disk → ⊥))
 
-    -- Why nothing is repaired: the folder has no file, or neither a table nor a log; two found
-    -- entries clash, or two pairs of one deletion; a batch is too large for memory, or the numbers of
-    -- files are used up; or a block's id has no compressor, or that one fails for it. Where no disk
-    -- is modelled a listed file may be missing, too, or lack a block.
-    abbrev pub WhyNotRepaired : Status → Type 0
-    WhyNotRepaired status =
-        let where_modelled : (Files → Type 0) → Type 0
-        = λ P. IsTrue env.models_disk → P (env.observed from).disk.files in
-        ((status.code ≡ Corruption) × where_modelled (IsBareFolder store))
-        ⊎ ((status.code ≡ InvalidArgument) × where_modelled (HasNoTableNorLog store))
-        ⊎ ((status.code ≡ Corruption) × where_modelled (λ files. (meaning : Meaning)
-        → Agrees choices.format meaning
-        → HasClash store files (IsAnyTable choices.format.order meaning)
-        ⊎ HasUnlikeDeletions store files (IsAnyTable choices.format.order meaning)))
-        ⊎ ((status.code ≡ NotSupported) × where_modelled (λ files.
-        HasLargeBatchInLog store files ⊎ HasTooFewNumbers store files))
-        ⊎ (HasLackCode env choices.format.codings status × where_modelled (λ files.
-        HasUndecodedTable store files choices.format status))
-
     -- What a repair of the files in the store's folder returns and leaves.
     pub record RepairsStore (result : Result (Unit {0}) Status) (to : E) : Type 0 where
       -- the files are what it left, and at each moment no file had changed but its own
       pub ok : OnOk result (IsTrue env.models_disk → (meaning : Meaning)
           → Agrees choices.format meaning
-          → (it : IsRepairOf store choices.format meaning (env.observed from).disk.files
+          → (it : HoldsAllFound store choices.format meaning (env.observed from).disk.files
           (env.observed to).disk.files)
           × Run (IsRepairing store it.taken it.next (env.observed from).disk.files)
           (env.observed from) (env.observed to))
-      -- now and at each moment the files are as they were, or in repair, also where it fails
+      -- now and at each moment the files are those of a moment of it, also where it fails
       pub moments : IsTrue env.models_disk → (meaning : Meaning) → Agrees choices.format meaning
-          → Run (IsAtRepair store choices.format meaning (env.observed from).disk.files)
+          → Run (IsMomentOfRepair store choices.format meaning (env.observed from).disk.files)
           (env.observed from) (env.observed to)
       -- what was appended to files are bytes still
       pub bytes : BytesAreAppended env from to
@@ -173,6 +179,6 @@ module _ {C FP : Type 0} {order : CmpGhosts C} {filters : FilterGhosts FP}
       -- It fails out of memory or at a failure of the device; or it wasn't begun, and no file changed
       -- at any moment; or it wasn't ended.
       pub cause : IfErr result (λ status. FailsBetweenOr env
-          ((WhyNotRepaired status × (IsTrue env.models_disk
+          ((WhyNotBegun env choices.format store from status × (IsTrue env.models_disk
           → Run (FilesUnchanged (env.observed from).disk.files) (env.observed from)
           (env.observed to))) ⊎ WhyNotEnded status) from to status)

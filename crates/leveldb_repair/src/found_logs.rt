@@ -1,12 +1,12 @@
 //! The logs of a store's folder, in memory as far as they are found.
-ghost use Rattle.std.specs.Prelude.{◌≡◌, ◌↔◌, IfErr, IfOk, IsTrue, string_bytes};
-ghost use Rattle.leveldb_base.specs.Error.{IsOutOfMemory};
+ghost use Rattle.std.specs.Prelude.{◌≡◌, ◌↔◌, IsTrue};
 ghost use Rattle.leveldb_base.specs.History.{AreUpTo};
 ghost use Rattle.leveldb_base.specs.declared.types.FileType.TheVariants.{Log};
-ghost use Rattle.leveldb_env.specs.Env.{FilesUnchanged, HasCause, Run, SameLocks, in_folder};
+ghost use Rattle.leveldb_env.specs.Env.{FilesUnchanged, HasCause, Run, SameLocks};
 ghost use Rattle.leveldb_env.specs.WholeFiles.{IsLost};
 ghost use Rattle.leveldb_repair.specs.FoundLogs.{FindsLog, FindsLogs};
 
+use crate::folder::path_in;
 use leveldb_base::cmp::UserCmp;
 use leveldb_base::error::Result;
 use leveldb_base::types::FileType;
@@ -90,14 +90,6 @@ fn is_log(kind: FileType) -> bool
         FileType::Log => true,
         _ => false,
     }
-}
-
-// The path of a file in a folder.
-fn path_in(alloc: Global, folder: &str, name: &str) -> Result<String>
-    ensures ok { IfOk result (λ path. string_bytes path ≡ in_folder folder.now name.now) }
-    ensures memory { IfErr result IsOutOfMemory }
-{
-    Ok(format!(in alloc; "{folder}/{name}")?)
 }
 
 // Tells what is left out of the log at this path, after so many batches of it. The log is read

@@ -1,10 +1,9 @@
 //! The readable tables of a store's folder, whether a manifest names them or not.
-ghost use Rattle.std.specs.Prelude.{◌≡◌, ◌↔◌, IfErr, IfOk, IsTrue, string_bytes};
-ghost use Rattle.leveldb_base.specs.Error.{IsOutOfMemory};
+ghost use Rattle.std.specs.Prelude.{◌≡◌, ◌↔◌, IsTrue};
 ghost use Rattle.leveldb_base.specs.declared.types.FileType.TheVariants.{Table};
-ghost use Rattle.leveldb_env.specs.Env.{in_folder};
 ghost use Rattle.leveldb_repair.specs.FoundTables.{FindsTable, FindsTables, SizesFile};
 
+use crate::folder::path_in;
 use crate::found_walk::{FoundTable, open_found};
 use leveldb_base::cmp::{Cmp, InternalKeyCmp, UserCmp};
 use leveldb_base::error::Result;
@@ -78,14 +77,6 @@ fn is_table(kind: FileType) -> bool
         FileType::Table => true,
         _ => false,
     }
-}
-
-// The path of a file in a folder.
-fn path_in(alloc: Global, folder: &str, name: &str) -> Result<String>
-    ensures ok { IfOk result (λ path. string_bytes path ≡ in_folder folder.now name.now) }
-    ensures memory { IfErr result IsOutOfMemory }
-{
-    Ok(format!(in alloc; "{folder}/{name}")?)
 }
 
 // How many bytes the file at this path has. `Corruption` where it is missing.

@@ -21,8 +21,8 @@ use leveldb_version::version_set::VersionSet;
 use std::alloc::Global;
 
 /// A version set of no files for a store under this path, whose next number is the second one above
-/// `greatest`: the first above it is left to a manifest. `NotSupported` where 64 bits don't have
-/// both.
+/// `greatest`: the first above it is left to a manifest. `NotSupported` where 64 bits don't have both
+/// and one more, which the manifest tells as the next number if the second is the next log's.
 pub fn set_above<E: Env, C: UserCmp + Copy + Drop>(
     alloc: Global,
     store: &str,
@@ -30,12 +30,12 @@ pub fn set_above<E: Env, C: UserCmp + Copy + Drop>(
     greatest: FileNum,
 ) -> Result<VersionSet<E, C>>
     ensures ok { IfOk result (λ it. it ≡ versions_above store.now (C.name cmp.now) cmp.now greatest) }
-    ensures fits { OnOk result (greatest + 2 < 2 ^ 64) }
+    ensures fits { OnOk result (greatest + 3 < 2 ^ 64) }
     ensures cause { IfErr result (λ status. IsOutOfMemory status
-        ⊎ AreFileNumbersTooFew greatest 2 status) }
+        ⊎ AreFileNumbersTooFew greatest 3 status) }
 {
     let mut versions = VersionSet::new(alloc, store, cmp)?;
-    if greatest.checked_add(2).is_none() {
+    if greatest.checked_add(3).is_none() {
         return err(
             alloc,
             StatusCode::NotSupported,

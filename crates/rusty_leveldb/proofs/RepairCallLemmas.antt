@@ -29,10 +29,10 @@ use Rattle.leveldb_store.proofs.TableKeepsLemmas.{types_apart}
 use Rattle.leveldb_store.specs.BuildTable.{TableChoices}
 use Rattle.leveldb_store.specs.Room.{HasFailed}
 use Rattle.leveldb_repair.specs.FoundWalkTable.{FailsBetweenOr}
-use Rattle.leveldb_repair.specs.RepairStore.{HasClash, HasLargeBatchInLog, HasTooFewNumbers, HasUndecodedTable, HasUnlikeDeletions, IsAtRepair, IsRepairOf, RepairsStore, WhyNotEnded, WhyNotRepaired}
+use Rattle.leveldb_repair.specs.RepairStore.{HasClash, HasLargeBatchInLog, HasTooFewNumbers, HasUndecodedTable, HasUnlikeDeletions, IsMomentOfRepair, HoldsAllFound, RepairsStore, WhyNotBegun, WhyNotEnded}
 use Rattle.rusty_leveldb.specs.Engine.{IsStoreName}
 use Rattle.rusty_leveldb.specs.Frame.{IsKeptOrMade, IsOwn, IsOwned, Spares}
-use Rattle.rusty_leveldb.specs.Repair.{AreFoundIn, AreInRepair, IsAllRepaired, IsSparedOrRepaired, LeavesOthers, RepairExcused, RepairRefused, Repairs, repaired_state}
+use Rattle.rusty_leveldb.specs.Repair.{AreFoundIn, IsMomentOfLockedRepair, IsAllRepaired, IsSparedOrRepaired, LeavesOthers, RepairExcused, RepairRefused, Repairs, repaired_state}
 use Rattle.rusty_leveldb.specs.Serves.{StandsFor}
 use Rattle.rusty_leveldb.specs.State.{Opening, State, closed}
 use Rattle.rusty_leveldb.specs.Unopened.{MakesLockAlone}
@@ -87,7 +87,7 @@ module _ (store : List ℕ) (old now : Files) where
       there_is (Some file) some = refl
 
   module _ (format : Format) (meaning : Meaning) where
-    pub at_leaves : AreInRepair store format meaning old now → LeavesOthers store old now
+    pub at_leaves : IsMomentOfLockedRepair store format meaning old now → LeavesOthers store old now
     at_leaves (inl passes) path there far = made_leaves passes path there far
     at_leaves (inr it) path there far = by (old path) refl
       where
@@ -97,7 +97,7 @@ module _ (store : List ℕ) (old now : Files) where
             still_there store it.taken it.next old now it.repairing path file is far
 
     -- a path that is none of the store's
-    pub at_spares : AreInRepair store format meaning old now
+    pub at_spares : IsMomentOfLockedRepair store format meaning old now
         → (path : List ℕ) → (IsOwn store path → ⊥) → now path ≡ old path
     at_spares (inl passes) path foreign = SameBut-created (lock_path store) old now passes path
         (away store path foreign DBLock 0 tt refl)
@@ -112,7 +112,7 @@ module _ (store : List ℕ) (old now : Files) where
         (manifest_fits store it.taken it.next old now r))
         (away store path foreign Current 0 tt refl) (away store path foreign DBLock 0 tt refl)
 
-    pub at_lock_file : AreInRepair store format meaning old now
+    pub at_lock_file : IsMomentOfLockedRepair store format meaning old now
         → IsKeptOrMade (old (lock_path store)) (now (lock_path store))
     at_lock_file (inl passes) = ⊎_elim
         (λ (is : now ≡ old). inl (ap (λ (f : Files). f (lock_path store)) is))
@@ -122,8 +122,8 @@ module _ (store : List ℕ) (old now : Files) where
     at_lock_file (inr it) = it.repairing.lock
 
     -- nothing is repaired where neither a table nor a log is
-    pub never_bare : AreInRepair store format meaning old now
-        → IsRepairOf store format meaning old now → HasNoTableNorLog store old → ⊥
+    pub never_bare : IsMomentOfLockedRepair store format meaning old now
+        → HoldsAllFound store format meaning old now → HasNoTableNorLog store old → ⊥
     never_bare (inr it) done bare = it.some bare
     never_bare (inl passes) done bare =
         let e = done.repaired.edits.has_edits in
@@ -309,26 +309,26 @@ module _ {E F C FP : Type 0} {order : CmpGhosts C} {filters : FilterGhosts FP} (
     -- ---- the files at each moment
 
     module _ (meaning : Meaning) (agrees : Agrees asked.format meaning) where
-      run_mid : Run (IsAtRepair store asked.format meaning here) (env.observed taken)
+      run_mid : Run (IsMomentOfRepair store asked.format meaning here) (env.observed taken)
           (env.observed mid)
       run_mid = subst (λ (f : Format). Agrees f meaning
-          → Run (IsAtRepair store f meaning here) (env.observed taken) (env.observed mid)) asked_is
+          → Run (IsMomentOfRepair store f meaning here) (env.observed taken) (env.observed mid)) asked_is
           (repairs.moments modelled meaning) agrees
 
-      at_repair : (now : Files) → IsAtRepair store asked.format meaning here now
-          → AreInRepair store asked.format meaning old now
+      at_repair : (now : Files) → IsMomentOfRepair store asked.format meaning here now
+          → IsMomentOfLockedRepair store asked.format meaning old now
       at_repair now (inl is) =
           inl (subst (BeforeOrAfter (created (lock_path store)) old) (sym is) (took modelled).run.has)
       at_repair now (inr it) =
           inr (in_repair_back store old here but lock_made asked.format meaning now it)
 
-      whole_run : Run (AreInRepair store asked.format meaning old) (env.observed from)
+      whole_run : Run (IsMomentOfLockedRepair store asked.format meaning old) (env.observed from)
           (env.observed to)
       whole_run =
           let both = Run-trans (Run-mono (λ now passes. inl passes) (took modelled).run) at_repair
           run_mid in
           call modelled both
-          (λ now is. subst (AreInRepair store asked.format meaning old) (sym is) both.has) does
+          (λ now is. subst (IsMomentOfLockedRepair store asked.format meaning old) (sym is) both.has) does
 
     -- ---- the call
 
@@ -339,7 +339,7 @@ module _ {E F C FP : Type 0} {order : CmpGhosts C} {filters : FilterGhosts FP} (
     abbrev any_meaning : Meaning
     any_meaning = meaning_by asked.format
 
-    any_run : Run (AreInRepair store asked.format any_meaning old) (env.observed from)
+    any_run : Run (IsMomentOfLockedRepair store asked.format any_meaning old) (env.observed from)
         (env.observed to)
     any_run = whole_run any_meaning (agrees_by asked.format)
 
@@ -365,7 +365,7 @@ module _ {E F C FP : Type 0} {order : CmpGhosts C} {filters : FilterGhosts FP} (
 
   -- ---- why it fails
 
-  refused_of : (e : Status) → WhyNotRepaired choices env store taken e
+  refused_of : (e : Status) → WhyNotBegun env choices.format store taken e
       → RepairRefused env store asked from e
   refused_of e (inl bare) = inr (inr (inr (inr (inl (
     bare.0,
@@ -412,7 +412,7 @@ module _ {E F C FP : Type 0} {order : CmpGhosts C} {filters : FilterGhosts FP} (
   )
   not_ended_of e (inr other) = inr other
 
-  why_of_repair : (e : Status) → FailsBetweenOr env ((WhyNotRepaired choices env store taken e
+  why_of_repair : (e : Status) → FailsBetweenOr env ((WhyNotBegun env choices.format store taken e
       × (IsTrue env.models_disk
       → Run (FilesUnchanged here) (env.observed taken) (env.observed mid)))
       ⊎ WhyNotEnded choices env store taken e) taken mid e
@@ -478,7 +478,7 @@ module _ {E F C FP : Type 0} {order : CmpGhosts C} {filters : FilterGhosts FP} (
       why : RepairExcused env store asked from NotEnded to e
           ⊎ HasFailed (env.failures from) (env.failures mid)
       why = why_of_repair e (subst (λ (r : Result (Unit {0}) Status). IfErr r (λ status.
-          FailsBetweenOr env ((WhyNotRepaired choices env store taken status
+          FailsBetweenOr env ((WhyNotBegun env choices.format store taken status
           × (IsTrue env.models_disk
           → Run (FilesUnchanged here) (env.observed taken) (env.observed mid)))
           ⊎ WhyNotEnded choices env store taken status) taken mid status)) is repairs.cause)
@@ -491,14 +491,14 @@ module _ {E F C FP : Type 0} {order : CmpGhosts C} {filters : FilterGhosts FP} (
       all modelled meaning agrees =
           let done = subst (λ (r : Result (Unit {0}) Status). OnOk r (IsTrue env.models_disk
           → (meaning : Meaning) → Agrees choices.format meaning
-          → (it : IsRepairOf store choices.format meaning here (env.observed mid).disk.files)
+          → (it : HoldsAllFound store choices.format meaning here (env.observed mid).disk.files)
           × Run (IsRepairing store it.taken it.next here) (env.observed taken) (env.observed mid)))
           is repairs.ok modelled meaning
           (subst (λ (f : Format). Agrees f meaning) (sym asked_is) agrees) in
-          subst (IsRepairOf store asked.format meaning old) (sym (end_is modelled))
+          subst (HoldsAllFound store asked.format meaning old) (sym (end_is modelled))
           (repair_back store old here (but modelled) (lock_made modelled) asked.format meaning
           (env.observed mid).disk.files
-          (subst (λ (f : Format). IsRepairOf store f meaning here (env.observed mid).disk.files)
+          (subst (λ (f : Format). HoldsAllFound store f meaning here (env.observed mid).disk.files)
           asked_is done.0))
 
       first : env.failures from ≤ env.failures mid

@@ -1,7 +1,7 @@
 -- A repair under the store's lock, whose file was made for it: what it says of the files with that
 -- file it says of them as they were before.
 use Rattle.std.specs.Prelude.{string_bytes}
-use Rattle.std.proofs.Common.{◌≡◌, ◌≢◌, ◌<◌, ◌≤◌, ◌+◌, ◌++◌, ◌∷◌, ◌⊎◌, ◌∙◌, ⊎_elim, inl, inr, ℕ, List, [], refl, sym, ap, subst, arith, Option, None, Some}
+use Rattle.std.proofs.Common.{◌≡◌, ◌≢◌, ◌<◌, ◌≤◌, ◌++◌, ◌∷◌, ◌∙◌, ⊎_elim, inl, inr, ℕ, List, [], refl, sym, ap, subst, arith, Option, None, Some}
 use Rattle.std.proofs.lemmas.Bool.{cases_lt}
 use Rattle.leveldb_base.specs.History.{Entry}
 use Rattle.leveldb_base.specs.Names.{IsFileName, file_name}
@@ -19,7 +19,7 @@ use Rattle.leveldb_version.specs.Paths.{IsFilePath, current_path, lock_path}
 use Rattle.leveldb_version.specs.Repairing.{IsGreatestInFolder, IsRepairing, SameTablesAndLogs}
 use Rattle.leveldb_store.proofs.TableKeepsLemmas.{types_apart}
 use Rattle.leveldb_store.specs.NextFound.{BeginsAt}
-use Rattle.leveldb_repair.specs.RepairStore.{ArePairsFound, HasClash, HasLargeBatchInLog, HasTooFewNumbers, HasUndecodedTable, HasUnlikeDeletions, IsFoundPair, IsInRepair, IsRepairOf}
+use Rattle.leveldb_repair.specs.RepairStore.{ArePairsFound, HasClash, HasLargeBatchInLog, HasTooFewNumbers, HasUndecodedTable, HasUnlikeDeletions, IsFoundPair, HoldsOldOrAllFound, HoldsAllFound}
 use Rattle.rusty_leveldb.proofs.LockLemmas.{lock_current}
 
 empty_twice : (file : Option File) → or_empty (or_empty file) ≡ or_empty file
@@ -150,7 +150,7 @@ module _ (store : List ℕ) (old mid : Files) (but : SameBut (lock_path store) o
   }
 
   pub large_back : HasLargeBatchInLog store mid → HasLargeBatchInLog store old
-  large_back (file, matches, (kind, batches, batch, begins, large)) = (
+  large_back (file, matches, (kind, batches, batch, begins, numbered, large)) = (
     file,
     matches,
     (
@@ -160,6 +160,7 @@ module _ (store : List ℕ) (old mid : Files) (but : SameBut (lock_path store) o
       subst (λ at. BeginsAt at (batches ++ batch ∷ []))
           (same_log (string_bytes file.name) file.number
           (subst (IsFileName (string_bytes file.name) file.number) kind matches)) begins,
+      numbered,
       large,
     ),
   )
@@ -190,8 +191,8 @@ module _ (store : List ℕ) (old mid : Files) (but : SameBut (lock_path store) o
   }
 
   module _ (format : Format) (meaning : Meaning) where
-    pub repair_back : (now : Files) → IsRepairOf store format meaning mid now
-        → IsRepairOf store format meaning old now
+    pub repair_back : (now : Files) → HoldsAllFound store format meaning mid now
+        → HoldsAllFound store format meaning old now
     repair_back now it = record {
       taken = it.taken;
       next = it.next;
@@ -203,8 +204,8 @@ module _ (store : List ℕ) (old mid : Files) (but : SameBut (lock_path store) o
           (it.found more decodes);
     }
 
-    pub in_repair_back : (now : Files) → IsInRepair store format meaning mid now
-        → IsInRepair store format meaning old now
+    pub in_repair_back : (now : Files) → HoldsOldOrAllFound store format meaning mid now
+        → HoldsOldOrAllFound store format meaning old now
     in_repair_back now it = record {
       taken = it.taken;
       next = it.next;
@@ -213,6 +214,6 @@ module _ (store : List ℕ) (old mid : Files) (but : SameBut (lock_path store) o
       current = ⊎_elim
           (λ (same : now (current_path store) ≡ mid (current_path store)).
           inl (same ∙ lock_current store old mid but))
-          (λ (done : IsRepairOf store format meaning mid now). inr (repair_back now done))
+          (λ (done : HoldsAllFound store format meaning mid now). inr (repair_back now done))
           it.current;
     }

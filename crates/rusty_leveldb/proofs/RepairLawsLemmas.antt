@@ -1,6 +1,6 @@
 -- What an opening finds after a repair, and what a repair of a whole store finds.
 use Rattle.std.specs.declared.cmp.Ordering.{Ordering}
-use Rattle.std.proofs.Common.{◌≡◌, ◌≤◌, ◌+◌, ◌⊎◌, ◌∙◌, ⊎_elim, inl, inr, ℕ, List, [], ◌∷◌, refl, sym, ap, subst, arith, append-nil, Option, None, Some}
+use Rattle.std.proofs.Common.{◌≡◌, ◌≤◌, ◌+◌, ◌∙◌, ⊎_elim, inl, inr, ℕ, List, [], ◌∷◌, refl, sym, ap, subst, arith, append-nil, Option, None, Some}
 use Rattle.leveldb_base.proofs.HistoryLemmas.{in_front}
 use Rattle.leveldb_base.specs.declared.cmp.Cmp.{Ghosts as CmpGhosts}
 use Rattle.leveldb_base.specs.History.{Entry, History, SameView, count_of, entries_of, greatest}
@@ -16,10 +16,11 @@ use Rattle.leveldb_version.specs.Contents.{Contents, Store, made, missing}
 use Rattle.leveldb_version.specs.Format.{Agrees, Meaning}
 use Rattle.leveldb_version.specs.Found.{AreFound, IsAnyTable, IsFound}
 use Rattle.leveldb_version.specs.Store.{HasNoStore}
+use Rattle.leveldb_repair.proofs.RepairAgainLemmas.{leaves_found}
 use Rattle.rusty_leveldb.specs.Boxes.{InternalOrder}
 use Rattle.rusty_leveldb.specs.Machine.{IsStoreOf, Opens, StaysOr, risk_between}
 use Rattle.rusty_leveldb.specs.Repair.{AreFoundIn, repaired_state}
-use Rattle.rusty_leveldb.specs.RepairLaws.{CrashSinceRepair, HasNothingElse, OpensWhatRepairFound, RepairFindsWhatOpens}
+use Rattle.rusty_leveldb.specs.RepairLaws.{AnotherRepairFindsTheSame, CrashSinceRepair, HasNothingElse, OpensWhatRepairFound, RepairFindsWhatOpens}
 use Rattle.rusty_leveldb.specs.Serves.{AreReadAs, IsSpared, Reads, StandsFor, order_of}
 use Rattle.rusty_leveldb.specs.State.{IsState, Opening, State, flush}
 use Rattle.rusty_leveldb.proofs.Crashes.{crash_inside}
@@ -56,6 +57,25 @@ module _ {E C FP F P : Type 0} {B : Boxed} {keys : InternalOrder C} {key_filters
         history,
         opened_last opening (repaired_state asked.format found) after.0 found refl refl after.2
             history,
+      )
+
+-- ---- another repair
+
+module _ {E F D P : Type 0} {keys : CmpGhosts D} {key_filters : FilterGhosts P}
+    (env : Ghosts E F) (choices : TableChoices keys key_filters) where
+  pub another_finds_the_same : AnotherRepairFindsTheSame env choices
+  another_finds_the_same name asked from mid to meaning found first second modelled agrees bytes
+      are =
+      let same = leaves_found name asked.format meaning (env.observed from).disk.files
+      (env.observed mid).disk.files agrees (first.ok modelled meaning agrees) in
+      let again : AreFoundIn name asked.format meaning (env.observed mid).disk.files found
+      = λ entry. (
+        λ c. (same entry).0 ((are entry).0 c),
+        λ is. (are entry).1 ((same entry).1 is),
+      ) in (
+        again,
+        first.becomes modelled meaning agrees bytes found are,
+        second.becomes modelled meaning agrees (first.bytes modelled bytes) found again,
       )
 
 -- ---- a crash

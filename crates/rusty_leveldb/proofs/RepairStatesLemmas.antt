@@ -21,9 +21,9 @@ use Rattle.leveldb_version.specs.Levels.{table_entries}
 use Rattle.leveldb_version.specs.Paths.{current_path, lock_path}
 use Rattle.leveldb_version.specs.Store.{SameEntries}
 use Rattle.leveldb_version.specs.StoreSteps.{AppendedAreBytes, KeepsHistory}
-use Rattle.leveldb_repair.specs.RepairStore.{IsInRepair, IsRepairOf}
+use Rattle.leveldb_repair.specs.RepairStore.{HoldsOldOrAllFound, HoldsAllFound}
 use Rattle.rusty_leveldb.specs.Machine.{risk_between}
-use Rattle.rusty_leveldb.specs.Repair.{AreFoundIn, AreInRepair, IsSparedOrRepaired, StaysOrIsRepaired, repaired_state}
+use Rattle.rusty_leveldb.specs.Repair.{AreFoundIn, IsMomentOfLockedRepair, IsSparedOrRepaired, StaysOrIsRepaired, repaired_state}
 use Rattle.rusty_leveldb.specs.Serves.{IsSpared, Reads, StandsFor}
 use Rattle.rusty_leveldb.specs.State.{IsState, Mode, Opening, State, SuitsMode, broken, closed, open_mode}
 use Rattle.rusty_leveldb.proofs.EngineLemmas.{Stays}
@@ -118,7 +118,7 @@ module _ (store : List ℕ) (meaning : Meaning) (asked : Opening) (from : Observ
 
   -- while the set goes to its tables
   repair_keeps_own : (now : Files)
-      → (it : IsInRepair store asked.format meaning from.disk.files now)
+      → (it : HoldsOldOrAllFound store asked.format meaning from.disk.files now)
       → now (current_path store) ≡ from.disk.files (current_path store) → KeepsOwn now
   repair_keeps_own now it still = repair_keeps store own (IsTableOf own meaning) (Stays old)
       it.taken it.next from.disk.files now it.repairing still it.some bound
@@ -149,13 +149,13 @@ module _ (store : List ℕ) (meaning : Meaning) (asked : Opening)
   There there = there ≡ repaired.store
 
   -- the entries of the tables are those that were found
-  same_found : (now : Files) (it : IsRepairOf store asked.format meaning old now)
+  same_found : (now : Files) (it : HoldsAllFound store asked.format meaning old now)
       → SameEntries (table_entries it.tables) found
   same_found now it = (one_found_set store (IsAnyTable asked.format.order meaning) old
       (table_entries it.tables) found (it.found meaning (decodes_by asked.format meaning agrees))).0
       are
 
-  found_holds : (now : Files) → IsRepairOf store asked.format meaning old now
+  found_holds : (now : Files) → HoldsAllFound store asked.format meaning old now
       → Holds store (Reads store meaning) There now (found ∷ []) (greatest found) 1 None
   found_holds now it = holds_of store meaning asked.format.order_name asked.format.order
       agrees.order There
@@ -165,12 +165,12 @@ module _ (store : List ℕ) (meaning : Meaning) (asked : Opening)
       asked.format.order_name (it.taken + 1) it.next it.last it.tables There now it.repaired refl
       found (same_found now it))
 
-  found_spared : (now : Files) → IsRepairOf store asked.format meaning old now
+  found_spared : (now : Files) → HoldsAllFound store asked.format meaning old now
       → IsSpared store meaning repaired (risk_between repaired) now
   found_spared now it = (found_holds now it).crash
 
   -- which is a state, whoever has the lock
-  is_repaired : (now : Files) → IsRepairOf store asked.format meaning old now → (held : Bool)
+  is_repaired : (now : Files) → HoldsAllFound store asked.format meaning old now → (held : Bool)
       → IsState (record repaired { locked = held })
   is_repaired now it held = record {
     history = record {
@@ -186,7 +186,7 @@ module _ (store : List ℕ) (meaning : Meaning) (asked : Opening)
     mode = record { held = refl; given = refl };
   }
 
-  pub repaired_stands : (disk : Disk) → IsRepairOf store asked.format meaning old disk.files
+  pub repaired_stands : (disk : Disk) → HoldsAllFound store asked.format meaning old disk.files
       → AppendedAreBytes disk.files
       → StandsFor store meaning disk (record repaired { locked = disk.locked (lock_path store) })
   repaired_stands disk it bytes = record {
@@ -206,14 +206,14 @@ module _ (store : List ℕ) (meaning : Meaning) (asked : Opening)
     (are : AreFoundIn store asked.format meaning from.disk.files found) where
   -- at a moment of a repair
   pub repair_spares : (now : Files)
-      → AreInRepair store asked.format meaning from.disk.files now
+      → IsMomentOfLockedRepair store asked.format meaning from.disk.files now
       → IsSparedOrRepaired store meaning old (repaired_state asked.format found) now
   repair_spares now (inl passes) = inl (made_spared store meaning asked from old was now passes)
   repair_spares now (inr it) = ⊎_elim
       (λ (still : now (current_path store) ≡ from.disk.files (current_path store)).
       inl (still_spared store meaning asked from old was now
       (repair_keeps_own store meaning asked from old was now it still)))
-      (λ (done : IsRepairOf store asked.format meaning from.disk.files now).
+      (λ (done : HoldsAllFound store asked.format meaning from.disk.files now).
       inr (
         is_repaired store meaning asked agrees total from.disk.files found are now done false,
         found_spared store meaning asked agrees total from.disk.files found are now done,
@@ -222,7 +222,7 @@ module _ (store : List ℕ) (meaning : Meaning) (asked : Opening)
 
   -- and at its end
   pub repair_leaves : (disk : Disk)
-      → AreInRepair store asked.format meaning from.disk.files disk.files
+      → IsMomentOfLockedRepair store asked.format meaning from.disk.files disk.files
       → AppendedAreBytes disk.files
       → (old.mode ≡ closed) ⊎ (disk.locked (lock_path store) ≡ old.locked)
       → StaysOrIsRepaired store meaning old (repaired_state asked.format found) disk
@@ -233,6 +233,6 @@ module _ (store : List ℕ) (meaning : Meaning) (asked : Opening)
       (λ (still : disk.files (current_path store) ≡ from.disk.files (current_path store)).
       inl (still_stands store meaning asked from old was disk
       (repair_keeps_own store meaning asked from old was disk.files it still) bytes which))
-      (λ (done : IsRepairOf store asked.format meaning from.disk.files disk.files).
+      (λ (done : HoldsAllFound store asked.format meaning from.disk.files disk.files).
       inr (repaired_stands store meaning asked agrees total from.disk.files found are disk done bytes))
       it.current

@@ -3,10 +3,23 @@ use Rattle.std.specs.Prelude.{◌≡◌, ◌⊎◌, ◌<◌, ◌≤◌, ◌^◌,
 use Rattle.std.specs.Io.KnownBytes.{Appends}
 use Rattle.std.specs.declared.alloc.Global.{Global}
 use Rattle.leveldb_base.specs.Cmp.{bytewise}
+use Rattle.leveldb_base.specs.contracts.cmp.DefaultCmp.{the_row as default_row}
+use Rattle.leveldb_base.specs.contracts.cmp.DefaultCmpCmp.TheImpl as default_cmp
+use Rattle.leveldb_base.specs.contracts.cmp.DefaultCmpUserCmp.TheImpl as default_user
+use Rattle.leveldb_base.specs.contracts.cmp.internal.InternalKeyCmpCmp.TheImpl as internal_keys
+use Rattle.leveldb_base.specs.declared.cmp.Cmp.{Ghosts as CmpGhosts}
+use Rattle.leveldb_base.specs.declared.cmp.DefaultCmp.{DefaultCmp}
+use Rattle.leveldb_base.specs.declared.cmp.internal.InternalKeyCmp.{InternalKeyCmp}
 use Rattle.leveldb_base.specs.declared.error.Status.{Status}
+use Rattle.leveldb_env.specs.contracts.filter.bloom.BloomPolicy.{the_row as bloom_row}
+use Rattle.leveldb_env.specs.contracts.filter.bloom.BloomPolicyFilterPolicy.TheImpl as bloom
+use Rattle.leveldb_env.specs.contracts.filter.internal.InternalFilterPolicyFilterPolicy.TheImpl as internal_filters
 use Rattle.leveldb_env.specs.declared.env.Env.{Ghosts}
+use Rattle.leveldb_env.specs.declared.filter.FilterPolicy.{Ghosts as FilterGhosts}
 use Rattle.leveldb_env.specs.Bloom.{bloom_matches}
 use Rattle.leveldb_env.specs.Compressor.{plain_codings}
+use Rattle.leveldb_store.specs.BuildTable.{TableChoices}
+use Rattle.leveldb_repair.specs.RepairStore.{WhyNotEnded}
 use Rattle.rusty_leveldb.specs.declared.shell.commands.Command.{Command}
 use Rattle.rusty_leveldb.specs.declared.shell.commands.Reply.{Reply}
 use Rattle.rusty_leveldb.specs.declared.shell.program.Fault.{Fault}
@@ -17,7 +30,7 @@ use Rattle.rusty_leveldb.specs.declared.shell.program.Way.{Way}
 use Rattle.rusty_leveldb.specs.declared.shell.program.Way.TheVariants as way
 use Rattle.rusty_leveldb.specs.Language.{IsScript, IsBadLine, reply_lines}
 use Rattle.rusty_leveldb.specs.State.{Opening}
-use Rattle.rusty_leveldb.specs.Repair.{IsNotEndedUnder, Repairs}
+use Rattle.rusty_leveldb.specs.Repair.{Repairs}
 use Rattle.rusty_leveldb.specs.RunAlone.{HasReadAlone}
 use Rattle.rusty_leveldb.specs.Shell.{HasRun}
 
@@ -89,6 +102,27 @@ ldb_opening = record {
   compresses = true;
 }
 
+-- its order of internal keys
+abbrev pub ldb_keys : CmpGhosts (InternalKeyCmp DefaultCmp)
+ldb_keys = internal_keys.ghosts default_row default_user.ghosts default_user.dict default_cmp.ghosts
+    default_cmp.dict
+
+-- its filters of internal keys
+abbrev pub ldb_filters : FilterGhosts ℕ
+ldb_filters = internal_filters.ghosts bloom_row bloom.ghosts bloom.dict
+
+-- What the program makes the tables of a repair with: these, with ten bits a key, and blocks of 4096
+-- bytes, stored as they are, with a restart point every 16 entries.
+abbrev pub ldb_choices : TableChoices ldb_keys ldb_filters
+ldb_choices = record {
+  format = ldb_opening.format;
+  cmp = record { 0 = record {} };
+  policy = 10;
+  id = 0;
+  block_size = 4096;
+  restarts = 16;
+}
+
 module _ {E F : Type 0} (env : Ghosts E F) where
   -- a run of commands over the store in a folder, which is opened this way
   abbrev pub HasRunBy : Way → List ℕ → Opening → List Command → E → List Reply
@@ -107,10 +141,10 @@ module _ {E F : Type 0} (env : Ghosts E F) where
       × HasRunBy one folder ldb_opening commands from given (Ok tt) to
       × Appends held holds (reply_lines given)
 
-  -- a repair of the store in a folder, as it is asked for
+  -- a repair of the store in a folder, as it is asked for, whose tables are made by the program's choices
   abbrev pub HasRepaired : List ℕ → Opening → E → Result (Unit {0}) Status → E → Type 0
   HasRepaired folder asked from ended to =
-      Repairs env folder asked from (IsNotEndedUnder env asked.format) ended to
+      Repairs env folder asked from (WhyNotEnded ldb_choices env folder from) ended to
 
   -- the store in a folder was repaired, and the output grew by the line that says so
   abbrev pub IsRepairAnswered : List ℕ → E → E → Option (List ℕ) → Option (List ℕ) → Type 0

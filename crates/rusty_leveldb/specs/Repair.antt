@@ -5,18 +5,17 @@ use Rattle.std.specs.Str.{bytes_eq}
 use Rattle.leveldb_base.specs.Error.{IsOutOfMemory}
 use Rattle.leveldb_base.specs.History.{Entry, greatest}
 use Rattle.leveldb_base.specs.declared.error.Status.{Status}
-use Rattle.leveldb_base.specs.declared.error.StatusCode.TheVariants.{Corruption, InvalidArgument, LockError, NotSupported}
+use Rattle.leveldb_base.specs.declared.error.StatusCode.TheVariants.{InvalidArgument, LockError, NotSupported}
 use Rattle.leveldb_env.specs.Env.{BeforeOrAfter, Disk, Files, Run, created}
 use Rattle.leveldb_env.specs.declared.env.Env.{Ghosts}
-use Rattle.leveldb_table.specs.TableBlock.{HasLackCode}
 use Rattle.leveldb_version.specs.Contents.{made}
-use Rattle.leveldb_version.specs.Format.{Agrees, Format, HasCompressorError, Meaning}
+use Rattle.leveldb_version.specs.Format.{Agrees, Format, Meaning}
 use Rattle.leveldb_version.specs.Found.{AreFound, HasNoTableNorLog, IsAnyTable}
 use Rattle.leveldb_version.specs.Paths.{current_path, lock_path}
 use Rattle.leveldb_version.specs.StoreSteps.{AppendedAreBytes}
 use Rattle.leveldb_store.specs.Room.{FailsFor, HasFailed}
 use Rattle.leveldb_store.specs.SoundCall.{BytesAreAppended}
-use Rattle.leveldb_repair.specs.RepairStore.{HasClash, HasLargeBatchInLog, HasTooFewNumbers, HasUndecodedTable, HasUnlikeDeletions, IsInRepair, IsRepairOf}
+use Rattle.leveldb_repair.specs.RepairStore.{HoldsOldOrAllFound, HoldsAllFound, WhyNotRepaired}
 use Rattle.rusty_leveldb.specs.Engine.{IsStoreName}
 use Rattle.rusty_leveldb.specs.Frame.{IsOwn, Spares}
 use Rattle.rusty_leveldb.specs.Machine.{risk_between}
@@ -68,39 +67,29 @@ LeavesOthers store old now = (path : List ℕ) → old path ≢ None
 
 -- The files at a moment of a repair of the old ones: as they were, but that the lock's may be made;
 -- or in repair.
-abbrev pub AreInRepair : List ℕ → Format → Meaning → Files → Files → Type 0
-AreInRepair store format meaning old now = BeforeOrAfter (created (lock_path store)) old now
-    ⊎ IsInRepair store format meaning old now
+abbrev pub IsMomentOfLockedRepair : List ℕ → Format → Meaning → Files → Files → Type 0
+IsMomentOfLockedRepair store format meaning old now =
+    BeforeOrAfter (created (lock_path store)) old now
+    ⊎ HoldsOldOrAllFound store format meaning old now
 
 -- ---- why it fails
 
 module _ {E F : Type 0} (env : Ghosts E F) (store : List ℕ) (asked : Opening) (from : E) where
   -- Why nothing is repaired where the device didn't fail, beside out of memory: the name or an option
-  -- doesn't fit, or the compressor of new blocks isn't set; the lock is held; neither a table nor a
-  -- log is there; two entries that are found clash, or two pairs of one deletion; a batch is too large
-  -- for memory, or the numbers of files are used up; or a table has a block whose compressor isn't
-  -- set, or fails for it.
+  -- doesn't fit, or the compressor of new blocks isn't set; the lock is held; or the files aren't
+  -- repaired, for a cause of their own.
   abbrev pub RepairRefused : Status → Type 0
   RepairRefused e =
-      let disk = (env.observed from).disk in
-      let where_modelled : Type 0 → Type 0 = λ fact. IsTrue env.models_disk → fact in
       ((e.code ≡ InvalidArgument) × (IsStoreName store × IsTrue asked.fits → ⊥))
       ⊎ ((e.code ≡ NotSupported) × (IsTrue asked.compresses → ⊥))
-      ⊎ ((e.code ≡ LockError) × where_modelled (IsLockHeld store disk))
-      ⊎ ((e.code ≡ InvalidArgument) × where_modelled (HasNoTableNorLog store disk.files))
-      ⊎ ((e.code ≡ Corruption) × where_modelled ((meaning : Meaning)
-      → Agrees asked.format meaning
-      → HasClash store disk.files (IsAnyTable asked.format.order meaning)
-      ⊎ HasUnlikeDeletions store disk.files (IsAnyTable asked.format.order meaning)))
-      ⊎ ((e.code ≡ NotSupported) × where_modelled (HasLargeBatchInLog store disk.files
-      ⊎ HasTooFewNumbers store disk.files))
-      ⊎ (HasLackCode env asked.format.codings e
-      × where_modelled (HasUndecodedTable store disk.files asked.format e))
+      ⊎ ((e.code ≡ LockError) × (IsTrue env.models_disk
+      → IsLockHeld store (env.observed from).disk))
+      ⊎ WhyNotRepaired env asked.format store from e
 
   -- all that was found is in a store, and nothing else
   abbrev pub IsAllRepaired : E → Type 0
   IsAllRepaired to = IsTrue env.models_disk → (meaning : Meaning) → Agrees asked.format meaning
-      → IsRepairOf store asked.format meaning (env.observed from).disk.files
+      → HoldsAllFound store asked.format meaning (env.observed from).disk.files
       (env.observed to).disk.files
 
   -- `NotEnded` says why a repair that was begun isn't ended.
@@ -152,7 +141,7 @@ module _ {E F : Type 0} (env : Ghosts E F) (store : List ℕ) (asked : Opening) 
           (env.observed from) (env.observed to)
       -- and of any disk: at each moment the files are as they were, or in repair
       pub in_repair : IsTrue env.models_disk → (meaning : Meaning) → Agrees asked.format meaning
-          → Run (AreInRepair store asked.format meaning (env.observed from).disk.files)
+          → Run (IsMomentOfLockedRepair store asked.format meaning (env.observed from).disk.files)
           (env.observed from) (env.observed to)
       -- nothing is deleted, at any moment, and no file that was there changes but `CURRENT`
       pub kept : IsTrue env.models_disk
@@ -178,12 +167,3 @@ module _ {E F : Type 0} (env : Ghosts E F) (store : List ℕ) (asked : Opening) 
           → OnOk result ⊥
       -- why it fails
       pub cause : FailsFor (RepairExcused to) (env.failures from) (env.failures to) result
-
--- ---- a repair that isn't ended, by the format alone
-
--- Why a repair that was begun isn't ended: out of memory; something isn't supported, or a compressor
--- fails for a block; or, where no disk is modelled, a file that was there lacks a block.
-abbrev pub IsNotEndedUnder : {E F : Type 0} → Ghosts E F → Format → Status → Type 0
-IsNotEndedUnder env format e = IsOutOfMemory e ⊎ (e.code ≡ NotSupported)
-    ⊎ HasCompressorError format e.code
-    ⊎ (HasLackCode env format.codings e × (IsTrue env.models_disk → ⊥))

@@ -43,6 +43,21 @@ OpensWhatRepairFound {E = E} {C = C} {FP = FP} {F = F} {B = B} {keys = keys} env
     × RepresentsAt keys env (formats_of choices) name meaning (Some engine) to new
     × (new.history ≡ found ∷ []) × (new.last ≡ greatest found)
 
+-- Another repair, of what a repair that was Ok left, finds what that one found: the disk represents the
+-- state of the same set again, so that no map changes.
+abbrev pub AnotherRepairFindsTheSame : {E F D P : Type 0} {keys : CmpGhosts D}
+    {key_filters : FilterGhosts P} → Ghosts E F → TableChoices keys key_filters → Type 0
+AnotherRepairFindsTheSame {E = E} env choices = (name : List ℕ) (asked : Opening) (from mid to : E)
+    (meaning : Meaning) (found : List Entry)
+    → Repairs env name asked from (WhyNotEnded choices env name from) (Ok tt) mid
+    → Repairs env name asked mid (WhyNotEnded choices env name mid) (Ok tt) to
+    → IsTrue env.models_disk → Agrees asked.format meaning
+    → AppendedAreBytes (env.observed from).disk.files
+    → AreFoundIn name asked.format meaning (env.observed from).disk.files found
+    → AreFoundIn name asked.format meaning (env.observed mid).disk.files found
+    × StandsFor name meaning (env.observed mid).disk (repaired_state asked.format found)
+    × StandsFor name meaning (env.observed to).disk (repaired_state asked.format found)
+
 -- Wherever an honest crash comes since a repair began, inside it or at its end, what is left represents
 -- a state of the crash row: of the state that the disk represented, or of the set that was found.
 abbrev pub CrashSinceRepair : {E F D P : Type 0} {keys : CmpGhosts D} {key_filters : FilterGhosts P}

@@ -6,7 +6,7 @@ ghost use Rattle.rusty_leveldb.specs.IteratorLaws.{PrevUndoesNext};
 ghost use Rattle.rusty_leveldb.specs.Laws.{OneReading, NothingStands, CrashBetween, CrashInside, CrashSince, RefusalHasCause, StepFits, CrashFits, CrashInsideFits, LivesFit, DurableStays, SyncedStays, EachAnswerParts, HistoryIsAsked, HistoryIsPlaced, MoreIsAsked, SyncedIsRead, ViewsStay, HeldStays, SnapshotIsRead, ForwardWalkGivesView, PrevUndoesAdvance, SyncedCanBeFound};
 ghost use Rattle.leveldb_store.specs.BuildTable.{choices_of};
 ghost use Rattle.rusty_leveldb.specs.ReadAloneLaws.{ReadingKeepsStates, ReadsWhatOpens};
-ghost use Rattle.rusty_leveldb.specs.RepairLaws.{CrashSinceRepair, OpensWhatRepairFound, RepairFindsWhatOpens};
+ghost use Rattle.rusty_leveldb.specs.RepairLaws.{AnotherRepairFindsTheSame, CrashSinceRepair, OpensWhatRepairFound, RepairFindsWhatOpens};
 
 use leveldb_base::cmp::{Cmp, InternalKeyCmp, UserCmp};
 use leveldb_env::compressor::{CompressorList, Compressors};
@@ -65,6 +65,18 @@ pub fn what_a_repair_finds_is_opened<E: Env, C: UserCmp + Copy, FP: FilterPolicy
     ensures whole { RepairFindsWhatOpens E.Env (choices_of C.Cmp FP.FilterPolicy
         ⟦<InternalKeyCmp<C> as Cmp>⟧ ⟦<InternalFilterPolicy<FP> as FilterPolicy>⟧
         ⟦<CompressorList as Compressors>⟧.codings) options.now }
+{
+    let _ = options;
+}
+
+/// Another repair with these options, of what one that was Ok left, finds what that one found: after
+/// it the disk represents what it did, so that no map changes.
+pub fn another_repair_finds_the_same<E: Env, C: UserCmp + Copy, FP: FilterPolicy + Copy>(
+    options: &Options<C, FP>,
+)
+    ensures { AnotherRepairFindsTheSame E.Env (choices_of C.Cmp FP.FilterPolicy
+        ⟦<InternalKeyCmp<C> as Cmp>⟧ ⟦<InternalFilterPolicy<FP> as FilterPolicy>⟧
+        ⟦<CompressorList as Compressors>⟧.codings options.now) }
 {
     let _ = options;
 }

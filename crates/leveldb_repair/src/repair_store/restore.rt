@@ -128,7 +128,6 @@ fn edit_of_tables(
     requires { next + 1 < 2 ^ 64 }
     ensures ok { IfOk result (λ edit. edit_of edit
         ≡ repaired_edit comparator.now next last (files_of_level_one tables.items)) }
-    ensures small { last < 2 ^ 64 }
     ensures memory { IfErr result IsOutOfMemory }
 {
     let mut edit = edit_without_tables(alloc, comparator, next, last)?;

@@ -34,9 +34,11 @@ use std::alloc::Global;
 /// | that of a compressor | it failed for a block |
 /// | `Corruption` | two entries that are found have one key and number, and differ |
 ///
-/// After `LockError`, `InvalidArgument` and `Corruption` no file has changed, but that the lock's may be
-/// made. After any other error, and wherever a crash came, the files hold what they held, or what was
-/// found, and another repair finds the same.
+/// Where the lock is held, or what was looked at isn't repaired for a cause of this table, no file has
+/// changed, but that the lock's may be made; after numbers or a compressor that fail while tables are
+/// written, some of these may be there. After any other error, and wherever a crash came, the files hold
+/// what they held, or what was found. Another repair finds the same: of one after an Ok this is proved, of
+/// one after an error or a crash it is tested.
 pub fn repair<E: Env, C: UserCmp + Copy, FP: FilterPolicy + Copy>(
     alloc: Global,
     name: &str,

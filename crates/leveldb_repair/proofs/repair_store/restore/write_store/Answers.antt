@@ -1,4 +1,4 @@
-use Rattle.std.proofs.Common.{◌≡◌, ◌∙◌, ◌<◌, ◌^◌, arith, sym}
+use Rattle.std.proofs.Common.{◌∙◌, arith, sym}
 use Rattle.std.proofs.lemmas.Result.{err_from_is_err_and}
 use Rattle.leveldb_repair.proofs.RepairWriteLemmas.{ended, next_has_one, no_memory, unwritten, used_up}
 use Rattle.leveldb_version.specs.Repairing.{repaired_edit}
@@ -36,8 +36,7 @@ returns g c = λ from leaves over.
     let next = c.requires in
     let writes = rw next at c.in_ok-made.ensures.writes over.moves in
     let ok = writes.ok in
-    let small : c.args.found.last < 2 ^ 64 = c.edit_of_tables.ensures.small in
     let edit_is = c.in_ok-edit.ensures.ok ∙ (λ i. repaired_edit (c.id.ensures i) (c.next_file_num-next.ensures i) c.args.found.last (files_of_level_one c.in_ok-made.made.items)) in
     ended _ g.E.Env c.args.plan.now.store.now c.args.plan.now.greatest g.W.Walk _ _ from c.args.found leaves over (rw next at rises)
-    (next_has_one c.next_file_num-next.ensures c.write_found.ensures.fits c.if-next.false) writes.changes ok.1 ok.2 (rw c.id.ensures at c.id.utf8) small c.make_manifest_of.result
+    (next_has_one c.next_file_num-next.ensures c.write_found.ensures.fits c.if-next.false) writes.changes ok.1 ok.2 (rw c.id.ensures at c.id.utf8) c.make_manifest_of.result
     (rw edit_is at c.make_manifest_of.ensures)
