@@ -105,6 +105,8 @@ impl<
         }
     }
 
+    // Each move asks each child for its pair.
+    #[inline(always)]
     fn current(&self) -> Option<(&[u8], &[u8])> {
         match self {
             StoreWalk::Memory(walk) => walk.0.current(),
