@@ -1,4 +1,4 @@
-// Times puts at random in C++ LevelDB, and look-ups after them, as db_bench's fillrandom, overwrite, readupdated, stalls and churn do here.
+// Times puts in C++ LevelDB, and look-ups after them, as db_bench's fillseq, fillrandom, overwrite, readupdated, stalls and churn do here.
 //
 //     theirs ROWS COUNT VALUE_SIZE CACHE_SIZE WRITE_BUFFER_SIZE [FOLDER]     in memory or in FOLDER/theirs; ROWS is fills or churn
 //
@@ -84,19 +84,25 @@ void Rest(leveldb::DB* db) {
   } while (now != before);
 }
 
-// Puts keys in order.
-void FillInOrder(const Bench& bench, uint64_t count) {
-  auto db = Open(bench);
-  char key[16];
-  for (uint64_t number = 0; number < count; ++number) Check(db->Put(leveldb::WriteOptions(), KeyOf(number, key), ValueOf(bench, number)));
-  Rest(db.get());
-}
-
-// What puts at random took, in nanoseconds an operation.
+// What puts took, in nanoseconds an operation.
 struct Puts {
   double took = 1e18;
   double worked = 1e18;
+
+  Puts OrFaster(Puts other) const { return {std::min(took, other.took), std::min(worked, other.worked)}; }
 };
+
+// Puts keys in order.
+Puts FillInOrder(const Bench& bench, uint64_t count) {
+  auto db = Open(bench);
+  char key[16];
+  double worked = Worked();
+  auto start = Clock::now();
+  for (uint64_t number = 0; number < count; ++number) Check(db->Put(leveldb::WriteOptions(), KeyOf(number, key), ValueOf(bench, number)));
+  double took = Since(start);
+  Rest(db.get());
+  return {took / static_cast<double>(count), (Worked() - worked) / static_cast<double>(count)};
+}
 
 Puts PutAtRandom(const Bench& bench) {
   auto db = Open(bench);
@@ -180,20 +186,19 @@ uint64_t Churn(const Bench& bench) {
 void Empty(const Bench& bench) { Check(leveldb::DestroyDB(bench.name, bench.options)); }
 
 void Fills(const Bench& bench) {
-  Puts fill, overwrite;
+  Puts rising, fill, overwrite;
   double read = 1e18, slowest = 1e18;
   for (int round = 0; round < kRounds; ++round) {
     Empty(bench);
-    Puts filled = PutAtRandom(bench);
+    fill = fill.OrFaster(PutAtRandom(bench));
     Empty(bench);
-    FillInOrder(bench, bench.count);
-    Puts overwritten = PutAtRandom(bench);
+    rising = rising.OrFaster(FillInOrder(bench, bench.count));
+    overwrite = overwrite.OrFaster(PutAtRandom(bench));
     read = std::min(read, Get(bench));
     Empty(bench);
     slowest = std::min(slowest, SlowestPut(bench));
-    fill = {std::min(fill.took, filled.took), std::min(fill.worked, filled.worked)};
-    overwrite = {std::min(overwrite.took, overwritten.took), std::min(overwrite.worked, overwritten.worked)};
   }
+  std::printf("fillseq %.0f %.0f\n", rising.took, rising.worked);
   std::printf("fillrandom %.0f %.0f\n", fill.took, fill.worked);
   std::printf("overwrite %.0f %.0f\n", overwrite.took, overwrite.worked);
   std::printf("readupdated %.0f\nstalls %.0f\n", read, slowest);
