@@ -97,7 +97,8 @@ pub fn lives<C: UserCmp + Copy, FP: FilterPolicy + Copy>(
     lives: Vec<Life<C, FP>>,
 ) -> Result<Vec<Report>>
     ensures { ReportsLives ⟦<RecordEnv as Env>⟧ C.Cmp FP.FilterPolicy
-        ⟦<CompressorList as Compressors>⟧.codings name.now lives.items result }
+        ⟦<CompressorList as Compressors>⟧.codings ⟦<InternalKeyCmp<C> as Cmp>⟧
+        ⟦<InternalFilterPolicy<FP> as FilterPolicy>⟧ name.now lives.items result }
 {
     let mut env = RecordEnv::new(alloc);
     let mut reports = Vec::new(alloc);
