@@ -1,8 +1,10 @@
 -- What the program's steps did, put together.
 use Rattle.std.proofs.Common.{◌≡◌, ◌<◌, ◌≤◌, ℕ, Bool, true, List, [], ◌∷◌, ◌++◌, length, drop, get_or, Option, Result, Ok, Err, sym, ap, subst, ◌∙◌, arith}
-use Rattle.std.specs.Prelude.{OnOk, String, false, ◌&&◌, is_some}
+use Rattle.std.specs.Prelude.{OnOk, String, codes, false, ◌&&◌, is_some}
 use Rattle.std.specs.Io.KnownBytes.{Appends}
 use Rattle.std.specs.declared.alloc.Global.{Global}
+use Rattle.std.specs.declared.io.Read.{Ghosts as ReadGhosts}
+use Rattle.std.specs.declared.io.Write.{Ghosts as WriteGhosts}
 use Rattle.std.proofs.Math.Seq.{drop-append_seam}
 use Rattle.leveldb_base.specs.declared.error.Status.{Status}
 use Rattle.leveldb_env.specs.declared.env.Env.{Ghosts}
@@ -15,14 +17,17 @@ use Rattle.leveldb_env.specs.Options.{Boxed, OptionsOf, HasDefaultChoices}
 use Rattle.rusty_leveldb.specs.Engine.{is_size_within, are_within_limits}
 use Rattle.rusty_leveldb.specs.declared.shell.program.Fault.{Fault}
 use Rattle.rusty_leveldb.specs.declared.shell.program.Fault.TheVariants as fault
+use Rattle.rusty_leveldb.specs.declared.shell.program.Task.TheVariants as task
 use Rattle.rusty_leveldb.specs.declared.shell.program.Way.{Way}
-use Rattle.rusty_leveldb.specs.Program.{status_of, ldb_opening, HasRunBy, IsPlayed}
+use Rattle.rusty_leveldb.specs.declared.shell.program.Way.TheVariants as way
+use Rattle.rusty_leveldb.specs.Program.{status_of, ldb_opening, EndsProgram, HasRunBy, IsAnswered, IsFault, IsPlayed, IsStopped, NamesFolder}
 
 -- a fault's status isn't 0
 pub some_status : (one : Fault) → (1 ≤ status_of one) × (status_of one ≤ 2)
 some_status fault.Usage = (omega arith, omega arith)
 some_status (fault.BadLine number) = (omega arith, omega arith)
 some_status fault.TooLong = (omega arith, omega arith)
+some_status (fault.Unread status) = (omega arith, omega arith)
 some_status (fault.Refused status) = (omega arith, omega arith)
 
 -- a list of one element
@@ -80,3 +85,39 @@ default_compresses plain zero = λ i. is_some (plain i (zero i))
 pub asks_so : {codings : Codings} {create exists fits compresses : Bool} → codings ≡ plain_codings → create ≡ true → exists ≡ false → fits ≡ true → compresses ≡ true
     → (record ldb_opening { format = record (ldb_opening.format) { codings = codings }; create_if_missing = create; error_if_exists = exists; fits = fits; compresses = compresses }) ≡ ldb_opening
 asks_so same create exists fits compresses = λ i. record ldb_opening { format = record (ldb_opening.format) { codings = same i }; create_if_missing = create i; error_if_exists = exists i; fits = fits i; compresses = compresses i }
+
+-- ---- the program's end
+
+-- arguments that ask for a repair don't ask for a run
+pub one_task : (args : List (String Global)) (one : Way) (folder other : List ℕ) → NamesFolder args (task.Run one) folder → NamesFolder args task.Repair other → ⊥
+one_task args way.Whole folder other run repairs =
+    let both : folder ∷ [] ≡ codes "--repair" ∷ other ∷ [] = sym run ∙ repairs in omega (arith, ap length both)
+one_task args way.Alone folder other run repairs =
+    let both : codes "--read-only" ∷ folder ∷ [] ≡ codes "--repair" ∷ other ∷ [] = sym run ∙ repairs in
+    let first : 11 ≡ 8 = ap (λ (words : List (List ℕ)). length (get_or words 0 [])) both in omega (arith, first)
+
+module _ {E F I O : Type 0} (env : Ghosts E F) (reads : ReadGhosts I) (writes : WriteGhosts O) (args : List (String Global)) (from : E) (input : I) (out : O) (to : E) (rest : I) (written : O) where
+  -- all was answered
+  pub ends_answered : IsAnswered env args from to (reads.remaining input) (writes.contents out) (writes.contents written)
+      → EndsProgram env reads writes args from input out 0 to rest written
+  ends_answered all = record {
+    answered = λ zero. all;
+    stopped = λ one. absurd (omega (arith, one));
+    untouched = λ two. absurd (omega (arith, two));
+    misasked = λ two. absurd (omega (arith, two));
+    statuses = omega arith;
+  }
+
+  -- or there was a fault
+  pub ends_at_fault : (why : Fault) (status : ℕ) → status ≡ status_of why → (status_of why ≡ 2 → (to ≡ from) × (written ≡ out))
+      → IsStopped env args from to (reads.remaining input) → IsFault args (reads.remaining input) why
+      → EndsProgram env reads writes args from input out status to rest written
+  ends_at_fault why status is still stopped fault_is =
+      let some = some_status why in
+      record {
+        answered = λ zero. absurd (omega (arith, some.0, is, zero));
+        stopped = λ one. stopped;
+        untouched = λ two. still (sym is ∙ two);
+        misasked = λ two. (why, sym is ∙ two, fault_is);
+        statuses = omega (arith, some.1, is);
+      }

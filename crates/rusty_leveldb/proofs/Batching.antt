@@ -1,20 +1,23 @@
 -- Changes that are put together to a batch, and a batch that is refused before it is written.
-use Rattle.std.proofs.Common.{◌≡◌, ◌<◌, ◌+◌, ◌^◌, ◌⊎◌, inl, ⊎_elim, ℕ, List, [], ◌∷◌, ◌++◌, length, take, drop, flat_map, refl, sym, ◌∙◌, ap, subst, arith, Bool, length-append}
+use Rattle.std.proofs.Common.{◌≡◌, ◌<◌, ◌≤◌, ◌+◌, ◌^◌, ◌⊎◌, inl, ⊎_elim, ℕ, List, [], ◌∷◌, ◌++◌, length, take, drop, flat_map, refl, sym, ◌∙◌, ap, subst, arith, Bool, length-append}
 use Rattle.std.specs.Prelude.{map}
 use Rattle.std.proofs.Math.ListN.{get_or}
 use Rattle.std.proofs.lemmas.List.{map-append, take_more, take-append-drop}
+use Rattle.std.proofs.lemmas.Bool.{cases_lt}
 use Rattle.std.proofs.lemmas.List.Concat.{flat_map-append}
+use Rattle.std.proofs.lemmas.List.Elements.{All-contains}
 use Rattle.leveldb_base.specs.declared.error.Status.{Status}
 use Rattle.leveldb_base.specs.declared.error.StatusCode.TheVariants.{InvalidArgument}
 use Rattle.leveldb_base.specs.Error.{IsOutOfMemory, text_of}
 use Rattle.leveldb_base.specs.History.{Item}
 use Rattle.leveldb_env.specs.declared.env.Env.{Ghosts}
-use Rattle.leveldb_mem.specs.WriteBatch.{Batch, with_item, change_bytes, batch_bytes, IsTooLong}
-use Rattle.leveldb_mem.proofs.WriteBatchLemmas.{length-batch_bytes}
+use Rattle.leveldb_mem.specs.WriteBatch.{Batch, BatchOf, IsShort, with_item, change_bytes, batch_bytes, max_length, IsTooLong}
+use Rattle.leveldb_mem.proofs.WriteBatchLemmas.{items_short, length-batch_bytes}
 use Rattle.rusty_leveldb.specs.declared.shell.commands.Item as item
 use Rattle.rusty_leveldb.specs.Shell.{change_of}
 use Rattle.rusty_leveldb.specs.State.{open_mode, write, refused}
 use Rattle.rusty_leveldb.specs.Causes.{Setting, out_of_memory, bad_operand, IsLongBatch}
+use Rattle.rusty_leveldb.specs.Laws.{LongItemMakesLongBatch}
 use Rattle.rusty_leveldb.specs.Machine.{Keeps, Step}
 use Rattle.rusty_leveldb.specs.Serves.{setting_between, refusal_of}
 use Rattle.rusty_leveldb.specs.Engine.{AnswersStill}
@@ -40,6 +43,22 @@ too_long_among batch items i one below is so_far long =
     let all : map change_of items ≡ (batch.items ++ change_of one ∷ []) ++ map change_of (drop (i + 1) items) =
     ap (map change_of) (sym (take-append-drop (i + 1) items)) ∙ map-append change_of (take (i + 1) items) (drop (i + 1) items) ∙ ap (λ xs. xs ++ map change_of (drop (i + 1) items)) front in
     subst IsLongBatch (sym all) (longer_too batch.first (batch.items ++ change_of one ∷ []) (map change_of (drop (i + 1) items)) long)
+
+-- ---- the limit
+
+-- a batch that there is isn't too long
+pub not_too_long : (bytes : List ℕ) (first : ℕ) (items : List Item) → BatchOf bytes first items → IsLongBatch items → ⊥
+not_too_long bytes first items is long =
+    omega (arith, long, is.limited, ap length is.encoded, length-batch_bytes first items, length-batch_bytes 0 items)
+
+-- one with an item that is too long is
+pub long_item : LongItemMakesLongBatch
+long_item items one among long = ⊎_elim
+    (λ (past : max_length < length (batch_bytes 0 items)). past)
+    (λ (within : length (batch_bytes 0 items) ≤ max_length).
+    absurd (long (All-contains IsShort items one
+    (items_short (batch_bytes 0 items) 0 items (record { encoded = refl; numbered = omega arith; limited = within })) among)))
+    (cases_lt max_length (length (batch_bytes 0 items)))
 
 -- ---- a batch that isn't written
 

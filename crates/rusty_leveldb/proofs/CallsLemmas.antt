@@ -145,6 +145,7 @@ module _ {E C FP F P : Type 0} {B : Boxed} {keys : InternalOrder C} {key_filters
           err = row.1;
           step = step;
           halted = λ halted. by_mode;
+          misfit = λ opened long. absurd (not_refused before.mode status opened why);
           written = tt;
           waits = tt;
           logs = tt;

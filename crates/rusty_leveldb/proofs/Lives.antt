@@ -34,7 +34,7 @@ use Rattle.rusty_leveldb.specs.Lives.{IsLife, with_name, ending_of, IsCrash, IsH
 use Rattle.leveldb_version.proofs.SafeLemmas.{front_honest}
 use Rattle.rusty_leveldb.proofs.ReadsLemmas.{nothing_stands}
 use Rattle.leveldb_env.specs.Options.{Boxed}
-use Rattle.rusty_leveldb.specs.Boxes.{LifeOf}
+use Rattle.rusty_leveldb.specs.Boxes.{InternalOrder, LifeOf}
 use Rattle.leveldb_version.specs.Format.{Meaning, Agrees, format_of}
 
 -- ---- moments from a life's start
@@ -68,11 +68,11 @@ between_calls device moment files stood even = record {
 
 -- ---- one life more
 
-module _ {C FP : Type 0} {B : Boxed} (cmp : CmpGhosts C) (filters : FilterGhosts FP) (codings : CompressorList B.compressors B.compressor → Codings) (store : List ℕ) (Crash : RecordEnv → ℕ → Pick → RecordEnv → Type 0) where
+module _ {C FP : Type 0} {B : Boxed} (cmp : CmpGhosts C) (filters : FilterGhosts FP) (codings : CompressorList B.compressors B.compressor → Codings) (keys : InternalOrder C) (key_filters : FilterGhosts FP) (store : List ℕ) (Crash : RecordEnv → ℕ → Pick → RecordEnv → Type 0) where
   -- one life after others
-  pub reports_more : (device : RecordEnv) (lives : List (LifeOf C FP B)) (reports : List Report) (mid to end : RecordEnv) (life : LifeOf C FP B) (report : Report) → AreReports ghosts cmp filters codings store Crash device lives reports mid
-      → IsLifeOn ghosts cmp filters codings store mid life report to → IsNextDevice Crash (moment_of mid) life.moment life.pick to end → AreReports ghosts cmp filters codings store Crash device (lives ++ life ∷ []) (reports ++ report ∷ []) end
-  reports_more device [] [] mid to end life report are is next = subst (λ d. AreReports ghosts cmp filters codings store Crash d (life ∷ []) (report ∷ []) end) are (to, is, end, next, refl)
+  pub reports_more : (device : RecordEnv) (lives : List (LifeOf C FP B)) (reports : List Report) (mid to end : RecordEnv) (life : LifeOf C FP B) (report : Report) → AreReports ghosts cmp filters codings keys key_filters store Crash device lives reports mid
+      → IsLifeOn ghosts cmp filters codings keys key_filters store mid life report to → IsNextDevice Crash (moment_of mid) life.moment life.pick to end → AreReports ghosts cmp filters codings keys key_filters store Crash device (lives ++ life ∷ []) (reports ++ report ∷ []) end
+  reports_more device [] [] mid to end life report are is next = subst (λ d. AreReports ghosts cmp filters codings keys key_filters store Crash d (life ∷ []) (report ∷ []) end) are (to, is, end, next, refl)
   reports_more device (one ∷ lives) (first ∷ reports) mid to end life report are is next = (are.0, are.1, are.2, are.3, reports_more are.2 lives reports mid to end life report are.4 is next)
   reports_more device [] (first ∷ reports) mid to end life report are is next = absurd are
   reports_more device (one ∷ lives) [] mid to end life report are is next = absurd are
@@ -111,13 +111,13 @@ opens_so store fits wanted name_fits = record {
   );
 }
 
-module _ {C FP : Type 0} {B : Boxed} (cmp : CmpGhosts C) (filters : FilterGhosts FP) (codings : CompressorList B.compressors B.compressor → Codings) (store : List ℕ) (fits : Bool) (meaning : Meaning) where
+module _ {C FP : Type 0} {B : Boxed} (cmp : CmpGhosts C) (filters : FilterGhosts FP) (codings : CompressorList B.compressors B.compressor → Codings) (keys : InternalOrder C) (key_filters : FilterGhosts FP) (store : List ℕ) (fits : Bool) (meaning : Meaning) where
   abbrev RunFrom : List (LifeOf C FP B) → List Report → RecordEnv → State → Type 0
-  RunFrom lives reports device old = (of_machine : List machine.Life) × AreLivesOf ghosts cmp filters codings store fits lives reports of_machine × (failures : ℕ) × (last : State) × Lives meaning (failures_of device) old of_machine failures last
+  RunFrom lives reports device old = (of_machine : List machine.Life) × AreLivesOf ghosts cmp filters codings keys key_filters store fits lives reports of_machine × (failures : ℕ) × (last : State) × Lives meaning (failures_of device) old of_machine failures last
 
   -- one life, and what comes after it
   module _ (name_fits : IsTrue fits ↔ IsStoreName store) (device to next : RecordEnv) (life : LifeOf C FP B) (lives : List (LifeOf C FP B)) (report : Report) (reports : List Report) (old : State) (stands : Stands store meaning device old)
-      (agrees : Agrees (format_of cmp filters codings life.options) meaning) (is : IsLifeOn ghosts cmp filters codings store device life report to) (rest : (then : State) → Stands store meaning next then → RunFrom lives reports next then) where
+      (agrees : Agrees (format_of cmp filters codings life.options) meaning) (is : IsLifeOn ghosts cmp filters codings keys key_filters store device life report to) (rest : (then : State) → Stands store meaning next then → RunFrom lives reports next then) where
     abbrev start : ℕ
     start = moment_of device
 
@@ -141,7 +141,7 @@ module _ {C FP : Type 0} {B : Boxed} (cmp : CmpGhosts C) (filters : FilterGhosts
     again = subst (λ ms. map (λ m. start + m) (map (λ m. m - start) ms) ≡ ms) lived.run.asked.moments_are
         (moments_again start lived.run.events (subst (λ n. All (λ (event : Event). n ≤ event.moment) lived.run.events) same_start lived.run.since))
 
-    life_of : IsLifeOf ghosts cmp filters codings store fits life report of_life
+    life_of : IsLifeOf ghosts cmp filters codings keys key_filters store fits life report of_life
     life_of = record {
       requests = lived.requests;
       answers = lived.answers;
@@ -181,7 +181,7 @@ module _ {C FP : Type 0} {B : Boxed} (cmp : CmpGhosts C) (filters : FilterGhosts
         ((failures_of to, lived.run.new, stopped), crash.fresh.failures))
 
   pub lives_run : (IsTrue fits ↔ IsStoreName store) → (device : RecordEnv) (lives : List (LifeOf C FP B)) (reports : List Report) (end : RecordEnv) (old : State) → All (λ life. Agrees (format_of cmp filters codings life.options) meaning) lives → Stands store meaning device old
-      → AreReports ghosts cmp filters codings store (IsHonestCrash store) device lives reports end → RunFrom lives reports device old
+      → AreReports ghosts cmp filters codings keys key_filters store (IsHonestCrash store) device lives reports end → RunFrom lives reports device old
   lives_run name_fits device [] [] end old agree stands are = ([], tt, failures_of device, old, (refl, refl))
   lives_run name_fits device (life ∷ lives) (report ∷ reports) end old agree stands are =
       by_end name_fits device are.0 are.2 life lives report reports old stands (All-head (λ (one : LifeOf C FP B). Agrees (format_of cmp filters codings one.options) meaning) life lives agree) are.1
@@ -205,20 +205,20 @@ honest_next store start (Some moment) pick to next none crash =
 
 -- ---- from an empty device on
 
-module _ {C FP : Type 0} {B : Boxed} (cmp : CmpGhosts C) (filters : FilterGhosts FP) (codings : CompressorList B.compressors B.compressor → Codings) (store : List ℕ) where
-  one_run : (lives : List (LifeOf C FP B)) (reports : List Report) → AreReportsFromNone ghosts cmp filters codings store (IsHonestCrash store) lives reports → AreOneRun ghosts cmp filters codings store lives reports
+module _ {C FP : Type 0} {B : Boxed} (cmp : CmpGhosts C) (filters : FilterGhosts FP) (codings : CompressorList B.compressors B.compressor → Codings) (keys : InternalOrder C) (key_filters : FilterGhosts FP) (store : List ℕ) where
+  one_run : (lives : List (LifeOf C FP B)) (reports : List Report) → AreReportsFromNone ghosts cmp filters codings keys key_filters store (IsHonestCrash store) lives reports → AreOneRun ghosts cmp filters codings keys key_filters store lives reports
   one_run lives reports are format fits name_fits meaning agree =
       let first = are.1.first in
       let fresh = are.1.fresh in
       let bare : HasNoStore store (files_in first) = record { no_current = are.1.empty _; no_table = λ name n is. are.1.empty _; no_log = λ name n is. are.1.empty _ } in
       let bytes : AppendedAreBytes (files_in first) = λ name file is. absurd (let never : None ≡ Some file = sym (are.1.empty name) ∙ is in cc) in
       let stands : StandsFor store meaning (record_observed first).disk (new_state format) = nothing_stands store meaning format (record_observed first).disk bare bytes (fresh.free _) in
-      let all = lives_run cmp filters codings store fits meaning name_fits first lives reports are.0 (new_state format) agree (record { disk_is = stands; memory_is = refl }) are.1.reports_are in
+      let all = lives_run cmp filters codings keys key_filters store fits meaning name_fits first lives reports are.0 (new_state format) agree (record { disk_is = stands; memory_is = refl }) are.1.reports_are in
       (all.0, all.1, all.2, all.3, subst (λ n. Lives meaning n (new_state format) all.0 all.2 all.3) fresh.failures all.4)
 
   -- so lives without tails are honest
   honest_lives : (device : RecordEnv) (lives : List (LifeOf C FP B)) (reports : List Report) (end : RecordEnv) → All (λ life. life.pick.tails.items ≡ []) lives
-      → AreReports ghosts cmp filters codings store IsCrash device lives reports end → AreReports ghosts cmp filters codings store (IsHonestCrash store) device lives reports end
+      → AreReports ghosts cmp filters codings keys key_filters store IsCrash device lives reports end → AreReports ghosts cmp filters codings keys key_filters store (IsHonestCrash store) device lives reports end
   honest_lives device [] [] end none are = are
   honest_lives device (life ∷ lives) (report ∷ reports) end none are = (
     are.0,
@@ -232,7 +232,7 @@ module _ {C FP : Type 0} {B : Boxed} (cmp : CmpGhosts C) (filters : FilterGhosts
 
   -- ---- what is returned
 
-  pub all_reported : (lives : List (LifeOf C FP B)) (reports : Vec Report Global) → AreReportsFromNone ghosts cmp filters codings store IsCrash lives reports.items → ReportsLives ghosts cmp filters codings store lives (Ok reports)
+  pub all_reported : (lives : List (LifeOf C FP B)) (reports : Vec Report Global) → AreReportsFromNone ghosts cmp filters codings keys key_filters store IsCrash lives reports.items → ReportsLives ghosts cmp filters codings keys key_filters store lives (Ok reports)
   all_reported lives reports are = record {
     reports = are;
     run = one_run lives reports.items;
@@ -240,7 +240,7 @@ module _ {C FP : Type 0} {B : Boxed} (cmp : CmpGhosts C) (filters : FilterGhosts
     error = tt;
   }
 
-  pub fails_for : (lives : List (LifeOf C FP B)) (e : Status) → IsOutOfMemory e ⊎ ((e.code ≡ InvalidArgument) × HasNoCrash ghosts cmp filters codings store lives) → ReportsLives ghosts cmp filters codings store lives (Err e)
+  pub fails_for : (lives : List (LifeOf C FP B)) (e : Status) → IsOutOfMemory e ⊎ ((e.code ≡ InvalidArgument) × HasNoCrash ghosts cmp filters codings keys key_filters store lives) → ReportsLives ghosts cmp filters codings keys key_filters store lives (Err e)
   fails_for lives e cause = record { reports = tt; run = tt; kept = tt; error = cause }
 
 -- the device that comes next, by whether the life has a crash

@@ -10,8 +10,8 @@ use Rattle.rusty_leveldb.specs.declared.shell.crash_runs.Report.{Report}
 use Rattle.rusty_leveldb.specs.State.{State, Snapshot, Opening, open_store, abandon, Answer, done, refused}
 use Rattle.rusty_leveldb.specs.Serves.{Represents, refusal_of}
 use Rattle.rusty_leveldb.specs.Engine.{Recalls, Answers, IsOpening, no_engine}
-use Rattle.rusty_leveldb.specs.Shell.{AreAsked, AnswersCommand, Turn}
-use Rattle.rusty_leveldb.proofs.Turns.{AreTurnsOf, requests_in, answers_in, turn_of, turns_of_none, turns_of_more, turns_asked, requests_more, answers_more}
+use Rattle.rusty_leveldb.specs.Shell.{AreAsked, Turn}
+use Rattle.rusty_leveldb.proofs.Turns.{AnswersCommand, AreTurnsOf, requests_in, answers_in, turn_of, turns_of_none, turns_of_more, turns_asked, requests_more, answers_more}
 use Rattle.rusty_leveldb.specs.Lives.{requests_of, answers_of, moments_of, IsAlwaysLife}
 use Rattle.rusty_leveldb.proofs.Playing.{LeadsAt, OnlyNow, OpensAs, no_other, first_at, next_one, at_none}
 use Rattle.leveldb_env.specs.Options.{Boxed, OptionsOf}

@@ -23,8 +23,8 @@ use Rattle.rusty_leveldb.proofs.Crashes.{crash_between, crash_inside}
 use Rattle.rusty_leveldb.proofs.Others.{spares_still, spares_own, others_then}
 use Rattle.rusty_leveldb.specs.Frame.{IsOwn}
 use Rattle.leveldb_base.specs.Error.{IsOutOfMemory}
-use Rattle.rusty_leveldb.specs.Shell.{Plays, HasRun, AnswersCommand, Turn}
-use Rattle.rusty_leveldb.proofs.Turns.{AreTurnsOf, requests_in, answers_in, turn_of, turns_of_none, turns_of_more, turns_asked, requests_more, answers_more}
+use Rattle.rusty_leveldb.specs.Shell.{Plays, HasRun, Turn}
+use Rattle.rusty_leveldb.proofs.Turns.{AnswersCommand, AreTurnsOf, requests_in, answers_in, turn_of, turns_of_none, turns_of_more, turns_asked, requests_more, answers_more}
 use Rattle.leveldb_env.specs.Options.{Boxed, OptionsOf}
 use Rattle.rusty_leveldb.specs.Boxes.{EngineOf, InternalOrder}
 use Rattle.leveldb_version.specs.Format.{Format, Meaning, Agrees}

@@ -125,19 +125,17 @@ module _ {E C FP F : Type 0} {B : Boxed} (keys : InternalOrder C) (env : Ghosts 
         → HasReadAlone env store asked commands from given (Ok tt) to
     read_run first commands given last to asked_is opens done = record {
       answers = λ modelled meaning agrees old stands.
-          let found = opens.finds modelled meaning agrees old stands in
-          let n = first.store.set.last_sequence in
-          let same : formats (reader_options first) ≡ asked.format =
-          ap formats opens.options_are ∙ asked_is in (
+          let found = opens.finds modelled meaning agrees old stands in (
             found.0,
-            n,
+            first.store.set.last_sequence,
             found.1,
-            subst (λ (k : ℕ). AreAnsweredAlone meaning (opened_state asked.format found.0 n) k commands
-                given (env.failures to)) opens.counts
-                (subst (λ (f : Format). AreAnsweredAlone meaning (opened_state f found.0 n)
-                (env.failures opened) commands given (env.failures to)) same
-                (done.answers modelled meaning found.0 found.2)),
+            answered modelled meaning found.0 found.2,
           );
+      reads = λ modelled meaning agrees history last is.
+          let read = opens.reads modelled meaning agrees history last is in
+          subst (λ (n : ℕ). AreAnsweredAlone meaning (opened_state asked.format history n)
+          (env.failures from) commands given (env.failures to)) read.0
+          (answered modelled meaning history read.1);
       others = done.others;
       none = tt;
       still = record {
@@ -148,6 +146,22 @@ module _ {E C FP F : Type 0} {B : Boxed} (keys : InternalOrder C) (env : Ghosts 
       missing = opens.missing;
       misnamed = λ no. absurd (opens.misnamed no).1;
     }
+      where
+        same : formats (reader_options first) ≡ asked.format
+        same = ap formats opens.options_are ∙ asked_is
+
+        answered : IsTrue env.models_disk → (meaning : Meaning) (history : History)
+            → ReadsHistory keys env formats meaning first (files_at env opened) history
+            → AreAnsweredAlone meaning
+            (opened_state asked.format history first.store.set.last_sequence) (env.failures from)
+            commands given (env.failures to)
+        answered modelled meaning history reads =
+            subst (λ (k : ℕ). AreAnsweredAlone meaning
+            (opened_state asked.format history first.store.set.last_sequence) k commands given
+            (env.failures to)) opens.counts
+            (subst (λ (f : Format). AreAnsweredAlone meaning
+            (opened_state f history first.store.set.last_sequence) (env.failures opened) commands
+            given (env.failures to)) same (done.answers modelled meaning history reads))
 
     -- it wasn't opened
     pub unread_run : (commands : List Command) (given : List Reply) (e : Status) → given ≡ []
@@ -155,6 +169,7 @@ module _ {E C FP F : Type 0} {B : Boxed} (keys : InternalOrder C) (env : Ghosts 
         → HasReadAlone env store asked commands from given (Err e) opened
     unread_run commands given e none opens = record {
       answers = tt;
+      reads = tt;
       others = tt;
       none = none;
       still = opens.still;
@@ -168,6 +183,7 @@ pub starved_run : {E F : Type 0} (env : Ghosts E F) (store : List ℕ) (asked : 
     → HasReadAlone env store asked commands from given (Err e) from
 starved_run env store asked commands from given e none = record {
   answers = tt;
+  reads = tt;
   others = tt;
   none = none;
   still = disk_still env from;

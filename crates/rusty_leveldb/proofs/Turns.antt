@@ -1,11 +1,29 @@
 -- Commands as requests, one turn after another.
-use Rattle.std.proofs.Common.{◌≡◌, List, [], ◌∷◌, ◌++◌, append-nil, append_assoc, refl, sym, ◌∙◌, ap, subst}
+use Rattle.std.proofs.Common.{◌≡◌, List, [], ◌∷◌, ◌++◌, append-nil, append_assoc, refl, sym, ◌∙◌, ap, subst, Some}
 use Rattle.std.specs.Prelude.{map}
 use Rattle.std.proofs.lemmas.List.{map-append}
+use Rattle.leveldb_env.specs.Options.{Boxed, OptionsOf}
+use Rattle.leveldb_env.specs.declared.env.Env.{Ghosts}
+use Rattle.leveldb_version.specs.Format.{Format}
+use Rattle.rusty_leveldb.specs.Boxes.{EngineOf, InternalOrder}
+use Rattle.rusty_leveldb.specs.Engine.{Answers}
 use Rattle.rusty_leveldb.specs.declared.shell.commands.Command.{Command}
 use Rattle.rusty_leveldb.specs.declared.shell.commands.Reply.{Reply}
 use Rattle.rusty_leveldb.specs.State.{Answer, Request, Snapshot}
 use Rattle.rusty_leveldb.specs.Shell.{request_of, IsReplyOf, given_by, Turn, IsTurn, AreTurns, AreAsked}
+
+-- One command over an engine, after these snapshots were given out: it becomes a request, whose
+-- answer the reply tells; and those that were given out then.
+pub record AnswersCommand {E C FP F : Type 0} {B : Boxed} (keys : InternalOrder C)
+    (env : Ghosts E F) (formats : OptionsOf C FP B → Format) (before : EngineOf E C FP F B)
+    (from : E)
+    (taken : List Snapshot) (command : Command) (reply : Reply) (after : EngineOf E C FP F B)
+    (to : E) (left : List Snapshot) : Type 0 where
+  pub answer : Answer
+  pub tells : IsReplyOf taken reply answer
+  pub left_is : left ≡ taken ++ given_by answer
+  pub step : Answers keys env formats (Some before) from (request_of taken command) answer
+      (Some after) to
 
 -- the snapshots that turns gave out
 abbrev pub given_out : List Turn → List Snapshot

@@ -11,18 +11,14 @@ use Rattle.leveldb_iter.specs.declared.snapshot.Snapshot.{Snapshot as HeldSnapsh
 use Rattle.leveldb_store.specs.BuildTable.{TableChoices}
 use Rattle.rusty_leveldb.specs.Boxes.{EngineOf, InternalOrder}
 use Rattle.rusty_leveldb.specs.Causes.{IsNotHeld}
-use Rattle.rusty_leveldb.specs.Engine.{RefusedAsClosed, formats_of, held_in}
+use Rattle.rusty_leveldb.specs.Engine.{RefusedAsClosed, held_in}
 use Rattle.rusty_leveldb.specs.Serves.{snapshot_of}
 use Rattle.rusty_leveldb.specs.State as machine
 use Rattle.rusty_leveldb.specs.State.{Snapshot}
-use Rattle.rusty_leveldb.specs.Views.{RefusesUnknown, no_snapshot}
-use Rattle.rusty_leveldb.proofs.ReadingLemmas.{get_closed, get_misfit}
+use Rattle.rusty_leveldb.specs.Views.{RefusesUnknown, never_held, no_snapshot}
+use Rattle.rusty_leveldb.proofs.CallsLemmas.{get_closed_serves, get_misfit_serves}
 use Rattle.rusty_leveldb.proofs.SnapshotLemmas.{closed_releases, releases_none}
-use Rattle.rusty_leveldb.proofs.WalkingLemmas.{walk_closed, walk_unheld}
-
--- that snapshot, as a list holds one
-abbrev never_held : HeldSnapshot
-never_held = record { number = 0; sequence = 2 ^ 64 }
+use Rattle.rusty_leveldb.proofs.WalkCallLemmas.{walk_closed_serves, walk_unheld_serves}
 
 -- it is held by no list whose numbers are of 64 bits
 pub unknown_unheld : (held : List HeldSnapshot) (newest : ℕ) → IsNewest held newest → newest < 2 ^ 64
@@ -40,19 +36,18 @@ module _ {E C FP F P : Type 0} {B : Boxed} {keys : InternalOrder C} {key_filters
   pub unknown_closed : RefusedAsClosed engine.mode status
       → RefusesUnknown env choices engine status
   unknown_closed out = record {
-    get_at = λ key. get_closed env (formats_of choices) engine (Some no_snapshot) key status out;
-    release = λ at. (closed_releases env choices engine never_held status at out).step;
-    walk = λ moves. walk_closed keys env (formats_of choices) engine (Some no_snapshot) moves status out;
+    get_at = λ key at. get_closed_serves env choices engine (Some no_snapshot) key at status out;
+    release = λ at. closed_releases env choices engine never_held status at out;
+    walk = λ moves at. walk_closed_serves env choices engine (Some no_snapshot) moves at status out;
   }
 
   -- one that isn't
   pub unknown_refused : (engine.mode ≡ machine.closed → ⊥) → status.code ≡ InvalidArgument
       → IsNotHeld (held_in engine) (Some no_snapshot) → RefusesUnknown env choices engine status
   unknown_refused usable code unheld = record {
-    get_at = λ key. get_misfit env (formats_of choices) engine (Some no_snapshot) key usable status
+    get_at = λ key at. get_misfit_serves env choices engine (Some no_snapshot) key at usable status
         code (inl unheld);
-    release = λ at. (releases_none env choices engine usable never_held status at
-        (code, unheld)).step;
-    walk = λ moves. walk_unheld keys env (formats_of choices) engine (Some no_snapshot) moves usable
+    release = λ at. releases_none env choices engine usable never_held status at (code, unheld);
+    walk = λ moves at. walk_unheld_serves env choices engine (Some no_snapshot) moves at usable
         status code unheld;
   }

@@ -23,7 +23,7 @@ use Rattle.rusty_leveldb.specs.Boxes.{EngineOf, InternalOrder}
 use Rattle.rusty_leveldb.specs.EngineValue.{FollowsStore}
 use Rattle.rusty_leveldb.specs.Room.{EngineMakesRoom, LogsRoom, KeepsOrCompacts, entries_added}
 use Rattle.rusty_leveldb.specs.Calls.{AppendsNothing, EngineWrites, IsMemtableFull, KeepsMemory, KeepsModeOrBreaks, OneWaitsAtMost, WritesIntoRoom}
-use Rattle.rusty_leveldb.specs.Causes.{AreUsedUp}
+use Rattle.rusty_leveldb.specs.Causes.{AreUsedUp, IsLongBatch}
 use Rattle.rusty_leveldb.specs.Engine.{empty_memtable, Answers, IsBroken, WriteExcused, options_in, formats_of, tables_by}
 use Rattle.rusty_leveldb.specs.Serves.{done_or}
 use Rattle.rusty_leveldb.specs.State as machine
@@ -100,6 +100,12 @@ module _ {E C FP F P : Type 0} {B : Boxed} {keys : InternalOrder C} {key_filters
         err = row.1;
         step = step;
         halted = λ halted. absurd (not_halted before.mode opened halted);
+        misfit = λ is long. (
+          refl,
+          refl,
+          ⊎_elim (λ (memory : IsOutOfMemory status). inr memory)
+              (λ (past : (status.code ≡ InvalidArgument) × IsLongBatch items). inl past.0) why,
+        );
         written = tt;
         waits = tt;
         logs = tt;
@@ -126,7 +132,8 @@ module _ {E C FP F P : Type 0} {B : Boxed} {keys : InternalOrder C} {key_filters
       (λ (broke : (after.mode ≡ machine.broken) × (IsUnbroken after.store → ⊥)). inl broke.0)
       follows
 
-  module _ (ignores : (a b : OptionsOf C FP B) → TellsOnly a b → formats b ≡ formats a) where
+  module _ (ignores : (a b : OptionsOf C FP B) → TellsOnly a b → formats b ≡ formats a)
+      (fits : IsLongBatch items → ⊥) where
     -- no room is made
     pub room_fails_serves : (after : EngineOf E C FP F B) (to : E) (status : Status)
         → EngineMakesRoom env choices before from (Err status) after to
@@ -138,6 +145,7 @@ module _ {E C FP F P : Type 0} {B : Boxed} {keys : InternalOrder C} {key_filters
           err = row.1;
           step = step;
           halted = λ halted. absurd (not_halted before.mode opened halted);
+          misfit = λ is long. absurd (fits long);
           written = tt;
           waits = tt;
           logs = tt;
@@ -403,6 +411,7 @@ module _ {E C FP F P : Type 0} {B : Boxed} {keys : InternalOrder C} {key_filters
             err = row.1;
             step = stepped;
             halted = λ halted. absurd (not_halted before.mode opened halted);
+            misfit = λ is long. absurd (fits long);
             written = batch_written result writes_in;
             waits = batch_waits result writes_in;
             logs = batch_logs result writes_in;

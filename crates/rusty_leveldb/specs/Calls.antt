@@ -31,6 +31,7 @@ use Rattle.leveldb_store.specs.Written.{KeepsGivenTables}
 use Rattle.leveldb_version.specs.Batches.{Each}
 use Rattle.leveldb_version.specs.Format.{Format, IsTableFault, Meaning, Agrees}
 use Rattle.leveldb_version.specs.Overlap.{named_range}
+use Rattle.rusty_leveldb.specs.Causes.{IsLongBatch}
 use Rattle.rusty_leveldb.specs.State.{Opening, Request, Snapshot, State, open_mode, open_store, write, get, get_snapshot, release_snapshot, flush, compact_range, close, abandon}
 use Rattle.rusty_leveldb.specs.Serves.{AreReadAs, done_or, found_or, given_engine, snapshot_of, snapshot_or}
 use Rattle.rusty_leveldb.specs.Engine.{IsClosed, IsBroken, IsClosedOrBroken, ReadsAt, RefusedByMode, AnswersAs, Answers, WriteExcused, SyncExcused, CloseExcused, CompactExcused, GetExcused, GetFails, SnapshotExcused, ReleaseExcused, WalkExcused, IsStoreName, IsOpening, HasOwnLock, formats_of, holds_lock, options_in, tables_by}
@@ -175,6 +176,10 @@ module _ {E C FP F P : Type 0} {B : Boxed} {keys : InternalOrder C} {key_filters
         (done_or result) (Some after) to
     -- over any environment: a closed or broken store refuses it, and nothing changes
     pub halted : IsClosedOrBroken before.mode → IsRefusedByMode before from result after to
+    -- so does an open one where the batch is too long, as it is where a key or a value of it is: no
+    -- room is made for it, in memory or in files
+    pub misfit : before.mode ≡ open_mode → IsLongBatch items → (to ≡ from) × (after ≡ before)
+        × IsErrAnd result (λ e. (e.code ≡ InvalidArgument) ⊎ IsOutOfMemory e)
     -- Ok leaves the mode, and the batch is in the memtable, which had room
     pub written : OnOk result ((after.mode ≡ before.mode) × WritesIntoRoom before items after)
     pub waits : OnOk result (OneWaitsAtMost before after)

@@ -5,6 +5,7 @@ use Rattle.leveldb_base.specs.History.{Item, Entry, History, IsPlaced, IsView, R
 use Rattle.leveldb_base.specs.Types.{Pair}
 use Rattle.leveldb_env.specs.declared.env.Env.{Ghosts}
 use Rattle.leveldb_env.specs.Env.{Files, Disk, FilesCrashTo, DiskCrashesTo, Since}
+use Rattle.leveldb_mem.specs.WriteBatch.{IsShort}
 use Rattle.leveldb_version.specs.Paths.{lock_path}
 use Rattle.leveldb_version.specs.Contents.{Contents}
 use Rattle.leveldb_version.specs.Format.{Format, Meaning}
@@ -74,6 +75,11 @@ RefusalHasCause = (setting : Setting) (old new : State)
     → ((cause : Cause) × Comes setting old request refusal cause)
     ⊎ ((old.mode ≡ closed) × IsClosedRefusal refusal)
     ⊎ ((old.mode ≡ broken) × IsBrokenRefusal refusal)
+
+-- a batch is too long where a key or a value of one of its items is
+abbrev pub LongItemMakesLongBatch : Type 0
+LongItemMakesLongBatch = (items : List Item) (one : Item) → Contains items one
+    → (IsShort one → ⊥) → IsLongBatch items
 
 -- ---- states whose numbers fit
 

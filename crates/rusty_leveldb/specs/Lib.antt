@@ -25,6 +25,7 @@ pub mod Repair
 pub mod RepairLaws
 pub mod CompactionLaws
 pub mod Shell
+pub mod RunCalls
 pub mod RunAlone
 pub mod Lives
 pub mod Language

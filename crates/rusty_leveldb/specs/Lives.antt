@@ -27,7 +27,9 @@ use Rattle.rusty_leveldb.specs.Serves.{Represents, Runs, recalls_nothing, IsConv
 use Rattle.rusty_leveldb.specs.Engine.{scene, IsStoreName, IsOpening, opening_of}
 use Rattle.rusty_leveldb.specs.Shell.{AreAsked}
 use Rattle.leveldb_env.specs.Options.{Boxed}
-use Rattle.rusty_leveldb.specs.Boxes.{LifeOf}
+use Rattle.leveldb_store.specs.BuildTable.{choices_of}
+use Rattle.rusty_leveldb.specs.Boxes.{InternalOrder, LifeOf}
+use Rattle.rusty_leveldb.specs.RunCalls.{LivesByCalls}
 
 -- ---- a report
 
@@ -123,7 +125,7 @@ with_name named asked = record asked { fits = named && asked.fits }
 
 module _ {C FP F : Type 0} {B : Boxed} (env : Ghosts RecordEnv F) (cmp : CmpGhosts C)
     (filters : FilterGhosts FP) (codings : CompressorList B.compressors B.compressor → Codings)
-    (store : List ℕ) where
+    (keys : InternalOrder C) (key_filters : FilterGhosts FP) (store : List ℕ) where
   -- the report of one life on this device, where the call that the life names was chosen to fail, 0
   -- being none
   pub record IsLifeOn (device : RecordEnv) (life : LifeOf C FP B) (report : Report)
@@ -133,6 +135,9 @@ module _ {C FP F : Type 0} {B : Boxed} (env : Ghosts RecordEnv F) (cmp : CmpGhos
     pub failing : (fails_in from, fails_done from) ≡ unwrap_or life.fail (0, false)
     pub life_is : IsAlwaysLife env store from (opening_of cmp filters codings life.options)
         life.commands.items report to
+    pub calls : LivesByCalls env (choices_of cmp filters keys key_filters codings) store
+        life.options (opening_of cmp filters codings life.options) life.commands.items from report
+        to
 
   -- the reports of lives one after another with crashes of this kind, from this device to that
   abbrev pub AreReports : (RecordEnv → ℕ → Pick → RecordEnv → Type 0) → RecordEnv

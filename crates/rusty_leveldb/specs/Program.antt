@@ -2,6 +2,8 @@
 use Rattle.std.specs.Prelude.{◌≡◌, ◌⊎◌, ◌<◌, ◌≤◌, ◌^◌, ℕ, List, [], ◌∷◌, ◌++◌, length, map, Option, Result, Ok, IfSome, true, String, string_bytes, false, codes}
 use Rattle.std.specs.Io.KnownBytes.{Appends}
 use Rattle.std.specs.declared.alloc.Global.{Global}
+use Rattle.std.specs.declared.io.Read.{Ghosts as ReadGhosts}
+use Rattle.std.specs.declared.io.Write.{Ghosts as WriteGhosts}
 use Rattle.leveldb_base.specs.Cmp.{bytewise}
 use Rattle.leveldb_base.specs.contracts.cmp.DefaultCmp.{the_row as default_row}
 use Rattle.leveldb_base.specs.contracts.cmp.DefaultCmpCmp.TheImpl as default_cmp
@@ -46,6 +48,10 @@ NamesFolder args task.Repair folder = map string_bytes args ≡ codes "--repair"
 abbrev pub NamesNone : List (String Global) → Type 0
 NamesNone args = (one : Task) (folder : List ℕ) → NamesFolder args one folder → ⊥
 
+-- they ask for a run of commands
+abbrev pub AskForRun : List (String Global) → Type 0
+AskForRun args = (one : Way) × (folder : List ℕ) × NamesFolder args (task.Run one) folder
+
 -- they ask for a repair
 abbrev pub AskForRepair : List (String Global) → Type 0
 AskForRepair args = (folder : List ℕ) × NamesFolder args task.Repair folder
@@ -55,25 +61,28 @@ abbrev pub status_of : Fault → ℕ
 status_of fault.Usage = 2
 status_of (fault.BadLine number) = 2
 status_of fault.TooLong = 2
+status_of (fault.Unread status) = 1
 status_of (fault.Refused status) = 1
 
--- the program stopped since a call was refused
-abbrev pub IsRefusal : Fault → Type 0
-IsRefusal fault = status_of fault ≡ 1
+-- the program stopped since its input wasn't read
+abbrev pub IsUnread : Fault → Type 0
+IsUnread one = (status : Status) × (one ≡ fault.Unread status)
 
 -- A fault is the input's, whose bytes may be known: this line is its first that is no command, or
--- it has more than 2^26 bytes; or reading it was refused.
+-- it has more than 2^26 bytes; or reading it failed, or the memory for that.
 abbrev pub IsInputFault : Option (List ℕ) → Fault → Type 0
 IsInputFault input fault.Usage = ⊥
 IsInputFault input (fault.BadLine number) = IfSome input (λ bytes. IsBadLine bytes number)
 IsInputFault input fault.TooLong = IfSome input (λ bytes. 2 ^ 26 < length bytes)
-IsInputFault input (fault.Refused status) = Unit {0}
+IsInputFault input (fault.Unread status) = Unit {0}
+IsInputFault input (fault.Refused status) = ⊥
 
 -- a fault is the arguments', which name no folder, or the input's, or a call was refused
 abbrev pub IsFault : List (String Global) → Option (List ℕ) → Fault → Type 0
 IsFault args input fault.Usage = NamesNone args
 IsFault args input (fault.BadLine number) = IsInputFault input (fault.BadLine number)
 IsFault args input fault.TooLong = IsInputFault input fault.TooLong
+IsFault args input (fault.Unread status) = IsInputFault input (fault.Unread status)
 IsFault args input (fault.Refused status) = Unit {0}
 
 -- the program wasn't asked rightly
@@ -84,6 +93,10 @@ IsMisasked args input = (why : Fault) × (status_of why ≡ 2) × IsFault args i
 abbrev pub IsInput : Option (List ℕ) → List Command → Type 0
 IsInput input commands = (text : List ℕ) × IfSome input (λ bytes. text ≡ bytes)
     × (length text ≤ 2 ^ 26) × IsScript text commands
+
+-- the input's bytes are known, and one of its lines is no command, or it is too long
+abbrev pub IsBadInput : Option (List ℕ) → Type 0
+IsBadInput input = (commands : List Command) → IsInput input commands → ⊥
 
 -- What the program opens a store with: LevelDB's order of bytes, its filters with ten bits a key,
 -- and blocks stored as they are; a missing store is made.
@@ -174,3 +187,32 @@ module _ {E F : Type 0} (env : Ghosts E F) where
       × HasRunBy one folder ldb_opening commands from given ended to)
       ⊎ ((folder : List ℕ) × NamesFolder args task.Repair folder
       × (ended : Result (Unit {0}) Status) × HasRepaired folder ldb_opening from ended to)
+
+  -- What the program did, by the status with which it ended: with these arguments, over this
+  -- environment, its input and its output, which it left so.
+  pub record EndsProgram {I O : Type 0} (reads : ReadGhosts I) (writes : WriteGhosts O)
+      (args : List (String Global)) (from : E) (input : I) (out : O) (status : ℕ) (to : E)
+      (rest : I) (written : O) : Type 0 where
+    -- 0: all was answered and written
+    pub answered : status ≡ 0 → IsAnswered args from to (reads.remaining input)
+        (writes.contents out) (writes.contents written)
+    -- 1: a call failed
+    pub stopped : status ≡ 1 → IsStopped args from to (reads.remaining input)
+    -- 2: nothing was done or written, and the arguments, a line or the input's length is wrong
+    pub untouched : status ≡ 2 → (to ≡ from) × (written ≡ out)
+    pub misasked : status ≡ 2 → IsMisasked args (reads.remaining input)
+    -- it ends with one of the three
+    pub statuses : status ≤ 2
+
+  -- What it looks at before it opens a store: its arguments, and then its input.
+  pub record ChecksInput {I O : Type 0} (reads : ReadGhosts I) (args : List (String Global))
+      (from : E) (input : I) (out : O) (status : ℕ) (to : E) (rest : I) (written : O) : Type 0 where
+    -- where the arguments name no folder, the status is 2
+    pub usage : NamesNone args → status ≡ 2
+    -- where a line of the input is no command, or it is too long, nothing is done or written, and
+    -- the status is that of such a fault: 2, or 1 where reading failed, or the memory for that
+    pub bad : AskForRun args → IsBadInput (reads.remaining input) → (why : Fault)
+        × IsInputFault (reads.remaining input) why × (status ≡ status_of why)
+        × (to ≡ from) × (written ≡ out)
+    -- a repair reads no input
+    pub unread : AskForRepair args → rest ≡ input

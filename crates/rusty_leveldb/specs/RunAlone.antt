@@ -16,7 +16,7 @@ use Rattle.rusty_leveldb.specs.Causes.{Setting}
 use Rattle.rusty_leveldb.specs.Engine.{IsStoreName}
 use Rattle.rusty_leveldb.specs.Machine.{Responds}
 use Rattle.rusty_leveldb.specs.ReadAlone.{FindsHistory, ReadsHistory, ReadsOnly, opened_state, read_state}
-use Rattle.rusty_leveldb.specs.Serves.{StandsFor, setting_between}
+use Rattle.rusty_leveldb.specs.Serves.{AreReadAs, StandsFor, setting_between}
 use Rattle.rusty_leveldb.specs.Shell.{IsReplyOf}
 use Rattle.rusty_leveldb.specs.State.{Answer, Opening, Request, State, get}
 use Rattle.rusty_leveldb.specs.Walks.{walk_of}
@@ -85,6 +85,12 @@ module _ {E F : Type 0} (env : Ghosts E F) (store : List ℕ) where
         → StandsFor store meaning (env.observed from).disk old → (history : History) × (last : ℕ)
         × FindsHistory old asked.format history last
         × AreAnsweredAlone meaning (opened_state asked.format history last) (env.failures from)
+        commands given (env.failures to))
+    -- and so from each history as which the files are read, up to the last number that they have
+    pub reads : OnOk ended (IsTrue env.models_disk → (meaning : Meaning)
+        → Agrees asked.format meaning → (history : History) (last : ℕ)
+        → AreReadAs store meaning (files_at env from) history last
+        → AreAnsweredAlone meaning (opened_state asked.format history last) (env.failures from)
         commands given (env.failures to))
     -- over any environment: each command but a look-up and a walk over the store as it is now is
     -- refused

@@ -3,9 +3,7 @@ use Rattle.std.specs.Prelude.{◌≡◌, ◌⊎◌, ℕ, false, List, [], ◌∷
 use Rattle.std.specs.Option.{option_map}
 use Rattle.leveldb_base.specs.declared.error.Status.{Status}
 use Rattle.leveldb_base.specs.History as history
-use Rattle.leveldb_env.specs.Options.{Boxed, OptionsOf}
 use Rattle.leveldb_env.specs.declared.env.Env.{Ghosts}
-use Rattle.leveldb_env.specs.declared.filter.FilterPolicy.{Ghosts as FilterGhosts}
 use Rattle.leveldb_base.specs.Error.{IsOutOfMemory}
 use Rattle.leveldb_mem.specs.WriteBatch.{item_of}
 use Rattle.rusty_leveldb.specs.declared.shell.commands.Command.{Command}
@@ -14,13 +12,10 @@ use Rattle.rusty_leveldb.specs.declared.shell.commands.Item.{Item}
 use Rattle.rusty_leveldb.specs.declared.shell.commands.Item.TheVariants as item
 use Rattle.rusty_leveldb.specs.declared.shell.commands.Reply.{Reply}
 use Rattle.rusty_leveldb.specs.declared.shell.commands.Reply.TheVariants as reply
-use Rattle.leveldb_store.specs.BuildTable.{TableChoices}
-use Rattle.leveldb_version.specs.Format.{Format, Meaning, Agrees}
+use Rattle.leveldb_version.specs.Format.{Meaning, Agrees}
 use Rattle.rusty_leveldb.specs.State.{State, Opening, Snapshot, Request, open_store, write, get, get_snapshot, release_snapshot, flush, compact_range, close, abandon, Answer, done, found, walked, snapshot, refused}
 use Rattle.rusty_leveldb.specs.Serves.{Represents, Runs, recalls_nothing, refusal_of, done_or}
-use Rattle.rusty_leveldb.specs.Boxes.{EngineOf, InternalOrder}
-use Rattle.rusty_leveldb.specs.Calls.{EngineCompacts}
-use Rattle.rusty_leveldb.specs.Engine.{scene, Answers, IsOpening, IsStoreName}
+use Rattle.rusty_leveldb.specs.Engine.{scene, IsOpening, IsStoreName}
 use Rattle.rusty_leveldb.specs.Frame.{IsOwn, Spares}
 use Rattle.rusty_leveldb.specs.Views.{no_snapshot}
 use Rattle.rusty_leveldb.specs.Walks.{landing_of, walk_of}
@@ -92,29 +87,6 @@ pub record AreAsked (commands : List Command) (replies : List Reply) (requests :
   pub replies_are : map (λ turn. turn.reply) turns ≡ replies
   pub requests_are : map (λ turn. turn.request) turns ≡ requests
   pub answers_are : map (λ turn. turn.answer) turns ≡ answers
-
--- One command over an engine, after these snapshots were given out: it becomes a request, whose
--- answer the reply tells; and those that were given out then.
-pub record AnswersCommand {E C FP F : Type 0} {B : Boxed} (keys : InternalOrder C)
-    (env : Ghosts E F) (formats : OptionsOf C FP B → Format) (before : EngineOf E C FP F B)
-    (from : E)
-    (taken : List Snapshot) (command : Command) (reply : Reply) (after : EngineOf E C FP F B)
-    (to : E) (left : List Snapshot) : Type 0 where
-  pub answer : Answer
-  pub tells : IsReplyOf taken reply answer
-  pub left_is : left ≡ taken ++ given_by answer
-  pub step : Answers keys env formats (Some before) from (request_of taken command) answer
-      (Some after) to
-
--- a command that compacts is that call of the engine, whose result the reply tells
-abbrev pub CompactsIfAsked : {E C FP F P : Type 0} {B : Boxed} {keys : InternalOrder C}
-    {key_filters : FilterGhosts P} → Ghosts E F
-    → (OptionsOf C FP B → TableChoices keys key_filters) → EngineOf E C FP F B → E → Command → Reply
-    → EngineOf E C FP F B → E → Type 0
-CompactsIfAsked env choices before from (command.Compact low high) reply after to =
-    (result : Result (Unit {0}) Status) × IsReplyOf [] reply (done_or result)
-    × EngineCompacts env choices before from low.items high.items result after to
-CompactsIfAsked env choices before from other reply after to = Unit {0}
 
 -- ---- runs
 

@@ -1,5 +1,5 @@
 -- Snapshots that a store is asked for, by what it gave out.
-use Rattle.std.specs.Prelude.{◌^◌, ℕ, List, Some, map, Result, Ok, Err, Vec}
+use Rattle.std.specs.Prelude.{◌^◌, ℕ, List, [], Some, map, Result, Ok, Err, Vec}
 use Rattle.std.specs.declared.alloc.Global.{Global}
 use Rattle.leveldb_base.specs.declared.error.Status.{Status}
 use Rattle.leveldb_env.specs.Options.{Boxed, OptionsOf}
@@ -7,30 +7,39 @@ use Rattle.leveldb_env.specs.declared.env.Env.{Ghosts}
 use Rattle.leveldb_env.specs.declared.filter.FilterPolicy.{Ghosts as FilterGhosts}
 use Rattle.leveldb_iter.specs.declared.moves.Move.{Move}
 use Rattle.leveldb_iter.specs.declared.moves.Step.{Step}
+use Rattle.leveldb_iter.specs.declared.snapshot.Snapshot.{Snapshot as HeldSnapshot}
 use Rattle.leveldb_store.specs.BuildTable.{TableChoices}
 use Rattle.rusty_leveldb.specs.Boxes.{EngineOf, InternalOrder}
-use Rattle.rusty_leveldb.specs.Engine.{AnswersStill, formats_of}
-use Rattle.rusty_leveldb.specs.State.{Answer, Snapshot, get, refused, release_snapshot, walked}
+use Rattle.rusty_leveldb.specs.Calls.{EngineGets, EngineReleases, EngineWalks}
+use Rattle.rusty_leveldb.specs.State.{Answer, Snapshot, refused, walked}
 use Rattle.rusty_leveldb.specs.Serves.{refusal_of}
-use Rattle.rusty_leveldb.specs.Walks.{landing_of, walk_of}
+use Rattle.rusty_leveldb.specs.Walks.{landing_of}
 
 -- a snapshot that no store gives out, since no number of an entry is that great
 abbrev pub no_snapshot : Snapshot
 no_snapshot = record { number = 0; sequence = 2 ^ 64 }
 
--- each request for that snapshot is refused so
+-- the same as a list would hold it
+abbrev pub never_held : HeldSnapshot
+never_held = record { number = 0; sequence = 2 ^ 64 }
+
+-- each call for that snapshot is refused so, and leaves the engine and its environment
 pub record RefusesUnknown {E C FP F P : Type 0} {B : Boxed} {keys : InternalOrder C}
     {key_filters : FilterGhosts P} (env : Ghosts E F)
     (choices : OptionsOf C FP B → TableChoices keys key_filters)
     (engine : EngineOf E C FP F B) (status : Status) : Type 0 where
-  pub get_at : (key : List ℕ) → AnswersStill keys env (formats_of choices) engine
-      (get (Some no_snapshot) key) (refused (refusal_of status))
-  pub release : AnswersStill keys env (formats_of choices) engine
-      (release_snapshot no_snapshot) (refused (refusal_of status))
-  pub walk : (moves : List Move) → AnswersStill keys env (formats_of choices) engine
-      (walk_of (Some no_snapshot) moves) (refused (refusal_of status))
+  pub get_at : (key : List ℕ) (at : E)
+      → EngineGets env choices engine at (Some no_snapshot) key (Err status) engine at
+  pub release : (at : E) → EngineReleases env choices engine at never_held (Err status) engine at
+  pub walk : (moves : List Move) (at : E)
+      → EngineWalks env choices engine at (Some no_snapshot) moves [] (Err status) engine at
 
 -- where the moves of a walk led, or refused
 abbrev pub steps_or : Result (Vec Step Global) Status → Answer
 steps_or (Ok steps) = walked (map landing_of steps.items)
 steps_or (Err status) = refused (refusal_of status)
+
+-- the steps of a walk, of which there are none where it was refused
+abbrev pub steps_in : Result (Vec Step Global) Status → List Step
+steps_in (Ok steps) = steps.items
+steps_in (Err status) = []

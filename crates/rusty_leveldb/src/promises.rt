@@ -3,7 +3,7 @@
 ghost use Rattle.rusty_leveldb.specs.CompactionLaws.{AreViewsInTables};
 ghost use Rattle.rusty_leveldb.specs.Iterator.{ScanGivesPairs};
 ghost use Rattle.rusty_leveldb.specs.IteratorLaws.{PrevUndoesNext};
-ghost use Rattle.rusty_leveldb.specs.Laws.{OneReading, NothingStands, CrashBetween, CrashInside, CrashSince, RefusalHasCause, StepFits, CrashFits, CrashInsideFits, LivesFit, DurableStays, SyncedStays, EachAnswerParts, HistoryIsAsked, HistoryIsPlaced, MoreIsAsked, SyncedIsRead, ViewsStay, HeldStays, SnapshotIsRead, ForwardWalkGivesView, PrevUndoesAdvance, SyncedCanBeFound};
+ghost use Rattle.rusty_leveldb.specs.Laws.{OneReading, NothingStands, CrashBetween, CrashInside, CrashSince, RefusalHasCause, StepFits, CrashFits, CrashInsideFits, LivesFit, DurableStays, SyncedStays, EachAnswerParts, HistoryIsAsked, HistoryIsPlaced, MoreIsAsked, LongItemMakesLongBatch, SyncedIsRead, ViewsStay, HeldStays, SnapshotIsRead, ForwardWalkGivesView, PrevUndoesAdvance, SyncedCanBeFound};
 ghost use Rattle.leveldb_store.specs.BuildTable.{choices_of};
 ghost use Rattle.rusty_leveldb.specs.ReadAloneLaws.{ReadingKeepsStates, ReadsWhatOpens};
 ghost use Rattle.rusty_leveldb.specs.RepairLaws.{AnotherRepairFindsTheSame, CrashSinceRepair, OpensWhatRepairFound, RepairFindsWhatOpens};
@@ -101,6 +101,12 @@ pub fn crashes_since_entry_leave_a_prefix<E: Env>()
 /// it broke earlier.
 pub fn refusals_have_causes()
     ensures { RefusalHasCause }
+{}
+
+/// A batch is too long where a key or a value of one of its items is: so a write of such an item is
+/// refused before anything is done for it (the field `misfit` of `EngineWrites`).
+pub fn long_items_make_long_batches()
+    ensures { LongItemMakesLongBatch }
 {}
 
 /// Every step, every crash and so every list of lives leads from a state whose numbers fit

@@ -62,6 +62,8 @@ impl<E: Env, C: UserCmp + Copy, FP: FilterPolicy + Copy> Engine<E, C, FP> {
             EngineWrites E.Env choices self.old env.old batch.items sync result self.new env.new }
     {
         self.check_open()?;
+        // A batch that there is isn't too long.
+        let _ = batch.contents();
         self.make_room(env)?;
         let written = self.store.write_batch(env, batch, sync);
         self.mode = mode_by(&self.store);

@@ -4,16 +4,18 @@ ghost use Rattle.leveldb_base.specs.Error.{IsOutOfMemory};
 ghost use Rattle.leveldb_env.specs.Picks.{tails_of};
 ghost use Rattle.leveldb_env.specs.Record.{moment_of, CanCrashTo};
 ghost use Rattle.rusty_leveldb.specs.Engine.{opening_of};
+ghost use Rattle.leveldb_store.specs.BuildTable.{choices_of};
 ghost use Rattle.rusty_leveldb.specs.Lives.{IsAlwaysLife, IsCrash, ReportsLives};
+ghost use Rattle.rusty_leveldb.specs.RunCalls.{LivesByCalls};
 
 use super::commands::{Command, Reply};
 use super::runs::answer;
 use crate::db_impl::Engine;
-use leveldb_base::cmp::UserCmp;
+use leveldb_base::cmp::{Cmp, InternalKeyCmp, UserCmp};
 use leveldb_base::error::{Result, StatusCode, err};
 use leveldb_env::compressor::{CompressorList, Compressors};
 use leveldb_env::env::Env;
-use leveldb_env::filter::FilterPolicy;
+use leveldb_env::filter::{FilterPolicy, InternalFilterPolicy};
 use leveldb_env::mem_env::{Pick, RecordEnv};
 use leveldb_env::options::Options;
 use std::alloc::Global;
@@ -52,6 +54,11 @@ pub fn live<C: UserCmp + Copy, FP: FilterPolicy + Copy>(
     ensures life { IfOk result (λ report. IsAlwaysLife ⟦<RecordEnv as Env>⟧ name.now env.old
         (opening_of C.Cmp FP.FilterPolicy ⟦<CompressorList as Compressors>⟧.codings options)
         commands.now report env.new) }
+    ensures calls { let codings = ⟦<CompressorList as Compressors>⟧.codings in
+        IfOk result (λ report. LivesByCalls ⟦<RecordEnv as Env>⟧ (choices_of C.Cmp FP.FilterPolicy
+        ⟦<InternalKeyCmp<C> as Cmp>⟧ ⟦<InternalFilterPolicy<FP> as FilterPolicy>⟧ codings) name.now
+        options (opening_of C.Cmp FP.FilterPolicy codings options) commands.now env.old report
+        env.new) }
     ensures time { moment_of env.old ≤ moment_of env.new }
     ensures error { IfErr result (λ e. IsOutOfMemory e × (env.new ≡ env.old)) }
 {
@@ -90,7 +97,8 @@ pub fn lives<C: UserCmp + Copy, FP: FilterPolicy + Copy>(
     lives: Vec<Life<C, FP>>,
 ) -> Result<Vec<Report>>
     ensures { ReportsLives ⟦<RecordEnv as Env>⟧ C.Cmp FP.FilterPolicy
-        ⟦<CompressorList as Compressors>⟧.codings name.now lives.items result }
+        ⟦<CompressorList as Compressors>⟧.codings ⟦<InternalKeyCmp<C> as Cmp>⟧
+        ⟦<InternalFilterPolicy<FP> as FilterPolicy>⟧ name.now lives.items result }
 {
     let mut env = RecordEnv::new(alloc);
     let mut reports = Vec::new(alloc);

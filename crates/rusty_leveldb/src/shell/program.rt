@@ -4,7 +4,7 @@ ghost use Rattle.leveldb_base.specs.declared.error.Status.{Status};
 ghost use Rattle.std.specs.Io.KnownBytes.{Appends};
 ghost use Rattle.rusty_leveldb.specs.Language.{reply_lines};
 ghost use Rattle.rusty_leveldb.specs.Engine.{opening_of};
-ghost use Rattle.rusty_leveldb.specs.Program.{status_of, AskForRepair, HasRepaired, HasRunBy, IsInputFault, IsFault, IsRepairAnswered, IsMisasked, IsInput, IsPlayed, IsAnswered, IsStopped, NamesFolder, NamesNone, ldb_opening};
+ghost use Rattle.rusty_leveldb.specs.Program.{status_of, AskForRepair, AskForRun, ChecksInput, EndsProgram, HasRepaired, HasRunBy, IsBadInput, IsInputFault, IsFault, IsRepairAnswered, IsInput, IsPlayed, IsAnswered, IsStopped, NamesFolder, NamesNone, ldb_opening};
 ghost use Rattle.rusty_leveldb.specs.declared.shell.commands.Reply.{Reply};
 ghost use Rattle.rusty_leveldb.specs.declared.shell.program.Fault.TheVariants.{Usage};
 
@@ -55,6 +55,8 @@ enum Fault {
     BadLine(usize),
     /// There were more bytes of commands than are read.
     TooLong,
+    /// The input was not read, or the memory for it was refused.
+    Unread(Status),
     /// A call was refused.
     Refused(Status),
 }
@@ -65,7 +67,7 @@ impl fmt::Display for Fault {
             Fault::Usage => f.write_str("usage: ldb [--repair | --read-only] DIR"),
             Fault::BadLine(number) => write!(f, "bad command in line {number}"),
             Fault::TooLong => f.write_str("input too long"),
-            Fault::Refused(status) => match &status.err {
+            Fault::Unread(status) | Fault::Refused(status) => match &status.err {
                 None => write!(f, "ldb: {}", status.code),
                 Some(text) => write!(f, "ldb: {text}"),
             },
@@ -88,16 +90,10 @@ pub fn ldb_main<E: Env, I: Read, O: Write, F: Write>(
     out: &mut O,
     err: &mut F,
 ) -> u8
-    ensures answered { result ≡ 0
-        → IsAnswered E.Env args.now env.old env.new (I.remaining input.old)
-        (O.contents out.old) (O.contents out.new) }
-    ensures untouched { result ≡ 2 → (env.new ≡ env.old) × (out.new ≡ out.old) }
-    ensures misasked { result ≡ 2 → IsMisasked args.now (I.remaining input.old) }
-    ensures usage { NamesNone args.now → result ≡ 2 }
-    ensures stopped { result ≡ 1
-        → IsStopped E.Env args.now env.old env.new (I.remaining input.old) }
-    ensures unread { AskForRepair args.now → input.new ≡ input.old }
-    ensures statuses { result ≤ 2 }
+    ensures ends { EndsProgram E.Env I.Read O.Write args.now env.old input.old out.old result
+        env.new input.new out.new }
+    ensures checks { ChecksInput E.Env I.Read args.now env.old input.old out.old result env.new
+        input.new out.new }
 {
     match serve(alloc, env, args, log, input, out) {
         Ok(()) => 0,
@@ -112,7 +108,7 @@ fn tell_fault<F: Write>(err: &mut F, fault: Fault) -> u8
     let _ = writeln!(err, "{fault}");
     let _ = err.flush();
     match fault {
-        Fault::Refused(_) => 1,
+        Fault::Unread(_) | Fault::Refused(_) => 1,
         _ => 2,
     }
 }
@@ -135,6 +131,9 @@ fn serve<E: Env, I: Read, O: Write>(
         (IsStopped E.Env args.now env.old env.new (I.remaining input.old)) }
     ensures fault { IfErr result (IsFault args.now (I.remaining input.old)) }
     ensures usage { NamesNone args.now → IsErrAnd result (λ fault. fault ≡ Usage) }
+    ensures bad { AskForRun args.now → IsBadInput (I.remaining input.old) → IsErrAnd result
+        (λ fault. IsInputFault (I.remaining input.old) fault × (env.new ≡ env.old)
+        × (out.new ≡ out.old)) }
     ensures unread { AskForRepair args.now → input.new ≡ input.old }
 {
     let Some((task, folder)) = task_of(args) else {
@@ -281,21 +280,21 @@ impl From<Status> for Fault {
 }
 
 impl From<AllocError> for Fault {
-    ghost use Rattle.rusty_leveldb.specs.Program.{IsRefusal};
+    ghost use Rattle.rusty_leveldb.specs.Program.{IsUnread};
 
-    ghost from_gives = { λ _ fault. IsRefusal fault };
+    ghost from_gives = { λ _ fault. IsUnread fault };
 
     fn from(error: AllocError) -> Fault {
-        Fault::Refused(error.into())
+        Fault::Unread(error.into())
     }
 }
 
 impl From<io::Error> for Fault {
-    ghost use Rattle.rusty_leveldb.specs.Program.{IsRefusal};
+    ghost use Rattle.rusty_leveldb.specs.Program.{IsUnread};
 
-    ghost from_gives = { λ _ fault. IsRefusal fault };
+    ghost from_gives = { λ _ fault. IsUnread fault };
 
     fn from(error: io::Error) -> Fault {
-        Fault::Refused(error.into())
+        Fault::Unread(error.into())
     }
 }

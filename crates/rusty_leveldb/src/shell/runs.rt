@@ -1,17 +1,18 @@
 //! Runs of commands.
-ghost use Rattle.std.specs.Prelude.{◌≡◌, ◌≤◌, ◌⊎◌, ◌++◌, List, Some, length, drop, map, IfOk, OnOk, IfErr};
+ghost use Rattle.std.specs.Prelude.{◌≡◌, ◌⊎◌, ◌++◌, List, length, drop, map, IfOk, OnOk, IfErr};
 ghost use Rattle.leveldb_base.specs.Error.{IsOutOfMemory};
 ghost use Rattle.leveldb_mem.specs.WriteBatch.{with_item, IsTooLong};
 ghost use Rattle.rusty_leveldb.specs.Causes.{IsLongBatch};
-ghost use Rattle.rusty_leveldb.specs.Engine.{Answers, opening_of};
+ghost use Rattle.rusty_leveldb.specs.Calls.{EngineWrites};
+ghost use Rattle.rusty_leveldb.specs.Engine.{opening_of};
 ghost use Rattle.rusty_leveldb.specs.Unopened.{OpenExcused};
 ghost use Rattle.leveldb_store.specs.BuildTable.{choices_of};
-ghost use Rattle.leveldb_version.specs.Format.{format_of};
 ghost use Rattle.leveldb_store.specs.Room.{FailsFor};
 ghost use Rattle.leveldb_store.specs.SoundCall.{TimeGoesOn};
-ghost use Rattle.rusty_leveldb.specs.Serves.{done_or, found_or, snapshot_of};
+ghost use Rattle.rusty_leveldb.specs.RunCalls.{CallsEngine, RunsByCalls};
+ghost use Rattle.rusty_leveldb.specs.Serves.{done_or, found_or};
 ghost use Rattle.rusty_leveldb.specs.State as machine;
-ghost use Rattle.rusty_leveldb.specs.Shell.{HasRun, AnswersCommand, CompactsIfAsked, IsReplyOf, change_of};
+ghost use Rattle.rusty_leveldb.specs.Shell.{HasRun, IsReplyOf, change_of};
 
 use super::commands::{Command, Item, Reply};
 use super::views::{get_at, release, take, walk};
@@ -43,6 +44,11 @@ pub fn run<E: Env, C: UserCmp + Copy, FP: FilterPolicy + Copy>(
     ensures runs { HasRun E.Env name.now (opening_of C.Cmp FP.FilterPolicy
         ⟦<CompressorList as Compressors>⟧.codings opt) commands.now env.old
         (drop (length replies.old.items) replies.new.items) result env.new }
+    ensures calls { let codings = ⟦<CompressorList as Compressors>⟧.codings in
+        RunsByCalls E.Env (choices_of C.Cmp FP.FilterPolicy ⟦<InternalKeyCmp<C> as Cmp>⟧
+        ⟦<InternalFilterPolicy<FP> as FilterPolicy>⟧ codings) name.now opt
+        (opening_of C.Cmp FP.FilterPolicy codings opt) commands.now env.old
+        (drop (length replies.old.items) replies.new.items) result env.new }
     ensures after { (given : List Reply) × (replies.new.items ≡ replies.old.items ++ given)
         × OnOk result (length given ≡ length commands.now) }
     ensures time { TimeGoesOn E.Env env.old env.new }
@@ -64,7 +70,7 @@ pub fn run<E: Env, C: UserCmp + Copy, FP: FilterPolicy + Copy>(
     engine.abandon(env)
 }
 
-// What a command is answered, after these snapshots were taken.
+// What a command is answered, after these snapshots were taken: it is a call of the engine.
 pub(super) fn answer<E: Env, C: UserCmp + Copy, FP: FilterPolicy + Copy>(
     alloc: Global,
     engine: &mut Engine<E, C, FP>,
@@ -72,17 +78,11 @@ pub(super) fn answer<E: Env, C: UserCmp + Copy, FP: FilterPolicy + Copy>(
     taken: &mut Vec<Snapshot>,
     command: &Command,
 ) -> Reply
-    ensures step { let formats = format_of C.Cmp FP.FilterPolicy
-        ⟦<CompressorList as Compressors>⟧.codings in
-        AnswersCommand ⟦<InternalKeyCmp<C> as Cmp>⟧ E.Env formats engine.old env.old
-        (map snapshot_of taken.old.items) command.now result engine.new env.new
-        (map snapshot_of taken.new.items) }
-    ensures compacts { let choices = choices_of C.Cmp FP.FilterPolicy
+    ensures { let choices = choices_of C.Cmp FP.FilterPolicy
         ⟦<InternalKeyCmp<C> as Cmp>⟧ ⟦<InternalFilterPolicy<FP> as FilterPolicy>⟧
         ⟦<CompressorList as Compressors>⟧.codings in
-        CompactsIfAsked E.Env choices engine.old env.old command.now result engine.new env.new }
-    ensures later { E.failures env.old ≤ E.failures env.new }
-    ensures time { TimeGoesOn E.Env env.old env.new }
+        CallsEngine E.Env choices engine.old env.old taken.old.items command.now result engine.new
+        env.new taken.new.items }
 {
     match command {
         Command::Put(key, value) => reply_of(engine.put(env, key, value)),
@@ -134,12 +134,11 @@ fn write<E: Env, C: UserCmp + Copy, FP: FilterPolicy + Copy>(
     items: &[Item],
     sync: bool,
 ) -> Result<()>
-    ensures step { let formats = format_of C.Cmp FP.FilterPolicy
+    ensures { let choices = choices_of C.Cmp FP.FilterPolicy
+        ⟦<InternalKeyCmp<C> as Cmp>⟧ ⟦<InternalFilterPolicy<FP> as FilterPolicy>⟧
         ⟦<CompressorList as Compressors>⟧.codings in
-        Answers ⟦<InternalKeyCmp<C> as Cmp>⟧ E.Env formats (Some engine.old) env.old
-        (machine.write (map change_of items.now) sync) (done_or result) (Some engine.new) env.new }
-    ensures later { E.failures env.old ≤ E.failures env.new }
-    ensures time { TimeGoesOn E.Env env.old env.new }
+        EngineWrites E.Env choices engine.old env.old (map change_of items.now) sync result
+        engine.new env.new }
 {
     engine.check_writable()?;
     let batch = batch_of(alloc, items)?;

@@ -1,14 +1,12 @@
 //! The commands that name snapshots. A snapshot is named by how many were given out before it.
-ghost use Rattle.std.specs.Prelude.{◌≡◌, ◌≤◌, ◌++◌, ◌∷◌, [], Some, length, map, slice_get, IfErr, IfOk};
+ghost use Rattle.std.specs.Prelude.{◌≡◌, ◌++◌, ◌∷◌, [], Err, Ok, Some, length, slice_get, IfErr, IfOk};
 ghost use Rattle.std.specs.Option.{option_map};
-ghost use Rattle.leveldb_store.specs.SoundCall.{TimeGoesOn};
-ghost use Rattle.leveldb_version.specs.Format.{format_of};
-ghost use Rattle.rusty_leveldb.specs.Engine.{Answers};
-ghost use Rattle.rusty_leveldb.specs.Serves.{done_or, found_or, refusal_of, snapshot_of};
-ghost use Rattle.rusty_leveldb.specs.Shell.{snapshot_named};
-ghost use Rattle.rusty_leveldb.specs.State as machine;
-ghost use Rattle.rusty_leveldb.specs.Views.{steps_or};
-ghost use Rattle.rusty_leveldb.specs.Walks.{walk_of};
+ghost use Rattle.leveldb_iter.specs.declared.snapshot.Snapshot.{Snapshot as HeldSnapshot};
+ghost use Rattle.leveldb_store.specs.BuildTable.{choices_of};
+ghost use Rattle.rusty_leveldb.specs.Calls.{EngineGets, EngineHolds, EngineReleases, EngineWalks, result_map};
+ghost use Rattle.rusty_leveldb.specs.RunCalls.{held_named, view_named};
+ghost use Rattle.rusty_leveldb.specs.Serves.{snapshot_of};
+ghost use Rattle.rusty_leveldb.specs.Views.{steps_in};
 
 use crate::db_impl::Engine;
 use bytes::Bytes;
@@ -16,7 +14,7 @@ use leveldb_base::cmp::{Cmp, InternalKeyCmp, UserCmp};
 use leveldb_base::error::Result;
 use leveldb_env::compressor::{CompressorList, Compressors};
 use leveldb_env::env::Env;
-use leveldb_env::filter::FilterPolicy;
+use leveldb_env::filter::{FilterPolicy, InternalFilterPolicy};
 use leveldb_iter::moves::{Move, Step};
 use leveldb_iter::snapshot::Snapshot;
 use std::alloc::Global;
@@ -26,19 +24,17 @@ pub(super) fn take<E: Env, C: UserCmp + Copy, FP: FilterPolicy + Copy>(
     engine: &mut Engine<E, C, FP>,
     taken: &mut Vec<Snapshot>,
 ) -> Result<usize>
-    ensures ok { let formats = format_of C.Cmp FP.FilterPolicy
+    ensures ok { let choices = choices_of C.Cmp FP.FilterPolicy
+        ⟦<InternalKeyCmp<C> as Cmp>⟧ ⟦<InternalFilterPolicy<FP> as FilterPolicy>⟧
         ⟦<CompressorList as Compressors>⟧.codings in
-        IfOk result (λ number. (number ≡ length taken.old.items) × (one : machine.Snapshot)
-        × (map snapshot_of taken.new.items ≡ map snapshot_of taken.old.items ++ one ∷ [])
-        × ((at : E) → Answers ⟦<InternalKeyCmp<C> as Cmp>⟧ E.Env formats (Some engine.old) at
-        machine.get_snapshot
-        (machine.snapshot one) (Some engine.new) at)) }
-    ensures err { let formats = format_of C.Cmp FP.FilterPolicy
+        IfOk result (λ number. (number ≡ length taken.old.items) × (one : HeldSnapshot)
+        × (taken.new.items ≡ taken.old.items ++ one ∷ [])
+        × ((at : E) → EngineHolds E.Env choices engine.old at (Ok one) engine.new at)) }
+    ensures err { let choices = choices_of C.Cmp FP.FilterPolicy
+        ⟦<InternalKeyCmp<C> as Cmp>⟧ ⟦<InternalFilterPolicy<FP> as FilterPolicy>⟧
         ⟦<CompressorList as Compressors>⟧.codings in
         IfErr result (λ status. (taken.new.items ≡ taken.old.items)
-        × ((at : E) → Answers ⟦<InternalKeyCmp<C> as Cmp>⟧ E.Env formats (Some engine.old) at
-        machine.get_snapshot
-        (machine.refused (refusal_of status)) (Some engine.new) at)) }
+        × ((at : E) → EngineHolds E.Env choices engine.old at (Err status) engine.new at)) }
 {
     engine.check_not_closed()?;
     let number = taken.len();
@@ -63,13 +59,11 @@ pub(super) fn get_at<E: Env, C: UserCmp + Copy, FP: FilterPolicy + Copy>(
     number: usize,
     key: &[u8],
 ) -> Result<Option<Bytes>>
-    ensures step { let formats = format_of C.Cmp FP.FilterPolicy
+    ensures { let choices = choices_of C.Cmp FP.FilterPolicy
+        ⟦<InternalKeyCmp<C> as Cmp>⟧ ⟦<InternalFilterPolicy<FP> as FilterPolicy>⟧
         ⟦<CompressorList as Compressors>⟧.codings in
-        Answers ⟦<InternalKeyCmp<C> as Cmp>⟧ E.Env formats (Some engine.old) env.old
-        (machine.get (Some (snapshot_named (map snapshot_of taken.now) number)) key.now)
-        (found_or result) (Some engine.new) env.new }
-    ensures later { E.failures env.old ≤ E.failures env.new }
-    ensures time { TimeGoesOn E.Env env.old env.new }
+        EngineGets E.Env choices engine.old env.old (Some (view_named taken.now number)) key.now
+        result engine.new env.new }
 {
     match named(taken, number) {
         Some(snapshot) => engine.get_at(env, snapshot, key),
@@ -83,11 +77,11 @@ pub(super) fn release<E: Env, C: UserCmp + Copy, FP: FilterPolicy + Copy>(
     taken: &[Snapshot],
     number: usize,
 ) -> Result<()>
-    ensures { let formats = format_of C.Cmp FP.FilterPolicy
+    ensures { let choices = choices_of C.Cmp FP.FilterPolicy
+        ⟦<InternalKeyCmp<C> as Cmp>⟧ ⟦<InternalFilterPolicy<FP> as FilterPolicy>⟧
         ⟦<CompressorList as Compressors>⟧.codings in
-        (at : E) → Answers ⟦<InternalKeyCmp<C> as Cmp>⟧ E.Env formats (Some engine.old) at
-        (machine.release_snapshot (snapshot_named (map snapshot_of taken.now) number))
-        (done_or result) (Some engine.new) at }
+        (at : E) → EngineReleases E.Env choices engine.old at (held_named taken.now number) result
+        engine.new at }
 {
     match named(taken, number) {
         Some(snapshot) => engine.release_snapshot(snapshot),
@@ -104,13 +98,11 @@ pub(super) fn walk<E: Env, C: UserCmp + Copy, FP: FilterPolicy + Copy>(
     at: Option<usize>,
     moves: &[Move],
 ) -> Result<Vec<Step>>
-    ensures step { let formats = format_of C.Cmp FP.FilterPolicy
+    ensures { let choices = choices_of C.Cmp FP.FilterPolicy
+        ⟦<InternalKeyCmp<C> as Cmp>⟧ ⟦<InternalFilterPolicy<FP> as FilterPolicy>⟧
         ⟦<CompressorList as Compressors>⟧.codings in
-        Answers ⟦<InternalKeyCmp<C> as Cmp>⟧ E.Env formats (Some engine.old) env.old
-        (walk_of (option_map (snapshot_named (map snapshot_of taken.now)) at) moves.now)
-        (steps_or result) (Some engine.new) env.new }
-    ensures later { E.failures env.old ≤ E.failures env.new }
-    ensures time { TimeGoesOn E.Env env.old env.new }
+        EngineWalks E.Env choices engine.old env.old (option_map (view_named taken.now) at)
+        moves.now (steps_in result) (result_map (λ steps. tt) result) engine.new env.new }
 {
     let Some(number) = at else {
         return walk_over(alloc, engine, env, None, moves);
@@ -129,13 +121,11 @@ fn walk_over<E: Env, C: UserCmp + Copy, FP: FilterPolicy + Copy>(
     at: Option<Snapshot>,
     moves: &[Move],
 ) -> Result<Vec<Step>>
-    ensures step { let formats = format_of C.Cmp FP.FilterPolicy
+    ensures { let choices = choices_of C.Cmp FP.FilterPolicy
+        ⟦<InternalKeyCmp<C> as Cmp>⟧ ⟦<InternalFilterPolicy<FP> as FilterPolicy>⟧
         ⟦<CompressorList as Compressors>⟧.codings in
-        Answers ⟦<InternalKeyCmp<C> as Cmp>⟧ E.Env formats (Some engine.old) env.old
-        (walk_of (option_map snapshot_of at) moves.now) (steps_or result) (Some engine.new)
-        env.new }
-    ensures later { E.failures env.old ≤ E.failures env.new }
-    ensures time { TimeGoesOn E.Env env.old env.new }
+        EngineWalks E.Env choices engine.old env.old (option_map snapshot_of at) moves.now
+        (steps_in result) (result_map (λ steps. tt) result) engine.new env.new }
 {
     let mut steps = Vec::new(alloc);
     engine.walk(env, at, moves, &mut steps)?;

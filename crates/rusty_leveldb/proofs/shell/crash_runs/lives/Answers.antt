@@ -2,10 +2,14 @@
 use Rattle.std.proofs.Common.{rules, vec_len, vec_capacity, ◌<◌, append-nil, append_assoc, ◌≡◌, ◌+◌, ◌++◌, ◌∷◌, inl, inr, ⊎_elim, [], length, refl, sym, subst, ◌∙◌, ap, arith}
 use Rattle.std.proofs.lemmas.List.{nil_from_length}
 use Rattle.std.proofs.lemmas.Result.{err_from_is_err_and}
+use Rattle.leveldb_base.specs.contracts.cmp.internal.InternalKeyCmpCmp.TheImpl.{ghosts as key_order}
+use Rattle.leveldb_env.specs.contracts.filter.internal.InternalFilterPolicyFilterPolicy.TheImpl.{ghosts as key_policy}
 use Rattle.leveldb_env.specs.contracts.mem_env.record.RecordEnvEnv.TheImpl.{ghosts}
 use Rattle.leveldb_env.specs.Picks.{tails_of}
 use Rattle.leveldb_env.specs.Record.{moment_of, CanCrashTo}
 use Rattle.leveldb_env.specs.contracts.compressor.CompressorListCompressors.TheImpl.{ghosts as compressors}
+use Rattle.leveldb_store.specs.BuildTable.{choices_of}
+use Rattle.rusty_leveldb.specs.RunCalls.{LivesByCalls}
 use Rattle.rusty_leveldb.specs.Lives.{IsCrash, IsAlwaysLife, IsLifeOn}
 use Rattle.rusty_leveldb.specs.Engine.{opening_of}
 use Rattle.rusty_leveldb.proofs.Lives.{next_crash, next_same, reports_more, all_reported, fails_for}
@@ -33,13 +37,14 @@ loop-life-preserved g c =
     let life = c.in-Some.life in
     let report = c.in_ok-report.report in
     let pushed : c.push.new.self.items ≡ c.loop-life.reports.items ++ report ∷ [] = search rules in
-    let is : IsLifeOn ghosts g.C.Cmp g.FP.FilterPolicy (compressors g.dyn-2).codings c.args.name.now c.loop-life.env life report c.live.new.env = record {
+    let is : IsLifeOn ghosts g.C.Cmp g.FP.FilterPolicy (compressors g.dyn-2).codings (key_order g.row.C g.C.UserCmp g.C.UserCmp-dict g.C.Cmp g.C.Cmp-dict) (key_policy g.row.FP g.FP.FilterPolicy g.FP.FilterPolicy-dict) c.args.name.now c.loop-life.env life report c.live.new.env = record {
       from = c.fail.new.self;
       same = c.fail.ensures.same;
       failing = search rules;
       life_is = subst (λ commands. IsAlwaysLife ghosts c.args.name.now c.fail.new.self (opening_of g.C.Cmp g.FP.FilterPolicy (compressors g.dyn-2).codings c.in-Some.life.options) commands report c.live.new.env) c.deref.ensures.value c.in_ok-report.ensures.life;
+      calls = subst (λ commands. LivesByCalls ghosts (choices_of g.C.Cmp g.FP.FilterPolicy (key_order g.row.C g.C.UserCmp g.C.UserCmp-dict g.C.Cmp g.C.Cmp-dict) (key_policy g.row.FP g.FP.FilterPolicy g.FP.FilterPolicy-dict) (compressors g.dyn-2).codings) c.args.name.now c.in-Some.life.options (opening_of g.C.Cmp g.FP.FilterPolicy (compressors g.dyn-2).codings c.in-Some.life.options) commands c.fail.new.self report c.live.new.env) c.deref.ensures.value c.in_ok-report.ensures.calls;
     } in
-    let more = reports_more g.C.Cmp g.FP.FilterPolicy (compressors g.dyn-2).codings c.args.name.now IsCrash so_far.2.first c.loop-life.yielded c.loop-life.reports.items c.loop-life.env c.live.new.env c.match-moment.env life report so_far.2.reports_are is
+    let more = reports_more g.C.Cmp g.FP.FilterPolicy (compressors g.dyn-2).codings (key_order g.row.C g.C.UserCmp g.C.UserCmp-dict g.C.Cmp g.C.Cmp-dict) (key_policy g.row.FP g.FP.FilterPolicy g.FP.FilterPolicy-dict) c.args.name.now IsCrash so_far.2.first c.loop-life.yielded c.loop-life.reports.items c.loop-life.env c.live.new.env c.match-moment.env life report so_far.2.reports_are is
     (elim c.match-moment.branch [
       | in-Some-moment+in_ok-env w ↦ next_crash IsCrash (moment_of c.loop-life.env) c.moment-start.result w.in-Some-moment.moment c.in-Some.life.moment c.in-Some.life.pick c.live.new.env w.in_ok-env.env c.match-moment.env w.in-Some-moment.is c.moment-start.ensures w.env-is w.in_ok-env.ensures.crash
       | in_default w ↦ next_same IsCrash (moment_of c.loop-life.env) c.in-Some.life.moment c.in-Some.life.pick c.live.new.env c.match-moment.env w.in_default.is w.env-is
@@ -54,19 +59,20 @@ returns g c =
     let so_far = c.loop-life.invariant in
     let none : c.loop-life.life-iterator.rest.items ≡ [] = nil_from_length c.loop-life.life-iterator.rest.items (omega (arith, c.in-None.ensures.steps.0, c.loop-life.life-iterator.rest.ok)) in
     let all : c.loop-life.yielded ≡ c.args.lives.items = sym (append-nil c.loop-life.yielded) ∙ ap (λ rest. c.loop-life.yielded ++ rest) (sym none) ∙ so_far.1 in
-    all_reported g.C.Cmp g.FP.FilterPolicy (compressors g.dyn-2).codings c.args.name.now c.args.lives.items c.loop-life.reports (c.loop-life.env, rw all at so_far.2)
+    all_reported g.C.Cmp g.FP.FilterPolicy (compressors g.dyn-2).codings (key_order g.row.C g.C.UserCmp g.C.UserCmp-dict g.C.Cmp g.C.Cmp-dict) (key_policy g.row.FP g.FP.FilterPolicy g.FP.FilterPolicy-dict) c.args.name.now c.args.lives.items c.loop-life.reports (c.loop-life.env, rw all at so_far.2)
 
 pub returns-in_err-env : goal.returns-in_err-env
 returns-in_err-env g c =
     let so_far = c.loop-life.invariant in
     let p = err_from_is_err_and c.from_residual-in_err-env.result c.from_residual-in_err-env.ensures.1 in
-    let is : IsLifeOn ghosts g.C.Cmp g.FP.FilterPolicy (compressors g.dyn-2).codings c.args.name.now c.loop-life.env c.in-Some.life c.in_ok-report.report c.live.new.env = record {
+    let is : IsLifeOn ghosts g.C.Cmp g.FP.FilterPolicy (compressors g.dyn-2).codings (key_order g.row.C g.C.UserCmp g.C.UserCmp-dict g.C.Cmp g.C.Cmp-dict) (key_policy g.row.FP g.FP.FilterPolicy g.FP.FilterPolicy-dict) c.args.name.now c.loop-life.env c.in-Some.life c.in_ok-report.report c.live.new.env = record {
       from = c.fail.new.self;
       same = c.fail.ensures.same;
       failing = search rules;
       life_is = subst (λ commands. IsAlwaysLife ghosts c.args.name.now c.fail.new.self (opening_of g.C.Cmp g.FP.FilterPolicy (compressors g.dyn-2).codings c.in-Some.life.options) commands c.in_ok-report.report c.live.new.env) c.deref.ensures.value c.in_ok-report.ensures.life;
+      calls = subst (λ commands. LivesByCalls ghosts (choices_of g.C.Cmp g.FP.FilterPolicy (key_order g.row.C g.C.UserCmp g.C.UserCmp-dict g.C.Cmp g.C.Cmp-dict) (key_policy g.row.FP g.FP.FilterPolicy g.FP.FilterPolicy-dict) (compressors g.dyn-2).codings) c.args.name.now c.in-Some.life.options (opening_of g.C.Cmp g.FP.FilterPolicy (compressors g.dyn-2).codings c.in-Some.life.options) commands c.fail.new.self c.in_ok-report.report c.live.new.env) c.deref.ensures.value c.in_ok-report.ensures.calls;
     } in
-    rw (p.1, p.2) (fails_for g.C.Cmp g.FP.FilterPolicy (compressors g.dyn-2).codings c.args.name.now c.args.lives.items c.in_err-env.field-0.0
+    rw (p.1, p.2) (fails_for g.C.Cmp g.FP.FilterPolicy (compressors g.dyn-2).codings (key_order g.row.C g.C.UserCmp g.C.UserCmp-dict g.C.Cmp g.C.Cmp-dict) (key_policy g.row.FP g.FP.FilterPolicy g.FP.FilterPolicy-dict) c.args.name.now c.args.lives.items c.in_err-env.field-0.0
     (⊎_elim inl (λ why. inr (
       why.0,
       record {

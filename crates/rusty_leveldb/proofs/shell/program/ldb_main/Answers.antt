@@ -1,16 +1,32 @@
-use Rattle.std.proofs.Common.{arith, sym, ◌∙◌}
-use Rattle.rusty_leveldb.proofs.Answering.{some_status}
+-- All was answered, or there was a fault.
+use Rattle.std.proofs.Common.{◌∙◌, ap}
+use Rattle.rusty_leveldb.specs.Program.{status_of}
+use Rattle.rusty_leveldb.proofs.Answering.{ends_answered, ends_at_fault}
 use Rattle.rusty_leveldb.proofs.shell.program.ldb_main.Goals as goal
 
-pub returns-in-Err-clause-answered : goal.returns-in-Err-clause-answered
-returns-in-Err-clause-answered g c zero =
-    let some = some_status c.in-Err.fault in
-    absurd (omega (arith, some.0, c.tell_fault.ensures, zero))
+pub returns-in-Ok-clause-ends : goal.returns-in-Ok-clause-ends
+returns-in-Ok-clause-ends g c =
+    ends_answered g.E.Env g.I.Read g.O.Write c.args.args.now c.args.env.now c.args.input.now c.args.out.now
+    c.serve.new.env c.serve.new.input c.serve.new.out c.in-Ok.ensures.answered
 
-pub returns-in-Err-clause-untouched : goal.returns-in-Err-clause-untouched
-returns-in-Err-clause-untouched g c two = c.in-Err.ensures.untouched (sym c.tell_fault.ensures ∙ two)
+pub returns-in-Ok-clause-checks : goal.returns-in-Ok-clause-checks
+returns-in-Ok-clause-checks g c = record {
+  usage = λ none. absurd (c.in-Ok.ensures.usage none);
+  bad = λ asked bad. absurd (c.in-Ok.ensures.bad asked bad);
+  unread = c.in-Ok.ensures.unread;
+}
 
-pub returns-in-Err-clause-statuses : goal.returns-in-Err-clause-statuses
-returns-in-Err-clause-statuses g c =
-    let some = some_status c.in-Err.fault in
-    omega (arith, some.1, c.tell_fault.ensures)
+pub returns-in-Err-clause-ends : goal.returns-in-Err-clause-ends
+returns-in-Err-clause-ends g c =
+    ends_at_fault g.E.Env g.I.Read g.O.Write c.args.args.now c.args.env.now c.args.input.now c.args.out.now
+    c.serve.new.env c.serve.new.input c.serve.new.out c.in-Err.fault c.tell_fault.result c.tell_fault.ensures
+    c.in-Err.ensures.untouched c.in-Err.ensures.stopped c.in-Err.ensures.fault
+
+pub returns-in-Err-clause-checks : goal.returns-in-Err-clause-checks
+returns-in-Err-clause-checks g c = record {
+  usage = λ none. c.tell_fault.ensures ∙ ap status_of (c.in-Err.ensures.usage none);
+  bad = λ asked bad.
+      let is = c.in-Err.ensures.bad asked bad in
+      (c.in-Err.fault, is.0, c.tell_fault.ensures, is.1, is.2);
+  unread = c.in-Err.ensures.unread;
+}

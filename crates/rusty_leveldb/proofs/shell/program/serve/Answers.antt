@@ -1,5 +1,7 @@
-use Rattle.std.proofs.Common.{inl, inr}
+use Rattle.std.proofs.Common.{rules, inl, inr}
 use Rattle.rusty_leveldb.proofs.Playing.{OnErr-always}
+use Rattle.rusty_leveldb.specs.Program.{NamesNone}
+use Rattle.rusty_leveldb.specs.declared.shell.program.Task.TheVariants as task
 use Rattle.rusty_leveldb.proofs.shell.program.serve.Goals as goal
 
 pub returns-in_ok-play-in-Run-clause-answered : goal.returns-in_ok-play-in-Run-clause-answered
@@ -13,3 +15,12 @@ returns-in_err-play-in-Run-clause-stopped g c =
     let named = rw c.in-Run.is at c.in-Some.ensures in
     let run = rw c.deref.ensures.value at c.in_err-play-in-Run.ensures.run in
     OnErr-always _ (inr (inl (c.in-Run.way, c.in-Some.folder.now, named, c.in_ok-commands-in-Run.commands.items, c.in_ok-commands-in-Run.ensures.ok, run.0, run.1, run.2)))
+
+pub returns-in_default-clause-bad : goal.returns-in_default-clause-bad
+returns-in_default-clause-bad g c = λ asked bad.
+    let none : NamesNone c.args.args.now = search rules in
+    absurd (none (task.Run asked.0) asked.1 asked.2)
+
+pub returns-in_err-play-in-Run-clause-bad : goal.returns-in_err-play-in-Run-clause-bad
+returns-in_err-play-in-Run-clause-bad g c = λ asked bad.
+    absurd (bad c.in_ok-commands-in-Run.commands.items c.in_ok-commands-in-Run.ensures.ok)

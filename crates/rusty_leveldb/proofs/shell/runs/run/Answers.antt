@@ -1,4 +1,4 @@
-use Rattle.std.proofs.Common.{rules, ◌≡◌, ◌++◌, ◌∷◌, [], length, map, take, drop, refl, ◌∙◌, ap, arith, append_assoc, length-append}
+use Rattle.std.proofs.Common.{rules, ◌≡◌, ◌++◌, ◌∷◌, [], length, map, take, drop, refl, ◌∙◌, ap, arith, append_assoc, length-append, inl, inr, Ok, Err}
 use Rattle.std.proofs.Math.Seq.{drop-length, drop-append_seam}
 use Rattle.std.proofs.lemmas.List.{take_all}
 use Rattle.std.proofs.lemmas.Result.{err_from_is_err_and}
@@ -6,6 +6,7 @@ use Rattle.leveldb_env.specs.contracts.compressor.CompressorListCompressors.TheI
 use Rattle.rusty_leveldb.proofs.UnopenedLemmas.{given_back_under}
 use Rattle.leveldb_env.proofs.FilterBlockLemmas.{on_ok}
 use Rattle.rusty_leveldb.proofs.Playing.{abandon_fails, play_first, play_more, play_end, not_opened, not_begun, commands_up_to}
+use Rattle.rusty_leveldb.proofs.TurnLemmas.{calls_later, calls_more, calls_step, calls_time}
 use Rattle.rusty_leveldb.specs.Engine.{opening_of}
 use Rattle.rusty_leveldb.specs.Serves.{snapshot_of}
 use Rattle.leveldb_version.specs.Format.{format_of}
@@ -47,6 +48,7 @@ loop-command-init g c = (
   refl,
   rw (c.new-taken.ensures.items) (play_first g.row.C.Denot g.row.FP.Denot _ g.E.Env (format_of g.C.Cmp g.FP.FilterPolicy (compressors g.dyn-2).codings) (g.met.E.Env.only_now, g.met.E.Env.counts_now) c.args.name.now c.args.env.now c.open.new.env (opening_of g.C.Cmp g.FP.FilterPolicy (compressors g.dyn-2).codings c.args.opt) c.in_ok-engine.engine c.in_ok-engine.ensures.step),
   c.in_ok-engine.ensures.time,
+  (refl, refl, c.new-taken.ensures.items),
 )
 
 pub unwrap-requires : goal.unwrap-requires
@@ -58,17 +60,26 @@ loop-command-preserved g c =
     let command = c.command-item.result in
     let reply = c.answer.result in
     let pushed : c.push.new.self.items ≡ c.loop-command.replies.items ++ reply ∷ [] = search rules in
-    let step = c.answer.ensures.step in
+    let engine = c.loop-command.engine in
+    let env = c.loop-command.env in
+    let taken = c.loop-command.taken.items in
+    let calls = c.answer.ensures in
+    let step = calls_step g.E.Env _ engine env taken reply c.answer.new.engine c.answer.new.env c.answer.new.taken.items command calls in
+    let later = calls_later g.E.Env _ engine env taken reply c.answer.new.engine c.answer.new.env c.answer.new.taken.items command calls in
+    let then = calls_time g.E.Env _ engine env taken reply c.answer.new.engine c.answer.new.env c.answer.new.taken.items command calls in
+    let all = calls_more g.E.Env _ _ _ [] (take c.loop-command.command-index c.args.commands.now) so_far.2 engine env taken command reply
+    c.answer.new.engine c.answer.new.env c.answer.new.taken.items so_far.7 calls in
     let more = play_more g.row.C.Denot g.row.FP.Denot _ g.E.Env (format_of g.C.Cmp g.FP.FilterPolicy (compressors g.dyn-2).codings) (g.met.E.Env.only_now, g.met.E.Env.counts_now) c.args.name.now c.args.env.now c.loop-command.env c.answer.new.env (opening_of g.C.Cmp g.FP.FilterPolicy (compressors g.dyn-2).codings c.args.opt)
     (take c.loop-command.command-index c.args.commands.now) so_far.2 (map snapshot_of c.loop-command.taken.items) (map snapshot_of c.answer.new.taken.items) c.loop-command.engine c.answer.new.engine command reply so_far.5 step in
     let behind = commands_up_to c.args.commands.now c.loop-command.command-index command c.loop-command-test.true c.command-item.is in (
-      search rules,
+      omega (arith, so_far.0, later),
       search rules,
       so_far.2 ++ reply ∷ [],
       pushed ∙ ap (λ items. items ++ reply ∷ []) so_far.3 ∙ append_assoc c.args.replies.now.items so_far.2 (reply ∷ []),
       omega (arith, length-append so_far.2 (reply ∷ []), so_far.4),
       rw behind more,
-      λ tells. let before = so_far.6 tells in let then = c.answer.ensures.time tells in omega (arith, before, then),
+      λ tells. let before = so_far.6 tells in let after = then tells in omega (arith, before, after),
+      rw behind all,
     )
 
 pub returns-clause-runs : goal.returns-clause-runs
@@ -83,6 +94,30 @@ returns-clause-runs g c =
       unopened = λ modelled never. absurd (c.in_ok-engine.ensures.never_opens modelled never).0;
       misnamed = λ no. absurd (c.in_ok-engine.ensures.misnamed no).1;
     })
+
+pub returns-in_err-reserve-clause-calls : goal.returns-in_err-reserve-clause-calls
+returns-in_err-reserve-clause-calls g c =
+    let failed = err_from_is_err_and c.from_residual.result c.from_residual.ensures.1 in
+    let none : drop (length c.args.replies.now.items) c.reserve.new.self.items ≡ [] = rw c.reserve.ensures.items (drop-length c.args.replies.now.items) in
+    rw failed.1 (inl (failed.2, none, refl))
+
+pub returns-in_err-engine-clause-calls : goal.returns-in_err-engine-clause-calls
+returns-in_err-engine-clause-calls g c =
+    let failed = err_from_is_err_and c.from_residual-in_err-engine.result c.from_residual-in_err-engine.ensures.1 in
+    let none : drop (length c.args.replies.now.items) c.reserve.new.self.items ≡ [] = rw c.reserve.ensures.items (drop-length c.args.replies.now.items) in
+    rw (failed.1, failed.2) (inr (Err c.in_err-engine.field-0.0, c.open.new.env, c.in_err-engine.ensures, (none, refl, refl)))
+
+pub returns-clause-calls : goal.returns-clause-calls
+returns-clause-calls g c =
+    let so_far = c.loop-command.invariant in
+    let given : drop (length c.args.replies.now.items) c.loop-command.replies.items ≡ so_far.2 = rw so_far.3 (drop-append_seam c.args.replies.now.items so_far.2) in
+    let all : take c.loop-command.command-index c.args.commands.now ≡ c.args.commands.now = take_all c.loop-command.command-index c.args.commands.now c.loop-command-test.false in
+    rw given (inr (
+      Ok c.in_ok-engine.engine,
+      c.open.new.env,
+      c.in_ok-engine.ensures,
+      (c.loop-command.engine, c.loop-command.env, c.loop-command.taken.items, rw all at so_far.7, c.abandon.ensures),
+    ))
 
 pub returns-clause-after : goal.returns-clause-after
 returns-clause-after g c =

@@ -1,12 +1,12 @@
 -- The snapshot that is named, or none.
 use Rattle.std.proofs.Common.{sym}
-use Rattle.rusty_leveldb.proofs.TurnLemmas.{names_none, names_one}
+use Rattle.rusty_leveldb.proofs.TurnLemmas.{held_none, held_one}
 use Rattle.rusty_leveldb.proofs.shell.views.release.Goals as goal
 
 pub returns-in-Some : goal.returns-in-Some
-returns-in-Some g c = λ at. rw (names_one c.args.taken.now c.args.number c.in-Some.snapshot
-    (sym c.in-Some.ensures)) (c.release_snapshot.ensures at).step
+returns-in-Some g c = λ at. rw (held_one c.args.taken.now c.args.number c.in-Some.snapshot
+    (sym c.in-Some.ensures)) (c.release_snapshot.ensures at)
 
 pub returns-in-None : goal.returns-in-None
-returns-in-None g c = λ at. rw (names_none c.args.taken.now c.args.number (sym c.in-None.ensures))
+returns-in-None g c = λ at. rw (held_none c.args.taken.now c.args.number (sym c.in-None.ensures))
     (c.refuse_unknown.ensures.release at)

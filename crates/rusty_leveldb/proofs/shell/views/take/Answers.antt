@@ -1,12 +1,10 @@
 -- A closed store, no memory, or the snapshot that was given out.
-use Rattle.std.proofs.Common.{rules, ◌≡◌, ◌++◌, ◌∷◌, [], map, inl, refl, ◌∙◌, ap}
-use Rattle.std.proofs.lemmas.List.{map-append}
+use Rattle.std.proofs.Common.{rules, ◌≡◌, ◌++◌, ◌∷◌, [], inl, refl}
 use Rattle.std.proofs.lemmas.Result.{err_from_is_err_and}
 use Rattle.leveldb_base.specs.contracts.cmp.internal.InternalKeyCmpCmp.TheImpl.{ghosts as key_order}
 use Rattle.leveldb_env.specs.contracts.compressor.CompressorListCompressors.TheImpl.{ghosts as compressors}
 use Rattle.leveldb_env.specs.contracts.filter.internal.InternalFilterPolicyFilterPolicy.TheImpl.{ghosts as key_policy}
 use Rattle.leveldb_store.specs.BuildTable.{choices_of}
-use Rattle.rusty_leveldb.specs.Serves.{snapshot_of}
 use Rattle.rusty_leveldb.proofs.SnapshotLemmas.{closed_gives, gives_none}
 use Rattle.rusty_leveldb.proofs.shell.views.take.Goals as goal
 
@@ -18,8 +16,8 @@ returns-in_err-check_not_closed-clause-err g c =
     let p = err_from_is_err_and c.from_residual.result c.from_residual.ensures.1 in
     rw (p.1, p.2) (
       refl,
-      λ at. (closed_gives g.E.Env choices c.args.engine.now c.in_err-check_not_closed.field-0.0 at
-          c.in_err-check_not_closed.ensures.cause).step,
+      λ at. closed_gives g.E.Env choices c.args.engine.now c.in_err-check_not_closed.field-0.0 at
+          c.in_err-check_not_closed.ensures.cause,
     )
 
 pub returns-in_err-reserve-clause-err : goal.returns-in_err-reserve-clause-err
@@ -30,21 +28,21 @@ returns-in_err-reserve-clause-err g c =
     let p = err_from_is_err_and c.from_residual-in_err-reserve.result c.from_residual-in_err-reserve.ensures.1 in
     rw p.1 (
       c.reserve.ensures.items,
-      λ at. (gives_none g.E.Env choices c.args.engine.now c.in_ok-check_not_closed.ensures.ok p.0 at
-          (inl p.2)).step,
+      λ at. gives_none g.E.Env choices c.args.engine.now c.in_ok-check_not_closed.ensures.ok p.0 at
+          (inl p.2),
     )
 
 pub returns-in_err-snapshot-clause-err : goal.returns-in_err-snapshot-clause-err
 returns-in_err-snapshot-clause-err g c =
     let p = err_from_is_err_and c.from_residual-in_err-snapshot.result c.from_residual-in_err-snapshot.ensures.1 in
-    rw (p.1, p.2) (c.reserve.ensures.items, λ at. (c.in_err-snapshot.ensures at).step)
+    rw (p.1, p.2) (c.reserve.ensures.items, λ at. c.in_err-snapshot.ensures at)
 
 pub returns-clause-ok : goal.returns-clause-ok
 returns-clause-ok g c =
     let one = c.in_ok-snapshot.snapshot in
     let pushed : c.push.new.self.items ≡ c.args.taken.now.items ++ one ∷ [] = search rules in (
       search rules,
-      snapshot_of one,
-      ap (map snapshot_of) pushed ∙ map-append snapshot_of c.args.taken.now.items (one ∷ []),
-      λ at. (c.in_ok-snapshot.ensures at).step,
+      one,
+      pushed,
+      λ at. c.in_ok-snapshot.ensures at,
     )

@@ -3,13 +3,14 @@ use Rattle.std.proofs.Common.{◌≡◌, ◌++◌, ◌∙◌, ap}
 use Rattle.std.proofs.lemmas.Result.{err_from_is_err_and}
 use Rattle.rusty_leveldb.proofs.shell.views.walk_over.Goals as goal
 
-pub returns-in_err-walk-clause-step : goal.returns-in_err-walk-clause-step
-returns-in_err-walk-clause-step g c =
+pub returns-in_err-walk : goal.returns-in_err-walk
+returns-in_err-walk g c =
     let p = err_from_is_err_and c.from_residual.result c.from_residual.ensures.1 in
-    rw (p.1, p.2) c.in_err-walk.ensures.2.step
+    let made = c.in_err-walk.ensures in
+    rw (p.1, p.2) (rw made.2.none at made.2)
 
-pub returns-clause-step : goal.returns-clause-step
-returns-clause-step g c =
+pub returns : goal.returns
+returns g c =
     let made = c.in_ok-walk.ensures in
     let same : c.walk.new.steps.items ≡ made.0 = made.1 ∙ ap (λ steps. steps ++ made.0) c.new-steps.ensures.items in
-    rw same made.2.step
+    rw same made.2

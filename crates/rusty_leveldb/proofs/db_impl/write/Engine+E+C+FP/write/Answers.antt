@@ -6,6 +6,7 @@ use Rattle.leveldb_env.specs.contracts.compressor.CompressorListCompressors.TheI
 use Rattle.leveldb_env.specs.contracts.filter.internal.InternalFilterPolicyFilterPolicy.TheImpl.{ghosts as key_policy}
 use Rattle.leveldb_store.specs.BuildTable.{choices_of}
 use Rattle.leveldb_version.specs.Format.{format_of}
+use Rattle.rusty_leveldb.proofs.Batching.{not_too_long}
 use Rattle.rusty_leveldb.proofs.WriteCallLemmas.{batch_serves, room_fails_serves}
 use Rattle.rusty_leveldb.proofs.EngineLemmas.{follows_unbroken}
 use Rattle.rusty_leveldb.specs.Room.{EngineMakesRoom}
@@ -25,6 +26,7 @@ returns-in_err-make_room g c =
     rw (p.1, p.2) (room_fails_serves g.E.Env _ c.args.self.now c.args.env.now
     c.in_ok-check_open.ensures.ok c.args.batch.items c.args.sync
     (λ a b is. ap (format_of g.C.Cmp g.FP.FilterPolicy (compressors g.dyn-2).codings) is.rest)
+    (not_too_long c.contents.result.now c.args.batch.first c.args.batch.items c.contents.ensures)
     c.make_room.new.self c.make_room.new.env c.in_err-make_room.field-0.0
     c.in_err-make_room.ensures)
 
@@ -37,6 +39,7 @@ returns g c =
     batch_serves g.E.Env choices c.args.self.now c.args.env.now
     c.in_ok-check_open.ensures.ok c.args.batch.items c.args.sync
     (λ a b is. ap (format_of g.C.Cmp g.FP.FilterPolicy (compressors g.dyn-2).codings) is.rest)
+    (not_too_long c.contents.result.now c.args.batch.first c.args.batch.items c.contents.ensures)
     _ c.make_room.new.env (subst (λ e. EngineMakesRoom g.E.Env choices c.args.self.now
     c.args.env.now (Ok tt) e c.make_room.new.env) (sym c.self.view_is) c.in_ok-make_room.ensures) c.write_batch-written.new.self _ c.mode_by-self-inside.ensures
     c.write_batch-written.new.env c.write_batch-written.result c.write_batch-written.ensures.short
