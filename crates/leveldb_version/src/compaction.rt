@@ -130,7 +130,7 @@ impl<C: UserCmp + Copy + Drop> Compaction<C> {
         self.inputs.num_level_files(self.level + parent)
     }
 
-    /// The file of this index among them, if there are so many.
+    /// The file of this index among them, if there is one.
     pub fn input(&self, parent: usize, index: usize) -> Option<&(usize, FileMetaData)>
         requires { parent < 2 }
         ensures { option_copied result

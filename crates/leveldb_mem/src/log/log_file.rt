@@ -84,7 +84,7 @@ impl<E: Env> LogFile<E> {
         Ok(LogFile::new(alloc, path, file, WriterCore::new(alloc)))
     }
 
-    /// Opens the log under this path, which has so many bytes; it is made where there is none.
+    /// Opens the log under this path, which has `size` bytes; it is made where there is none.
     pub fn open(alloc: Global, env: &mut E, path: String, size: usize) -> Result<LogFile<E>>
         ensures does { ChangesFiles E.models_disk (created (string_bytes path))
             (BeforeOrAfter (created (string_bytes path)))
