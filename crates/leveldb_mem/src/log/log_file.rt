@@ -53,7 +53,8 @@ impl<E: Env> LogFile<E> {
         }
     }
 
-    /// A log under this path that is broken from the start. Its file isn't opened, and may be missing.
+    /// A log under this path that is broken from the start. Its file isn't opened, and may be
+    /// missing.
     pub fn unopened(alloc: Global, path: String) -> LogFile<E>
         ensures { result ≡ record {
           path = string_bytes path;
@@ -107,8 +108,8 @@ impl<E: Env> LogFile<E> {
         self.writer.is_broken()
     }
 
-    /// Appends a record, which is not empty. If that fails once it has begun, the log is broken: from
-    /// then on every call is `IOError`. `Corruption` where the file is missing.
+    /// Appends a record, which is not empty. If that fails once it has begun, the log is broken:
+    /// from then on every call is `IOError`. `Corruption` where the file is missing.
     pub fn append(&mut self, env: &mut E, text: &[u8]) -> Result<()>
         requires { text.now ≢ [] }
         ensures { AppendsRecord E.Env self.old env.old text.now result self.new env.new }

@@ -75,10 +75,10 @@ impl fmt::Display for Fault {
 
 /// Runs the commands of `input` over the store in the folder that is the last argument, and writes
 /// their replies to `out`. After `--read-only` the store is read alone (`run_read_only`). After
-/// `--repair` it is repaired (`repair`): no input is read, and `repaired` is written. Else a folder is
-/// the only argument. A fault is a line on `err`, and what the store says of its files is a line for
-/// `log`. The status is 0 if all was answered and written, 2 if the arguments, a line or the length of
-/// the input is wrong, and 1 if a call failed.
+/// `--repair` it is repaired (`repair`): no input is read, and `repaired` is written. Else a folder
+/// is the only argument. A fault is a line on `err`, and what the store says of its files is a line
+/// for `log`. The status is 0 if all was answered and written, 2 if the arguments, a line or the
+/// length of the input is wrong, and 1 if a call failed.
 pub fn ldb_main<E: Env, I: Read, O: Write, F: Write>(
     alloc: Global,
     env: &mut E,
