@@ -1,5 +1,6 @@
-//! A store with a memtable of one byte, each write of which makes a table, so that level 0 fills up and writes compact it. Crashes and failures
-//! come at each moment and call of its script, inside these compactions too.
+//! A store with a memtable of one byte, each write of which makes a table, so that level 0 fills up
+//! and writes compact it. Crashes and failures come at each moment and call of its script, inside
+//! these compactions too.
 use super::crash_disks::{Script, Setting, Tails, assert_tally, record};
 use super::steps::Step;
 use super::sweep::{crash_everywhere, fail_everywhere};
@@ -23,7 +24,8 @@ const ALL: &[Move<'static>] = &[
     Move::Prev,
 ];
 
-/// Two lives of one store, the first closed, the second abandoned. Each begins with a look-up, whose reply shows when its opening returned.
+/// Two lives of one store, the first closed, the second abandoned. Each begins with a look-up,
+/// whose reply shows when its opening returned.
 const FIRST: &[Step] = &[
     Step::Get("a"),
     Step::Put("a", "1"),
@@ -123,7 +125,8 @@ fn tables_after(alloc: Global, script: Script<'_>) -> Result<usize> {
     count_tables(alloc, &mut recorded.env)
 }
 
-/// Of seven tables that the first script makes, and of twenty of the longer one, compactions leave few.
+/// Of seven tables that the first script makes, and of twenty of the longer one, compactions leave
+/// few.
 #[test]
 fn compactions_of_level_0(rt: HostRuntime) -> Result<()> {
     let tables = tables_after(rt.alloc(), SHORT)?;

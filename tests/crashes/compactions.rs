@@ -1,5 +1,6 @@
-//! Compactions of a store with small tables on a recording device: crashes and failures come at each moment and call of scripts, some of which
-//! look random. Each disk that a crash leaves is a whole store by the definition, and each view that is held stays.
+//! Compactions of a store with small tables on a recording device: crashes and failures come at
+//! each moment and call of scripts, some of which look random. Each disk that a crash leaves is a
+//! whole store by the definition, and each view that is held stays.
 use super::crash_disks::{
     Recorded, Script, Setting, Side, Tails, assert_tally, crash, record, sides_tried,
 };
@@ -31,8 +32,9 @@ const ALL: &[Move<'static>] = &[
     Move::Prev,
 ];
 
-/// Two lives of one store, the first closed, the second abandoned. Each begins with a look-up, whose reply shows when its opening returned.
-/// Tables go down to level 3; deletions and older values go, but for those that a snapshot needs.
+/// Two lives of one store, the first closed, the second abandoned. Each begins with a look-up,
+/// whose reply shows when its opening returned. Tables go down to level 3; deletions and older
+/// values go, but for those that a snapshot needs.
 const FIRST: &[Step] = &[
     Step::Get("a"),
     Step::Put("a", "1"),
@@ -135,7 +137,8 @@ fn levels_in_the_end(rt: HostRuntime) -> Result<()> {
     Ok(())
 }
 
-/// Whether the disk that a crash leaves on this side is a store by its definition, or none, or the one that was seen last.
+/// Whether the disk that a crash leaves on this side is a store by its definition, or none, or the
+/// one that was seen last.
 fn is_whole(
     alloc: Global,
     recorded: &Recorded,
@@ -258,7 +261,8 @@ fn any_step(random: &mut Random, taken: usize) -> Step {
     }
 }
 
-/// A life of steps that look random. It begins with a look-up, whose reply shows when its opening returned.
+/// A life of steps that look random. It begins with a look-up, whose reply shows when its opening
+/// returned.
 fn any_life(alloc: Global, random: &mut Random, count: usize) -> Result<Vec<Step>> {
     let mut steps = Vec::new(alloc);
     steps.push(Step::Get("a"))?;
@@ -320,7 +324,8 @@ fn try_any(
     try_script(rt, alloc, script, trial)
 }
 
-/// What a script of this seed is run with: small tables or large ones, logs that are used on or not.
+/// What a script of this seed is run with: small tables or large ones, logs that are used on or
+/// not.
 fn setting_of(seed: u64) -> Setting {
     Setting {
         write_buffer_size: if seed % 3 == 0 { 1 } else { 300 },
@@ -330,7 +335,8 @@ fn setting_of(seed: u64) -> Setting {
     }
 }
 
-/// Sweeps the script of this seed: a crash at each moment without tails, and with whole ones, and each call failing, its change made or not.
+/// Sweeps the script of this seed: a crash at each moment without tails, and with whole ones, and
+/// each call failing, its change made or not.
 pub fn sweep_seed(rt: &impl Abort, alloc: Global, seed: u64, count: usize) -> Result<()> {
     let trials = [
         Trial::Crashes(Tails::Nothing),

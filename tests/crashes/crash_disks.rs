@@ -135,7 +135,8 @@ pub fn sides_of(alloc: Global, moment: u64) -> Result<Vec<Side>> {
     Ok(sides)
 }
 
-/// By how much the moments that are tried with this kind of tails are later than those of the first kind, so that all kinds try all of them.
+/// By how much the moments that are tried with this kind of tails are later than those of the first
+/// kind, so that all kinds try all of them.
 fn shift_of(kind: Tails) -> u64 {
     match kind {
         Tails::Nothing => 0,
@@ -247,7 +248,8 @@ fn add_call(calls: &mut Vec<Call>, step: Step, reply: Reply, moment: u64) -> Res
     Ok(())
 }
 
-/// The calls of a life that began and ended at these moments. Its first reply shows when its opening returned.
+/// The calls of a life that began and ended at these moments. Its first reply shows when its
+/// opening returned.
 pub fn add_calls(
     calls: &mut Vec<Call>,
     report: Report,
@@ -309,7 +311,8 @@ pub fn judge_all(alloc: Global, calls: &[Call]) -> Result<SlowStore> {
     Ok(slow)
 }
 
-/// How many calls returned by this moment, and whether it is past the last of them, so that the next may have begun.
+/// How many calls returned by this moment, and whether it is past the last of them, so that the
+/// next may have begun.
 pub fn calls_by(calls: &[Call], moment: u64) -> (usize, bool) {
     let done = calls
         .iter()
@@ -320,7 +323,8 @@ pub fn calls_by(calls: &[Call], moment: u64) -> (usize, bool) {
     (done, last < moment)
 }
 
-/// The slow store after a crash at this moment and a reopening: the calls that returned by then happened, and the next may have begun.
+/// The slow store after a crash at this moment and a reopening: the calls that returned by then
+/// happened, and the next may have begun.
 pub fn judge_crash(alloc: Global, calls: &[Call], moment: u64) -> Result<SlowStore> {
     let (done, is_inside) = calls_by(calls, moment);
     let (returned, later) = calls.split_at(done);
@@ -333,8 +337,9 @@ pub fn judge_crash(alloc: Global, calls: &[Call], moment: u64) -> Result<SlowSto
     Ok(slow)
 }
 
-/// How many crashes there were, how often a store was opened on what they left, how many crashes there were where the slow store allows more
-/// than one map, and how many of these left the shortest history and the longest.
+/// How many crashes there were, how often a store was opened on what they left, how many crashes
+/// there were where the slow store allows more than one map, and how many of these left the
+/// shortest history and the longest.
 #[derive(Clone, Copy, Debug)]
 pub struct Tally {
     pub crashes: usize,

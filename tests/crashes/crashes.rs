@@ -1,5 +1,6 @@
-//! A store in memory after each of a dozen batches, and a crash that leaves each prefix of its log's unsynced bytes, or all of them with
-//! the last byte changed: the map that is found is that of a prefix of the batches with all durable ones, and the store goes on from there.
+//! A store in memory after each of a dozen batches, and a crash that leaves each prefix of its
+//! log's unsynced bytes, or all of them with the last byte changed: the map that is found is that
+//! of a prefix of the batches with all durable ones, and the store goes on from there.
 use super::replies::{are_same, bytes_of, is_any_map, look_ups};
 use leveldb_base::cmp::DefaultCmp;
 use leveldb_base::error::Result;
@@ -16,7 +17,8 @@ use std::process::Abort;
 /// The first log.
 const LOG: &str = "db/000003.log";
 
-/// A batch: whether it is synced, and its keys, each with a byte and how often its value has it, or deleted.
+/// A batch: whether it is synced, and its keys, each with a byte and how often its value has it, or
+/// deleted.
 type Batch = (bool, &'static [(&'static str, Option<(u8, usize)>)]);
 
 /// The fifth almost fills the log's first block, and the sixth goes over its end.
@@ -130,7 +132,8 @@ fn has_only_changed_last(before: &[Reply], after: &[Reply], value: &[u8]) -> boo
     is_changed && are_same(before, after)
 }
 
-/// Gives the store one synced batch, in which the last key has a new value, and returns whether it was written.
+/// Gives the store one synced batch, in which the last key has a new value, and returns whether it
+/// was written.
 fn write_last(alloc: Global, env: &mut MemEnv) -> Result<bool> {
     let mut commands = Vec::new(alloc);
     commands.push(command_of(alloc, &(true, &[("e", Some((b'x', 3)))]))?)?;
@@ -151,7 +154,8 @@ fn goes_on(alloc: Global, env: &mut MemEnv, found: &[Reply]) -> Result<bool> {
     Ok(is_written && has_only_changed_last(found, &later, b"xxx"))
 }
 
-/// After a crash with this tail an allowed map is found, and then the store takes a synced batch, which is found after a second crash.
+/// After a crash with this tail an allowed map is found, and then the store takes a synced batch,
+/// which is found after a second crash.
 fn crash_and_go_on(
     rt: &impl Abort,
     alloc: Global,
@@ -170,7 +174,8 @@ fn crash_and_go_on(
     Ok(())
 }
 
-/// A crash that leaves each prefix of the log's unsynced bytes, or one of so many of these and all of them.
+/// A crash that leaves each prefix of the log's unsynced bytes, or one of so many of these and all
+/// of them.
 fn crash_with_each_tail(
     rt: &impl Abort,
     alloc: Global,

@@ -1,6 +1,5 @@
 //! Stores of which one file is cut to each length, has each of its bytes raised, or is taken away, and is opened then. An opening fails as
 //! damage does, or what is found is what the slow reader reads of the changed files. Of a table that is damaged nothing wrong is found.
-use super::changed_files::{Change, File, bytes_in, disk_with, files_on, make_file};
 use super::replies::{KEYS, has};
 use super::steps::{Step, commands_of, landings_of};
 use super::twelve_keys::{OVER_ALL, STEPS};
@@ -8,7 +7,6 @@ use leveldb_base::cmp::DefaultCmp;
 use leveldb_base::error::{Result, StatusCode};
 use leveldb_base::names::parse_file_name;
 use leveldb_base::types::FileType;
-use leveldb_env::env::Env;
 use leveldb_env::filter::BloomPolicy;
 use leveldb_env::mem_env::MemEnv;
 use leveldb_env::options::Options;
@@ -17,6 +15,7 @@ use slow_history::{BorrowedPair, Entry, Move, is_walk, view_of};
 use slow_store::{Contents, read_store};
 use std::alloc::Global;
 use std::process::Abort;
+use support::{Change, File, bytes_in, disk_of, disk_with, files_on, is_free, put_file};
 
 pub type DefaultOptions = Options<DefaultCmp, BloomPolicy>;
 
@@ -96,7 +95,7 @@ fn files_of(alloc: Global, making: Making, steps: &[Step]) -> Result<Vec<File>> 
     let mut replies = Vec::new(alloc);
     let commands = commands_of(alloc, steps)?;
     run(&mut env, "db", options_of(making), &commands, &mut replies)?;
-    make_file(alloc, &mut env, "notes.txt", b"notes")?;
+    put_file(alloc, &mut env, "notes.txt", b"notes")?;
     files_on(alloc, &mut env)
 }
 
@@ -334,7 +333,7 @@ struct Sound {
 
 fn sound_store(alloc: Global, making: Making, steps: &[Step]) -> Result<Sound> {
     let files = files_of(alloc, making, steps)?;
-    let mut env = disk_with(alloc, &files, "", Change::TakenAway)?;
+    let mut env = disk_of(alloc, &files)?;
     let Some(contents) = read_store(alloc, &mut env, &DefaultCmp, "db")? else {
         return leveldb_base::error::err(alloc, StatusCode::NotFound, "no store");
     };
@@ -398,12 +397,6 @@ fn is_allowed(
             )
         }
     }
-}
-
-pub fn is_free(env: &mut MemEnv) -> Result<bool> {
-    env.lock("db/LOCK")?;
-    env.unlock("db/LOCK")?;
-    Ok(true)
 }
 
 /// Opens the store with this file changed so, if this change is among those that are tried.

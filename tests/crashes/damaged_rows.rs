@@ -1,15 +1,16 @@
-//! A store of a table with a, a log with b and no more, with one or two of its files changed: what its opening returns, and what is found.
-use super::changed_files::{Change, File, bytes_in, disk_with, files_on, make_file};
+//! A store of a table with a, a log with b and no more, with one or two of its files changed: what
+//! its opening returns, and what is found.
+use super::log_records::{log_of, records_of};
 use super::replies::bytes_of;
 use leveldb_base::crc::{crc32, mask_crc};
 use leveldb_base::error::{Result, StatusCode};
 use leveldb_env::env::Env;
 use leveldb_env::mem_env::MemEnv;
 use leveldb_env::options::Options;
-use leveldb_mem::log::{LogReader, LogWriter};
 use rusty_leveldb::shell::{Command, Reply, run};
 use std::alloc::Global;
 use std::process::Abort;
+use support::{Change, File, bytes_in, disk_of, disk_with, files_on, put_file};
 
 const CURRENT: &str = "CURRENT";
 
@@ -52,7 +53,8 @@ fn add_put(alloc: Global, commands: &mut Vec<Command>, key: &str, value: &str) -
     Ok(())
 }
 
-/// A disk with a store to which these pairs were put, each of which but the last is in a table of its own.
+/// A disk with a store to which these pairs were put, each of which but the last is in a table of
+/// its own.
 fn store_of(alloc: Global, pairs: &[(&str, &str)]) -> Result<MemEnv> {
     let mut env = MemEnv::new(alloc);
     let mut options = Options::default();
@@ -102,7 +104,8 @@ fn ask_three(alloc: Global) -> Result<Vec<Command>> {
     Ok(commands)
 }
 
-/// Whether an opening of this disk returns that. Where it fails, each file stays as it is, and the lock is free.
+/// Whether an opening of this disk returns that. Where it fails, each file stays as it is, and the
+/// lock is free.
 fn opens_so(alloc: Global, env: &mut MemEnv, wanted: Opened) -> Result<bool> {
     let before = files_on(alloc, env)?;
     let mut replies = Vec::new(alloc);
@@ -146,7 +149,7 @@ fn one_change(rt: HostRuntime) -> Result<()> {
 fn a_byte_behind_a_torn_log(rt: HostRuntime) -> Result<()> {
     let alloc = rt.alloc();
     let mut env = disk_with(alloc, &sound_files(alloc)?, LOG, Change::Cut(23))?;
-    make_file(alloc, &mut env, "000006.log", b"x")?;
+    put_file(alloc, &mut env, "000006.log", b"x")?;
     assert!(rt; opens_so(alloc, &mut env, DAMAGED)?);
     Ok(())
 }
@@ -154,21 +157,12 @@ fn a_byte_behind_a_torn_log(rt: HostRuntime) -> Result<()> {
 #[test]
 fn a_foreign_file(rt: HostRuntime) -> Result<()> {
     let alloc = rt.alloc();
-    let mut env = disk_with(alloc, &sound_files(alloc)?, "", Change::TakenAway)?;
-    make_file(alloc, &mut env, "notes.txt", b"notes")?;
+    let mut env = disk_of(alloc, &sound_files(alloc)?)?;
+    put_file(alloc, &mut env, "notes.txt", b"notes")?;
     assert!(rt; opens_so(alloc, &mut env, BOTH)?);
     let files = files_on(alloc, &mut env)?;
     assert!(rt; bytes_in(&files, "notes.txt") == Some(b"notes".as_slice()));
     Ok(())
-}
-
-/// A log of these records.
-fn log_of(alloc: Global, records: &[Vec<u8>]) -> Result<Vec<u8>> {
-    let mut writer = LogWriter::new(alloc, Vec::new(alloc));
-    for record in records {
-        writer.add_record(record)?;
-    }
-    Ok(writer.sink)
 }
 
 /// A record that is whole, and no batch.
@@ -178,12 +172,13 @@ fn a_record_that_is_no_batch(rt: HostRuntime) -> Result<()> {
     let mut env = store_of(alloc, &[("a", "1"), ("b", "2")])?;
     let mut records = Vec::new(alloc);
     records.push(bytes_of(alloc, "abc")?)?;
-    make_file(alloc, &mut env, LOG, &log_of(alloc, &records)?)?;
+    put_file(alloc, &mut env, LOG, &log_of(alloc, &records)?)?;
     assert!(rt; opens_so(alloc, &mut env, DAMAGED)?);
     Ok(())
 }
 
-/// The data block of the table has 21 bytes, then its type and its checksum. This type is that of a compressor that isn't set.
+/// The data block of the table has 21 bytes, then its type and its checksum. This type is that of a
+/// compressor that isn't set.
 #[test]
 fn a_block_without_its_compressor(rt: HostRuntime) -> Result<()> {
     let alloc = rt.alloc();
@@ -194,7 +189,7 @@ fn a_block_without_its_compressor(rt: HostRuntime) -> Result<()> {
     table[21] = 1;
     let sum = mask_crc(crc32(&table[..22]));
     table[22..26].copy_from_slice(&sum.to_le_bytes());
-    make_file(alloc, &mut env, TABLE, &table)?;
+    put_file(alloc, &mut env, TABLE, &table)?;
     let wanted = Opened::Finds([
         Got::Fails(StatusCode::NotSupported),
         Got::Value(b"2"),
@@ -207,17 +202,11 @@ fn a_block_without_its_compressor(rt: HostRuntime) -> Result<()> {
 /// The edits of the manifest.
 fn edits_on(alloc: Global, env: &mut MemEnv) -> Result<Vec<Vec<u8>>> {
     let files = files_on(alloc, env)?;
-    let bytes = bytes_in(&files, MANIFEST).unwrap_or_default();
-    let mut reader = LogReader::new(alloc, bytes, true);
-    let mut edits = Vec::new(alloc);
-    let mut edit = Vec::new(alloc);
-    while reader.read(&mut edit)? > 0 {
-        edits.push(edit.clone()?)?;
-    }
-    Ok(edits)
+    records_of(alloc, bytes_in(&files, MANIFEST).unwrap_or_default())
 }
 
-/// The offset of the level in the second edit, which ends with a table: its tag is 7, and its number is 5.
+/// The offset of the level in the second edit, which ends with a table: its tag is 7, and its
+/// number is 5.
 const LEVEL_AT: usize = 9;
 
 /// Puts the first table into this level, in its edit of the manifest.
@@ -228,7 +217,7 @@ fn move_first_table(rt: &impl Abort, alloc: Global, env: &mut MemEnv, level: u8)
             && edits[1].as_slice().get(LEVEL_AT - 1..LEVEL_AT + 2) == Some([7u8, 2, 5].as_slice())
     );
     edits[1][LEVEL_AT] = level;
-    make_file(alloc, env, MANIFEST, &log_of(alloc, &edits)?)
+    put_file(alloc, env, MANIFEST, &log_of(alloc, &edits)?)
 }
 
 #[test]

@@ -1,5 +1,5 @@
-//! One call of the device fails, with its change made or not: a sync of a write, an append of one, and the rename that makes `CURRENT`
-//! name a new manifest.
+//! One call of the device fails, with its change made or not: a sync of a write, an append of one,
+//! and the rename that makes `CURRENT` name a new manifest.
 use super::crash_disks::{
     DEFAULTS, Recorded, Script, Setting, Side, Tails, crash, find_all, options_of, record,
     record_on,
@@ -7,7 +7,6 @@ use super::crash_disks::{
 use super::replies::is_map;
 use super::steps::{Call, Step};
 use leveldb_base::error::{Result, StatusCode};
-use leveldb_env::env::Env;
 use leveldb_env::env::whole_files::read_file;
 use leveldb_env::mem_env::RecordEnv;
 use rusty_leveldb::db_impl::Engine;
@@ -15,7 +14,7 @@ use rusty_leveldb::shell::Reply;
 use slow_history::BorrowedPair;
 use std::alloc::Global;
 use std::process::Abort;
-use support::failed_with;
+use support::{failed_with, is_free};
 
 type Map = &'static [BorrowedPair<'static>];
 
@@ -191,7 +190,8 @@ fn open_failing(rt: &impl Abort, alloc: Global, nth: u64, done: bool) -> Result<
     Ok(env)
 }
 
-/// The number of the rename's call: the first that changes `CURRENT` where it fails with its change made.
+/// The number of the rename's call: the first that changes `CURRENT` where it fails with its change
+/// made.
 fn rename_call(rt: &impl Abort, alloc: Global) -> Result<u64> {
     for nth in 1..60 {
         let mut env = open_failing(rt, alloc, nth, true)?;
@@ -200,12 +200,6 @@ fn rename_call(rt: &impl Abort, alloc: Global) -> Result<u64> {
         }
     }
     Ok(0)
-}
-
-fn is_free(env: &mut RecordEnv) -> Result<bool> {
-    env.lock("db/LOCK")?;
-    env.unlock("db/LOCK")?;
-    Ok(true)
 }
 
 #[test]

@@ -1,22 +1,24 @@
-//! Stores that look random, several of whose files are damaged at once in ways that look random, some with right checksums over what is wrong. They are opened, read both ways,
-//! written, compacted and opened again. Whatever the files hold, a call returns, and an error says damage; a reading changes no file but as an opening may; where the slow reader
-//! reads a store, its map is found; and where no checksum was made right, no pair is found but one that was put.
-use super::changed_files::{File, files_on, make_file};
-use super::damaged_files::{DefaultOptions, are_left, is_free, map_of, read_slowly};
-use super::replies::has;
-use super::steps::{Step, commands_of, landings_of};
+//! Stores that look random, several of whose files are damaged at once in ways that look random,
+//! some with right checksums over what is wrong. They are opened, read both ways, written,
+//! compacted and opened again. Whatever the files hold, a call returns, and an error says damage; a
+//! reading changes no file but as an opening may; where the slow reader reads a store, its map is
+//! found; and where no checksum was made right, no pair is found but one that was put.
+use super::damaged_files::{DefaultOptions, are_left, map_of, read_slowly};
+use super::log_records::{log_of, records_of};
+use super::replies::{has, refusal};
+use super::steps::{Step, asked_of, commands_of, landings_of};
+use super::twelve_keys::OVER_ALL;
 use leveldb_base::cmp::DefaultCmp;
 use leveldb_base::crc::{crc32, mask_crc};
 use leveldb_base::error::{Result, Status, StatusCode};
 use leveldb_env::mem_env::MemEnv;
 use leveldb_env::options::Options;
-use leveldb_mem::log::{LogReader, LogWriter};
 use rusty_leveldb::shell::{Command, Item, Reply, Step as ShellStep, run};
 use slow_history::{BorrowedPair, Entry, Move, is_walk};
 use slow_store::Contents;
 use std::alloc::Global;
 use std::process::Abort;
-use support::Random;
+use support::{File, Random, disk_of, files_on, is_free};
 
 /// Keys are letters from a on, and an empty one.
 const KEYS: u64 = 9;
@@ -30,6 +32,8 @@ struct Fuzz {
     alloc: Global,
     random: Random,
     puts: Vec<Put>,
+    /// What is asked of each store.
+    asked: Vec<Step>,
 }
 
 /// What was done to a store, for who reads that a trial failed.
@@ -43,7 +47,8 @@ struct Damage {
     is_table_forged: bool,
 }
 
-/// How many stores were damaged, and how many of them the slow reader read, an opening failed on, or a reply failed on.
+/// How many stores were damaged, and how many of them the slow reader read, an opening failed on,
+/// or a reply failed on.
 #[derive(Clone, Copy, Debug)]
 pub struct Fuzzed {
     pub stores: usize,
@@ -55,12 +60,13 @@ pub struct Fuzzed {
 // ---- a store
 
 impl Fuzz {
-    fn new(alloc: Global, seed: u64) -> Fuzz {
-        Fuzz {
+    fn new(alloc: Global, seed: u64) -> Result<Fuzz> {
+        Ok(Fuzz {
             alloc,
             random: Random(seed),
             puts: Vec::new(alloc),
-        }
+            asked: asked_of(alloc, ASKED, &[OVER_ALL, DOWN])?,
+        })
     }
 
     fn below(&mut self, bound: usize) -> usize {
@@ -163,25 +169,10 @@ fn count_refused(replies: &[Reply]) -> usize {
         .count()
 }
 
-/// Why a reply is a refusal, or a move of it was refused.
-fn refusal(reply: &Reply) -> Option<&Status> {
-    match reply {
-        Reply::Refused(status) => Some(status),
-        Reply::Walk(steps) => {
-            for step in steps {
-                if let ShellStep::Refused(status) = step {
-                    return Some(status);
-                }
-            }
-            None
-        }
-        _ => None,
-    }
-}
-
 // ---- its damage
 
-/// The ends of a table's blocks with their checksums, one after another from the front on. Of a long table none.
+/// The ends of a table's blocks with their checksums, one after another from the front on. Of a
+/// long table none.
 fn block_ends(alloc: Global, table: &[u8]) -> Result<Vec<(usize, usize)>> {
     let mut ends = Vec::new(alloc);
     let mut start = 0;
@@ -200,27 +191,6 @@ fn block_ends(alloc: Global, table: &[u8]) -> Result<Vec<(usize, usize)>> {
     Ok(ends)
 }
 
-fn records_of(alloc: Global, log: &[u8]) -> Result<Vec<Vec<u8>>> {
-    let mut reader = LogReader::new(alloc, log, true);
-    let mut records = Vec::new(alloc);
-    let mut record = Vec::new(alloc);
-    while let Ok(length) = reader.read(&mut record) {
-        if length == 0 {
-            break;
-        }
-        records.push(record.clone()?)?;
-    }
-    Ok(records)
-}
-
-fn log_of(alloc: Global, records: &[Vec<u8>]) -> Result<Vec<u8>> {
-    let mut writer = LogWriter::new(alloc, Vec::new(alloc));
-    for record in records {
-        writer.add_record(record)?;
-    }
-    Ok(writer.sink)
-}
-
 impl Fuzz {
     /// Bytes that look random, so many of them.
     fn bytes(&mut self, length: usize) -> Result<Vec<u8>> {
@@ -231,7 +201,8 @@ impl Fuzz {
         Ok(bytes)
     }
 
-    /// Changes some of the bytes, and says what was done: they are cut, or some are zeros, put in, repeated at the end, left out, or others.
+    /// Changes some of the bytes, and says what was done: they are cut, or some are zeros, put in,
+    /// repeated at the end, left out, or others.
     fn change_bytes(&mut self, bytes: &mut Vec<u8>) -> Result<String> {
         let (at, kind, length) = (self.below(bytes.len() + 1), self.below(7), self.below(20));
         let end = bytes.len().min(at + length);
@@ -272,7 +243,8 @@ impl Fuzz {
         Ok(true)
     }
 
-    /// Changes a record of a log, leaves one out or repeats one, and frames all of them anew. Returns whether there was a record.
+    /// Changes a record of a log, leaves one out or repeats one, and frames all of them anew.
+    /// Returns whether there was a record.
     fn forge_log(&mut self, log: &mut Vec<u8>) -> Result<bool> {
         let mut records = records_of(self.alloc, log)?;
         if records.is_empty() {
@@ -375,29 +347,7 @@ impl Fuzz {
     }
 }
 
-fn disk_of(alloc: Global, files: &[File]) -> Result<MemEnv> {
-    let mut env = MemEnv::new(alloc);
-    for file in files {
-        make_file(alloc, &mut env, file.0.as_str(), file.1.as_slice())?;
-    }
-    Ok(env)
-}
-
 // ---- what is asked, and replied
-
-/// Up over all pairs, past the last.
-const UP: &[Move<'static>] = &[
-    Move::First,
-    Move::Next,
-    Move::Next,
-    Move::Next,
-    Move::Next,
-    Move::Next,
-    Move::Next,
-    Move::Next,
-    Move::Next,
-    Move::Next,
-];
 
 /// Down over all pairs, past the first.
 const DOWN: &[Move<'static>] = &[
@@ -413,21 +363,11 @@ const DOWN: &[Move<'static>] = &[
     Move::Prev,
 ];
 
-const ASKED: &[Step] = &[
-    Step::Get(""),
-    Step::Get("a"),
-    Step::Get("b"),
-    Step::Get("c"),
-    Step::Get("d"),
-    Step::Get("e"),
-    Step::Get("f"),
-    Step::Get("g"),
-    Step::Get("h"),
-    Step::Walk(None, UP),
-    Step::Walk(None, DOWN),
-];
+/// The keys that are asked for.
+const ASKED: &[&str] = &["", "a", "b", "c", "d", "e", "f", "g", "h"];
 
-/// Whether an error says damage: or that a comparator, a number or a compressor isn't one of the store's, where a checksum was made right.
+/// Whether an error says damage: or that a comparator, a number or a compressor isn't one of the
+/// store's, where a checksum was made right.
 fn says_damage(status: &Status, is_forged: bool) -> bool {
     match status.code {
         StatusCode::Corruption | StatusCode::NotSupported => true,
@@ -464,7 +404,8 @@ fn are_put(puts: &[Put], commands: &[Command], replies: &[Reply]) -> bool {
     })
 }
 
-/// Whether a look-up may find this where filters rule the key out of some tables: the value of an entry of it, or none, if all of its entries are in tables.
+/// Whether a look-up may find this where filters rule the key out of some tables: the value of an
+/// entry of it, or none, if all of its entries are in tables.
 fn may_find_past_filters(contents: &Contents, key: &str, reply: &Reply) -> bool {
     let is_of_key = |entry: &Entry| entry.key.as_slice() == key.as_bytes();
     let (tabled, logged) = contents.entries.split_at(contents.in_tables);
@@ -481,8 +422,9 @@ fn may_find_past_filters(contents: &Contents, key: &str, reply: &Reply) -> bool 
         }
 }
 
-/// Whether a store of these contents, which have this map, may reply so. Where a checksum of a table was made right, it may be a filter's that rules keys
-/// out; and a table may be damaged where the slow reader doesn't look.
+/// Whether a store of these contents, which have this map, may reply so. Where a checksum of a
+/// table was made right, it may be a filter's that rules keys out; and a table may be damaged where
+/// the slow reader doesn't look.
 fn may_reply(
     alloc: Global,
     contents: &Contents,
@@ -503,10 +445,12 @@ fn may_reply(
     })
 }
 
-/// Whether a store of these contents may reply so to all that is asked. Of numbers that are too great for the slow functions nothing is said.
+/// Whether a store of these contents may reply so to all that is asked. Of numbers that are too
+/// great for the slow functions nothing is said.
 fn may_reply_all(
     alloc: Global,
     contents: &Contents,
+    asked: &[Step],
     replies: &[Reply],
     damage: &Damage,
 ) -> Result<bool> {
@@ -514,7 +458,7 @@ fn may_reply_all(
         return Ok(damage.is_forged);
     }
     let map = map_of(alloc, contents)?;
-    for (step, reply) in ASKED.iter().zip(replies) {
+    for (step, reply) in asked.iter().zip(replies) {
         if !may_reply(alloc, contents, &map, step, reply, damage.is_table_forged)? {
             return Ok(false);
         }
@@ -556,7 +500,7 @@ impl Fuzz {
         fuzzed: &mut Fuzzed,
     ) -> Result<Option<&'static str>> {
         let read = read_slowly(self.alloc, env)?;
-        let (options, commands) = (self.options(), commands_of(self.alloc, ASKED)?);
+        let (options, commands) = (self.options(), commands_of(self.alloc, &self.asked)?);
         let mut replies = Vec::new(self.alloc);
         let opened = run(env, "db", options, &commands, &mut replies);
         let after = files_on(self.alloc, env)?;
@@ -574,20 +518,21 @@ impl Fuzz {
             return Ok(Some("an opening that failed"));
         }
         if let (Ok(()), Some(contents)) = (&opened, &read) {
-            if !may_reply_all(self.alloc, contents, &replies, &trial.damage)? {
+            if !may_reply_all(self.alloc, contents, &self.asked, &replies, &trial.damage)? {
                 return Ok(Some("the map"));
             }
         }
         Ok(self.wrong_replies(&opened, &commands, &replies, is_forged))
     }
 
-    /// Writes to the store, compacts it, reads all and opens it again. Returns what is wrong then, if anything is.
+    /// Writes to the store, compacts it, reads all and opens it again. Returns what is wrong then,
+    /// if anything is.
     fn write_on(&mut self, trial: &Trial, env: &mut MemEnv) -> Result<Option<&'static str>> {
         for _ in 0..2 {
             let (options, mut commands) = (self.options(), self.commands(8)?);
             let all = Command::Compact(Vec::new(self.alloc), Vec::new(self.alloc));
             commands.push(all)?;
-            for command in commands_of(self.alloc, ASKED)? {
+            for command in commands_of(self.alloc, &self.asked)? {
                 commands.push(command)?;
             }
             let mut replies = Vec::new(self.alloc);
@@ -607,7 +552,7 @@ impl Fuzz {
 
 /// Damages the store of this seed in four ways, one after another.
 pub fn fuzz(rt: &impl Abort, alloc: Global, seed: u64, fuzzed: &mut Fuzzed) -> Result<()> {
-    let mut fuzz = Fuzz::new(alloc, seed);
+    let mut fuzz = Fuzz::new(alloc, seed)?;
     let sound = fuzz.store(rt)?;
     for round in 0..4 {
         let mut files = sound.clone()?;
@@ -655,7 +600,8 @@ fn stores_at_random(rt: HostRuntime) -> Result<()> {
     Ok(())
 }
 
-/// Seeds where a new store takes the place of a manifest without `CURRENT`, and where a filter that was changed under a right checksum hides the newest entry of a key.
+/// Seeds where a new store takes the place of a manifest without `CURRENT`, and where a filter that
+/// was changed under a right checksum hides the newest entry of a key.
 #[test]
 fn a_new_store_and_a_forged_filter(rt: HostRuntime) -> Result<()> {
     let alloc = rt.alloc();

@@ -1,11 +1,8 @@
-//! The tests of runs: sequences of calls with crashes and failures of the device, judged by a slow store, and the program.
+//! The tests of runs: sequences of calls with crashes and failures of the device, judged by a slow
+//! store, and the program.
 
 #[cfg(test)]
-mod appends;
-#[cfg(test)]
 mod by_score;
-#[cfg(test)]
-mod changed_files;
 #[cfg(test)]
 mod compactions;
 #[cfg(test)]
@@ -22,6 +19,8 @@ mod failed_calls;
 mod fuzzed_files;
 #[cfg(test)]
 mod lives;
+#[cfg(test)]
+mod log_records;
 #[cfg(test)]
 mod long;
 #[cfg(test)]

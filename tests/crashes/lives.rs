@@ -27,7 +27,8 @@ const STEPS: [Step; 8] = [
 
 type DefaultLife = Life<DefaultCmp, BloomPolicy>;
 
-/// A life of these commands, and a crash at its end, if there is one, on this side, that leaves nothing but what is durable.
+/// A life of these commands, and a crash at its end, if there is one, on this side, that leaves
+/// nothing but what is durable.
 fn life_of(
     alloc: Global,
     setting: Setting,
@@ -88,7 +89,8 @@ fn replies_of(alloc: Global, report: Report) -> Result<Vec<Reply>> {
     Ok(replies)
 }
 
-/// Whether the second report is of a map that the slow store allows after the first and a crash at this moment.
+/// Whether the second report is of a map that the slow store allows after the first and a crash at
+/// this moment.
 fn is_allowed(
     alloc: Global,
     steps: &[Step],
@@ -158,7 +160,8 @@ fn a_moment_to_come(rt: HostRuntime) -> Result<()> {
     Ok(())
 }
 
-/// A synced write whose sync fails: its batch isn't found, the store is broken, and a crash without tails loses all.
+/// A synced write whose sync fails: its batch isn't found, the store is broken, and a crash without
+/// tails loses all.
 const FAILING: [Step; 4] = [
     Step::Put("a", "1"),
     Step::Write(true, &[("b", Some("2"))]),
@@ -170,7 +173,8 @@ fn is_refusal(reply: &Reply, wanted: StatusCode) -> bool {
     matches!(reply, Reply::Refused(status) if status.code == wanted)
 }
 
-/// What these steps reply where the call of this number fails, and what a look-up of a then replies, after a crash at once.
+/// What these steps reply where the call of this number fails, and what a look-up of a then
+/// replies, after a crash at once.
 fn fail_and_look(alloc: Global, moment: u64, nth: u64) -> Result<Vec<Report>> {
     let mut all = Vec::new(alloc);
     all.push(life(

@@ -10,6 +10,7 @@ use slow_store::levels_of;
 use std::alloc::Global;
 use std::io::{self, Read, Write};
 use std::process::Abort;
+use support::{Lines, damage_file};
 
 /// Lines that are no command.
 const BAD_LINES: [&[u8]; 64] = [
@@ -143,7 +144,8 @@ struct Ending {
     err: Vec<u8>,
 }
 
-/// Runs the program with these arguments, this input and this output, and returns its status and what it wrote of an error.
+/// Runs the program with these arguments, this input and this output, and returns its status and
+/// what it wrote of an error.
 fn run_into<E: Env, R: Read, W: Write>(
     alloc: Global,
     env: &mut E,
@@ -182,6 +184,26 @@ fn run_program<E: Env, R: Read>(
     let mut out = Vec::new(alloc);
     let (status, err) = run_into(alloc, env, words, input, &mut out)?;
     Ok(Ending { status, out, err })
+}
+
+/// Runs the program with a log that expects this line, with input that is text, and compares how it
+/// ends. Returns how many lines there were, and how many were right.
+fn run_with_line(
+    rt: &impl Abort,
+    env: &mut MemEnv,
+    alloc: Global,
+    words: &[&str],
+    text: &[u8],
+    line: &'static str,
+    wanted: (u8, &[u8], &[u8]),
+) -> Result<(usize, usize)> {
+    let lines = Lines::new(alloc)?;
+    let log = Some(lines.log(alloc, line)?);
+    let (mut input, mut out) = (text, Vec::new(alloc));
+    let (status, err) = run_with_log(alloc, env, words, log, &mut input, &mut out)?;
+    let ending = Ending { status, out, err };
+    assert_ending(rt, &ending, wanted.0, wanted.1, wanted.2);
+    Ok(lines.counts())
 }
 
 fn assert_ending(rt: &impl Abort, ending: &Ending, status: u8, out: &[u8], err: &[u8]) {
@@ -319,7 +341,8 @@ fn later_bad_lines(rt: HostRuntime) -> io::Result<()> {
     Ok(())
 }
 
-/// Runs the program on this many newlines, where it writes this of an error, and returns how many it leaves.
+/// Runs the program on this many newlines, where it writes this of an error, and returns how many
+/// it leaves.
 fn read_newlines(rt: &impl Abort, alloc: Global, count: u64, err: &[u8]) -> io::Result<u64> {
     let mut env = MemEnv::new(alloc);
     let mut input = Newlines(count);
@@ -409,14 +432,11 @@ fn a_damaged_log(rt: HostRuntime) -> Result<()> {
     let mut input = b"put 61 31\nput 62 32\n".as_slice();
     let ending = run_program(alloc, &mut env, &["db"], &mut input)?;
     assert_ending(&rt, &ending, 0, b"ok\nok\n", b"");
-    support::damage_file(alloc, &mut env, "db/000003.log", 10)?;
-    let lines = support::Lines::new(alloc)?;
-    let mut out = Vec::new(alloc);
-    let log = Some(lines.log(alloc, DAMAGED)?);
-    let mut input = b"get 61\nget 62\n".as_slice();
-    let (status, err) = run_with_log(alloc, &mut env, &["db"], log, &mut input, &mut out)?;
-    assert_ending(&rt, &Ending { status, out, err }, 0, b"none\nnone\n", b"");
-    assert!(rt; lines.counts().1 == 1);
+    damage_file(alloc, &mut env, "000003.log", 10)?;
+    let wanted = (0, b"none\nnone\n".as_slice(), b"".as_slice());
+    let get = b"get 61\nget 62\n";
+    let counts = run_with_line(&rt, &mut env, alloc, &["db"], get, DAMAGED, wanted)?;
+    assert!(rt; counts.1 == 1);
     assert!(rt; env.exists("db/000003.log")?);
     Ok(())
 }
@@ -424,7 +444,8 @@ fn a_damaged_log(rt: HostRuntime) -> Result<()> {
 const DAMAGED_MANIFEST: &str =
     "db/MANIFEST-000001: 80 bytes from byte 41 on are left out, whole records among them\n";
 
-/// Of three keys two are in tables that a damaged edit names: they aren't found, and their tables stay.
+/// Of three keys two are in tables that a damaged edit names: they aren't found, and their tables
+/// stay.
 #[test]
 fn a_damaged_manifest(rt: HostRuntime) -> Result<()> {
     let alloc = rt.alloc();
@@ -437,20 +458,11 @@ fn a_damaged_manifest(rt: HostRuntime) -> Result<()> {
     db.put(b"c", b"3")?;
     db.close()?;
     db.abandon()?;
-    support::damage_file(alloc, &mut env, "db/MANIFEST-000001", 53)?;
-    let lines = support::Lines::new(alloc)?;
-    let mut out = Vec::new(alloc);
-    let log = Some(lines.log(alloc, DAMAGED_MANIFEST)?);
-    let mut input = b"get 61\nget 62\nget 63\n".as_slice();
-    let (status, err) = run_with_log(alloc, &mut env, &["db"], log, &mut input, &mut out)?;
-    assert_ending(
-        &rt,
-        &Ending { status, out, err },
-        0,
-        b"none\nnone\nvalue 33\n",
-        b"",
-    );
-    assert!(rt; lines.counts().1 == 1);
+    damage_file(alloc, &mut env, "MANIFEST-000001", 53)?;
+    let wanted = (0, b"none\nnone\nvalue 33\n".as_slice(), b"".as_slice());
+    let get = b"get 61\nget 62\nget 63\n";
+    let counts = run_with_line(&rt, &mut env, alloc, &["db"], get, DAMAGED_MANIFEST, wanted)?;
+    assert!(rt; counts.1 == 1);
     for name in ["MANIFEST-000001", "000005.ldb", "000007.ldb"] {
         let path = format!(in alloc; "db/{name}")?;
         assert!(rt; env.exists(&path)?);
@@ -465,17 +477,13 @@ const REPAIR: &[&str] = &["--repair", "db"];
 /// What a repair ends with that is done.
 const REPAIRED: (u8, &[u8], &[u8]) = (0, b"repaired\n", b"");
 
-/// Takes the manifest of a store away, which is its first.
-fn lose_manifest<E: Env>(env: &mut E, folder: &str, alloc: Global) -> Result<()> {
-    env.delete(&format!(in alloc; "{folder}/CURRENT")?)?;
-    env.delete(&format!(in alloc; "{folder}/MANIFEST-000001")?)
-}
-
-/// A store without its manifest isn't opened, is repaired without a look at the input, and then opened.
+/// A store without its manifest isn't opened, is repaired without a look at the input, and then
+/// opened.
 fn repair_program<E: Env>(rt: &impl Abort, alloc: Global, env: &mut E, folder: &str) -> Result<()> {
     let put = b"put 61 31\nput 62 32\ndel 61\n".as_slice();
     assert_run(rt, env, alloc, &[folder], put, (0, b"ok\nok\nok\n", b""))?;
-    lose_manifest(env, folder, alloc)?;
+    env.delete(&format!(in alloc; "{folder}/CURRENT")?)?;
+    env.delete(&format!(in alloc; "{folder}/MANIFEST-000001")?)?;
     let mut input = b"get 62\n".as_slice();
     let ending = run_program(alloc, env, &[folder], &mut input)?;
     assert!(rt; ending.status == 1 && ending.err.starts_with(b"ldb: Corruption"));
@@ -563,19 +571,9 @@ fn a_repair_of_a_damaged_log(rt: HostRuntime) -> Result<()> {
     let mut env = MemEnv::new(alloc);
     let put = b"put 61 31\nput 62 32\n".as_slice();
     assert_run(&rt, &mut env, alloc, &["db"], put, (0, b"ok\nok\n", b""))?;
-    support::damage_file(alloc, &mut env, "db/000003.log", 40)?;
-    let lines = support::Lines::new(alloc)?;
-    let mut out = Vec::new(alloc);
-    let log = Some(lines.log(alloc, LEFT_OUT)?);
-    let (status, err) = run_with_log(alloc, &mut env, REPAIR, log, &mut b"".as_slice(), &mut out)?;
-    assert_ending(
-        &rt,
-        &Ending { status, out, err },
-        REPAIRED.0,
-        REPAIRED.1,
-        REPAIRED.2,
-    );
-    assert!(rt; lines.counts() == (1, 1));
+    damage_file(alloc, &mut env, "000003.log", 40)?;
+    let counts = run_with_line(&rt, &mut env, alloc, REPAIR, b"", LEFT_OUT, REPAIRED)?;
+    assert!(rt; counts == (1, 1));
     let get = b"get 61\nget 62\n".as_slice();
     assert_run(
         &rt,

@@ -11,8 +11,8 @@ use std::process::Abort;
 use std::{io, mem};
 use support::{OnlyReads, failed_with};
 
-/// What a store replies to a look-up of each key that is read alone, over a device that is asked for nothing but reads; none where
-/// `CURRENT` is missing, of which no store is read.
+/// What a store replies to a look-up of each key that is read alone, over a device that is asked
+/// for nothing but reads; none where `CURRENT` is missing, of which no store is read.
 pub fn find_alone(
     rt: &impl Abort,
     alloc: Global,
@@ -29,7 +29,7 @@ pub fn find_alone(
         &look_ups(alloc, setting.keys)?,
         &mut replies,
     );
-    assert!(rt; reads.refused == 0);
+    assert!(rt; reads.rule.refused == 0);
     *env = reads.env;
     if !is_there {
         assert!(rt; failed_with(ended, StatusCode::InvalidArgument)?);
@@ -39,12 +39,14 @@ pub fn find_alone(
     Ok(Some(replies))
 }
 
-/// Whether the disk that is left at a moment is read alone: each where a sweep tries all moments, else one of four.
+/// Whether the disk that is left at a moment is read alone: each where a sweep tries all moments,
+/// else one of four.
 pub fn is_read_alone(every: u64, moment: u64) -> bool {
     every == 1 || moment % 4 == 0
 }
 
-/// What a store replies to a look-up of each key, which is read alone, and then opened, with the same replies; or which is only opened.
+/// What a store replies to a look-up of each key, which is read alone, and then opened, with the
+/// same replies; or which is only opened.
 pub fn find_both(
     rt: &impl Abort,
     alloc: Global,
@@ -101,11 +103,12 @@ fn program_that_only_reads(rt: HostRuntime) -> io::Result<()> {
         b"get 61\n",
         (1, b"", b"ldb: InvalidArgument: there is no store\n"),
     )?;
-    assert!(rt; reads.refused == 0);
+    assert!(rt; reads.rule.refused == 0);
     Ok(())
 }
 
-/// The usage, where the arguments are none of its three forms; a single one is a folder, whatever its name is.
+/// The usage, where the arguments are none of its three forms; a single one is a folder, whatever
+/// its name is.
 #[test]
 fn arguments(rt: HostRuntime) -> io::Result<()> {
     let alloc = rt.alloc();

@@ -1,7 +1,8 @@
-//! Scripts of a store one of whose requests for memory may be refused. `tools/refuse` refuses each in turn; then the call that met the refusal is made
-//! again, each reply is one that the slow store gives after the refusal, and a test whose calls were all right ends with it.
-use super::appends::CountedAppends;
+//! Scripts of a store one of whose requests for memory may be refused. `tools/refuse` refuses each
+//! in turn; then the call that met the refusal is made again, each reply is one that the slow store
+//! gives after the refusal, and a test whose calls were all right ends with it.
 use super::crash_disks::{DEFAULTS, Setting, add_calls, judge_all, options_of};
+use super::replies::refusal;
 use super::steps::{Call, Change, Step, commands_of, judge, shell_moves, written_by};
 use super::sweep::have_causes;
 use super::twelve_keys::{OVER_ALL, SCRIPT, STEPS};
@@ -11,12 +12,13 @@ use leveldb_env::env::Env;
 use leveldb_env::filter::BloomPolicy;
 use leveldb_env::mem_env::{MemEnv, Pick};
 use rusty_leveldb::db_impl::Engine;
-use rusty_leveldb::shell::{Life, Reply, Report, Step as ShellStep, lives};
+use rusty_leveldb::shell::{Life, Reply, Report, lives};
 use rusty_leveldb::{Snapshot, WriteBatch};
 use slow_history::Move;
 use slow_machine::SlowStore;
 use std::alloc::{AllocError, Global};
 use std::process::Abort;
+use support::CountedAppends;
 
 type Device = CountedAppends<MemEnv>;
 
@@ -36,22 +38,6 @@ struct Trial {
 
 fn is_of_memory(status: &Status) -> bool {
     status.code == StatusCode::OutOfMemory
-}
-
-/// Why a reply is a refusal, or a move of it was refused.
-fn refusal(reply: &Reply) -> Option<&Status> {
-    match reply {
-        Reply::Refused(status) => Some(status),
-        Reply::Walk(steps) => {
-            for led in steps {
-                if let ShellStep::Refused(status) = led {
-                    return Some(status);
-                }
-            }
-            None
-        }
-        _ => None,
-    }
 }
 
 fn has_no_text(status: &Status) -> bool {
@@ -83,10 +69,7 @@ impl Trial {
     fn new(alloc: Global, setting: Setting) -> Result<Trial> {
         Ok(Trial {
             alloc,
-            env: CountedAppends {
-                env: MemEnv::new(alloc),
-                begun: 0,
-            },
+            env: CountedAppends::over(MemEnv::new(alloc)),
             setting,
             slow: SlowStore::new(alloc)?,
             taken: Vec::new(alloc),
@@ -215,7 +198,8 @@ impl Trial {
         Ok(())
     }
 
-    /// A change found no memory before an append to a log or manifest began: nothing changed, and the store is open.
+    /// A change found no memory before an append to a log or manifest began: nothing changed, and
+    /// the store is open.
     fn assert_open(&mut self, rt: &impl Abort, engine: &DefaultEngine, step: &Step) -> Result<()> {
         assert!(rt; engine.check_writable().is_ok());
         match written_by(self.alloc, step)? {
@@ -249,13 +233,13 @@ impl Trial {
 
     /// Makes a call. One that finds no memory is made again, and then isn't refused.
     fn call(&mut self, rt: &impl Abort, engine: &mut DefaultEngine, step: &Step) -> Result<()> {
-        let begun = self.env.begun;
+        let begun = self.env.rule.begun;
         let reply = self.reply(engine, step)?;
         let Some(status) = refusal(&reply) else {
             return self.assert_reply(rt, step, &reply);
         };
         self.count(rt, status);
-        if self.env.begun == begun && !is_read(step) {
+        if self.env.rule.begun == begun && !is_read(step) {
             self.assert_open(rt, engine, step)?;
         } else {
             self.assert_reply(rt, step, &reply)?;
@@ -382,7 +366,8 @@ const LOOK_UPS: &[Step] = &[
     Step::Get("l"),
 ];
 
-/// A life of these steps, and a crash at this moment of it that leaves what is durable, if there is one.
+/// A life of these steps, and a crash at this moment of it that leaves what is durable, if there is
+/// one.
 fn life(
     alloc: Global,
     steps: &[Step],
@@ -400,7 +385,8 @@ fn life(
     })
 }
 
-/// The script, a life that a crash takes back to its start, and one that looks at what the crash left.
+/// The script, a life that a crash takes back to its start, and one that looks at what the crash
+/// left.
 fn three_lives(alloc: Global) -> Result<Vec<Report>> {
     let mut all = Vec::new(alloc);
     all.push(life(alloc, STEPS, None)?)?;

@@ -1,6 +1,6 @@
 //! What the tests of crashes share: the keys, and the map that a store's replies show.
-use leveldb_base::error::Result;
-use rusty_leveldb::shell::{Command, Reply};
+use leveldb_base::error::{Result, Status};
+use rusty_leveldb::shell::{Command, Reply, Step};
 use slow_history::BorrowedPair;
 use std::alloc::Global;
 
@@ -8,6 +8,22 @@ use std::alloc::Global;
 pub const KEYS: [&str; 13] = [
     "", "a", "b", "c", "d", "e", "f", "g", "h", "i", "j", "k", "l",
 ];
+
+/// Why a reply is a refusal, or a move of it was refused.
+pub fn refusal(reply: &Reply) -> Option<&Status> {
+    match reply {
+        Reply::Refused(status) => Some(status),
+        Reply::Walk(steps) => {
+            for led in steps {
+                if let Step::Refused(status) = led {
+                    return Some(status);
+                }
+            }
+            None
+        }
+        _ => None,
+    }
+}
 
 pub fn bytes_of(alloc: Global, text: &str) -> Result<Vec<u8>> {
     Ok(Vec::from_slice(alloc, text.as_bytes())?)

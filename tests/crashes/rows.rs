@@ -143,7 +143,8 @@ const TORN_TAIL: &[Row] = &[
     Row::MayShow(&[ABD]),
 ];
 
-/// The disk had a torn tail: the store that was found has two batches. It goes on from there, and no crash can bring the third back.
+/// The disk had a torn tail: the store that was found has two batches. It goes on from there, and
+/// no crash can bring the third back.
 #[test]
 fn a_crash_keeps_what_was_synced(rt: HostRuntime) -> Result<()> {
     play(&rt, rt.alloc(), TORN_TAIL)

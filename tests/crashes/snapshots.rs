@@ -16,7 +16,8 @@ const ROWS: [(&[u8], &[u8]); 13] = [
         b"ok\nsnapshot 0\nok\nvalue 31\nvalue 32\nok\nrefused InvalidArgument\nrefused InvalidArgument\n\
 refused InvalidArgument\nvalue 32\n",
     ),
-    // Numbers count from 0 in each run, and a number that was never given is refused. Zeros before a number say nothing.
+    // Numbers count from 0 in each run, and a number that was never given is refused. Zeros before
+    // a number say nothing.
     (
         b"getat 0 6b\nsnap\nsnap\nrelease 0\nsnap\ngetat 001 6b\ngetat 3 6b\nrelease 18446744073709551615\nrelease 00\ngetat 2 61",
         b"refused InvalidArgument\nsnapshot 0\nsnapshot 1\nok\nsnapshot 2\nvalue 32\nrefused InvalidArgument\n\

@@ -37,6 +37,22 @@ pub struct Call {
     pub moment: u64,
 }
 
+/// A look-up of each of these keys, and then these walks over the store as it is now.
+pub fn asked_of(
+    alloc: Global,
+    keys: &[&'static str],
+    walks: &[&'static [Move<'static>]],
+) -> Result<Vec<Step>> {
+    let mut steps = Vec::new(alloc);
+    for key in keys {
+        steps.push(Step::Get(*key))?;
+    }
+    for moves in walks {
+        steps.push(Step::Walk(None, *moves))?;
+    }
+    Ok(steps)
+}
+
 fn item_of(alloc: Global, change: &Change) -> Result<Item> {
     let key = bytes_of(alloc, change.0)?;
     Ok(match change.1 {
@@ -144,7 +160,8 @@ fn says_broken(status: &Status) -> bool {
     }
 }
 
-/// A step failed: since the store was closed or broken, or since the device failed, or out of memory.
+/// A step failed: since the store was closed or broken, or since the device failed, or out of
+/// memory.
 fn judge_failure(slow: &mut SlowStore, alloc: Global, step: &Step, status: &Status) -> Result<()> {
     if says_broken(status) {
         return slow.was_broken();
@@ -265,7 +282,8 @@ fn judge_release(slow: &mut SlowStore, number: usize, reply: &Reply) -> Result<(
     }
 }
 
-/// A step returned this. An opening that fails leaves the store closed, and whatever `abandon` returns the store is closed.
+/// A step returned this. An opening that fails leaves the store closed, and whatever `abandon`
+/// returns the store is closed.
 pub fn judge(slow: &mut SlowStore, alloc: Global, step: &Step, reply: &Reply) -> Result<()> {
     match (step, reply) {
         (Step::Abandon, _) => slow.abandoned(),

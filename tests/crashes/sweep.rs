@@ -1,5 +1,6 @@
-//! A script on a recording device: a crash at each of its moments, a second one at each moment of the reopening, and each call of the
-//! device failing once. What is found is what the slow store allows.
+//! A script on a recording device: a crash at each of its moments, a second one at each moment of
+//! the reopening, and each call of the device failing once. What is found is what the slow store
+//! allows.
 use super::crash_disks::{
     Recorded, Script, Setting, Side, Tails, Tally, bytes_on, calls_by, crash, find_all, judge_all,
     judge_crash, options_of, pass_on_memory, record, record_on, sides_of, sides_tried,
@@ -37,7 +38,8 @@ struct Looked {
     found: Vec<Reply>,
 }
 
-/// Looks up all keys on this disk, if it isn't the one that was looked at last, and returns whether it opened the store for that.
+/// Looks up all keys on this disk, if it isn't the one that was looked at last, and returns whether
+/// it opened the store for that.
 fn look(
     rt: &impl Abort,
     alloc: Global,
@@ -146,7 +148,8 @@ struct Reopened {
     found: Vec<Reply>,
 }
 
-/// Crashes again: what the first crash left is durable, so the same map is found. Returns how often the store was opened for that.
+/// Crashes again: what the first crash left is durable, so the same map is found. Returns how often
+/// the store was opened for that.
 fn crash_again_on(
     rt: &impl Abort,
     alloc: Global,
@@ -210,7 +213,8 @@ fn reopen_found(
     })
 }
 
-/// A crash on this side of a moment, and, if it leaves another disk than the last one, a second crash at each moment of the reopening.
+/// A crash on this side of a moment, and, if it leaves another disk than the last one, a second
+/// crash at each moment of the reopening.
 fn crash_twice_on(
     rt: &impl Abort,
     alloc: Global,
@@ -246,7 +250,8 @@ fn crash_twice_at(
     Ok(openings)
 }
 
-/// Crashes at each moment of a script, and again at each moment of the reopening. Returns how often the store was opened after a second crash.
+/// Crashes at each moment of a script, and again at each moment of the reopening. Returns how often
+/// the store was opened after a second crash.
 pub fn crash_twice_everywhere(
     rt: &impl Abort,
     alloc: Global,
@@ -274,8 +279,8 @@ fn have_move_causes(steps: &[ShellStep]) -> bool {
     true
 }
 
-/// Whether a call that failed has a cause: the device, memory, a closed store, a snapshot that isn't held, or a lock that an earlier life
-/// couldn't give back.
+/// Whether a call that failed has a cause: the device, memory, a closed store, a snapshot that
+/// isn't held, or a lock that an earlier life couldn't give back.
 fn has_cause(call: &Call) -> bool {
     let status = match &call.reply {
         Reply::Refused(status) => status,
@@ -316,7 +321,8 @@ fn crash_at_the_end(
     crash_on(rt, alloc, recorded, side, kind, &maps, &mut looked, tally)
 }
 
-/// Opens the store again as it was left: it shows an allowed map, or it is still locked, since the lock couldn't be given back.
+/// Opens the store again as it was left: it shows an allowed map, or it is still locked, since the
+/// lock couldn't be given back.
 fn reopen_at_the_end(rt: &impl Abort, alloc: Global, recorded: &mut Recorded) -> Result<()> {
     let mut slow = judge_all(alloc, &recorded.calls)?;
     slow.opened()?;

@@ -1,10 +1,12 @@
-//! A store of one log on a recording device, and crashes and failures at each moment and call of its script.
+//! A store of one log on a recording device, and crashes and failures at each moment and call of
+//! its script.
 use super::crash_disks::{DEFAULTS, Script, Tails, assert_tally};
 use super::steps::Step;
 use super::sweep::{crash_everywhere, crash_twice_everywhere, fail_everywhere};
 use leveldb_base::error::Result;
 
-/// Three lives of one store, the first closed, the others abandoned. Each begins with a look-up, whose reply shows when its opening returned.
+/// Three lives of one store, the first closed, the others abandoned. Each begins with a look-up,
+/// whose reply shows when its opening returned.
 const FIRST: &[Step] = &[
     Step::Get("a"),
     Step::Put("a", "1"),
@@ -48,8 +50,9 @@ const TWO_LIVES: Script<'static> = Script {
     lives: &[FIRST, SECOND],
 };
 
-/// Nothing is left of what isn't durable: where a batch may be lost, it is, but at the two moments of the close that come after its sync,
-/// before and inside the call that gives back the lock, of which the second counts twice.
+/// Nothing is left of what isn't durable: where a batch may be lost, it is, but at the two moments
+/// of the close that come after its sync, before and inside the call that gives back the lock, of
+/// which the second counts twice.
 #[test]
 fn crashes_without_tails(rt: HostRuntime) -> Result<()> {
     let tally = crash_everywhere(&rt, rt.alloc(), TWO_LIVES, Tails::Nothing)?;

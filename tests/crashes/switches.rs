@@ -1,5 +1,5 @@
-//! A store with a memtable of 300 bytes on a recording device: logs are switched and tables are made. Crashes and failures come at each
-//! moment and call of its script.
+//! A store with a memtable of 300 bytes on a recording device: logs are switched and tables are
+//! made. Crashes and failures come at each moment and call of its script.
 use super::crash_disks::{Script, Setting, Tails, assert_tally, record};
 use super::steps::Step;
 use super::sweep::{crash_everywhere, crash_twice_everywhere, fail_everywhere};
@@ -7,11 +7,13 @@ use leveldb_base::error::Result;
 use slow_store::has_levels;
 use std::alloc::Global;
 
-/// Two lives of one store, the first closed, the second abandoned. Each begins with a look-up, whose reply shows when its opening returned.
-/// Three entries fill the memtable, and the next write makes a table of them; most of these weren't durable before. If the last table
-/// isn't made, since a call fails, a synced batch comes to the new log while those before it wait. The first table is in level 2, the
-/// second one in level 1 and the others in level 0. Look-ups of c, b and d find what one of these levels has and go through tables of the
-/// levels above it, and those of a find deletions.
+/// Two lives of one store, the first closed, the second abandoned. Each begins with a look-up,
+/// whose reply shows when its opening returned. Three entries fill the memtable, and the next write
+/// makes a table of them; most of these weren't durable before. If the last table isn't made, since
+/// a call fails, a synced batch comes to the new log while those before it wait. The first table is
+/// in level 2, the second one in level 1 and the others in level 0. Look-ups of c, b and d find
+/// what one of these levels has and go through tables of the levels above it, and those of a find
+/// deletions.
 const FIRST: &[Step] = &[
     Step::Get("a"),
     Step::Put("a", "1"),

@@ -1,5 +1,6 @@
-//! A script that has each kind of call, over twelve keys in small tables, which is swept whole: a crash at each moment, and each call of the
-//! device failing once. Most second crashes, and crashes by `lives`, are among the long tests.
+//! A script that has each kind of call, over twelve keys in small tables, which is swept whole: a
+//! crash at each moment, and each call of the device failing once. Most second crashes, and crashes
+//! by `lives`, are among the long tests.
 use super::crash_disks::{Script, Setting, Tails, assert_tally};
 use super::steps::Step;
 use super::sweep::{crash_everywhere, crash_twice_everywhere, fail_everywhere};
@@ -26,7 +27,8 @@ pub const OVER_ALL: &[Move<'static>] = &[
     Move::Prev,
 ];
 
-/// Every fourth batch is synced. It begins with a look-up, which makes no call of the device and whose reply shows when the opening returned.
+/// Every fourth batch is synced. It begins with a look-up, which makes no call of the device and
+/// whose reply shows when the opening returned.
 pub const STEPS: &[Step] = &[
     Step::Get("a"),
     Step::Put("a", "1"),

@@ -1,5 +1,6 @@
-//! Snapshots and walks of a store with a memtable of 300 bytes on a recording device: crashes and failures come at each moment and call of
-//! a script. And walks over tables of which one can't be read.
+//! Snapshots and walks of a store with a memtable of 300 bytes on a recording device: crashes and
+//! failures come at each moment and call of a script. And walks over tables of which one can't be
+//! read.
 use super::crash_disks::{Script, Setting, Tails, assert_tally, record, record_life};
 use super::steps::{Call, Step};
 use super::sweep::{crash_everywhere, fail_everywhere, is_possible};
@@ -33,8 +34,9 @@ const TURNING: &[Move<'static>] = &[
     Move::Next,
 ];
 
-/// Two lives of one store, the first closed, the second abandoned. Each begins with a look-up, whose reply shows when its opening returned.
-/// Three entries fill the memtable, so that the walks go over tables of three levels and the memtable.
+/// Two lives of one store, the first closed, the second abandoned. Each begins with a look-up,
+/// whose reply shows when its opening returned. Three entries fill the memtable, so that the walks
+/// go over tables of three levels and the memtable.
 const FIRST: &[Step] = &[
     Step::Get("a"),
     Step::Put("a", "1"),
@@ -139,7 +141,8 @@ const TABLES: Script<'static> = Script {
     ]],
 };
 
-/// A walk over them where the table of b can't be read, and what each move leads to: a key, no position (`-`) or a failure (`!`).
+/// A walk over them where the table of b can't be read, and what each move leads to: a key, no
+/// position (`-`) or a failure (`!`).
 const OVER_A_LOST_TABLE: &[Move<'static>] = &[
     Move::First,
     Move::Next,
@@ -184,7 +187,7 @@ fn led_to(alloc: Global, calls: &[Call], wanted: &str) -> Result<bool> {
 /// One byte of the table of b is wrong when the store is opened again.
 fn walk_over_damage(rt: &impl Abort, alloc: Global, at: usize) -> Result<()> {
     let mut recorded = record(alloc, TABLES)?;
-    damage_file(alloc, &mut recorded.env, "db/000007.ldb", at)?;
+    damage_file(alloc, &mut recorded.env, "000007.ldb", at)?;
     let walk = [Step::Walk(None, OVER_A_LOST_TABLE)];
     record_life(alloc, &mut recorded, &walk)?;
     assert!(rt; led_to(alloc, &recorded.calls, LEADS)?, "byte {at}");
@@ -202,7 +205,8 @@ pub fn walk_over_each_byte(rt: &impl Abort, alloc: Global, every: usize) -> Resu
     Ok(())
 }
 
-/// A move that needs a table which can't be read fails and leaves no position, and no move leads outside the view.
+/// A move that needs a table which can't be read fails and leaves no position, and no move leads
+/// outside the view.
 #[test]
 fn walks_over_a_damaged_table(rt: HostRuntime) -> Result<()> {
     walk_over_each_byte(&rt, rt.alloc(), 5)

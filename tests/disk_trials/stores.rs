@@ -23,9 +23,9 @@ pub fn write_on<E: Env>(rt: &(impl Print + AllocGlobal), env: &mut E, name: &str
     db.abandon()
 }
 
-/// Writes four numbered keys, each synced, into a store that is opened for them, whatever fails, and
-/// prints each number once its write is Ok. In every third opening the manifest is made anew, and in
-/// every other one each write but the first makes a table.
+/// Writes four numbered keys, each synced, into a store that is opened for them, whatever fails,
+/// and prints each number once its write is Ok. In every third opening the manifest is made anew,
+/// and in every other one each write but the first makes a table.
 fn write_four<E: Env>(
     rt: &(impl Print + AllocGlobal),
     env: &mut E,

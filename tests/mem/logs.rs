@@ -211,7 +211,8 @@ fn four_kilobytes_a_read(rt: HostRuntime) -> Result<()> {
     Ok(())
 }
 
-// What a status prints where a call failed, and no text where it didn't. A status without a text had no memory for it.
+// What a status prints where a call failed, and no text where it didn't. A status without a text
+// had no memory for it.
 fn error_text<T: Drop>(alloc: Global, answer: Result<T>) -> Result<String> {
     match answer {
         Ok(_) => Ok(String::new(alloc)),

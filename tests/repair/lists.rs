@@ -2,7 +2,7 @@
 use bytes::Bytes;
 use leveldb_base::cmp::{DefaultCmp, InternalKeyCmp};
 use leveldb_base::error::Result;
-use leveldb_base::key_types::{ValueType, tag_bytes};
+use leveldb_base::key_types::{ValueType, parse_internal_key, tag_bytes};
 use leveldb_iter::merging_iter::MergeCore;
 use leveldb_iter::unlent::Unlent;
 use std::alloc::Global;
@@ -30,6 +30,35 @@ pub fn pair_of(alloc: Global, row: &Row) -> Result<(Bytes, Bytes)> {
         Some(letter) => Bytes::copy_from_slice(alloc, &[letter])?,
     };
     Ok((Bytes::copy_from_slice(alloc, key.as_slice())?, value))
+}
+
+/// An entry as a word: its number, its key, and its value or a minus.
+pub fn word_of(alloc: Global, number: u64, key: &[u8], value: Option<&[u8]>) -> Result<String> {
+    let key = std::str::from_utf8(key).unwrap_or("?");
+    Ok(match value {
+        None => format!(in alloc; "{number}{key}-")?,
+        Some(value) => {
+            let value = std::str::from_utf8(value).unwrap_or("?");
+            format!(in alloc; "{number}{key}={value}")?
+        }
+    })
+}
+
+/// The same of the entry of an internal key.
+pub fn pair_word(alloc: Global, key: &[u8], value: &[u8]) -> Result<String> {
+    let (kind, number, user) = parse_internal_key(key);
+    let value = Some(value).filter(|_| kind == ValueType::TypeValue);
+    word_of(alloc, number, user, value)
+}
+
+/// These words as a text, with a space before each.
+pub fn joined(alloc: Global, words: &[String]) -> Result<String> {
+    let mut text = String::new(alloc);
+    for word in words {
+        text.push_str(" ")?;
+        text.push_str(word)?;
+    }
+    Ok(text)
 }
 
 /// A walk over these pairs.

@@ -1,7 +1,7 @@
 //! Logs as far as they are found, beside a plain reading of the whole files.
+use super::lists::{joined, pair_word, word_of};
 use leveldb_base::cmp::DefaultCmp;
 use leveldb_base::error::{Result, StatusCode};
-use leveldb_base::key_types::{ValueType, parse_internal_key};
 use leveldb_base::names::parse_file_name;
 use leveldb_base::types::{FileType, LdbIterator, MAX_SEQUENCE_NUMBER};
 use leveldb_env::env::Env;
@@ -15,7 +15,7 @@ use leveldb_repair::numbers::greatest_number;
 use leveldb_store::opening::listing::list_files;
 use std::alloc::Global;
 use std::process::Abort;
-use support::{Lines, OnlyReads, Random, ShortReads, failed_with};
+use support::{Lines, OnlyReads, Random, ShortReads, change_byte, failed_with, put_file};
 
 /// A record of a log: a batch from this number on, of puts of these keys and then of deletions of
 /// those; or bytes that are none.
@@ -61,36 +61,11 @@ pub(super) fn log_of(alloc: Global, records: &[Record]) -> Result<Vec<u8>> {
     Ok(writer.sink)
 }
 
-/// Puts these bytes into a file of the folder `db`.
-pub(super) fn put_file<E: Env>(alloc: Global, env: &mut E, name: &str, bytes: &[u8]) -> Result<()> {
-    let path = format!(in alloc; "db/{name}")?;
-    let mut file = env.open_writable_file(&path)?;
-    env.append(&mut file, bytes)?;
-    env.sync(&mut file)
-}
-
 pub(super) fn put_logs<E: Env>(alloc: Global, env: &mut E, logs: &[Log]) -> Result<()> {
     for (name, records) in logs {
         put_file(alloc, env, name, &log_of(alloc, records)?)?;
     }
     Ok(())
-}
-
-/// An entry as a word: its number, its key, and its value or a minus.
-pub(super) fn word_of(
-    alloc: Global,
-    number: u64,
-    key: &[u8],
-    value: Option<&[u8]>,
-) -> Result<String> {
-    let key = std::str::from_utf8(key).unwrap_or("?");
-    Ok(match value {
-        None => format!(in alloc; "{number}{key}-")?,
-        Some(value) => {
-            let value = std::str::from_utf8(value).unwrap_or("?");
-            format!(in alloc; "{number}{key}={value}")?
-        }
-    })
 }
 
 /// The words of a memtable's entries.
@@ -99,13 +74,7 @@ fn words_in(alloc: Global, table: &MemTable<DefaultCmp>) -> Result<Vec<String>> 
     let mut iter = table.iter();
     while iter.advance()? {
         if let Some((key, value)) = iter.current() {
-            let (kind, number, user) = parse_internal_key(key);
-            let value = if kind == ValueType::TypeValue {
-                Some(value)
-            } else {
-                None
-            };
-            words.push(word_of(alloc, number, user, value)?)?;
+            words.push(pair_word(alloc, key, value)?)?;
         }
     }
     Ok(words)
@@ -124,10 +93,7 @@ fn found_tables<E: Env>(
 fn found<E: Env>(alloc: Global, env: &mut E, log: &mut Option<Logger>) -> Result<String> {
     let mut text = String::new(alloc);
     for table in &found_tables(alloc, env, log)? {
-        for word in &words_in(alloc, table)? {
-            text.push_str(" ")?;
-            text.push_str(word)?;
-        }
+        text.push_str(&joined(alloc, &words_in(alloc, table)?)?)?;
         text.push_str(" |")?;
     }
     Ok(text)
@@ -235,7 +201,7 @@ fn rows_by_hand(rt: HostRuntime) -> Result<()> {
         assert!(rt; text.as_str() == *wanted, "row {i}: {text}");
         let told = usize::from(!line.is_empty());
         assert!(rt; lines.counts() == (told, told), "row {i}: other lines");
-        assert!(rt; env.refused == 0, "row {i}: a file was to change");
+        assert!(rt; env.rule.refused == 0, "row {i}: a file was to change");
         let unlogged = found(alloc, &mut env, &mut None)?;
         assert!(rt; unlogged.as_str() == *wanted, "row {i}: {unlogged}");
     }
@@ -271,7 +237,7 @@ fn bad_ends_are_told(rt: HostRuntime) -> Result<()> {
         let mut env = MemEnv::new(alloc);
         let mut bytes = whole.clone()?;
         bytes.truncate(cut);
-        support::change_byte(&mut bytes, at, 1);
+        change_byte(&mut bytes, at, 1);
         put_file(alloc, &mut env, "3.log", &bytes)?;
         let lines = Lines::new(alloc)?;
         let mut log = Some(lines.log(alloc, line)?);
@@ -402,7 +368,7 @@ fn put_random<E: Env>(alloc: Global, random: &mut Random, env: &mut E) -> Result
         let at = random.below(bytes.len() as u64 + 1) as usize;
         match random.below(4) {
             0 => bytes.truncate(at),
-            1 => support::change_byte(&mut bytes, at, 1),
+            1 => change_byte(&mut bytes, at, 1),
             _ => {}
         }
         let number = number / 2 + 7;

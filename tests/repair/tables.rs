@@ -1,8 +1,7 @@
 //! The readable tables of a folder, beside a plain reading of the whole files.
-use super::lists::{Row, pair_of};
+use super::lists::{Row, joined, pair_of, pair_word};
 use leveldb_base::cmp::DefaultCmp;
 use leveldb_base::error::{Result, StatusCode};
-use leveldb_base::key_types::{ValueType, parse_internal_key};
 use leveldb_base::names::parse_file_name;
 use leveldb_base::types::{FileType, MAX_SEQUENCE_NUMBER};
 use leveldb_env::compressor::CompressorList;
@@ -20,7 +19,7 @@ use leveldb_table::table_builder::TableBuilder;
 use slow_store::table_pairs;
 use std::alloc::Global;
 use std::process::Abort;
-use support::{Lines, OnlyReads, Raised, Random, ShortReads, change_byte, failed_with};
+use support::{Lines, OnlyReads, Raised, Random, ShortReads, change_byte, failed_with, put_file};
 
 type Choices = Options<DefaultCmp, BloomPolicy>;
 
@@ -47,31 +46,11 @@ fn table_of(alloc: Global, options: &Choices, rows: &[Row]) -> Result<Vec<u8>> {
     Ok(bytes)
 }
 
-/// Puts these bytes into a file of the folder `db`.
-fn put_file<E: Env>(alloc: Global, env: &mut E, name: &str, bytes: &[u8]) -> Result<()> {
-    let path = format!(in alloc; "db/{name}")?;
-    let mut file = env.open_writable_file(&path)?;
-    env.append(&mut file, bytes)?;
-    env.sync(&mut file)
-}
-
 fn put_tables<E: Env>(alloc: Global, env: &mut E, tables: &[Table]) -> Result<()> {
     for (name, rows) in tables {
         put_file(alloc, env, name, &table_of(alloc, &small(), rows)?)?;
     }
     Ok(())
-}
-
-/// An entry as a word: its number, its key, and its value or a minus.
-fn word_of(alloc: Global, key: &[u8], value: &[u8]) -> Result<String> {
-    let (kind, number, user) = parse_internal_key(key);
-    let user = std::str::from_utf8(user).unwrap_or("?");
-    Ok(if kind == ValueType::TypeDeletion {
-        format!(in alloc; "{number}{user}-")?
-    } else {
-        let value = std::str::from_utf8(value).unwrap_or("?");
-        format!(in alloc; "{number}{user}={value}")?
-    })
 }
 
 /// Goes over a walk that is at no pair, and adds the words of its pairs.
@@ -86,7 +65,7 @@ fn add_words<E, T, W: Walk<E, T>>(
     assert!(rt; !walk.valid(), "a new walk is at a pair");
     while walk.advance(env, files)? {
         if let Some((key, value)) = walk.current() {
-            words.push(word_of(alloc, key, value)?)?;
+            words.push(pair_word(alloc, key, value)?)?;
         }
     }
     Ok(())
@@ -132,12 +111,7 @@ fn found<E: Env>(
     log: &mut Option<Logger>,
 ) -> Result<(String, usize)> {
     let (words, count) = found_words(rt, alloc, env, &CompressorList::default(), log)?;
-    let mut text = String::new(alloc);
-    for word in &words {
-        text.push_str(" ")?;
-        text.push_str(word)?;
-    }
-    Ok((text, count))
+    Ok((joined(alloc, &words)?, count))
 }
 
 // ---- by hand
@@ -207,7 +181,7 @@ fn rows_by_hand(rt: HostRuntime) -> Result<()> {
             text.as_str() == *wanted && count == *walks,
             "row {i}: {count} tables, {text}"
         );
-        assert!(rt; env.refused == 0, "row {i}: a file was to change");
+        assert!(rt; env.rule.refused == 0, "row {i}: a file was to change");
     }
     Ok(())
 }
@@ -308,7 +282,7 @@ fn slow_words<E: Env>(alloc: Global, env: &mut E) -> Result<(Vec<String>, usize)
             continue;
         }
         for pair in &pairs {
-            words.push(word_of(alloc, pair.0.as_slice(), pair.1.as_slice())?)?;
+            words.push(pair_word(alloc, pair.0.as_slice(), pair.1.as_slice())?)?;
         }
         count += 1;
     }

@@ -1,18 +1,17 @@
 //! Whole repairs: the entries that a repaired store has, beside plain lists of those that were put
 //! into its folder.
+use super::lists::pair_word;
 use super::logs::Record::{Batch, Other};
-use super::logs::{Log, put_file, put_logs, word_of};
+use super::logs::{Log, put_logs};
 use super::written::{read_into, small};
 use leveldb_base::cmp::DefaultCmp;
 use leveldb_base::error::{Result, StatusCode};
-use leveldb_base::key_types::{ValueType, parse_internal_key};
 use leveldb_env::env::Env;
-use leveldb_env::env::whole_files::read_file;
 use leveldb_env::mem_env::RecordEnv;
 use leveldb_repair::repair_store::repair_store;
 use leveldb_version::version_set::VersionSet;
 use std::alloc::Global;
-use support::failed_with;
+use support::{failed_with, files_on, put_file};
 
 /// Two logs with entries that both have, and one of which nothing is found.
 const LOGS: &[Log] = &[
@@ -40,15 +39,9 @@ fn repaired(alloc: Global, env: &mut RecordEnv) -> Result<String> {
         }
         let mut pairs = Vec::new(alloc);
         read_into(alloc, env, file, &mut pairs)?;
-        for (key, value) in pairs.iter() {
-            let (kind, number, user) = parse_internal_key(key);
-            let value = if kind == ValueType::TypeValue {
-                Some(value.as_slice())
-            } else {
-                None
-            };
+        for (key, value) in &pairs {
             text.push_str(" ")?;
-            text.push_str(&word_of(alloc, number, user, value)?)?;
+            text.push_str(&pair_word(alloc, key, value)?)?;
         }
     }
     Ok(text)
@@ -57,19 +50,6 @@ fn repaired(alloc: Global, env: &mut RecordEnv) -> Result<String> {
 /// The words alone.
 fn words(text: &str) -> &str {
     text.split_once(':').map_or(text, |parts| parts.1)
-}
-
-/// All names of the folder, each with its bytes.
-fn folder(alloc: Global, env: &mut RecordEnv) -> Result<Vec<(String, Vec<u8>)>> {
-    let mut names = env.children(alloc, "db")?;
-    names.sort()?;
-    let mut files = Vec::new(alloc);
-    for name in names {
-        let path = format!(in alloc; "db/{name}")?;
-        let bytes = read_file(alloc, env, &path)?;
-        files.push((name, bytes))?;
-    }
-    Ok(files)
 }
 
 #[test]
@@ -143,9 +123,9 @@ fn what_cannot_be_repaired_stays(rt: HostRuntime) -> Result<()> {
     for (i, (logs, code)) in rows.iter().enumerate() {
         let mut env = RecordEnv::new(alloc);
         put_logs(alloc, &mut env, logs)?;
-        let before = folder(alloc, &mut env)?;
+        let before = files_on(alloc, &mut env)?;
         assert!(rt; failed_with(repair(alloc, &mut env), *code)?, "row {i}");
-        assert!(rt; folder(alloc, &mut env)? == before, "row {i}");
+        assert!(rt; files_on(alloc, &mut env)? == before, "row {i}");
     }
     Ok(())
 }

@@ -1,5 +1,5 @@
-//! The slow store: batches in a list and no file. It knows every state that a store may be in by what was asked and answered,
-//! and so which answers and which maps are allowed next.
+//! The slow store: batches in a list and no file. It knows every state that a store may be in by
+//! what was asked and answered, and so which answers and which maps are allowed next.
 
 use leveldb_base::cmp::UserCmp;
 use leveldb_base::error::{Result, StatusCode, err};
@@ -49,7 +49,8 @@ struct Held {
     sequence: SequenceNumber,
 }
 
-/// A state that the store may be in. Batches are named by their place in the list of all that were handed on.
+/// A state that the store may be in. Batches are named by their place in the list of all that were
+/// handed on.
 #[derive(Debug, Drop, PartialEq)]
 struct State {
     history: Vec<usize>,
@@ -81,7 +82,8 @@ impl State {
         Ok(state)
     }
 
-    /// With nothing held, in this mode, and with this batch at the end of the history, where there is one.
+    /// With nothing held, in this mode, and with this batch at the end of the history, where there
+    /// is one.
     fn bare(&self, mode: Mode, batch: Option<usize>) -> Result<State> {
         let mut state = self.in_mode(mode, None)?.holding_nothing();
         if let Some(batch) = batch {
@@ -120,7 +122,8 @@ fn add_state(states: &mut Vec<State>, state: State) -> Result<()> {
     Ok(())
 }
 
-/// Adds what a crash may leave of a state: each beginning that has all that was covered, of the history and this batch behind it.
+/// Adds what a crash may leave of a state: each beginning that has all that was covered, of the
+/// history and this batch behind it.
 fn add_beginnings(states: &mut Vec<State>, state: &State, batch: Option<usize>) -> Result<()> {
     let whole = state.bare(Mode::Closed, batch)?;
     for count in state.covered..=whole.history.len() {
@@ -139,11 +142,12 @@ pub enum Found<'a> {
     NotHeld,
 }
 
-/// Every state that a store may be in by what was asked and answered. A call says what came, and leaves the states that it allows:
-/// none where the answer was wrong.
+/// Every state that a store may be in by what was asked and answered. A call says what came, and
+/// leaves the states that it allows: none where the answer was wrong.
 ///
-/// Numbers of entries are never seen but by their order. So all states number alike, from one past all numbers given before.
-/// And what a sync covered that wasn't asked for is left out: a crash may then leave more states, never fewer.
+/// Numbers of entries are never seen but by their order. So all states number alike, from one past
+/// all numbers given before. And what a sync covered that wasn't asked for is left out: a crash may
+/// then leave more states, never fewer.
 #[derive(Drop)]
 pub struct SlowStore {
     alloc: Global,
@@ -220,8 +224,8 @@ impl SlowStore {
         Ok(())
     }
 
-    /// A write was refused: nothing changed, or where the device or memory failed, the store may be broken, with or without
-    /// the batch pending.
+    /// A write was refused: nothing changed, or where the device or memory failed, the store may be
+    /// broken, with or without the batch pending.
     pub fn refused_write(&mut self, items: &[Item], may_break: bool) -> Result<()> {
         let batch = self.place(items)?;
         let mut states = Vec::new(self.alloc);
@@ -419,7 +423,8 @@ impl SlowStore {
         Ok(())
     }
 
-    /// Moves of an iterator, from no position on, led there, one after another, now or at a snapshot.
+    /// Moves of an iterator, from no position on, led there, one after another, now or at a
+    /// snapshot.
     pub fn walked<C: UserCmp>(
         &mut self,
         cmp: &C,

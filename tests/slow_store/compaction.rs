@@ -46,8 +46,8 @@ pub fn with(set: u32, index: usize) -> u32 {
     }
 }
 
-/// The set of tables, and each table of a level that has keys between the first key of one of the set
-/// and the last key of one.
+/// The set of tables, and each table of a level that has keys between the first key of one of the
+/// set and the last key of one.
 fn with_overlapping<C: Cmp>(cmp: &C, tables: &[TableSpan<'_>], level: usize, set: u32) -> u32 {
     let mut found = set;
     for (index, table) in tables.iter().enumerate() {
@@ -155,8 +155,8 @@ impl<'t, 'a> Trial<'t, 'a> {
         !found
     }
 
-    /// Whether the outputs may have these entries: they are the inputs' but for some that are shadowed,
-    /// or deletions that nothing is left for to delete.
+    /// Whether the outputs may have these entries: they are the inputs' but for some that are
+    /// shadowed, or deletions that nothing is left for to delete.
     pub fn may_leave<C: Cmp>(&self, cmp: &C, left: u32) -> bool {
         let inputs = self.inputs();
         let mut may = true;

@@ -16,8 +16,8 @@ use slow_history::Entry;
 use std::alloc::Global;
 use std::cmp::Ordering;
 
-/// What a store's files hold: the comparator's name, the entries of tables and then those of logs, how
-/// many of them are tables', and the greatest number that manifest and logs know of.
+/// What a store's files hold: the comparator's name, the entries of tables and then those of logs,
+/// how many of them are tables', and the greatest number that manifest and logs know of.
 #[derive(Debug, Drop)]
 pub struct Contents {
     pub comparator: String,

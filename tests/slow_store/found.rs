@@ -12,14 +12,16 @@ use leveldb_mem::write_batch::WriteBatch;
 use slow_history::Entry;
 use std::alloc::Global;
 
-/// What is found: how many tables and logs are there, readable or not, and the entries of those that are, each as often as it is there.
+/// What is found: how many tables and logs are there, readable or not, and the entries of those
+/// that are, each as often as it is there.
 #[derive(Debug, Drop)]
 pub struct Found {
     pub files: usize,
     pub entries: Vec<Entry>,
 }
 
-/// The entries of a table, or none if it isn't readable: each key has its tag, and a number from 1 on.
+/// The entries of a table, or none if it isn't readable: each key has its tag, and a number from 1
+/// on.
 fn table_entries<C: Cmp>(alloc: Global, cmp: &C, bytes: &[u8]) -> Result<Option<Vec<Entry>>> {
     let Some(pairs) = table_pairs(alloc, cmp, bytes)? else {
         return Ok(None);
@@ -81,7 +83,8 @@ fn add_log(alloc: Global, records: &[Vec<u8>], entries: &mut Vec<Entry>) -> Resu
     Ok(())
 }
 
-/// What is found in this folder, read plainly. It knows no compressor: a table with a block that isn't stored as it is isn't readable here.
+/// What is found in this folder, read plainly. It knows no compressor: a table with a block that
+/// isn't stored as it is isn't readable here.
 pub fn read_found<E: Env, C: Cmp>(
     alloc: Global,
     env: &mut E,

@@ -1,5 +1,5 @@
-//! What is asked of files by levels, by trying: the files of a compaction, the level of a new table,
-//! and the file that has a key.
+//! What is asked of files by levels, by trying: the files of a compaction, the level of a new
+//! table, and the file that has a key.
 use leveldb_base::cmp::Cmp;
 use leveldb_base::error::Result;
 use leveldb_base::key_types::split_sequence;
@@ -195,8 +195,8 @@ fn bytes_meeting<C: Cmp>(
     bytes
 }
 
-/// The deepest level up to 2 for a new table with these user keys, for which no level down to it has
-/// a file with such keys, and none below these levels has more than 20 MiB of them; else 0.
+/// The deepest level up to 2 for a new table with these user keys, for which no level down to it
+/// has a file with such keys, and none below these levels has more than 20 MiB of them; else 0.
 pub fn new_table_level<C: Cmp>(
     cmp: &C,
     files: &[(usize, FileMetaData)],

@@ -1,7 +1,6 @@
 //! Stores in memory by rows: what is done to a store and its files, and what is then asked of them.
 use super::stores::{
-    DefaultOptions, Row, STORE, cut_file, file_bytes, files_of, has_files, holds, put_all,
-    put_file, put_log, reopen,
+    DefaultOptions, Row, STORE, cut_file, files_of, has_files, holds, put_all, put_log, reopen,
 };
 use leveldb_base::error::{Result, StatusCode};
 use leveldb_env::env::Env;
@@ -10,7 +9,7 @@ use leveldb_env::options::Options;
 use rusty_leveldb::db_impl::Engine;
 use std::alloc::Global;
 use std::process::Abort;
-use support::{ShortReads, failed_with};
+use support::{ShortReads, failed_with, file_bytes, put_file};
 
 /// What a store is opened with that differs from the defaults.
 #[derive(Clone, Copy)]

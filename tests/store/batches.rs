@@ -20,7 +20,8 @@ const LOG: &str = "db/000003.log";
 
 type Change = (&'static [u8], Option<&'static [u8]>);
 
-/// The changes of a batch, the code that its write returns, and for some keys the value that is then found, or none.
+/// The changes of a batch, the code that its write returns, and for some keys the value that is
+/// then found, or none.
 type Step = (&'static [Change], StatusCode, &'static [Change]);
 
 /// Later changes win over earlier ones, of the same batch too; an empty batch changes nothing.
@@ -202,7 +203,8 @@ fn assert_newest(rt: &impl Abort, table: &MemTable<DefaultCmp>) {
     }
 }
 
-/// An empty batch takes no number. The log has each change at its number, and a deletion is an entry like any other.
+/// An empty batch takes no number. The log has each change at its number, and a deletion is an
+/// entry like any other.
 #[test]
 fn later_changes_win(rt: HostRuntime) -> Result<()> {
     let alloc = rt.alloc();

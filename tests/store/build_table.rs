@@ -1,4 +1,5 @@
-//! Tables made of memtables: the calls that they take, what they hold, and what is left where one fails.
+//! Tables made of memtables: the calls that they take, what they hold, and what is left where one
+//! fails.
 
 use leveldb_base::cmp::{DefaultCmp, InternalKeyCmp};
 use leveldb_base::error::{Result, StatusCode};
@@ -103,7 +104,8 @@ fn is_table_of(
     are_alike(&mut found, &mut memtable.iter(), options, memtable.len())
 }
 
-/// Builds a table by so many calls, asserts that it has the memtable's pairs from its first key to its last, and returns its size.
+/// Builds a table by so many calls, asserts that it has the memtable's pairs from its first key to
+/// its last, and returns its size.
 fn build_whole(
     rt: &impl Abort,
     alloc: Global,
@@ -242,7 +244,8 @@ fn has_log(alloc: Global, env: &mut RecordEnv) -> Result<bool> {
     Ok(read_file(alloc, env, BESIDE)?.as_slice() == b"log".as_slice())
 }
 
-/// Whether the nth call's failure is the device's, after which no call is made, and at most the table's file has changed.
+/// Whether the nth call's failure is the device's, after which no call is made, and at most the
+/// table's file has changed.
 fn fails_at(alloc: Global, nth: u64, done: bool) -> Result<bool> {
     let mut env = with_log(alloc)?;
     let before = env.moment();
@@ -267,7 +270,8 @@ fn each_failure_leaves_only_the_file(rt: HostRuntime) -> Result<()> {
     Ok(())
 }
 
-/// Whether a table of one entry, made with these options, fails with this code once its file is created, and leaves that empty.
+/// Whether a table of one entry, made with these options, fails with this code once its file is
+/// created, and leaves that empty.
 fn fails_after_the_creation(
     alloc: Global,
     options: &Options<DefaultCmp, BloomPolicy>,

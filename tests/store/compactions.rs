@@ -1,7 +1,6 @@
 //! Compactions of a range: what is found before and after, now and at snapshots, which files are left, and what a failure leaves.
 use super::stores::{
-    DefaultEngine, DefaultOptions, STORE, count_tables, damage_file, files_of, has_files, one_byte,
-    opened,
+    DefaultEngine, DefaultOptions, STORE, count_tables, files_of, has_files, one_byte, opened,
 };
 use leveldb_base::cmp::DefaultCmp;
 use leveldb_base::error::{Result, StatusCode};
@@ -13,7 +12,7 @@ use rusty_leveldb::shell::{Move, Step};
 use slow_store::{has_levels, read_store};
 use std::alloc::Global;
 use std::process::Abort;
-use support::failed_with;
+use support::{damage_file, failed_with};
 
 /// What is done to an open store, or asked of it.
 #[derive(Clone, Copy)]

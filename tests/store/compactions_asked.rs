@@ -1,4 +1,5 @@
-//! Compactions for which a version asks, by its score or by reads, after each switch of the log: which tables are left, and what is found.
+//! Compactions for which a version asks, by its score or by reads, after each switch of the log:
+//! which tables are left, and what is found.
 use super::stores::{DefaultOptions, STORE, count_tables, one_byte};
 use leveldb_base::cmp::DefaultCmp;
 use leveldb_base::error::Result;
@@ -51,7 +52,8 @@ impl Trial {
         )
     }
 
-    /// Puts a pair. Where the memtable is full it becomes a table, and then the compaction is done for which the version asks.
+    /// Puts a pair. Where the memtable is full it becomes a table, and then the compaction is done
+    /// for which the version asks.
     fn put(&mut self, key: &[u8], value: &[u8]) -> Result<()> {
         let switches = self.store.is_full(self.options.write_buffer_size);
         self.store
@@ -143,7 +145,8 @@ fn by_reads(rt: HostRuntime) -> Result<()> {
     Ok(())
 }
 
-/// A disk with so many tables of level 0, each of one key: an opening makes one of what the last log has.
+/// A disk with so many tables of level 0, each of one key: an opening makes one of what the last
+/// log has.
 fn with_tables(alloc: Global, count: u8) -> Result<RecordEnv> {
     let mut env = RecordEnv::new(alloc);
     for letter in b'a'..b'a' + count {
@@ -156,7 +159,8 @@ fn with_tables(alloc: Global, count: u8) -> Result<RecordEnv> {
     Ok(env)
 }
 
-/// A table that overlaps no other moves to the next level as it is, with one edit and no other file.
+/// A table that overlaps no other moves to the next level as it is, with one edit and no other
+/// file.
 #[test]
 fn a_table_that_moves(rt: HostRuntime) -> Result<()> {
     let alloc = rt.alloc();
@@ -187,7 +191,8 @@ fn a_table_that_moves(rt: HostRuntime) -> Result<()> {
     Ok(())
 }
 
-/// Scores and reads over many puts of few keys, with small tables: no more than three tables stay in level 0 and nothing is lost.
+/// Scores and reads over many puts of few keys, with small tables: no more than three tables stay
+/// in level 0 and nothing is lost.
 #[test]
 fn many_puts(rt: HostRuntime) -> Result<()> {
     let mut options = small();

@@ -1,7 +1,5 @@
 //! The compaction that an opening does at its end, where the score of a level asks for one.
-use super::stores::{
-    DefaultOptions, STORE, buffered, count_tables, damage_file, one_byte, opened, reusing,
-};
+use super::stores::{DefaultOptions, STORE, buffered, count_tables, one_byte, opened, reusing};
 use leveldb_base::cmp::DefaultCmp;
 use leveldb_base::error::{Result, StatusCode};
 use leveldb_env::env::Env;
@@ -10,9 +8,10 @@ use leveldb_env::options::Options;
 use slow_store::read_store;
 use std::alloc::Global;
 use std::process::Abort;
-use support::{Lines, Raised};
+use support::{Lines, Raised, damage_file};
 
-/// A disk with a store of one key, of this many tables and one more, and its newest value in the log.
+/// A disk with a store of one key, of this many tables and one more, and its newest value in the
+/// log.
 fn left_with(alloc: Global, count: u8) -> Result<RecordEnv> {
     let mut env = RecordEnv::new(alloc);
     let mut engine = opened(alloc, &mut env, buffered(1))?;
@@ -77,8 +76,9 @@ fn many_openings(rt: HostRuntime) -> Result<()> {
     Ok(())
 }
 
-/// What an opening of a disk of four tables returns where its nth call fails, done or not: whether it is Ok, or none where fewer
-/// calls are made. The value is found again, a refused store isn't locked, and its files are a store.
+/// What an opening of a disk of four tables returns where its nth call fails, done or not: whether
+/// it is Ok, or none where fewer calls are made. The value is found again, a refused store isn't
+/// locked, and its files are a store.
 fn opened_at(rt: &impl Abort, alloc: Global, nth: u64, done: bool) -> Result<Option<bool>> {
     let mut env = left_with(alloc, 4)?;
     let before = env.moment();
@@ -114,7 +114,8 @@ fn opened_at(rt: &impl Abort, alloc: Global, nth: u64, done: bool) -> Result<Opt
     Ok(Some(is_ok))
 }
 
-/// One of so many calls of the device fails, done or not. Returns how many openings were refused, and how many went on.
+/// One of so many calls of the device fails, done or not. Returns how many openings were refused,
+/// and how many went on.
 pub fn fail_in_openings(
     rt: &impl Abort,
     alloc: Global,
@@ -135,7 +136,8 @@ pub fn fail_in_openings(
     Ok((refused, goes_on))
 }
 
-/// One of three calls of the device fails. Where the manifest's append or sync fails, the opening is refused.
+/// One of three calls of the device fails. Where the manifest's append or sync fails, the opening
+/// is refused.
 #[test]
 fn one_of_the_calls_fails(rt: HostRuntime) -> Result<()> {
     for done in [false, true] {
@@ -145,7 +147,8 @@ fn one_of_the_calls_fails(rt: HostRuntime) -> Result<()> {
     Ok(())
 }
 
-/// A moment of an opening that compacts leaves a store with the value, if its log was synced, and the next opening has compacted it.
+/// A moment of an opening that compacts leaves a store with the value, if its log was synced, and
+/// the next opening has compacted it.
 fn crash_at(
     rt: &impl Abort,
     alloc: Global,
@@ -223,7 +226,8 @@ fn raising(alloc: Global, options: DefaultOptions) -> Result<DefaultOptions> {
     Ok(options)
 }
 
-/// A store whose blocks a compressor made opens without it, tells a line and keeps its tables; with it, it is compacted.
+/// A store whose blocks a compressor made opens without it, tells a line and keeps its tables; with
+/// it, it is compacted.
 #[test]
 fn without_its_compressor(rt: HostRuntime) -> Result<()> {
     let alloc = rt.alloc();

@@ -1,5 +1,6 @@
-//! Compactions that a write does once its memtable became a table: those for which the score of a level asks, or else reads.
-use super::stores::{DefaultEngine, STORE, buffered, count_tables, damage_file, one_byte, opened};
+//! Compactions that a write does once its memtable became a table: those for which the score of a
+//! level asks, or else reads.
+use super::stores::{DefaultEngine, STORE, buffered, count_tables, one_byte, opened};
 use leveldb_base::cmp::DefaultCmp;
 use leveldb_base::error::{Result, StatusCode};
 use leveldb_env::env::Env;
@@ -8,7 +9,7 @@ use rusty_leveldb::Snapshot;
 use slow_store::read_store;
 use std::alloc::Global;
 use std::process::Abort;
-use support::failed_with;
+use support::{damage_file, failed_with};
 
 /// A store that is open, on its device, each write of which makes a table of the memtable.
 #[derive(Drop)]
@@ -48,7 +49,8 @@ impl Trial {
     }
 }
 
-/// Four tables of level 0 ask for a compaction: one table takes their place and that of the one of level 1.
+/// Four tables of level 0 ask for a compaction: one table takes their place and that of the one of
+/// level 1.
 #[test]
 fn by_score(rt: HostRuntime) -> Result<()> {
     let mut trial = Trial::new(rt.alloc())?;
@@ -62,7 +64,8 @@ fn by_score(rt: HostRuntime) -> Result<()> {
     trial.engine.abandon(&mut trial.env)
 }
 
-/// A compaction over a damaged table fails the write whose memtable was full. The same write goes through then.
+/// A compaction over a damaged table fails the write whose memtable was full. The same write goes
+/// through then.
 #[test]
 fn over_a_damaged_table(rt: HostRuntime) -> Result<()> {
     let mut trial = Trial::new(rt.alloc())?;
@@ -82,7 +85,8 @@ fn over_a_damaged_table(rt: HostRuntime) -> Result<()> {
     trial.engine.abandon(&mut trial.env)
 }
 
-/// How many tables are left where a key was looked up so often at a snapshot, in four tables, before the next write.
+/// How many tables are left where a key was looked up so often at a snapshot, in four tables,
+/// before the next write.
 fn tables_after_reads(rt: &impl Abort, alloc: Global, count: usize) -> Result<usize> {
     let mut trial = Trial::new(alloc)?;
     trial.put(b'1')?;
@@ -109,7 +113,8 @@ fn by_reads(rt: HostRuntime) -> Result<()> {
     Ok(())
 }
 
-/// A key's values are found beside each other's, now and at each snapshot, however often tables are merged.
+/// A key's values are found beside each other's, now and at each snapshot, however often tables are
+/// merged.
 #[test]
 fn many_puts(rt: HostRuntime) -> Result<()> {
     let mut trial = Trial::new(rt.alloc())?;

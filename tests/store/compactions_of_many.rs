@@ -1,4 +1,5 @@
-//! Many keys in small tables: puts, deletions, snapshots and compactions that look random, each view compared with that of the history.
+//! Many keys in small tables: puts, deletions, snapshots and compactions that look random, each
+//! view compared with that of the history.
 use super::stores::{DefaultEngine, DefaultOptions, STORE, opened};
 use leveldb_base::cmp::DefaultCmp;
 use leveldb_base::error::Result;
@@ -181,7 +182,8 @@ fn try_steps(rt: &impl Abort, alloc: Global, seed: u64) -> Result<()> {
     settle(rt, trial, seed)
 }
 
-/// Releases all snapshots, puts each key, and compacts all until tables stay where they are: each key has one entry.
+/// Releases all snapshots, puts each key, and compacts all until tables stay where they are: each
+/// key has one entry.
 fn settle(rt: &impl Abort, trial: Trial, seed: u64) -> Result<()> {
     let mut trial = trial;
     while let Some((snapshot, _)) = trial.held.pop() {

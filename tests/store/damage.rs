@@ -1,8 +1,5 @@
 //! Openings of files whose bytes were changed: which lines the sink gets, and which files stay.
-use super::stores::{
-    DefaultOptions, STORE, buffered, damage_file, file_bytes, has_files, opened, put_all, put_file,
-    reopen, reusing,
-};
+use super::stores::{DefaultOptions, STORE, buffered, has_files, opened, put_all, reopen, reusing};
 use leveldb_base::crc::{crc32, mask_crc};
 use leveldb_base::error::Result;
 use leveldb_env::env::Env;
@@ -12,7 +9,7 @@ use leveldb_mem::log::{BLOCK_SIZE, LogWriter};
 use leveldb_store::damage::{LeftOut, left_out};
 use std::alloc::Global;
 use std::process::Abort;
-use support::{Lines, change_byte};
+use support::{Lines, change_byte, damage_file, file_bytes, put_file};
 
 /// How many lines an opening with these options gives, and how many of them are this one.
 fn opened_with_lines(
@@ -52,7 +49,8 @@ const TABLES: &[&str] = &["000005.ldb", "000007.ldb"];
 const IN_MANIFEST: &str =
     "db/MANIFEST-000001: 80 bytes from byte 41 on are left out, whole records among them\n";
 
-/// One byte of a manifest's second record is changed. What it names stays, at each opening, until the manifest is taken away.
+/// One byte of a manifest's second record is changed. What it names stays, at each opening, until
+/// the manifest is taken away.
 #[test]
 fn a_manifest_with_a_changed_byte(rt: HostRuntime) -> Result<()> {
     let alloc = rt.alloc();
@@ -89,7 +87,8 @@ fn new_manifests_after_one_with_a_changed_byte(rt: HostRuntime) -> Result<()> {
     Ok(())
 }
 
-/// The same where the store is written then: each table that a write makes would have the obsolete files deleted.
+/// The same where the store is written then: each table that a write makes would have the obsolete
+/// files deleted.
 #[test]
 fn writes_after_a_manifest_with_a_changed_byte(rt: HostRuntime) -> Result<()> {
     let alloc = rt.alloc();
@@ -124,7 +123,8 @@ fn compactions_after_a_manifest_with_a_changed_byte(rt: HostRuntime) -> Result<(
     Ok(())
 }
 
-/// Whichever byte of a manifest is changed, an opening fails or keeps all tables: no edit is lost in silence.
+/// Whichever byte of a manifest is changed, an opening fails or keeps all tables: no edit is lost
+/// in silence.
 #[test]
 fn each_byte_of_a_manifest(rt: HostRuntime) -> Result<()> {
     let alloc = rt.alloc();
@@ -166,7 +166,8 @@ fn a_log_with_a_changed_byte(rt: HostRuntime) -> Result<()> {
 const LAST_IN_LOG: &str =
     "db/000003.log: 24 bytes from byte 48 on are left out, no whole record among them\n";
 
-/// One byte of a log's last record is changed, which is all there: no crash leaves this, and the log stays.
+/// One byte of a log's last record is changed, which is all there: no crash leaves this, and the
+/// log stays.
 #[test]
 fn a_log_with_a_changed_last_record(rt: HostRuntime) -> Result<()> {
     let alloc = rt.alloc();
@@ -179,7 +180,8 @@ fn a_log_with_a_changed_last_record(rt: HostRuntime) -> Result<()> {
     Ok(())
 }
 
-/// A log that is torn, as a crash leaves it, is deleted once its records are in a table, and nothing is told.
+/// A log that is torn, as a crash leaves it, is deleted once its records are in a table, and
+/// nothing is told.
 fn open_torn(rt: &impl Abort, alloc: Global, kept: usize, zeros: usize) -> Result<()> {
     let mut env = RecordEnv::new(alloc);
     put_all(alloc, &mut env, Options::default(), KEYS)?;
@@ -278,7 +280,8 @@ fn empty_fragment() -> [u8; 7] {
     [a, b, c, d, 0, 0, 1]
 }
 
-/// A log is read up to a record of no bytes, which is no batch and which a crash can't leave, whatever comes after it.
+/// A log is read up to a record of no bytes, which is no batch and which a crash can't leave,
+/// whatever comes after it.
 #[test]
 fn records_of_no_bytes(rt: HostRuntime) -> Result<()> {
     let alloc = rt.alloc();
@@ -305,7 +308,8 @@ fn left_of_changed(text: &mut [u8], at: usize, amount: u8) -> Option<LeftOut> {
     found
 }
 
-/// Where a byte before the last record is changed, whole records are left out, from its own record on.
+/// Where a byte before the last record is changed, whole records are left out, from its own record
+/// on.
 #[test]
 fn changed_bytes_of_logs(rt: HostRuntime) -> Result<()> {
     let alloc = rt.alloc();

@@ -197,7 +197,8 @@ const BROKEN: &[Row] = &[
     (Act::Shows(b"1---"), StatusCode::OK),
 ];
 
-/// An engine that was opened on a device whose nth call from now on fails, with its change made or not.
+/// An engine that was opened on a device whose nth call from now on fails, with its change made or
+/// not.
 fn open_to_fail(
     alloc: Global,
     env: &mut RecordEnv,
@@ -239,7 +240,8 @@ fn a_failed_write_breaks_the_store(rt: HostRuntime) -> Result<()> {
     Ok(())
 }
 
-/// The `nth` call of the device in a close fails: the store is broken, and has its lock until `abandon` gives that back.
+/// The `nth` call of the device in a close fails: the store is broken, and has its lock until
+/// `abandon` gives that back.
 fn fail_a_close(rt: &impl Abort, alloc: Global, env: &mut RecordEnv, nth: u64) -> Result<()> {
     let mut engine = open_to_fail(alloc, env, nth, false)?;
     assert!(rt; failed_with(engine.close(env), StatusCode::IOError)?);
@@ -296,7 +298,8 @@ fn third_record(rt: &impl Abort, alloc: Global, env: &mut MemEnv) -> Result<[u8;
     Ok(tail)
 }
 
-/// A crash leaves none of the third record, or all of it, or with its last byte raised, which its checksum shows.
+/// A crash leaves none of the third record, or all of it, or with its last byte raised, which its
+/// checksum shows.
 #[test]
 fn crashes_keep_a_prefix(rt: HostRuntime) -> Result<()> {
     let mut env = after_three_records(rt.alloc())?;

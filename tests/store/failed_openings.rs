@@ -1,13 +1,14 @@
 //! What is left of a store's files where its opening fails: each of them, with all its bytes.
-use super::stores::{STORE, buffered, damage_file, file_bytes, opened, reusing};
+use super::stores::{STORE, buffered, opened, reusing};
 use leveldb_base::error::Result;
 use leveldb_env::env::Env;
 use leveldb_env::mem_env::{Pick, RecordEnv};
 use std::alloc::Global;
 use std::process::Abort;
+use support::{File, damage_file, file_bytes, files_on};
 
-/// A disk with a store of one key, of five tables and a log, all of whose bytes a crash keeps. An opening makes a table of the log and
-/// compacts level 0.
+/// A disk with a store of one key, of five tables and a log, all of whose bytes a crash keeps. An
+/// opening makes a table of the log and compacts level 0.
 fn with_five_tables(alloc: Global) -> Result<RecordEnv> {
     let mut env = RecordEnv::new(alloc);
     let mut engine = opened(alloc, &mut env, buffered(1))?;
@@ -21,20 +22,14 @@ fn with_five_tables(alloc: Global) -> Result<RecordEnv> {
 }
 
 /// The files of the store with their bytes, but `CURRENT` and temporary ones.
-fn files_in(alloc: Global, env: &mut RecordEnv) -> Result<Vec<(String, Vec<u8>)>> {
-    let mut files = Vec::new(alloc);
-    for name in env.children(alloc, STORE)? {
-        if name.as_str() == "CURRENT" || name.as_str().ends_with(".dbtmp") {
-            continue;
-        }
-        let bytes = file_bytes(alloc, env, &name)?;
-        files.push((name, bytes))?;
-    }
+fn files_in(alloc: Global, env: &mut RecordEnv) -> Result<Vec<File>> {
+    let mut files = files_on(alloc, env)?;
+    files.retain(|(name, _)| name.as_str() != "CURRENT" && !name.as_str().ends_with(".dbtmp"));
     Ok(files)
 }
 
 /// Whether each of these files is there and begins with its bytes.
-fn has_all(alloc: Global, env: &mut RecordEnv, files: &[(String, Vec<u8>)]) -> Result<bool> {
+fn has_all(alloc: Global, env: &mut RecordEnv, files: &[File]) -> Result<bool> {
     for (name, bytes) in files {
         let path = format!(in alloc; "{STORE}/{name}")?;
         if !env.exists(&path)? {
@@ -47,8 +42,8 @@ fn has_all(alloc: Global, env: &mut RecordEnv, files: &[(String, Vec<u8>)]) -> R
     Ok(true)
 }
 
-/// Opens this disk where the nth call fails, done or not. Where the opening fails, a crash at each moment of it has lost no byte.
-/// Returns whether it failed, or none where fewer calls were made.
+/// Opens this disk where the nth call fails, done or not. Where the opening fails, a crash at each
+/// moment of it has lost no byte. Returns whether it failed, or none where fewer calls were made.
 fn opened_at(
     rt: &impl Abort,
     alloc: Global,
@@ -85,7 +80,8 @@ fn opened_at(
     Ok(Some(is_err))
 }
 
-/// How many openings fail of the store where one of its files has a changed byte, if one is named, as each call fails once.
+/// How many openings fail of the store where one of its files has a changed byte, if one is named,
+/// as each call fails once.
 fn count_failing(rt: &impl Abort, alloc: Global, changed: Option<(&str, usize)>) -> Result<u64> {
     let mut count = 0;
     for done in [false, true] {

@@ -1,5 +1,5 @@
-//! Runs over an environment that gives at most one byte a read, or two, up to nine: what they reply and the files that they leave are those of reads that give
-//! all bytes that are asked for.
+//! Runs over an environment that gives at most one byte a read, or two, up to nine: what they reply
+//! and the files that they leave are those of reads that give all bytes that are asked for.
 use super::acts::{Setting, options_of};
 use super::sinks::commands_of;
 use super::stores::STORE;
@@ -37,7 +37,8 @@ const LOOK: Run = (
 
 const THREE: &[u8] = b"put 61 31\nwrite 1 +62=32\nput 63 33\n";
 
-/// A put, a synced one and another, and a crash that leaves the last or doesn't, or a part of it, on which the store goes on.
+/// A put, a synced one and another, and a crash that leaves the last or doesn't, or a part of it,
+/// on which the store goes on.
 const CRASHES: &[Run] = &[
     (Setting::Defaults, THREE, Left::Durable),
     LOOK,
@@ -123,7 +124,8 @@ fn show_files(device: &mut Device, shown: &mut Vec<u8>) -> Result<()> {
     Ok(())
 }
 
-/// Runs this, appends what it prints, how it ends and the files that it leaves, and returns its replies.
+/// Runs this, appends what it prints, how it ends and the files that it leaves, and returns its
+/// replies.
 fn show(
     device: &mut Device,
     setting: Setting,
@@ -180,7 +182,8 @@ fn closed_store(alloc: Global, most: usize) -> Result<Device> {
     Ok(device)
 }
 
-/// What a crash at each moment of an opening that makes a new manifest leaves, and what a run then shows; the same only once where it is the same at many moments.
+/// What a crash at each moment of an opening that makes a new manifest leaves, and what a run then
+/// shows; the same only once where it is the same at many moments.
 fn crash_in_opening(alloc: Global, most: usize) -> Result<Vec<Vec<u8>>> {
     let mut device = closed_store(alloc, most)?;
     let from = device.env.moment();
@@ -215,7 +218,8 @@ fn openings_are_the_same(rt: HostRuntime) -> Result<()> {
 
 const COMPACT: &[u8] = b"compact . .\nput 61 31\nget 6b\ncompact . .\nget 6b\n";
 
-/// What a compaction shows whose nth call fails, counted from the opening's first, with what is found later; and whether it failed.
+/// What a compaction shows whose nth call fails, counted from the opening's first, with what is
+/// found later; and whether it failed.
 fn fail_in_compaction(alloc: Global, most: usize, nth: u64) -> Result<(Vec<u8>, bool)> {
     let mut device = closed_store(alloc, most)?;
     device.env.fail(nth, false);
@@ -241,7 +245,8 @@ fn count_calls(alloc: Global, most: usize) -> Result<u64> {
     Ok((device.env.moment() - before) / 2)
 }
 
-/// The last call whose failure fails the compaction is the sync of the manifest: the store is broken then, its reads go on, and all files stay.
+/// The last call whose failure fails the compaction is the sync of the manifest: the store is
+/// broken then, its reads go on, and all files stay.
 fn lose_manifest(alloc: Global, most: usize) -> Result<Vec<u8>> {
     for nth in (1..=count_calls(alloc, most)?).rev() {
         let (shown, has_failed) = fail_in_compaction(alloc, most, nth)?;

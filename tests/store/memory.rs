@@ -1,4 +1,5 @@
-//! A store with a small memtable, whose calls are made again where they find no memory. `tools/refuse` refuses each allocation in turn.
+//! A store with a small memtable, whose calls are made again where they find no memory.
+//! `tools/refuse` refuses each allocation in turn.
 use super::stores::{Change, DefaultEngine, DefaultOptions, STORE, batch_of, reusing, text_of};
 use leveldb_base::error::{Result, Status, StatusCode};
 use leveldb_env::env::Env;
@@ -127,7 +128,8 @@ impl Trial {
     }
 }
 
-/// All is found as if no call had been refused; then the trial ends with the refusal, if there was one.
+/// All is found as if no call had been refused; then the trial ends with the refusal, if there was
+/// one.
 fn assert_found(rt: &impl Abort, mut trial: Trial) -> Result<()> {
     let mut engine = trial.open(true)?;
     for (key, value) in &FOUND {

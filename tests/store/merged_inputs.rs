@@ -1,5 +1,5 @@
-//! Merging the tables of a version's files: what is left of them, over an environment that reads few bytes at a time, and what is left where a
-//! call fails or a crash comes.
+//! Merging the tables of a version's files: what is left of them, over an environment that reads
+//! few bytes at a time, and what is left where a call fails or a crash comes.
 
 use super::merging::{EvenKeys, assert_has, copy_of, entries, slow_merge};
 use super::outputs::{FIRST, Put, SmallOptions, pairs_of, path_of, small};
@@ -190,7 +190,8 @@ fn merge_small(
     )
 }
 
-/// A crash on either side of this moment leaves the inputs whole, whatever it keeps of what wasn't synced.
+/// A crash on either side of this moment leaves the inputs whole, whatever it keeps of what wasn't
+/// synced.
 fn crash_at(
     rt: &impl Abort,
     alloc: Global,
@@ -233,7 +234,8 @@ fn crashes_leave_the_inputs(rt: HostRuntime) -> Result<()> {
     crash_in_merge(&rt, rt.alloc(), 11)
 }
 
-/// A merge of which this call fails, done or undone, fails so and leaves the inputs whole. Returns whether it makes so many calls.
+/// A merge of which this call fails, done or undone, fails so and leaves the inputs whole. Returns
+/// whether it makes so many calls.
 fn fail_at(rt: &impl Abort, alloc: Global, nth: u64, done: bool) -> Result<bool> {
     let mut env = RecordEnv::new(alloc);
     let mut versions = VersionSet::new(alloc, "db", &DefaultCmp)?;
@@ -255,7 +257,8 @@ fn fail_at(rt: &impl Abort, alloc: Global, nth: u64, done: bool) -> Result<bool>
     Ok(true)
 }
 
-/// One of so many calls of a merge fails once, and then the next of them. Returns how many failures there were.
+/// One of so many calls of a merge fails once, and then the next of them. Returns how many failures
+/// there were.
 pub fn fail_in_merge(rt: &impl Abort, alloc: Global, every: u64) -> Result<u64> {
     let mut failed = 0;
     while fail_at(rt, alloc, 1 + failed * every, false)?
@@ -281,11 +284,11 @@ fn damaged_inputs_are_refused(rt: HostRuntime) -> Result<()> {
         let mut env = RecordEnv::new(alloc);
         let mut versions = VersionSet::new(alloc, "db", &DefaultCmp)?;
         let inputs = write_inputs(alloc, &mut env, &mut versions, &mut Random(6))?;
-        let path = path_of(alloc, inputs.files[0].1.num)?;
+        let name = format!(in alloc; "{:06}.ldb", inputs.files[0].1.num)?;
         if gone {
-            env.delete(&path)?;
+            env.delete(&format!(in alloc; "db/{name}")?)?;
         } else {
-            damage_file(alloc, &mut env, &path, 3)?;
+            damage_file(alloc, &mut env, &name, 3)?;
         }
         let merged = merge_small(alloc, &mut env, &mut versions, &inputs);
         assert!(rt;

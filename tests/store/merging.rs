@@ -1,4 +1,5 @@
-//! Merging into tables: what is left of random entries, beside a slow merge that goes by the definition, and what is left where a call fails.
+//! Merging into tables: what is left of random entries, beside a slow merge that goes by the
+//! definition, and what is left where a call fails.
 
 use super::outputs::{
     FIRST, Put, SmallOptions, changes_only_tables, key_of, new_set, pairs_of, path_of, plain_cuts,
@@ -20,7 +21,8 @@ use std::alloc::Global;
 use std::process::Abort;
 use support::{Listed, Random, failed_with};
 
-/// No deeper level has a user key that begins with an even byte, and the inputs' ranges end below those that begin with 100.
+/// No deeper level has a user key that begins with an even byte, and the inputs' ranges end below
+/// those that begin with 100.
 #[derive(Drop)]
 pub struct EvenKeys;
 
@@ -156,7 +158,8 @@ fn merge(
     merge_tables(env, &mut (), &mut walk, versions, &plan, &mut told)
 }
 
-/// Asserts that the tables, of numbers from the first on, have these entries, cut as the plain list says.
+/// Asserts that the tables, of numbers from the first on, have these entries, cut as the plain list
+/// says.
 pub fn assert_has<E: Env>(
     rt: &impl Abort,
     alloc: Global,
@@ -255,7 +258,8 @@ fn nothing_left_is_no_table(rt: HostRuntime) -> Result<()> {
     Ok(())
 }
 
-/// Whether the nth call's failure is the device's, after which no call is made, and at most tables of given numbers have changed.
+/// Whether the nth call's failure is the device's, after which no call is made, and at most tables
+/// of given numbers have changed.
 fn fails_at(alloc: Global, entries: &[Put], nth: u64, done: bool) -> Result<bool> {
     let mut env = with_log(alloc)?;
     let mut versions = new_set(alloc)?;
@@ -321,8 +325,8 @@ fn refuses(alloc: Global, keys: &[&[u8]]) -> Result<bool> {
     failed_with(merged, StatusCode::Corruption)
 }
 
-/// A key without a tag, a newer entry after an older one of its key, though the older goes, a key after a greater one, though that
-/// goes, and one that is in no input's range.
+/// A key without a tag, a newer entry after an older one of its key, though the older goes, a key
+/// after a greater one, though that goes, and one that is in no input's range.
 #[test]
 fn keys_out_of_place_are_corruption(rt: HostRuntime) -> Result<()> {
     let alloc = rt.alloc();

@@ -1,5 +1,6 @@
-//! Calls that take no memory. `tools/refuse --same store made_calls left_out_calls` tells whether the first test makes as many requests as the second,
-//! which prepares the same and makes none of these calls.
+//! Calls that take no memory. `tools/refuse --same store made_calls left_out_calls` tells whether
+//! the first test makes as many requests as the second, which prepares the same and makes none of
+//! these calls.
 use super::stores::{batch_of, buffered, opened};
 use leveldb_base::blockhandle::BlockHandle;
 use leveldb_base::cmp::{Cmp, DefaultCmp, InternalKeyCmp};
@@ -83,7 +84,8 @@ fn use_formats(rt: &impl Abort, makes: bool) {
     }
 }
 
-/// A snapshot that is held is released, and the store is abandoned, in place of its lock being given back.
+/// A snapshot that is held is released, and the store is abandoned, in place of its lock being
+/// given back.
 fn use_store(rt: &impl Abort, alloc: Global, makes: bool) -> Result<()> {
     let mut env = MemEnv::new(alloc);
     let mut engine = opened(alloc, &mut env, buffered(300))?;

@@ -6,13 +6,15 @@ use leveldb_env::mem_env::RecordEnv;
 use std::alloc::Global;
 use std::process::Abort;
 
-/// How many files a store may have open, of which ten are no tables: one table then, and the default.
+/// How many files a store may have open, of which ten are no tables: one table then, and the
+/// default.
 const ROOM_FOR_ONE: usize = 11;
 
 const ROOM_FOR_ALL: usize = 1 << 10;
 
-/// A table in each of three levels, and an empty memtable. The table of level 1 changes keys of the one of level 2, and that of level 0
-/// keys of both. A look-up of e goes through two tables, since it is in the range of the newest.
+/// A table in each of three levels, and an empty memtable. The table of level 1 changes keys of the
+/// one of level 2, and that of level 0 keys of both. A look-up of e goes through two tables, since
+/// it is in the range of the newest.
 const THREE_TABLES: &[Act] = &[
     Act::Write(&[
         ("a", Some("1")),
@@ -81,7 +83,8 @@ const LOST_AND_CLOSED: &[Act] = &[
     Act::FindsDamage("b"),
 ];
 
-/// A table whose file is deleted behind the store's back is read on as long as it is open. Then it is an error, and no older value is found.
+/// A table whose file is deleted behind the store's back is read on as long as it is open. Then it
+/// is an error, and no older value is found.
 #[test]
 fn lost_tables(rt: HostRuntime) -> Result<()> {
     play(&rt, rt.alloc(), ROOM_FOR_ALL, LOST_WHILE_OPEN)?;
@@ -102,8 +105,8 @@ fn damage(rt: &impl Abort, alloc: Global, max_open_files: usize, at: usize) -> R
     play(rt, alloc, max_open_files, &acts)
 }
 
-/// Whichever byte of a table is wrong, of its footer too (one of so many bytes is tried), each look-up of its keys is an error each time, and all keys of other tables
-/// are found.
+/// Whichever byte of a table is wrong, of its footer too (one of so many bytes is tried), each
+/// look-up of its keys is an error each time, and all keys of other tables are found.
 pub fn damage_each(rt: &impl Abort, alloc: Global, every: usize) -> Result<()> {
     for at in 0..202 {
         if at % every == 0 {

@@ -1,13 +1,14 @@
 //! Which files openings leave, and what they hold.
 use super::acts::{Act, Setting, play_each};
-use super::stores::{STORE, contents_of, file_bytes, has_files, opened, reopen, reusing, store_of};
+use super::stores::{STORE, contents_of, has_files, opened, reopen, reusing, store_of};
 use leveldb_base::error::Result;
 use leveldb_env::mem_env::{Pick, RecordEnv};
 use leveldb_env::options::Options;
 use std::alloc::Global;
+use support::file_bytes;
 
-/// The record of a new store's manifest: its comparator, a log number of 0, the next file's number 2 and a last number of 0.
-/// The manifest has 7 bytes before it.
+/// The record of a new store's manifest: its comparator, a log number of 0, the next file's number
+/// 2 and a last number of 0. The manifest has 7 bytes before it.
 const NEW_MANIFEST: &[u8] = b"\x01\x1aleveldb.BytewiseComparator\x02\0\x03\x02\x04\0";
 
 const NEW_STORE: &[Act] = &[
@@ -37,7 +38,8 @@ const NEITHER_USED_ON: &[Act] = &[
     Act::Holds("2: 1a 2b"),
 ];
 
-/// A log that isn't used on becomes a table, and a manifest of `max_file_size` bytes or more is made anew.
+/// A log that isn't used on becomes a table, and a manifest of `max_file_size` bytes or more is
+/// made anew.
 const ONE_USED_ON: &[Act] = &[
     Act::Put(Setting::Defaults, &[("a", "1")]),
     Act::Open(Setting::Reuses(false, true)),
@@ -96,7 +98,8 @@ fn found_is_durable(rt: HostRuntime) -> Result<()> {
     Ok(())
 }
 
-/// A folder with a manifest and a temporary file alone has no store: one is made, and the temporary file is deleted.
+/// A folder with a manifest and a temporary file alone has no store: one is made, and the temporary
+/// file is deleted.
 const LEFT_OVER_FILES: &[Act] = &[
     Act::Make("MANIFEST-000001", b"x"),
     Act::Make("000007.dbtmp", b"x"),

@@ -1,5 +1,5 @@
-//! Tables that pairs go to one after another: where they are cut, beside a plain list of cuts, what they hold, and what is left where a call
-//! fails.
+//! Tables that pairs go to one after another: where they are cut, beside a plain list of cuts, what
+//! they hold, and what is left where a call fails.
 
 use bytes::Bytes;
 use leveldb_base::cmp::{DefaultCmp, InternalKeyCmp};
@@ -91,7 +91,8 @@ fn new_core(
     BuilderCore::under(alloc, InternalKeyCmp(options.cmp), policy, options)
 }
 
-/// Where each table begins: at the first pair, and where the user key changes once the table before is past its size or told to end.
+/// Where each table begins: at the first pair, and where the user key changes once the table before
+/// is past its size or told to end.
 pub fn plain_cuts(alloc: Global, options: &SmallOptions, puts: &[Put]) -> Result<Vec<usize>> {
     let mut begins = Vec::new(alloc);
     let mut sink = Vec::new(alloc);
@@ -274,7 +275,8 @@ pub fn with_log(alloc: Global) -> Result<RecordEnv> {
     Ok(env)
 }
 
-/// Whether each name in the store's folder is the log's or that of a table of a number that was given, and the log is as it was.
+/// Whether each name in the store's folder is the log's or that of a table of a number that was
+/// given, and the log is as it was.
 pub fn changes_only_tables(
     alloc: Global,
     env: &mut RecordEnv,
@@ -294,7 +296,8 @@ pub fn changes_only_tables(
     Ok(read_file(alloc, env, BESIDE)?.as_slice() == b"log".as_slice())
 }
 
-/// Whether the nth call's failure is the device's, after which no call is made, and at most tables of given numbers have changed.
+/// Whether the nth call's failure is the device's, after which no call is made, and at most tables
+/// of given numbers have changed.
 fn fails_at(alloc: Global, puts: &[Put], nth: u64, done: bool) -> Result<bool> {
     let mut env = with_log(alloc)?;
     let mut versions = new_set(alloc)?;
@@ -380,7 +383,8 @@ fn unfit_keys_are_corruption(rt: HostRuntime) -> Result<()> {
     Ok(())
 }
 
-/// Where no compressor is set under the id, or it fails, the first table's file is made and left empty.
+/// Where no compressor is set under the id, or it fails, the first table's file is made and left
+/// empty.
 #[test]
 fn a_compressor_fails(rt: HostRuntime) -> Result<()> {
     let alloc = rt.alloc();

@@ -1,9 +1,9 @@
-//! Stores that are read alone: what they show is what an opening then finds, and no call changes a file or a lock.
+//! Stores that are read alone: what they show is what an opening then finds, and no call changes a
+//! file or a lock.
 use super::acts::{Setting, options_of};
 use super::replays::{damage, random_log_from};
 use super::stores::{
-    DefaultOptions, Row, STORE, cut_file, file_bytes, files_of, put_all, put_file, put_log, reopen,
-    store_of,
+    DefaultOptions, Row, STORE, cut_file, files_of, put_all, put_log, reopen, store_of,
 };
 use leveldb_base::cmp::DefaultCmp;
 use leveldb_base::error::{Result, StatusCode};
@@ -18,12 +18,13 @@ use leveldb_version::version_edit::VersionEdit;
 use rusty_leveldb::db_impl::Engine;
 use std::alloc::Global;
 use std::process::Abort;
-use support::{OnlyReads, Random, ShortReads, failed_with};
+use support::{OnlyReads, Random, ShortReads, failed_with, file_bytes, put_file};
 
 /// How many pairs are looked at most.
 const MOST: usize = 200;
 
-/// The last number of a store and what it shows there: each key and how long its value is, in order.
+/// The last number of a store and what it shows there: each key and how long its value is, in
+/// order.
 fn shown<E: Env>(
     alloc: Global,
     env: &mut E,
@@ -53,7 +54,8 @@ fn shown<E: Env>(
     Ok(format!(in alloc; "more than {MOST} pairs")?)
 }
 
-/// What a store that is opened to be read alone shows. A call that could change a file or a lock is refused, and makes this another text.
+/// What a store that is opened to be read alone shows. A call that could change a file or a lock is
+/// refused, and makes this another text.
 fn shown_alone<E: Env + Drop>(
     alloc: Global,
     env: E,
@@ -64,8 +66,8 @@ fn shown_alone<E: Env + Drop>(
         Ok(store) => shown(alloc, &mut alone, &store, options),
         Err(status) => Err(status),
     };
-    if alone.refused > 0 {
-        text = Ok(format!(in alloc; "{} calls were refused", alone.refused)?);
+    if alone.rule.refused > 0 {
+        text = Ok(format!(in alloc; "{} calls were refused", alone.rule.refused)?);
     }
     Ok((text, alone.env))
 }
@@ -85,7 +87,8 @@ fn told(alloc: Global, answer: Result<String>) -> Result<String> {
     }
 }
 
-/// What this disk shows, where it is the same read alone and opened to be written then, and the former leaves the files as they are.
+/// What this disk shows, where it is the same read alone and opened to be written then, and the
+/// former leaves the files as they are.
 fn shown_both_ways<E: Env + Drop>(
     rt: &impl Abort,
     alloc: Global,
@@ -178,7 +181,8 @@ fn logs_and_tables(rt: HostRuntime) -> Result<()> {
     Ok(())
 }
 
-/// Logs that fill more than one memtable, and the options that say how an opening goes on with files.
+/// Logs that fill more than one memtable, and the options that say how an opening goes on with
+/// files.
 #[test]
 fn settings_of_writers(rt: HostRuntime) -> Result<()> {
     let alloc = rt.alloc();
@@ -210,7 +214,8 @@ fn torn_logs(rt: HostRuntime) -> Result<()> {
     Ok(())
 }
 
-/// The manifest's last record is torn, or `CURRENT` names none, or a table is missing, or a log begins among earlier numbers.
+/// The manifest's last record is torn, or `CURRENT` names none, or a table is missing, or a log
+/// begins among earlier numbers.
 #[test]
 fn damaged_files(rt: HostRuntime) -> Result<()> {
     let alloc = rt.alloc();
@@ -240,7 +245,8 @@ fn fails_alone(alloc: Global, env: MemEnv, setting: Setting, code: StatusCode) -
     failed_with(alone, code)
 }
 
-/// Where there is no store, none is made: in no folder, in an empty one, and beside tables and logs.
+/// Where there is no store, none is made: in no folder, in an empty one, and beside tables and
+/// logs.
 #[test]
 fn no_store(rt: HostRuntime) -> Result<()> {
     let alloc = rt.alloc();
@@ -274,8 +280,9 @@ fn other_comparator(rt: HostRuntime) -> Result<()> {
     shows(&rt, alloc, env, Setting::Defaults, "InvalidArgument")
 }
 
-/// A store that an engine has open and locked is read as its files are, and as they are later by another opening. A store that is read alone is
-/// broken, and its calls that write make none of the device.
+/// A store that an engine has open and locked is read as its files are, and as they are later by
+/// another opening. A store that is read alone is broken, and its calls that write make none of the
+/// device.
 #[test]
 fn beside_a_writer(rt: HostRuntime) -> Result<()> {
     let alloc = rt.alloc();
@@ -296,11 +303,12 @@ fn beside_a_writer(rt: HostRuntime) -> Result<()> {
     assert!(rt; failed_with(store.sync(&mut alone), StatusCode::IOError)?);
     let mut tables = TableCache::new(alloc, STORE, &options)?;
     store.tidy_up(&mut alone, &mut tables, &mut None)?;
-    assert!(rt; alone.refused == 0);
+    assert!(rt; alone.rule.refused == 0);
     Ok(())
 }
 
-/// Logs of several blocks, each perhaps cut or damaged, one after another: read alone they are what an opening finds, also where a read gives 1 to 9 bytes.
+/// Logs of several blocks, each perhaps cut or damaged, one after another: read alone they are what
+/// an opening finds, also where a read gives 1 to 9 bytes.
 #[test]
 fn random_logs(rt: HostRuntime) -> Result<()> {
     let alloc = rt.alloc();

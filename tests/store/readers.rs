@@ -1,8 +1,9 @@
-//! Engines that only read: they show what an opening finds then, and make no call of the device but reads.
+//! Engines that only read: they show what an opening finds then, and make no call of the device but
+//! reads.
 use super::acts::{Act, Setting, change, options_of};
 use super::stores::{
-    DefaultOptions, STORE, damage_file, file_bytes, files_of, has_files, one_byte, opened,
-    opened_db, put_all, put_file, reopen, reusing, store_of, text_of,
+    DefaultOptions, STORE, files_of, has_files, one_byte, opened, opened_db, put_all, reopen,
+    reusing, store_of, text_of,
 };
 use leveldb_base::cmp::DefaultCmp;
 use leveldb_base::error::{Result, StatusCode};
@@ -16,7 +17,7 @@ use rusty_leveldb::shell::{Command, Item, Move, Reply, Step, run_read_only};
 use rusty_leveldb::{DB, DBIterator};
 use std::alloc::Global;
 use std::process::Abort;
-use support::{OnlyReads, ShortReads, failed_with};
+use support::{OnlyReads, ShortReads, damage_file, failed_with, file_bytes, put_file};
 
 type Pairs<'a, E> = DBIterator<'a, E, DefaultCmp, BloomPolicy>;
 
@@ -47,7 +48,7 @@ fn shown_alone<E: Env + Drop>(
     let mut it = store.new_iter(&mut reads)?;
     let text = pairs_in(alloc, &mut it)?;
     drop(it);
-    assert!(rt; reads.refused == 0);
+    assert!(rt; reads.rule.refused == 0);
     let mut env = reads.env;
     assert!(rt; has_files(alloc, &mut env, before.as_str())?);
     Ok((text, env))
@@ -256,7 +257,8 @@ fn put_and_close(alloc: Global, env: &mut RecordEnv) -> Result<()> {
     engine.close(env)
 }
 
-/// Whether a crash at this moment leaves two manifests of which `CURRENT` names the first. The store shows its pair, alone and then opened.
+/// Whether a crash at this moment leaves two manifests of which `CURRENT` names the first. The
+/// store shows its pair, alone and then opened.
 fn has_two_manifests(rt: &impl Abort, alloc: Global, env: &RecordEnv, moment: u64) -> Result<bool> {
     let pick = Pick {
         tails: Vec::new(alloc),
@@ -342,7 +344,7 @@ fn fails_alone(
     let mut reads = OnlyReads::of(env);
     let opened = ReadOnlyEngine::open(alloc, STORE, &mut reads, options_of(setting));
     assert!(rt; failed_with(opened, code)?);
-    assert!(rt; reads.refused == 0);
+    assert!(rt; reads.rule.refused == 0);
     Ok(reads.env)
 }
 
@@ -528,7 +530,7 @@ fn commands(rt: HostRuntime) -> Result<()> {
         &all_commands(alloc)?,
         &mut replies,
     )?;
-    assert!(rt; reads.refused == 0);
+    assert!(rt; reads.rule.refused == 0);
     let (others, answered) = replies.split_at(other_commands(alloc)?.len());
     assert!(rt; others.iter().all(is_refused));
     assert!(rt;

@@ -1,9 +1,10 @@
 //! What isn't opened: an opening fails, changes no file but the lock's, and gives back the lock.
 use super::acts::{Act, Setting, is_damaged, play_each};
-use super::stores::{Row, put_file};
+use super::stores::Row;
 use leveldb_base::error::{Result, StatusCode};
 use leveldb_env::mem_env::MemEnv;
 use std::alloc::Global;
+use support::put_file;
 
 /// A store that must not be.
 const UNWANTED: &[Act] = &[
@@ -46,7 +47,8 @@ const WITHOUT_A_TABLE: &[Act] = &[
     Act::IsDamaged,
 ];
 
-/// A log under another name of its number, which counts where that number is replayed; elsewhere it is an obsolete file.
+/// A log under another name of its number, which counts where that number is replayed; elsewhere it
+/// is an obsolete file.
 const MISNAMED_LOGS: &[Act] = &[
     Act::Put(Setting::Defaults, &[("a", "1")]),
     Act::Make("0004.log", b""),
@@ -63,7 +65,8 @@ const A: Row = (1, "a");
 
 const B: Row = (2, "b");
 
-/// A log after one that ends badly: it must be empty. A refused opening may leave a table that it made.
+/// A log after one that ends badly: it must be empty. A refused opening may leave a table that it
+/// made.
 const AFTER_A_BAD_END: &[Act] = &[
     Act::Open(Setting::Defaults),
     Act::Log("000003.log", &[A, B]),

@@ -1,7 +1,6 @@
 //! Repairs: what they leave, what is found then, crashes at each of their moments, and calls that fail.
 use super::stores::{
-    DefaultOptions, STORE, buffered, damage_file, file_bytes, files_of, has_files, opened_db,
-    put_all, put_file, put_log_of, reopen, text_of,
+    DefaultOptions, STORE, buffered, files_of, has_files, map_of, put_all, put_log_of, reopen,
 };
 use leveldb_base::error::{Result, StatusCode};
 use leveldb_env::env::Env;
@@ -11,7 +10,10 @@ use leveldb_env::options::Options;
 use rusty_leveldb::repair;
 use std::alloc::Global;
 use std::process::Abort;
-use support::{Lines, Raised, ShortReads, change_byte, code_of, failed_with};
+use support::{
+    Lines, Raised, ShortReads, change_byte, code_of, damage_file, failed_with, file_bytes,
+    files_on, is_free, lose_manifest, put_file,
+};
 
 /// The pairs of the small store, the first of which is in a table, and the other in a log.
 const PAIRS: &[(&str, &str)] = &[("a", "1"), ("b", "2")];
@@ -27,34 +29,6 @@ pub fn mend<E: Env>(alloc: Global, env: &mut E) -> Result<()> {
     repair(alloc, STORE, env, Options::default())
 }
 
-/// The pairs that a store shows which is opened with these options, in order.
-fn map_with<E: Env>(alloc: Global, env: &mut E, options: DefaultOptions) -> Result<String> {
-    let mut db = opened_db(alloc, env, options)?;
-    let mut text = String::new(alloc);
-    let mut it = db.new_iter()?;
-    while it.advance()? {
-        if let Some((key, value)) = it.current() {
-            let key = text_of(alloc, key)?;
-            let value = text_of(alloc, value)?;
-            text.push_str(&format!(in alloc; " {key}={value}")?)?;
-        }
-    }
-    drop(it);
-    db.abandon()?;
-    Ok(text)
-}
-
-/// The same with default options.
-pub fn map_of<E: Env>(alloc: Global, env: &mut E) -> Result<String> {
-    map_with(alloc, env, Options::default())
-}
-
-/// Takes `CURRENT` and the manifest away.
-fn lose_manifest<E: Env>(env: &mut E) -> Result<()> {
-    env.delete("db/CURRENT")?;
-    env.delete("db/MANIFEST-000001")
-}
-
 /// The small store on this disk, with its manifest or without.
 fn put_small<E: Env>(alloc: Global, env: &mut E, is_lost: bool) -> Result<()> {
     put_all(alloc, env, buffered(1), PAIRS)?;
@@ -62,18 +36,6 @@ fn put_small<E: Env>(alloc: Global, env: &mut E, is_lost: bool) -> Result<()> {
         lose_manifest(env)?;
     }
     Ok(())
-}
-
-/// Whether the lock is free.
-fn is_free<E: Env>(env: &mut E) -> Result<bool> {
-    match env.lock("db/LOCK") {
-        Ok(()) => {
-            env.unlock("db/LOCK")?;
-            Ok(true)
-        }
-        Err(status) if status.code == StatusCode::LockError => Ok(false),
-        Err(status) => Err(status),
-    }
 }
 
 /// Which files a repair leaves, with which sizes, and what the next opening finds and leaves.
@@ -187,20 +149,10 @@ fn a_whole_store(rt: HostRuntime) -> Result<()> {
 
 /// A repair of this disk fails with this code, gives back the lock, and leaves each file as it was.
 fn stays(rt: &impl Abort, alloc: Global, env: &mut MemEnv, code: StatusCode) -> Result<()> {
-    let names = env.children(alloc, STORE)?;
-    let mut before = Vec::new(alloc);
-    for name in &names {
-        before.push(file_bytes(alloc, env, name)?)?;
-    }
+    let before = files_on(alloc, env)?;
     assert!(rt; failed_with(mend(alloc, env), code)?);
     assert!(rt; is_free(env)?);
-    assert!(rt; env.children(alloc, STORE)?.len() == names.len());
-    for (name, bytes) in names.iter().zip(before.iter()) {
-        assert!(rt;
-            file_bytes(alloc, env, name)?.as_slice() == bytes.as_slice(),
-            "{name}"
-        );
-    }
+    assert!(rt; files_on(alloc, env)? == before);
     Ok(())
 }
 

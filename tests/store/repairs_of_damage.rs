@@ -1,30 +1,16 @@
 //! Repairs of damaged folders, beside a plain reading of what is found in them.
 use super::repairs::mend;
-use super::stores::{STORE, batch_of, buffered, file_bytes, opened, opened_db, put_file};
+use super::stores::{STORE, batch_of, buffered, map_of, opened, pair_text};
 use leveldb_base::cmp::DefaultCmp;
 use leveldb_base::error::{Result, Status, StatusCode};
 use leveldb_base::types::SequenceNumber;
 use leveldb_env::env::Env;
 use leveldb_env::mem_env::MemEnv;
-use leveldb_env::options::Options;
 use slow_history::{Entry, view_of};
 use slow_store::{Found, read_found, read_store};
 use std::alloc::Global;
 use std::process::Abort;
-use support::{Random, change_byte};
-
-/// A file's name and its bytes.
-type File = (String, Vec<u8>);
-
-/// What is done to a file.
-#[derive(Clone, Copy, Debug)]
-enum Change {
-    /// It is cut to so many bytes.
-    Cut(usize),
-    /// Its byte at this offset is raised by one, from 255 to 0.
-    Raised(usize),
-    TakenAway,
-}
+use support::{Change, File, Random, change_byte, disk_with, file_bytes, files_on, put_file};
 
 // ---- what is to come of a repair
 
@@ -73,38 +59,12 @@ fn slow_map(alloc: Global, entries: &[Entry]) -> Result<String> {
     rising.sort_by_key(|entry: &&Entry| entry.sequence)?;
     let mut text = String::new(alloc);
     for (key, value) in view_of(alloc, &DefaultCmp, rising.as_slice(), SequenceNumber::MAX)? {
-        text.push_str(&format!(in alloc; " {key:?}={value:?}")?)?;
+        text.push_str(&pair_text(alloc, key, value)?)?;
     }
-    Ok(text)
-}
-
-/// The map that an opening finds.
-fn map_of(alloc: Global, env: &mut MemEnv) -> Result<String> {
-    let mut db = opened_db(alloc, env, Options::default())?;
-    let mut text = String::new(alloc);
-    let mut it = db.new_iter()?;
-    while it.advance()? {
-        if let Some((key, value)) = it.current() {
-            text.push_str(&format!(in alloc; " {key:?}={value:?}")?)?;
-        }
-    }
-    drop(it);
-    db.abandon()?;
     Ok(text)
 }
 
 // ---- the files of a folder
-
-fn files_in(alloc: Global, env: &mut MemEnv) -> Result<Vec<File>> {
-    let mut names = env.children(alloc, STORE)?;
-    names.sort()?;
-    let mut files = Vec::new(alloc);
-    for name in names {
-        let bytes = file_bytes(alloc, env, &name)?;
-        files.push((name, bytes))?;
-    }
-    Ok(files)
-}
 
 /// Whether each of these files is there with its bytes, but perhaps `CURRENT`.
 fn are_there(alloc: Global, env: &mut MemEnv, files: &[File], with_current: bool) -> Result<bool> {
@@ -152,7 +112,7 @@ fn repair_beside_slow(
     env: &mut MemEnv,
     what: &str,
 ) -> Result<bool> {
-    let before = files_in(alloc, env)?;
+    let before = files_on(alloc, env)?;
     let found = read_found(alloc, env, &DefaultCmp, STORE)?;
     let repaired = mend(alloc, env);
     if let Some(code) = code_for(&found) {
@@ -211,7 +171,7 @@ pub fn larger_files(alloc: Global) -> Result<Vec<File>> {
         engine.write(&mut env, batch_of(alloc, changes)?, false)?;
     }
     engine.abandon(&mut env)?;
-    files_in(alloc, &mut env)
+    files_on(alloc, &mut env)
 }
 
 /// The files of a small store, as of the rows by hand.
@@ -221,24 +181,7 @@ pub fn small_files(alloc: Global) -> Result<Vec<File>> {
     engine.put(&mut env, b"a", b"1")?;
     engine.put(&mut env, b"b", b"2")?;
     engine.abandon(&mut env)?;
-    files_in(alloc, &mut env)
-}
-
-/// A disk with these files, of which the one at an index is changed.
-fn disk_with(alloc: Global, files: &[File], index: usize, change: Change) -> Result<MemEnv> {
-    let mut env = MemEnv::new(alloc);
-    for (at, (name, bytes)) in files.iter().enumerate() {
-        let mut bytes = bytes.clone()?;
-        if at == index {
-            match change {
-                Change::TakenAway => continue,
-                Change::Cut(size) => bytes.truncate(size),
-                Change::Raised(place) => change_byte(bytes.as_mut_slice(), place, 1),
-            }
-        }
-        put_file(alloc, &mut env, name, bytes.as_slice())?;
-    }
-    Ok(env)
+    files_on(alloc, &mut env)
 }
 
 /// Each file taken away, and one of so many of its bytes raised or the file cut there. Returns how many folders there were, and of how many the repair was Ok.
@@ -251,7 +194,7 @@ pub fn damage_each(
     let mut folders = 0;
     let mut repaired = 0;
     let mut turn: usize = 0;
-    for (index, (name, bytes)) in files.iter().enumerate() {
+    for (name, bytes) in files {
         let mut changes = Vec::new(alloc);
         changes.push(Change::TakenAway)?;
         for at in 0..bytes.len() {
@@ -263,7 +206,7 @@ pub fn damage_each(
             }
         }
         for change in changes {
-            let mut env = disk_with(alloc, files, index, change)?;
+            let mut env = disk_with(alloc, files, name, change)?;
             let what = format!(in alloc; "{name}, {change:?}")?;
             folders += 1;
             repaired += usize::from(repair_beside_slow(rt, alloc, &mut env, &what)?);

@@ -1,7 +1,7 @@
-//! Logs that openings replay, a piece at a time: long ones, torn and damaged ones, over reads of few
-//! bytes and reads that fail.
+//! Logs that openings replay, a piece at a time: long ones, torn and damaged ones, over reads of
+//! few bytes and reads that fail.
 use super::acts::{Setting, fails, options_of};
-use super::stores::{STORE, files_of, put_file, reopen};
+use super::stores::{STORE, files_of, reopen};
 use leveldb_base::cmp::DefaultCmp;
 use leveldb_base::error::{Result, StatusCode};
 use leveldb_env::env::Env;
@@ -12,7 +12,7 @@ use leveldb_mem::write_batch::WriteBatch;
 use slow_store::read_store;
 use std::alloc::Global;
 use std::process::Abort;
-use support::{Random, ShortReads, failed_with};
+use support::{Random, ShortReads, failed_with, put_file};
 
 /// The log of a new store.
 const LOG: &str = "000003.log";
@@ -20,7 +20,8 @@ const LOG: &str = "000003.log";
 /// Lengths of values: records within a block, up to its end, and over several.
 const LENGTHS: &[usize] = &[0, 1, 20, 300, 7_000, 32_700, 33_000, 70_000];
 
-/// A batch of one or two puts from this number on, whose values have the first of these lengths, so many of them.
+/// A batch of one or two puts from this number on, whose values have the first of these lengths, so
+/// many of them.
 fn random_batch(
     alloc: Global,
     random: &mut Random,
@@ -72,7 +73,8 @@ pub fn damage(bytes: &mut Vec<u8>, random: &mut Random) {
     }
 }
 
-/// The number of each key's newest entry that the slow store reads, in order, or none where the files are no store. A compaction may drop the others.
+/// The number of each key's newest entry that the slow store reads, in order, or none where the
+/// files are no store. A compaction may drop the others.
 fn numbers_in<E: Env>(alloc: Global, env: &mut E) -> Result<Option<Vec<u64>>> {
     let Ok(Some(contents)) = read_store(alloc, env, &DefaultCmp, STORE) else {
         return Ok(None);
@@ -117,8 +119,8 @@ fn open_over<E: Env>(alloc: Global, env: &mut E, log: &[u8], setting: Setting) -
     })
 }
 
-/// Whatever the log of this many batches at most and of values of these lengths is, an opening leaves what the slow store read before, and the same files where a read gives 1 to 9
-/// bytes.
+/// Whatever the log of this many batches at most and of values of these lengths is, an opening
+/// leaves what the slow store read before, and the same files where a read gives 1 to 9 bytes.
 pub fn open_over_short_reads(
     rt: &impl Abort,
     alloc: Global,
@@ -158,7 +160,8 @@ fn logs_over_short_reads(rt: HostRuntime) -> Result<()> {
     open_over_short_reads(&rt, rt.alloc(), 8, 16, 5)
 }
 
-/// A record that is no batch, after one that is: the opening fails, and a read of few bytes changes nothing of that.
+/// A record that is no batch, after one that is: the opening fails, and a read of few bytes changes
+/// nothing of that.
 #[test]
 fn record_that_is_no_batch(rt: HostRuntime) -> Result<()> {
     let alloc = rt.alloc();
@@ -187,8 +190,9 @@ fn store_with_log(alloc: Global, log: &[u8]) -> Result<RecordEnv> {
     Ok(env)
 }
 
-/// Whether an opening whose nth call fails is refused by the device's error and loses no entry, and the next one finds what there was, unless it
-/// was the lock that couldn't be given back. None where that call's failure doesn't fail it.
+/// Whether an opening whose nth call fails is refused by the device's error and loses no entry, and
+/// the next one finds what there was, unless it was the lock that couldn't be given back. None
+/// where that call's failure doesn't fail it.
 fn refused_at(alloc: Global, log: &[u8], nth: u64, done: bool) -> Result<Option<bool>> {
     let mut env = store_with_log(alloc, log)?;
     let numbers = numbers_in(alloc, &mut env)?;
@@ -215,7 +219,8 @@ fn count_calls(alloc: Global, log: &[u8]) -> Result<u64> {
     Ok((env.moment() - before) / 2)
 }
 
-/// One of so many calls of an opening fails once. All reads of the log are among those that fail it.
+/// One of so many calls of an opening fails once. All reads of the log are among those that fail
+/// it.
 pub fn fail_reads(rt: &impl Abort, alloc: Global, every: u64) -> Result<()> {
     let log = random_log(alloc, &mut Random(7), 6, 8)?;
     let reads = log.len() as u64 / 4096;

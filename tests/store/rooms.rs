@@ -1,7 +1,7 @@
 //! A store with a memtable of one byte: each write but the first makes a table of the batch before.
 use super::stores::{
-    Change, DefaultEngine, DefaultOptions, STORE, batch_of, buffered, damage_file, has_files,
-    holds, opened, put_all, reopen,
+    Change, DefaultEngine, DefaultOptions, STORE, batch_of, buffered, has_files, holds, opened,
+    put_all, reopen,
 };
 use leveldb_base::error::{Result, StatusCode};
 use leveldb_env::env::Env;
@@ -13,7 +13,7 @@ use std::alloc::Global;
 use std::cell::Cell;
 use std::process::Abort;
 use std::rc::Rc;
-use support::failed_with;
+use support::{damage_file, failed_with};
 
 type RecordEngine = DefaultEngine<RecordEnv>;
 
@@ -145,7 +145,8 @@ pub fn play_on(
     Ok(())
 }
 
-/// The device of a store with a memtable of one byte, for which all this was done, and which gave back its lock.
+/// The device of a store with a memtable of one byte, for which all this was done, and which gave
+/// back its lock.
 fn played(rt: &impl Abort, alloc: Global, acts: &[Act]) -> Result<RecordEnv> {
     let mut env = RecordEnv::new(alloc);
     let mut engine = opened(alloc, &mut env, buffered(1))?;
@@ -154,7 +155,8 @@ fn played(rt: &impl Abort, alloc: Global, acts: &[Act]) -> Result<RecordEnv> {
     Ok(env)
 }
 
-/// Does and asks all this, and then finds these bytes of the keys a, b and c when the store is opened again.
+/// Does and asks all this, and then finds these bytes of the keys a, b and c when the store is
+/// opened again.
 fn play(rt: &impl Abort, alloc: Global, acts: &[Act], found: &str) -> Result<()> {
     let mut env = played(rt, alloc, acts)?;
     assert!(rt; finds_again(alloc, &mut env, found)?);
@@ -169,7 +171,8 @@ const ONE_TABLE: &[Act] = &[
     Act::Holds("2: 1a 2b"),
 ];
 
-/// The batch before is a table then, of level 2 where no other file is; its log is deleted, and the manifest has one more edit.
+/// The batch before is a table then, of level 2 where no other file is; its log is deleted, and the
+/// manifest has one more edit.
 #[test]
 fn a_table_of_the_batch_before(rt: HostRuntime) -> Result<()> {
     play(&rt, rt.alloc(), ONE_TABLE, "12-")
@@ -191,7 +194,8 @@ const NEWEST_FIRST: &[Act] = &[
     ),
 ];
 
-/// Of tables in several levels the newest one that has the key decides, and a deletion is an entry like any other.
+/// Of tables in several levels the newest one that has the key decides, and a deletion is an entry
+/// like any other.
 #[test]
 fn the_newest_table_first(rt: HostRuntime) -> Result<()> {
     play(&rt, rt.alloc(), NEWEST_FIRST, "4-6")
@@ -251,7 +255,8 @@ const LOST_TABLE: &[Act] = &[
     Act::Finds("bc", "3-"),
 ];
 
-/// A table that can't be read is an error, and never passed over; keys outside its range are found all the same.
+/// A table that can't be read is an error, and never passed over; keys outside its range are found
+/// all the same.
 #[test]
 fn a_table_that_is_lost(rt: HostRuntime) -> Result<()> {
     played(&rt, rt.alloc(), LOST_TABLE)?;
@@ -272,13 +277,15 @@ const WAITING: &[Act] = &[
     Act::Finds("abc", "123"),
 ];
 
-/// Where no table is made, the entries wait, and are found. They come to a table before the next switch.
+/// Where no table is made, the entries wait, and are found. They come to a table before the next
+/// switch.
 #[test]
 fn entries_that_wait(rt: HostRuntime) -> Result<()> {
     play(&rt, rt.alloc(), WAITING, "123")
 }
 
-/// A write whose nth call fails breaks the store, which is read on and finds the same when it is opened again.
+/// A write whose nth call fails breaks the store, which is read on and finds the same when it is
+/// opened again.
 fn break_at(rt: &impl Abort, alloc: Global, nth: u64) -> Result<()> {
     let acts = [
         Act::Put("a", "1"),
@@ -334,7 +341,8 @@ const LOG_DELETED: &[Act] = &[
     ),
 ];
 
-/// Puts twice, where the first call that lists or deletes a file fails: that is a line, and the next switch deletes what is left.
+/// Puts twice, where the first call that lists or deletes a file fails: that is a line, and the
+/// next switch deletes what is left.
 fn leave_and_delete(
     rt: &impl Abort,
     alloc: Global,
@@ -362,8 +370,8 @@ fn failing_later(
     Ok(engine)
 }
 
-/// A folder that can't be listed, or an obsolete log that can't be deleted, is a line for the sink and no error; the next switch
-/// deletes what is left.
+/// A folder that can't be listed, or an obsolete log that can't be deleted, is a line for the sink
+/// and no error; the next switch deletes what is left.
 fn leave_a_log(rt: &impl Abort, alloc: Global, nth: u64) -> Result<()> {
     let lines = Rc::new(alloc, Cell::new(0))?;
     let options = counted(alloc, buffered(1), &lines)?;
@@ -449,8 +457,8 @@ fn with_one_table(alloc: Global) -> Result<(RecordEnv, u64)> {
     Ok((env, before))
 }
 
-/// A table has three blocks of pairs and four more pieces. A crash between two of them leaves a file that isn't live: the next opening finds
-/// the same map.
+/// A table has three blocks of pairs and four more pieces. A crash between two of them leaves a
+/// file that isn't live: the next opening finds the same map.
 #[test]
 fn crashes_between_the_appends_of_a_table(rt: HostRuntime) -> Result<()> {
     let alloc = rt.alloc();
@@ -469,7 +477,8 @@ fn crashes_between_the_appends_of_a_table(rt: HostRuntime) -> Result<()> {
     Ok(())
 }
 
-/// Where the first of two obsolete files can't be deleted, the other is, and the sink gets one line.
+/// Where the first of two obsolete files can't be deleted, the other is, and the sink gets one
+/// line.
 #[test]
 fn a_deletion_that_fails_stops_no_other(rt: HostRuntime) -> Result<()> {
     let lines = Rc::new(rt.alloc(), Cell::new(0))?;

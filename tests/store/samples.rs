@@ -1,4 +1,5 @@
-//! Samples of the keys that iterators read: after how many bytes one is taken, and that they ask for a compaction as look-ups do.
+//! Samples of the keys that iterators read: after how many bytes one is taken, and that they ask
+//! for a compaction as look-ups do.
 
 use super::stores::{DefaultEngine, buffered, count_tables, opened};
 use leveldb_base::error::Result;
@@ -62,7 +63,8 @@ fn periods(rt: HostRuntime) -> Result<()> {
     Ok(())
 }
 
-/// A sample is taken with the first byte past a period, and then the next period is drawn, however many bytes there were.
+/// A sample is taken with the first byte past a period, and then the next period is drawn, however
+/// many bytes there were.
 #[test]
 fn a_byte_past_a_period(rt: HostRuntime) -> Result<()> {
     let mut samples = ReadSamples::new(rt.alloc());
@@ -82,7 +84,8 @@ fn entry_bytes(value: usize) -> u64 {
     1 + 8 + value as u64
 }
 
-/// A store that is open, with two values of a key in tables of levels 2 and 1, and a key after it in memory.
+/// A store that is open, with two values of a key in tables of levels 2 and 1, and a key after it
+/// in memory.
 #[derive(Drop)]
 struct Trial {
     alloc: Global,
@@ -107,7 +110,8 @@ impl Trial {
         })
     }
 
-    /// Goes over all pairs with an iterator of its own. Returns whether the first key was sampled: the second is in one file at most.
+    /// Goes over all pairs with an iterator of its own. Returns whether the first key was sampled:
+    /// the second is in one file at most.
     fn scan(&mut self, rt: &impl Abort) -> Result<bool> {
         let mut it = self.engine.new_iter(&mut self.env)?;
         assert!(rt; it.advance()?);
@@ -129,7 +133,8 @@ impl Trial {
     }
 }
 
-/// How many tables are left where a key was sampled so often, after a write that makes a table of the memtable, or a compaction of a range without keys.
+/// How many tables are left where a key was sampled so often, after a write that makes a table of
+/// the memtable, or a compaction of a range without keys.
 fn tables_after_samples(
     rt: &impl Abort,
     alloc: Global,
@@ -150,8 +155,8 @@ fn tables_after_samples(
     Ok(tables)
 }
 
-/// A file whose key was sampled a hundred times, by iterators one after another, is compacted by the next write that makes room, or the next
-/// compaction of a range.
+/// A file whose key was sampled a hundred times, by iterators one after another, is compacted by
+/// the next write that makes room, or the next compaction of a range.
 #[test]
 fn a_hundred_samples(rt: HostRuntime) -> Result<()> {
     for writes in [true, false] {

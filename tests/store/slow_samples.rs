@@ -1,4 +1,5 @@
-//! Samples of random walks, beside a plain list of all entries that says what each move reads, and which file is compacted for it.
+//! Samples of random walks, beside a plain list of all entries that says what each move reads, and
+//! which file is compacted for it.
 
 use super::samples::Periods;
 use super::stores::{DefaultEngine, STORE, buffered, opened};
@@ -32,7 +33,8 @@ enum Place {
     Back(usize),
 }
 
-/// All entries, in the order of keys and the newest of each first, and what is read of them at a number.
+/// All entries, in the order of keys and the newest of each first, and what is read of them at a
+/// number.
 #[derive(Drop)]
 struct Reader<'a> {
     entries: &'a [Entry],
@@ -244,7 +246,8 @@ impl Trial {
             .map_err(From::from)
     }
 
-    /// Compacts a range without keys: what is in memory becomes a table, and the file for which reads ask is compacted.
+    /// Compacts a range without keys: what is in memory becomes a table, and the file for which
+    /// reads ask is compacted.
     fn compact(&mut self) -> Result<()> {
         self.engine.compact_range(&mut self.env, &[200], &[201])
     }
@@ -343,7 +346,8 @@ impl Trial {
         chosen
     }
 
-    /// Compacts what is asked for, which is to be the file that was charged most. Returns whether there was one.
+    /// Compacts what is asked for, which is to be the file that was charged most. Returns whether
+    /// there was one.
     fn compacts_charged(&mut self, rt: &impl Abort) -> Result<bool> {
         let chosen = self.chosen();
         self.compact()?;
@@ -376,8 +380,8 @@ impl Trial {
     }
 }
 
-/// Over random walks forward and back, now and at snapshots, each compaction that reads ask for takes the file that the samples charged a hundred
-/// times first, and none is done before.
+/// Over random walks forward and back, now and at snapshots, each compaction that reads ask for
+/// takes the file that the samples charged a hundred times first, and none is done before.
 #[test]
 fn walks_beside_a_list(rt: HostRuntime) -> Result<()> {
     let mut random = Random(7);

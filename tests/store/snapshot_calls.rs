@@ -83,7 +83,8 @@ fn values_over_time(rt: HostRuntime) -> Result<()> {
     see_in_a_store(&rt, rt.alloc(), 1 << 20)
 }
 
-/// A snapshot between two puts of k, and whether the first is found at it, of a store that is closed then.
+/// A snapshot between two puts of k, and whether the first is found at it, of a store that is
+/// closed then.
 fn closed_after_a_snapshot(db: &mut Store) -> Result<(Snapshot, bool)> {
     db.put(b"k", b"1")?;
     let snapshot = db.get_snapshot()?;

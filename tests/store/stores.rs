@@ -4,7 +4,6 @@ use leveldb_base::cmp::DefaultCmp;
 use leveldb_base::error::Result;
 use leveldb_base::types::SequenceNumber;
 use leveldb_env::env::Env;
-use leveldb_env::env::whole_files::read_file;
 use leveldb_env::filter::BloomPolicy;
 use leveldb_env::mem_env::MemEnv;
 use leveldb_env::options::Options;
@@ -15,6 +14,7 @@ use rusty_leveldb::db_impl::Engine;
 use slow_history::Entry;
 use slow_store::read_store;
 use std::alloc::Global;
+use support::{file_bytes, put_file};
 
 /// The path of the store.
 pub const STORE: &str = "db";
@@ -107,6 +107,33 @@ pub fn text_of(alloc: Global, bytes: &[u8]) -> Result<String> {
     Ok(String::from_str(alloc, text)?)
 }
 
+/// The pairs that a store shows which is opened with these options, in order.
+pub fn map_with<E: Env>(alloc: Global, env: &mut E, options: DefaultOptions) -> Result<String> {
+    let mut db = opened_db(alloc, env, options)?;
+    let mut text = String::new(alloc);
+    let mut it = db.new_iter()?;
+    while it.advance()? {
+        if let Some((key, value)) = it.current() {
+            text.push_str(&pair_text(alloc, key, value)?)?;
+        }
+    }
+    drop(it);
+    db.abandon()?;
+    Ok(text)
+}
+
+/// The same with default options.
+pub fn map_of<E: Env>(alloc: Global, env: &mut E) -> Result<String> {
+    map_with(alloc, env, Options::default())
+}
+
+/// A pair of a map, as text, with a space before it.
+pub fn pair_text(alloc: Global, key: &[u8], value: &[u8]) -> Result<String> {
+    let key = text_of(alloc, key)?;
+    let value = text_of(alloc, value)?;
+    Ok(format!(in alloc; " {key}={value}")?)
+}
+
 /// A file's name and its size.
 fn line_of<E: Env>(alloc: Global, env: &mut E, name: &str) -> Result<String> {
     let path = format!(in alloc; "{STORE}/{name}")?;
@@ -175,31 +202,11 @@ pub fn count_tables<E: Env>(alloc: Global, env: &mut E) -> Result<usize> {
     )
 }
 
-/// The bytes of a file of the store.
-pub fn file_bytes<E: Env>(alloc: Global, env: &mut E, name: &str) -> Result<Vec<u8>> {
-    let path = format!(in alloc; "{STORE}/{name}")?;
-    read_file(alloc, env, &path)
-}
-
-/// Makes a file of the store of these bytes.
-pub fn put_file<E: Env>(alloc: Global, env: &mut E, name: &str, bytes: &[u8]) -> Result<()> {
-    let path = format!(in alloc; "{STORE}/{name}")?;
-    let mut file = env.open_writable_file(&path)?;
-    env.append(&mut file, bytes)?;
-    env.sync(&mut file)
-}
-
 /// Cuts a file of the store to so many bytes.
 pub fn cut_file<E: Env>(alloc: Global, env: &mut E, name: &str, size: usize) -> Result<()> {
     let mut bytes = file_bytes(alloc, env, name)?;
     bytes.truncate(size);
     put_file(alloc, env, name, bytes.as_slice())
-}
-
-/// Raises the byte of a file of the store at this offset by one.
-pub fn damage_file<E: Env>(alloc: Global, env: &mut E, name: &str, at: usize) -> Result<()> {
-    let path = format!(in alloc; "{STORE}/{name}")?;
-    support::damage_file(alloc, env, &path, at)
 }
 
 /// A number, and a key whose value is `v`.

@@ -1,5 +1,6 @@
-//! Stores that C++ LevelDB 1.23 made (tools/theirstores/make.cc says how), which are opened and read.
-use super::stores::{DefaultOptions, STORE, file_bytes, put_file};
+//! Stores that C++ LevelDB 1.23 made (tools/theirstores/make.cc says how), which are opened and
+//! read.
+use super::stores::{DefaultOptions, STORE};
 use leveldb_base::error::{Result, StatusCode};
 use leveldb_env::env::Env;
 use leveldb_env::mem_env::MemEnv;
@@ -7,7 +8,7 @@ use leveldb_env::options::Options;
 use rusty_leveldb::{DB, repair};
 use std::alloc::Global;
 use std::process::Abort;
-use support::failed_with;
+use support::{failed_with, file_bytes, put_file};
 
 /// Two edits: a table in level 2, and one in level 0.
 const MANIFEST: &[u8] =
@@ -199,7 +200,8 @@ fn a_store_without_its_manifest_is_repaired(rt: HostRuntime) -> Result<()> {
     Ok(())
 }
 
-/// A table with a block that Snappy compressed isn't left out: the repair is refused, and nothing changes.
+/// A table with a block that Snappy compressed isn't left out: the repair is refused, and nothing
+/// changes.
 #[test]
 fn a_compressed_store_is_not_repaired(rt: HostRuntime) -> Result<()> {
     let alloc = rt.alloc();

@@ -1,20 +1,24 @@
-//! What suites of several crates share: questions to answers, changed bytes, a list to walk over,
-//! numbers that look random, compressors, devices, and a log that expects a line.
+//! What suites of several crates share: questions to answers, changed bytes, the files of a store,
+//! a list to walk over, numbers that look random, compressors, devices, and a log that expects a
+//! line.
 
 mod answers;
 mod compressors;
 mod damage;
+mod folder;
 mod lists;
-mod only_reads;
 mod random;
-mod short_reads;
+mod ruled;
 mod sinks;
 
 pub use answers::{code_of, failed_with};
 pub use compressors::{Raised, Refusing};
-pub use damage::{change_byte, damage_file};
+pub use damage::change_byte;
+pub use folder::{
+    Change, File, bytes_in, damage_file, disk_of, disk_with, file_bytes, files_on, is_free,
+    lose_manifest, put_file,
+};
 pub use lists::Listed;
-pub use only_reads::OnlyReads;
 pub use random::Random;
-pub use short_reads::ShortReads;
+pub use ruled::{CountedAppends, OnlyReads, ShortReads};
 pub use sinks::Lines;

@@ -583,7 +583,7 @@ fn short_reads(rt: HostRuntime) -> Result<()> {
         }
         let mut env = OnlyReads::of(env_of(rt.alloc(), bytes)?);
         assert!(rt; judged_in(rt.alloc(), &mut env, &compressors)? == readable);
-        assert!(rt; env.refused == 0);
+        assert!(rt; env.rule.refused == 0);
     }
     Ok(())
 }

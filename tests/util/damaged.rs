@@ -30,8 +30,8 @@ const WHOLE_MANIFEST: Whole = Whole {
 };
 
 impl Whole {
-    /// The record that this byte of the file is in: where it begins and ends, in the file and in the
-    /// text.
+    /// The record that this byte of the file is in: where it begins and ends, in the file and in
+    /// the text.
     fn record_of(&self, at: usize) -> ((usize, usize), (usize, usize)) {
         let mut begin = (0, 0);
         for end in self.ends {

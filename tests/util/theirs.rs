@@ -1,5 +1,5 @@
-//! Files that C++ LevelDB 1.23 wrote (`tools/theirstores/make.cc dumped`), and the text that its own dump has for each
-//! (`tools/theirstores/dump.cc`).
+//! Files that C++ LevelDB 1.23 wrote (`tools/theirstores/make.cc dumped`), and the text that its
+//! own dump has for each (`tools/theirstores/dump.cc`).
 use super::files::{prints, put, with_file};
 use leveldb_base::error::Result;
 use leveldb_env::env::Env;

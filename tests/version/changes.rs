@@ -72,7 +72,8 @@ impl LiveList {
         Ok(())
     }
 
-    /// The same files as a set has them that is recovered: each has its first seeks, none is chosen.
+    /// The same files as a set has them that is recovered: each has its first seeks, none is
+    /// chosen.
     fn renew(&mut self) {
         for file in self.files.iter_mut() {
             file.seeks = first_seeks(size_of(file.num));
@@ -216,8 +217,8 @@ fn versions_after_edits(rt: HostRuntime) -> Result<()> {
 /// A set beside its device.
 type StoredSet = Stored<MemEnv>;
 
-/// Asserts that the set lists the files of the list, in the order in which they were added, and that
-/// its version has them by levels.
+/// Asserts that the set lists the files of the list, in the order in which they were added, and
+/// that its version has them by levels.
 fn assert_lists(rt: &impl Abort, set: &VersionSet<MemEnv, DefaultCmp>, live: &LiveList) {
     let files = set.files();
     assert!(rt; files.len() == live.files.len());

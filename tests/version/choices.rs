@@ -1,5 +1,5 @@
-//! Which compaction a version asks for, and which files it takes: rows by hand at both sides of each
-//! limit, and thousands of small versions at random, beside a chooser that tries all.
+//! Which compaction a version asks for, and which files it takes: rows by hand at both sides of
+//! each limit, and thousands of small versions at random, beside a chooser that tries all.
 
 use bytes::Bytes;
 use leveldb_base::cmp::DefaultCmp;
@@ -145,8 +145,8 @@ fn zeros(alloc: Global, count: u8) -> Result<Vec<Row>> {
     Ok(rows)
 }
 
-/// Four files of level 0 ask, and three don't. So do 10 MiB in level 1, and a byte fewer doesn't; in
-/// each next level it is ten times as much. Level 6 never asks.
+/// Four files of level 0 ask, and three don't. So do 10 MiB in level 1, and a byte fewer doesn't;
+/// in each next level it is ten times as much. Level 6 never asks.
 #[test]
 fn limits_of_levels(rt: HostRuntime) -> Result<()> {
     let alloc = rt.alloc();
@@ -171,8 +171,8 @@ fn limits_of_levels(rt: HostRuntime) -> Result<()> {
     Ok(())
 }
 
-/// Of two levels the one of greater score asks, and of equal scores the first: four files of level 0
-/// are as much as 10 MiB of level 1, and five are as much as 12.5 MiB.
+/// Of two levels the one of greater score asks, and of equal scores the first: four files of level
+/// 0 are as much as 10 MiB of level 1, and five are as much as 12.5 MiB.
 #[test]
 fn first_greatest_score(rt: HostRuntime) -> Result<()> {
     let alloc = rt.alloc();
@@ -210,9 +210,9 @@ fn three() -> [Row; 3] {
     ]
 }
 
-/// The first file that ends after the level's pointer is taken, where internal keys are compared; the
-/// first one, where there is none. A pointer of fewer than eight bytes counts as none, and those of
-/// other levels don't count.
+/// The first file that ends after the level's pointer is taken, where internal keys are compared;
+/// the first one, where there is none. A pointer of fewer than eight bytes counts as none, and
+/// those of other levels don't count.
 #[test]
 fn after_the_pointer(rt: HostRuntime) -> Result<()> {
     let alloc = rt.alloc();
@@ -261,8 +261,8 @@ fn last_pointer(rt: HostRuntime) -> Result<()> {
     Ok(())
 }
 
-/// In level 0 all files are taken that overlap the file, and those that overlap them, and so on. The
-/// next level's are those that overlap the whole range.
+/// In level 0 all files are taken that overlap the file, and those that overlap them, and so on.
+/// The next level's are those that overlap the whole range.
 #[test]
 fn level_zero_is_widened(rt: HostRuntime) -> Result<()> {
     let alloc = rt.alloc();
@@ -280,8 +280,8 @@ fn level_zero_is_widened(rt: HostRuntime) -> Result<()> {
     Ok(())
 }
 
-/// A file of level 0 whose only key is the empty one takes no other file with it: its own range isn't
-/// open.
+/// A file of level 0 whose only key is the empty one takes no other file with it: its own range
+/// isn't open.
 #[test]
 fn empty_key_alone(rt: HostRuntime) -> Result<()> {
     let alloc = rt.alloc();
@@ -352,8 +352,8 @@ fn read_version(rt: &impl Abort, version: &mut Version<DefaultCmp>, level: usize
     read_often(rt, (level, num), |stats| version.update_stats(stats));
 }
 
-/// The file that reads have chosen is taken where no level asks by its score, as long as it is in its
-/// level. An edit that moves it away ends that, and one of level 6 is never taken.
+/// The file that reads have chosen is taken where no level asks by its score, as long as it is in
+/// its level. An edit that moves it away ends that, and one of level 6 is never taken.
 #[test]
 fn chosen_by_reads(rt: HostRuntime) -> Result<()> {
     let alloc = rt.alloc();
@@ -414,8 +414,9 @@ fn growing(extra: Row) -> [Row; 4] {
     ]
 }
 
-/// More files of the level are taken where that costs no more of the next, and both have fewer bytes
-/// than 25 files may: 25 MiB are too many for files of 1 MiB, and not for files of a byte more.
+/// More files of the level are taken where that costs no more of the next, and both have fewer
+/// bytes than 25 files may: 25 MiB are too many for files of 1 MiB, and not for files of a byte
+/// more.
 #[test]
 fn growth(rt: HostRuntime) -> Result<()> {
     let alloc = rt.alloc();
@@ -439,8 +440,8 @@ fn none_of_the_next_level(rt: HostRuntime) -> Result<()> {
 
 // ---- ranges
 
-/// From level 1 on the files of a range are cut after the one with which they have more bytes than a
-/// file may, and one is taken at least. Keys at the ends are in the range; the empty one is open.
+/// From level 1 on the files of a range are cut after the one with which they have more bytes than
+/// a file may, and one is taken at least. Keys at the ends are in the range; the empty one is open.
 #[test]
 fn ranges_are_cut(rt: HostRuntime) -> Result<()> {
     let alloc = rt.alloc();
@@ -516,8 +517,8 @@ fn range_of_level_zero(rt: HostRuntime) -> Result<()> {
 
 // ---- moves, cuts and deeper levels
 
-/// A compaction only moves its one file where it takes none of the next level, and what overlaps the
-/// file two levels down has fewer bytes than ten files may.
+/// A compaction only moves its one file where it takes none of the next level, and what overlaps
+/// the file two levels down has fewer bytes than ten files may.
 #[test]
 fn trivial_moves(rt: HostRuntime) -> Result<()> {
     let alloc = rt.alloc();

@@ -1,5 +1,5 @@
-//! Which tables a compaction takes, and which entries it may leave: rows by hand, and small stores at
-//! random, of which each set that may be left shows the same.
+//! Which tables a compaction takes, and which entries it may leave: rows by hand, and small stores
+//! at random, of which each set that may be left shows the same.
 use leveldb_base::cmp::DefaultCmp;
 use leveldb_base::error::Result;
 use leveldb_base::types::SequenceNumber;
@@ -278,9 +278,9 @@ fn chosen_at_random(random: &mut Random, tables: &[TableSpan<'_>], level: usize)
     }
 }
 
-/// What the rule leaves, as a merge does: of each key from the newest entry on, one goes if the entry
-/// just before is at or below the smallest held number, or if it is a deletion there and no deeper
-/// table has the key.
+/// What the rule leaves, as a merge does: of each key from the newest entry on, one goes if the
+/// entry just before is at or below the smallest held number, or if it is a deletion there and no
+/// deeper table has the key.
 fn thinned(trial: &Trial<'_, '_>) -> u32 {
     let inputs = trial.inputs();
     let mut left = 0;

@@ -1,4 +1,5 @@
-//! The tests of version edits, of the names that a version set makes, and of what small stores hold.
+//! The tests of version edits, of the names that a version set makes, and of what small stores
+//! hold.
 
 #[cfg(test)]
 mod changes;

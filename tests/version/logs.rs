@@ -194,8 +194,8 @@ fn failed_rename_names_either_manifest(rt: HostRuntime) -> Result<()> {
     Ok(())
 }
 
-/// An edit that is refused for want of memory leaves the set's files, and either the manifest too, so
-/// that the edit may be logged again, or a set that takes no edit any more.
+/// An edit that is refused for want of memory leaves the set's files, and either the manifest too,
+/// so that the edit may be logged again, or a set that takes no edit any more.
 #[test]
 fn refused_edits_leave_the_files_of_the_set(rt: HostRuntime) -> Result<()> {
     let mut stored = Stored::new(rt.alloc(), MemEnv::new(rt.alloc()))?;

@@ -1,5 +1,5 @@
-//! Manifests that are read in pieces: of several blocks, with short reads, with reads that fail, and
-//! with many edits.
+//! Manifests that are read in pieces: of several blocks, with short reads, with reads that fail,
+//! and with many edits.
 use super::recovers::{BEGINNING, numbers_of, put_store};
 use super::stored::Stored;
 use bytes::Bytes;

@@ -1,4 +1,5 @@
-//! Compactions of versions at random, beside a chooser that goes through all files for each question.
+//! Compactions of versions at random, beside a chooser that goes through all files for each
+//! question.
 
 use super::choices::{NUMBER, Row, key_at, pointer, read_often, row, taken, version_of};
 use leveldb_base::cmp::DefaultCmp;

@@ -213,8 +213,8 @@ fn inputs_are_merged(rt: HostRuntime) -> Result<()> {
     Ok(())
 }
 
-/// A compaction borrows nothing of its set, which goes on meanwhile. Its edit, in which the files that
-/// it takes are deleted, ends what was asked for.
+/// A compaction borrows nothing of its set, which goes on meanwhile. Its edit, in which the files
+/// that it takes are deleted, ends what was asked for.
 #[test]
 fn set_after_a_compaction(rt: HostRuntime) -> Result<()> {
     let (mut stored, options) = set_of_tables(&rt)?;

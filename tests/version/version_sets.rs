@@ -1,5 +1,5 @@
-//! The names that a store gives to its manifests, texts of `CURRENT`, the keys of a table's file, and
-//! the files that edits leave.
+//! The names that a store gives to its manifests, texts of `CURRENT`, the keys of a table's file,
+//! and the files that edits leave.
 use bytes::Bytes;
 use leveldb_base::cmp::DefaultCmp;
 use leveldb_base::error::{Result, StatusCode};
@@ -217,8 +217,8 @@ fn three_edits(alloc: Global) -> Result<Vec<VersionEdit>> {
 }
 
 /// Levels and numbers, and the size of the live file after each of the three edits: of a file that
-/// is added, deleted and added again, one that the same edit deletes and adds, one that moves to the
-/// next level, one that is deleted before it is there, and one that is added twice.
+/// is added, deleted and added again, one that the same edit deletes and adds, one that moves to
+/// the next level, one that is deleted before it is there, and one that is added twice.
 const LIVE: [(usize, FileNum, [Option<usize>; 3]); 6] = [
     (0, 4, [Some(40), None, Some(41)]),
     (0, 5, [Some(50), Some(51), Some(51)]),

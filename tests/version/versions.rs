@@ -1,5 +1,5 @@
-//! The files of a store by levels: their order and sizes, which of them overlap a range, the level of
-//! a new table, and the seeks that they take. Answers are written by hand, or found by trying.
+//! The files of a store by levels: their order and sizes, which of them overlap a range, the level
+//! of a new table, and the seeks that they take. Answers are written by hand, or found by trying.
 
 use bytes::Bytes;
 use leveldb_base::cmp::DefaultCmp;

@@ -159,7 +159,8 @@ module _ (cmp : List ℕ → List ℕ → Ordering) where
   put Equal entry first rest others = first ∷ rest
   put Greater entry first rest others = first ∷ others
 
-  -- sorted entries and one more, at its position; none where an entry of its key and number is there
+  -- sorted entries and one more, at its position; none where an entry of its key and number is
+  -- there
   abbrev inserted : Entry → List Entry → List Entry
   inserted entry [] = entry ∷ []
   inserted entry (first ∷ rest) = put (entry_cmp entry first) entry first rest (inserted entry rest)

@@ -128,7 +128,8 @@ absent_copied Absent = refl
 
 -- ---- the newest entry of a key
 
--- the newest entry of a key in one set is its newest together with a set that has no entry of the key
+-- the newest entry of a key in one set is its newest together with a set that has no entry of the
+-- key
 pub newest_after : (xs ys : List Entry) (s : ℕ) (key : List ℕ) (value : Option (List ℕ)) → FindsNewest xs s key Absent → HasNewest ys s key value → HasNewest (xs ++ ys) s key value
 newest_after xs ys s key value none has = record {
   entry = has.entry;

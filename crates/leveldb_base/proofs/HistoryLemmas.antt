@@ -187,7 +187,8 @@ look_from_looks_up entries s key rising = look_onward 0 [] entries s key None (�
 
 -- ---- the view of entries that come one after another, as a function, and that it is the view
 
--- a pair before the key's stays in front, that of the key goes, and the key's comes before those after it
+-- a pair before the key's stays in front, that of the key goes, and the key's comes before those
+-- after it
 abbrev pub turn : Ordering → List ℕ → Option (List ℕ) → Pair → List Pair → List Pair → List Pair
 turn Less key value pair with without = pair ∷ with
 turn Equal key value pair with without = with

@@ -236,7 +236,8 @@ little-little_number (suc width) (b ∷ bytes) h small =
 
 -- ---- the steps of the loops that write and read varints
 
--- `used` bytes of the encoding of n are written over the old ones, and the rest of the number is left
+-- `used` bytes of the encoding of n are written over the old ones, and the rest of the number is
+-- left
 pub record Writes (n : ℕ) (old dst : List ℕ) (used rest : ℕ) : Type 0 where
   pub within : used ≤ length dst
   pub front : take used dst ++ varint rest ≡ varint n
@@ -422,7 +423,8 @@ module _ {bytes : List ℕ} {i n : ℕ} (r : ReadsGroups bytes i n) where
       let whole = subst (λ k. IsVarint (take i bytes ++ b ∷ []) (n + b * 128 ^ k)) size spelled in
       rw (same, sum.1) (sum.0, omega (arith, within), rw (take_more bytes i 0 within) whole)
 
-  -- the encoding of a number whose first i groups these are goes on with one of the rest of the number
+  -- the encoding of a number whose first i groups these are goes on with one of the rest of the
+  -- number
   rest_spelled : (m : ℕ) (rest : List ℕ) → i ≤ length bytes → bytes ≡ varint m ++ rest
       → (tail : List ℕ) × (high : ℕ) × IsVarint tail high × (drop i bytes ≡ tail ++ rest) × (m ≡ n + high * 128 ^ i) × (0 < i → 0 < high)
   rest_spelled m rest within e =

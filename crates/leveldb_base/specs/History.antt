@@ -81,8 +81,8 @@ pub record IsHistoryFrom (first : List Entry) (later : History) : Type 0 where
   -- they rise strictly in sequence, above all of the first; numbers may be left out
   pub rising : RiseAbove (greatest first) (entries_of later)
 
--- A history is empty, or has a first batch and later ones. In place of the first it may have one set
--- of entries that a repair found.
+-- A history is empty, or has a first batch and later ones. In place of the first it may have one
+-- set of entries that a repair found.
 abbrev pub IsHistory : History → Type 0
 IsHistory [] = Unit {0}
 IsHistory (first ∷ later) = IsHistoryFrom first later

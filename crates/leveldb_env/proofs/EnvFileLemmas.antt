@@ -279,8 +279,8 @@ module _ {E F : Type 0} (env : Ghosts E F) where
     same_file = GivesUp-same (ReadsBorrowed env) (λ borrowed. borrowed.file.ghost_name) (λ old room result new read. read.same_file) up;
   }
 
--- What was borrowed has changed so when the borrow has ended. The proof of the function that borrowed it knows its
--- last values by such implications.
+-- What was borrowed has changed so when the borrow has ended. The proof of the function that
+-- borrowed it knows its last values by such implications.
 pub ends_as : {E F : Type 0} {Changes : Opened E F → Opened E F → Type 0} {old new : EnvFile E F} {env : E} {file : F} → ChangesBorrowedFile Changes old new
     → (old.env.ghost_name ≡ new.env.ghost_name → env ≡ new.env.now) → (old.file.ghost_name ≡ new.file.ghost_name → file ≡ new.file.now) → Changes (opened old.env.now old.file.now) (opened env file)
 ends_as {Changes = Changes} {old = old} {new = new} {env = env} {file = file} changes env_ends file_ends =

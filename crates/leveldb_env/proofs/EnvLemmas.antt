@@ -196,7 +196,8 @@ pub call : {P : Files → Type 0} {T : Type 0} {models_disk : Bool} {first old n
     → IsTrue models_disk → Run P first old → ((files : Files) → Passes old.disk.files files → P files) → ChangesFiles models_disk change Passes old new result → Run P first new
 call modelled run keeps does = record { has = keeps _ (does.now modelled); time = Within-trans run.time (Within-mono keeps does.time) }
 
--- At each moment of a run the files have P. That the last has no others is the law `only_now` of an environment.
+-- At each moment of a run the files have P. That the last has no others is the law `only_now` of an
+-- environment.
 pub since_start : {P : Files → Type 0} {first now : Observed} → Run P first now → ((files : Files) → now.at_moment now.moment files → files ≡ now.disk.files)
     → (m : ℕ) (files : Files) → first.moment ≤ m → m ≤ now.moment → now.at_moment m files → P files
 since_start {P} {first} {now} run only m files from until stood = ⊎_elim

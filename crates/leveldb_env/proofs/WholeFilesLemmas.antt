@@ -1,4 +1,5 @@
--- What the files are at each step of the replacement of one, and why a file that must be there isn't.
+-- What the files are at each step of the replacement of one, and why a file that must be there
+-- isn't.
 use Rattle.std.specs.Prelude.{◌≢◌, IsTrue, OnOk}
 use Rattle.std.proofs.Common.{◌≡◌, ◌⊎◌, inl, inr, ⊎_elim, ℕ, Bool, List, [], None, Some, Result, Ok, Err, sym, subst, ◌∙◌, ap}
 use Rattle.std.specs.Option.{option_map}

@@ -22,11 +22,11 @@ use syncs::FailedSyncs;
 
 /// The files of the operating system. A name is a path.
 ///
-/// It reports its count of failures alone: what its disk holds is a premise, and no contract.
-/// A file or a folder is created, deleted or renamed, and then the folder of its name is synced;
-/// where that sync fails, the next call that takes a name makes it first. A folder is no file, and a
-/// pipe or a device is refused. A handle that was opened to be read takes no bytes, nor does one of
-/// a file of which a sync failed: `open_appendable_file` puts a synced copy in its place.
+/// It reports its count of failures alone: what its disk holds is a premise, and no contract. A
+/// file or a folder is created, deleted or renamed, and then the folder of its name is synced;
+/// where that sync fails, the next call that takes a name makes it first. A folder is no file, and
+/// a pipe or a device is refused. A handle that was opened to be read takes no bytes, nor does one
+/// of a file of which a sync failed: `open_appendable_file` puts a synced copy in its place.
 #[derive(Drop)]
 pub struct PosixDiskEnv<R> {
     rt: R,

@@ -10,7 +10,7 @@ use leveldb_mem::log::{BLOCK_SIZE, HEADER_SIZE};
 pub(crate) enum Front {
     /// No more fragment of this block.
     End,
-    /// A whole fragment of this type, which has so many bytes with its header.
+    /// A whole fragment of this type, and how many bytes it has with its header.
     Whole(u8, usize),
     /// What a crash may leave of a fragment: the file ends in it, or has zeros in its place.
     Torn(&'static str),

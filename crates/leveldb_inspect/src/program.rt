@@ -108,7 +108,7 @@ fn call_of(name: &str) -> Option<Call> {
     }
 }
 
-// Whether a call takes so many names.
+// Whether a call takes `count` names.
 fn is_count_of(call: Call, count: usize) -> bool {
     match call {
         Call::Dump => count > 0,

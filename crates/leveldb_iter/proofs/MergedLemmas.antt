@@ -1,5 +1,5 @@
--- Sorted lists have a merge: each pair is put where it belongs, unless its key is there. Where pairs of
--- equal key are the same pair, it has exactly their pairs, and is the only one.
+-- Sorted lists have a merge: each pair is put where it belongs, unless its key is there. Where
+-- pairs of equal key are the same pair, it has exactly their pairs, and is the only one.
 use Rattle.std.proofs.Common.{◌≡◌, ◌⊎◌, inl, inr, ⊎_elim, ℕ, zero, suc, ◌<◌, true, List, [], ◌∷◌, length, get_or, refl, sym, ◌∙◌, ap, subst, arith}
 use Rattle.std.specs.Prelude.{Contains, All, Any}
 use Rattle.std.specs.declared.cmp.Ordering.{Ordering}

@@ -177,8 +177,8 @@ IsTie cmp heads i pair Clash =
     (k : ℕ) × (other : Pair) × (heads k ≡ Some other) × (cmp other.0 pair.0 ≡ Equal)
     × (other ≢ pair)
 
--- Of those that are at a pair this one is at a first pair in the direction, and the others are so to
--- that; or none is at a pair.
+-- Of those that are at a pair this one is at a first pair in the direction, and the others are so
+-- to that; or none is at a pair.
 abbrev pub IsBest : (List ℕ → List ℕ → Ordering) → Direction → (ℕ → Option Pair)
     → Option (ℕ × Tie) → Type 0
 IsBest cmp direction heads None = (k : ℕ) → heads k ≡ None

@@ -58,7 +58,8 @@ IsSeen s skip here new_key (Passed skipping) = (pair : Pair) × (here ≡ Some p
     ⊎ ((is_newest s skip (entry_of_pair pair) ≡ true) × (type_part pair.0 ≡ TypeDeletion)
     × (then_some skipping new_key ≡ Some (user_part pair.0))))
 
--- a scan back ends here: at no entry, or at a visible one of another key than that of the pair found
+-- a scan back ends here: at no entry, or at a visible one of another key than that of the pair
+-- found
 abbrev pub IsEndBack : ℕ → Option Pair → Option Pair → Type 0
 IsEndBack s found here = IsNoEntry here
     ⊎ ((pair : Pair) × (own : Pair) × (here ≡ Some pair) × (sequence_part pair.0 ≤ s)

@@ -19,7 +19,8 @@ HaveOnePairAKey order lists =
     (a b : Pair) → IsPairOf lists a → IsPairOf lists b → order.cmp a.0 b.0 ≡ Equal → a ≡ b
 
 -- A merge of sorted lists: sorted, of their pairs alone, and with one of each of their keys. Where
--- pairs of equal key are the same pair, these are all pairs, each once, and there is no other merge.
+-- pairs of equal key are the same pair, these are all pairs, each once, and there is no other
+-- merge.
 pub record IsMerge (order : KeyOrder) (lists : List (List Pair)) (merged : List Pair) : Type 0 where
   -- each list is sorted
   pub each : All (IsSortedIn order) lists

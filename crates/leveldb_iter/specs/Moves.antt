@@ -45,8 +45,8 @@ IsRefusedFor (Refused status) one Why = Why status
 IsRefusedFor step one Why = SeeksLongKey one → ⊥
 
 module _ {E T W : Type 0} (walk : WalkGhosts W E T) where
-  -- Why a move may fail that begins in the first world and ends in the second: the walk does, memory
-  -- for the copy of the pair ran out, or the key is too long.
+  -- Why a move may fail that begins in the first world and ends in the second: the walk does,
+  -- memory for the copy of the pair ran out, or the key is too long.
   abbrev pub FailsMove : E × T → W → Move → E × T → Status → Type 0
   FailsMove world it one later status = walk.fails world it later status ⊎ IsOutOfMemory status
       ⊎ ((status.code ≡ InvalidArgument) × SeeksLongKey one)

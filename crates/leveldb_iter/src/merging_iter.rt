@@ -70,7 +70,8 @@ impl<C: Cmp, I> MergeCore<C, I> {
     ghost use Rattle.leveldb_iter.specs.declared.children.Step.TheVariants.{Next, Prev};
 
     // Makes the child that is at the first pair in this direction the current one, if one is at a
-    // pair. Fails where another is at a different pair of its key, and then none is the current one.
+    // pair. Fails where another is at a different pair of its key, and then none is the current
+    // one.
     fn choose<E, T>(&mut self, direction: Direction) -> Result<()>
     where
         I: Walk<E, T>,

@@ -76,7 +76,8 @@ module _ (size : ℕ) (fits : size ≤ 32768) where
 
 -- ---- parts
 
--- after this front, which has the parts with this text, what is left of the record decides on the whole
+-- after this front, which has the parts with this text, what is left of the record decides on the
+-- whole
 pub record BeginsRecord (checked : Bool) (size offset : ℕ) (first : Bool) (front text : List ℕ) : Type 0 where
   pub whole : (others rest : List ℕ) → IsRemainder checked size first others (offset_after size offset front) rest → IsRemainder checked size true (text ++ others) offset (front ++ rest)
   pub none : (rest : List ℕ) → NoRemainder checked size first (offset_after size offset front) rest → NoRemainder checked size true offset (front ++ rest)

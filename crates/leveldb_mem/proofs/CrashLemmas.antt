@@ -115,7 +115,8 @@ module _ (size : ℕ) (fits : size ≤ 32768) where
 
 -- ---- what a crash leaves of a log reads as a prefix of the records that were there
 
--- Wherever whole fragments are followed by one, and what is left has one there too, the two are the same.
+-- Wherever whole fragments are followed by one, and what is left has one there too, the two are the
+-- same.
 abbrev Unforged : ℕ → ℕ → List ℕ → List ℕ → Type 0
 Unforged size offset written left =
     (fragments : List Fragment) (before front more begin other rest : List ℕ) (f g : Fragment)
@@ -249,7 +250,8 @@ module _ (size : ℕ) (large : 8 ≤ size) (fits : size ≤ 32768) where
       let joined : front ++ others ≡ other ++ (drop (length other) w.0 ++ more) = sym w.2 ∙ ap (λ z. z ++ more) begins ∙ append_assoc other (drop (length other) w.0) more in
       (one_fragment true size fits (offset_after size 0 before) f g front other others (drop (length other) w.0 ++ more) is found joined).1
 
-  -- The records of what an honest crash leaves are a front of the bytes: of a log, or of a log of which the last bytes weren't appended.
+  -- The records of what an honest crash leaves are a front of the bytes: of a log, or of a log of
+  -- which the last bytes weren't appended.
   pub honest_front : (written more left : List ℕ) (rs ss : List (List ℕ)) (e : End) → LogOf true size rs clean 0 (written ++ more) → LogOf true size ss e 0 left
       → length left ≤ length written → HonestTail size written left → (front rest : List ℕ) × (written ≡ front ++ rest) × LogOf true size ss clean 0 front
   honest_front written more left rs ss e f g short honest =
@@ -376,7 +378,8 @@ module _ (size : ℕ) (block : IsBlockSize size) where
             (length c.0, clean, subst (λ z. LogFile z (take n records) clean) there p.3)
       ] refl
 
-  -- an honest tail after a front reads as a prefix of the records that were there, and goes on with those of the front
+  -- an honest tail after a front reads as a prefix of the records that were there, and goes on with
+  -- those of the front
   pub torn : (front rest tail : List ℕ) (first records stood : List (List ℕ)) (text : List ℕ) (n : ℕ) (first_end end : End) → text ≢ [] → LogFile front first first_end → LogFile (front ++ rest) records clean
       → let whole = front ++ rest ++ take n (frame (length (front ++ rest)) text) in
       LogFile whole stood end → length (front ++ tail) ≤ length whole → HonestTail size whole (front ++ tail)

@@ -79,7 +79,8 @@ module _ (checked : Bool) (size : ℕ) (fits : size ≤ 32768) where
         | false ↦ λ k. omega arith
       ] h
 
-  -- two fragments at the front of one text are the same: their checksums, themselves, and what follows
+  -- two fragments at the front of one text are the same: their checksums, themselves, and what
+  -- follows
   pub alike : (offset : ℕ) (f g : Fragment) (a b x y : List ℕ) (is_f : IsFragment checked size f offset a) (is_g : IsFragment checked size g offset b)
       → a ++ x ≡ b ++ y → (is_f.sum ≡ is_g.sum) × (f ≡ g) × (x ≡ y)
   alike offset f g a b x y is_f is_g e =
@@ -119,7 +120,8 @@ filler-ends size offset narrow = ap (λ t. elim t as (λ b. List ℕ) [ true ↦
 pub room-ends : (size offset : ℕ) → size - offset < 7 → room size offset ≡ size - 7
 room-ends size offset narrow = ap (λ t. (if t then size else size - offset) - 7) (lt-ltb (size - offset) 7 narrow)
 
--- What the seven bytes after the filler say of a fragment that is there: its checksum, its length and its type; its data follows.
+-- What the seven bytes after the filler say of a fragment that is there: its checksum, its length
+-- and its type; its data follows.
 pub header_says : (checked : Bool) (size : ℕ) → size ≤ 32768 → (f : Fragment) (offset : ℕ) (front more : List ℕ) (is : IsFragment checked size f offset front) (sum rest : List ℕ) (low high type : ℕ)
     → length sum ≡ 4 → front ++ more ≡ filler size offset ++ (sum ++ low ∷ high ∷ type ∷ rest) → (is.sum ≡ sum) × (length f.part ≡ low + 256 * high) × (f.type ≡ type) × (f.part ++ more ≡ rest)
 unfolding fragment_bytes
@@ -160,7 +162,8 @@ module _ (size offset : ℕ) (sum part : List ℕ) (low high type : ℕ) where
       let high_is : length part / 256 % 256 ≡ high = omega arith in
       ap (λ z. filler size offset ++ (sum ++ z ∷ high ∷ type ∷ part)) (sym low_is) ∙ ap (λ z. filler size offset ++ (sum ++ (length part % 256) ∷ z ∷ type ∷ part)) (sym high_is)
 
-  -- data of the length that the header says, within the block and after a checksum that is taken, is a fragment
+  -- data of the length that the header says, within the block and after a checksum that is taken,
+  -- is a fragment
   pub headed_fragment : (checked : Bool) → length part ≡ low + 256 * high → low < 256 → high < 256 → length part ≤ room size offset → IsChecksum checked (fragment_of type part) sum
       → IsFragment checked size (fragment_of type part) offset headed
   headed_fragment checked count low_byte high_byte within summed = record { sum = sum; within = within; summed = summed; bytes_are = headed_bytes count low_byte high_byte }

@@ -196,7 +196,8 @@ apart_insert words words' new (node ∷ front) back all apart =
 
 -- ---- the new node
 
--- how the words change: a new node with these links comes after them, and the nodes of its path link to it
+-- how the words change: a new node with these links comes after them, and the nodes of its path
+-- link to it
 pub record Links (words path words' : List ℕ) (new height : ℕ) : Type 0 where
   pub low : 0 < height
   pub high : height ≤ 12
@@ -228,7 +229,8 @@ module _ {words : List ℕ} {end : ℕ} {nodes : List ℕ} (skip : IsSkipList wo
   before_is : (k : ℕ) → k < 12 → slice_index path k ≡ last_after head (level words k front)
   before_is k h = to_place k h
 
-  -- the node of the path at a height is there, has a link, and is the last of its height before the place
+  -- the node of the path at a height is there, has a link, and is the last of its height before the
+  -- place
   record Before (k node : ℕ) : Type 0 where
     pub ahead : List ℕ
     pub behind : List ℕ

@@ -134,7 +134,8 @@ module _ (checked : Bool) (size : ℕ) where
   no_record_without offset bytes none text front more e is = none text front more e is.whole
 
   module _ (fits : size ≤ 32768) where
-    -- after a fragment that isn't the last, there is nothing of a record unless the fragment goes on with a record and its rest is there
+    -- after a fragment that isn't the last, there is nothing of a record unless the fragment goes
+    -- on with a record and its rest is there
     pub none_after : (first : Bool) (f : Fragment) (offset : ℕ) (bytes front rest : List ℕ) → bytes ≡ front ++ rest → IsFragment checked size f offset front → f.type ≢ record_type first true
         → (f.type ≡ record_type first false → NoRemainder checked size false (offset_after size offset front) rest) → NoRemainder checked size first offset bytes
     none_after first f offset bytes front rest e is not_last none text found more h remainder =
@@ -174,7 +175,8 @@ module _ (checked : Bool) (size : ℕ) (fits : size ≤ 32768) where
   one_end offset bytes bad clean f g = absurd (f.0 g)
   one_end offset bytes bad bad f g = refl
 
-  -- where one log goes on after another, their first records are the same, and so is the offset after them
+  -- where one log goes on after another, their first records are the same, and so is the offset
+  -- after them
   same_record : (offset : ℕ) (r s : List ℕ) (rs ss : List (List ℕ)) (e d : End) (a b more : List ℕ) (these : IsFrontAndRest size (IsRecord checked size r) (LogOf checked size rs e) offset a)
       (those : IsFrontAndRest size (IsRecord checked size s) (LogOf checked size ss d) offset b) → a ≡ b ++ more
       → (r ≡ s) × LogOf checked size rs e (offset_after size offset those.front) (those.rest ++ more)

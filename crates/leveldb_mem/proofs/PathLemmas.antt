@@ -24,7 +24,8 @@ pub record Parts (words nodes : List ℕ) (passes : ℕ → Bool) (from : ℕ) (
   pub all_pass : All (λ node. passes node ≡ true) front
   pub stops : (height : ℕ) → height < from → (node : ℕ) (more : List ℕ) → level words height back ≡ node ∷ more → passes node ≡ false
 
--- a search is at a node that comes before the place, and has a path for the heights from this one on
+-- a search is at a node that comes before the place, and has a path for the heights from this one
+-- on
 pub record Descends (words front : List ℕ) (passes : ℕ → Bool) (from node height : ℕ) (path : List ℕ) : Type 0 where
   pub before : List ℕ
   pub ahead : List ℕ
@@ -233,7 +234,8 @@ module _ {words : List ℕ} {end : ℕ} {nodes : List ℕ} (skip : IsSkipList wo
           All-left (x ∷ xs) ys all zero d h = all zero d (omega arith)
           All-left (x ∷ xs) ys all (suc k) d h = All-left xs ys (All-tail (IsNode words end) x (xs ++ ys) all) k d (omega (arith, h))
 
--- the nodes before the count pass, and the first after it doesn't, nor does any where those that do are all at the front
+-- the nodes before the count pass, and the first after it doesn't, nor does any where those that do
+-- are all at the front
 module _ (test : List ℕ → Bool) (text : List ℕ) {words : List ℕ} {end : ℕ} {nodes : List ℕ} (skip : IsSkipList words end nodes) where
   abbrev pairs : List Pair
   pairs = pairs_of_nodes text words nodes

@@ -92,7 +92,8 @@ module _ {accepts : List ℕ → Bool} {cmp : List ℕ → List ℕ → Ordering
       (λ (gt : j < i). absurd (omega arith)) w)
       (cases_order i j)
 
-  -- where a key is neither after the key at an index nor Equal to it, and after all those before, it fits there
+  -- where a key is neither after the key at an index nor Equal to it, and after all those before,
+  -- it fits there
   pub fits_at : (key : List ℕ) → accepts key ≡ true → (at : ℕ) → at ≤ length pairs → ((i : ℕ) → i < at → cmp (key_at pairs i) key ≡ Less)
       → (at < length pairs → cmp (key_at pairs at) key ≢ Less) → (at < length pairs → cmp (key_at pairs at) key ≢ Equal) → FitsAt cmp pairs at key
   fits_at key ok at within after here other = record {

@@ -1,5 +1,5 @@
--- Walks that bear new tables: by what holds in each world that they reach, of a merge by its children,
--- and of the tables of a version.
+-- Walks that bear new tables: by what holds in each world that they reach, of a merge by its
+-- children, and of the tables of a version.
 use Rattle.std.specs.Prelude.{false}
 use Rattle.std.specs.Str.{bytes_eq}
 use Rattle.std.proofs.Common.{◌≡◌, ◌↔◌, ◌∙◌, ℕ, List, Option, sym, subst, arith}

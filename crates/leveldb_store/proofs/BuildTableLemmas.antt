@@ -1,4 +1,5 @@
--- How a builder gets the pairs of a walk, what its table is to a store, and what the file's calls leave.
+-- How a builder gets the pairs of a walk, what its table is to a store, and what the file's calls
+-- leave.
 use Rattle.std.proofs.Common.{◌≡◌, ◌≢◌, ◌⊎◌, inl, inr, ⊎_elim, ℕ, zero, suc, ◌+◌, ◌^◌, ◌<◌, ◌≤◌, Bool, true, false, List, [], ◌∷◌, ◌++◌, length, take, map, flat_map, nat_lt, Option, None, Some, Result, Ok, Err, refl, sym, ◌∙◌, ap, subst, append_assoc, arith}
 use Rattle.std.specs.Prelude.{All, IfOk, IsTrue, slice_get, slice_index_or, if◌then◌else◌, ◌&&◌}
 use Rattle.std.specs.List.{concat}
@@ -401,7 +402,8 @@ walk_failed_so_far env {Own = Own} {from = from} {to = to} {status = status} all
 
 -- ---- a table of the store
 
--- whatever other policies' names mean, what a builder makes of internal keys is a table of the store
+-- whatever other policies' names mean, what a builder makes of internal keys is a table of the
+-- store
 pub built_of_store : (codings : Codings) {accepts : List ℕ → Bool} {cmp : List ℕ → List ℕ → Ordering} → IsPreorderOn accepts cmp → ((key : List ℕ) → accepts key ≡ true) → ((a b : List ℕ) → cmp a b ≡ Equal → a ≡ b)
     → (sep : List ℕ → List ℕ → List ℕ) → ((a b : List ℕ) → accepts a ≡ true → accepts b ≡ true → cmp a b ≢ Greater → IsSeparator accepts cmp a b (sep a b))
     → {succ : List ℕ → List ℕ} (matches : List ℕ → List ℕ → Bool) {make : List (List ℕ) → List ℕ} {id : ℕ} {name : List ℕ} {interval index_interval : ℕ} {bytes : List ℕ} {pairs : List Pair}

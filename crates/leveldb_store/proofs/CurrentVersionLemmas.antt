@@ -1,4 +1,5 @@
--- The version of a store: the level that it picks, files of lower numbers, and what calls make of it.
+-- The version of a store: the level that it picks, files of lower numbers, and what calls make of
+-- it.
 use Rattle.std.specs.Prelude.{◌&&◌, All, OnErr}
 use Rattle.std.proofs.Common.{◌≡◌, ◌∙◌, ◌∷◌, ◌==◌, ◌<◌, Bool, true, false, cond, List, [], Option, Result, ℕ, ap, arith, not, refl, subst, sym}
 use Rattle.std.proofs.lemmas.Bool.Decides.{nat_tests}

@@ -1,5 +1,5 @@
--- Files that were left aside and are damaged, and what a removal of obsolete files leaves where files
--- were only read before it.
+-- Files that were left aside and are damaged, and what a removal of obsolete files leaves where
+-- files were only read before it.
 use Rattle.std.specs.Prelude.{Contains, IsSome, IsSomeAnd, IsTrue}
 use Rattle.std.proofs.Common.{◌≡◌, ◌⊎◌, ⊎_elim, ◌||◌, ◌<◌, ◌+◌, ℕ, Bool, List, None, Option, Some, false, get_or, length, map, refl, subst, sym, take, true}
 use Rattle.std.proofs.lemmas.List.Elements.{Contains-push_cases}

@@ -105,8 +105,8 @@ cut_rest : (table : List Pair) (tables : List (List Pair)) → AreCutBefore [] (
 cut_rest table [] cut = tt
 cut_rest table (next ∷ tables) cut = cut.1
 
--- Where the last user key of a table isn't the first of the pairs that follow, each user key of it is
--- before each of these.
+-- Where the last user key of a table isn't the first of the pairs that follow, each user key of it
+-- is before each of these.
 module _ (cmp : List ℕ → List ℕ → Ordering) (exact : IsExactOrder cmp) where
   cut_keys : {first last : List ℕ} (table next more : List Pair) → IsLastKey last table
       → IsFirstKey first next → IsCutBefore table next

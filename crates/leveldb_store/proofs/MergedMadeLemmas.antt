@@ -1,5 +1,5 @@
--- The tables that a merge has made, of a store that is written: they are tables of all entries of its
--- inputs but those that may go.
+-- The tables that a merge has made, of a store that is written: they are tables of all entries of
+-- its inputs but those that may go.
 use Rattle.std.specs.Prelude.{Contains, IfSome, IsTrue}
 use Rattle.std.proofs.Common.{◌≡◌, ◌≢◌, ◌↔◌, ◌<◌, ◌^◌, ◌+◌, ◌∙◌, ⊎_elim, ℕ, Bool, List, [], ◌∷◌, ◌++◌, Option, map, refl, sym, ap, subst, arith}
 use Rattle.std.proofs.lemmas.List.{map-append}

@@ -1,5 +1,5 @@
--- What moves over tables and new tables leave of an open store's world: with what its tables are read,
--- and that those which are open are its own.
+-- What moves over tables and new tables leave of an open store's world: with what its tables are
+-- read, and that those which are open are its own.
 use Rattle.std.specs.Prelude.{false}
 use Rattle.std.proofs.Common.{◌≡◌, ◌≤◌, ◌∙◌, ℕ, List, refl, sym, subst, arith}
 use Rattle.std.specs.Str.{bytes_eq}

@@ -225,7 +225,8 @@ module _ {E F : Type 0} (env : Ghosts E F) (format : Format) (store : List ℕ) 
           three_bytes : BytesAreAppended env from to
           three_bytes modelled before = keeping_bytes env store logs then to run modelled (both_bytes (Ok it) then sets modelled before)
 
-          -- the options didn't forbid it, no table or log was without `CURRENT`, and there are usable edits
+          -- the options didn't forbid it, no table or log was without `CURRENT`, and there are
+          -- usable edits
           is_usable : IsTrue env.models_disk → IsForbidden store create_if_missing error_if_exists first ⊎ LacksCurrent store first ⊎ LacksUsableEdits store format first → ⊥
           is_usable modelled (inl forbidden) = not_refused modelled (inl forbidden)
           is_usable modelled (inr (inl bare)) = not_refused modelled (inr bare)

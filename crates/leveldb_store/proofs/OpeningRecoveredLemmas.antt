@@ -267,7 +267,8 @@ module _ {E F : Type 0} (env : Ghosts E F) (format : Format) (reuse : Bool) (lim
           (r.logs_are.all name n (listed store first r.names (r.lists modelled) name (no_slash_in_log name n is) there) is
           (log_replayed (live_after edits_read) set.log_number set.previous_log set_numbers n replayed)).1
 
-      -- by the manifest's edits these are its logs, however its keys are ordered and its tables are read
+      -- by the manifest's edits these are its logs, however its keys are ordered and its tables are
+      -- read
       pub logs_are : (cmp : List ℕ → List ℕ → Ordering) (IsTable : List ℕ → List Pair → Type 0) (contents : Contents) (m : IsManagedBy store cmp IsTable first edits_read contents)
           → AreLogs store first logs m.logs
       logs_are cmp IsTable contents m = record {

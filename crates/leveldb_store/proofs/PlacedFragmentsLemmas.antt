@@ -1,4 +1,5 @@
--- Fragments in their places: those of records, one after another, and those of a record that has begun.
+-- Fragments in their places: those of records, one after another, and those of a record that has
+-- begun.
 use Rattle.std.proofs.Common.{◌≡◌, ◌≢◌, ◌∙◌, inl, inr, ◌≤◌, ◌<◌, ℕ, Bool, List, [], ◌∷◌, ◌++◌, length, ap, append-nil, append_assoc, arith, length-append, refl, subst, sym, false, true}
 use Rattle.std.specs.List.{concat}
 use Rattle.std.proofs.lemmas.List.Folds.{concat-append}
@@ -130,7 +131,8 @@ fragments_then offset small (f ∷ fs) gs a b are those = record {
       (sym (offset_after_both block offset are.front are.rest a are.bytes_are)) those);
 }
 
--- bytes that are whole fragments, each of which goes on with the record that those before have begun
+-- bytes that are whole fragments, each of which goes on with the record that those before have
+-- begun
 pub record ArePlacedIn (offset : ℕ) (bytes : List ℕ) (parts those : List (List ℕ)) : Type 0 where
   pub fragments : List Fragment
   pub whole : AreFragments true block fragments offset bytes

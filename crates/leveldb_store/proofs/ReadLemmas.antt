@@ -42,7 +42,8 @@ use Rattle.leveldb_store.specs.Written.{HasLiveTables, Shows, waiting_entries}
 
 -- ---- what is found of a key
 
--- no entry is past the greatest number, so the newest up to it is the newest up to each number above
+-- no entry is past the greatest number, so the newest up to it is the newest up to each number
+-- above
 newest_up_to : (entries : List Entry) (s : ℕ) (key : List ℕ) (value : Option (List ℕ)) → AreUpTo greatest_sequence entries → HasNewest entries (min s greatest_sequence) key value → HasNewest entries s key value
 newest_up_to entries s key value up_to has = record {
   entry = has.entry;

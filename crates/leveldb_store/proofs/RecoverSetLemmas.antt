@@ -393,7 +393,8 @@ module _ {E F : Type 0} (env : Ghosts E F) (format : Format) (exact : IsExactOrd
             (λ why. ⊎_elim (λ memory. inl memory) (λ it. inr (inr (inr (inl (it.0.0, set_damaged (λ modelled left. by modelled left it.0.1)))), it.1)) why)
             (λ why. ⊎_elim (λ memory. inl (inl memory)) (λ it. inr it.1) why) cause))
           where
-            -- the table of a live file is missing, or its number isn't given, or a log has another name
+            -- the table of a live file is missing, or its number isn't given, or a log has another
+            -- name
             by : IsTrue env.models_disk → HasLeft marked.next_file set edits
                 → (IsTrue env.models_disk → LacksTable store (env.observed then).disk.files set.full.added) ⊎ (AreNumbersGiven set set.full.added → ⊥)
                 ⊎ HasMisnamedLog names set.log_number set.previous_log → IsDamaged store format (env.observed from).disk.files

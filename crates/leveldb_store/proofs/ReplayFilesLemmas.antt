@@ -47,8 +47,8 @@ module _ (store : List ℕ) (cmp : List ℕ → List ℕ → Ordering)
     crash = λ durable history safe. second.crash durable history (first.crash durable history safe);
   }
 
-  -- the file of a number that wasn't given yet changes; where the manifest isn't kept, a crash could
-  -- leave one that names it, but then its table is missing
+  -- the file of a number that wasn't given yet changes; where the manifest isn't kept, a crash
+  -- could leave one that names it, but then its table is missing
   module _ (files : Files) (edits : List Edit) (set : VersionSetValue)
       (r : IsRecoveredBy store cmp IsTable files edits set) (n : ℕ) (fits : n < 2 ^ 64)
       (gone : files (table_path store n) ≡ None) (now : Files)

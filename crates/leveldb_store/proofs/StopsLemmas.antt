@@ -1,4 +1,5 @@
--- An error of a table builder: puts, and then a cause of its own, or one that failed or a flush that did.
+-- An error of a table builder: puts, and then a cause of its own, or one that failed or a flush
+-- that did.
 use Rattle.std.proofs.Common.{◌≡◌, ◌≢◌, ◌⊎◌, ◌∙◌, inl, inr, ⊎_elim, ℕ, ◌+◌, List, [], ◌++◌, length, Result, Ok, Err, refl, subst, sym}
 use Rattle.leveldb_base.specs.BlockHandle.{Handle}
 use Rattle.leveldb_base.specs.Types.{Pair}

@@ -1,4 +1,5 @@
--- The children of a store's view: over which lists they are, newer entries first, and the merge of these.
+-- The children of a store's view: over which lists they are, newer entries first, and the merge of
+-- these.
 use Rattle.std.specs.Prelude.{All, Contains, slice_index_or}
 use Rattle.std.proofs.Common.{◌≡◌, ◌↔◌, ⊎_elim, ℕ, true, List, [], ◌∷◌, ◌++◌, Option, None, Some, map, refl, sym, ◌∙◌, ap, subst, arith}
 use Rattle.std.proofs.lemmas.List.{map-append}

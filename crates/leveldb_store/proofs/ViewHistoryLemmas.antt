@@ -81,7 +81,8 @@ module _ (cmp : List ℕ → List ℕ → Ordering) (exact : IsExactOrder cmp) (
 -- ---- errors
 
 module _ {E F T : Type 0} (env : Ghosts E F) where
-  -- the errors of a merge are counted where its children's are, but a clash, which may come at any time
+  -- the errors of a merge are counted where its children's are, but a clash, which may come at any
+  -- time
   pub merged_counts : {I C : Type 0} (fails : E × T → I → E × T → Status → Type 0) (clashes : E × T → MergeCore C I → Status → Type 0) → CountsErrors env fails
       → CountsErrors env (λ world (it : MergeCore C I) later status. Any (λ child. fails world child later status) it.children.items ⊎ clashes world it status)
   merged_counts fails clashes counts from to it status = ⊎_elim

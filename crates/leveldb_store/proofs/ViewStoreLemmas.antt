@@ -150,7 +150,8 @@ module _ {E F C FP K M : Type 0} {keys : CmpGhosts (InternalKeyCmp C)} (env : En
     lacks = λ from meaning history since shows to status fails. view_lacks from meaning history since shows to status fails;
   }
 
--- an order of users' keys that accepts each makes one of internal keys that accepts each with its tag
+-- an order of users' keys that accepts each makes one of internal keys that accepts each with its
+-- tag
 pub keys_of : {C : Type 0} (cmp : CmpGhosts C) → ((c : C) (key : List ℕ) → cmp.accepts c key ≡ true) → (c : C)
     → (let own : KeyOrder = record { accepts = internal_accepts (cmp.accepts c); cmp = internal_cmp (cmp.cmp c) } in own ≡ internal_order (any_in_order (cmp.cmp c)))
 keys_of cmp all c = ap (λ (accepts : List ℕ → Bool). record { accepts = internal_accepts accepts; cmp = internal_cmp (cmp.cmp c) }) (λ i key. all c key i)

@@ -1,4 +1,5 @@
--- What a cache of blocks holds after a look-up, after a put, and after one call and another, and whose blocks those are.
+-- What a cache of blocks holds after a look-up, after a put, and after one call and another, and
+-- whose blocks those are.
 use Rattle.std.proofs.Common.{◌≡◌, ◌≢◌, ◌⊎◌, ℕ, zero, suc, ◌^◌, ◌<◌, ◌≤◌, true, false, cond, List, [], ◌∷◌, ◌++◌, take, None, Some, refl, sym, ◌∙◌, ap, subst, inl, inr, ⊎_elim, arith}
 use Rattle.std.specs.Str.{bytes_eq}
 use Rattle.std.specs.Cmp.Lexicographic.{same_text}

@@ -1,4 +1,5 @@
--- The data blocks of a table that ends: each index key parts its block's keys from the next block's, and each key passes the filters.
+-- The data blocks of a table that ends: each index key parts its block's keys from the next
+-- block's, and each key passes the filters.
 use Rattle.std.proofs.Common.{◌≡◌, ◌≢◌, ℕ, Bool, true, List, [], ◌∷◌, ◌++◌, flat_map, Option, codes, refl, sym, ◌∙◌, ap, subst, None, Some, ◌+◌, length, map, arith, append_assoc, length-append, ◌⊎◌, Result, Ok, Err, inl, inr}
 use Rattle.std.proofs.lemmas.List.{append-nil, append_cancel_left}
 use Rattle.std.specs.List.{AllByRecursion}
@@ -102,8 +103,8 @@ less_not_greater r e f = cc
 
 -- ---- data blocks
 
--- Data blocks with keys that rise: each index key is a separator of what is at both sides of it, where a key at or after all
--- is after the last.
+-- Data blocks with keys that rise: each index key is a separator of what is at both sides of it,
+-- where a key at or after all is after the last.
 pub record AreClosed (accepts : List ℕ → Bool) (cmp : List ℕ → List ℕ → Ordering) (sep : List ℕ → List ℕ → List ℕ) (parts : List Part) (next : List ℕ) : Type 0 where
   pub separated : AreSeparated sep parts next
   pub some : AllByRecursion (λ part. part.pairs ≢ []) parts
@@ -503,8 +504,8 @@ module _ {FP : Type 0} (codings : Codings) (accepts : List ℕ → Bool) (cmp : 
     made : IsBuiltTable codings accepts cmp sep succ (matches policy) (make policy) id name stage.interval stage.index_interval (written ++ bytes) pairs × (size ≡ length (written ++ bytes))
     made = (builds, end.ends ∙ sym length-whole)
 
--- The same, where what was put after the data blocks is told by the order of the index and the policy of the filters, which are those
--- of the table, and the intervals are told otherwise.
+-- The same, where what was put after the data blocks is told by the order of the index and the
+-- policy of the filters, which are those of the table, and the intervals are told otherwise.
 pub table_made : {FP : Type 0} (codings : Codings) {accepts : List ℕ → Bool} {cmp : List ℕ → List ℕ → Ordering} (order : IsPreorderOn accepts cmp) (sep : List ℕ → List ℕ → List ℕ)
     (separates : (a b : List ℕ) → accepts a ≡ true → accepts b ≡ true → cmp a b ≢ Greater → IsSeparator accepts cmp a b (sep a b)) (make : FP → List (List ℕ) → List ℕ) (matches : FP → List ℕ → List ℕ → Bool)
     (keeps : KeepsKeys FP make matches) (name : FP → List ℕ) (policy : FP) (index_cmp : List ℕ → List ℕ → Ordering) (succ : List ℕ → List ℕ) (id : ℕ) (stage : Stage FP) (next written bytes : List ℕ) (pairs : List Pair) (size interval index_interval : ℕ)

@@ -1,4 +1,5 @@
--- The filters of a table's blocks: those that are made are of the blocks before, and the keys that are kept are of the last blocks.
+-- The filters of a table's blocks: those that are made are of the blocks before, and the keys that
+-- are kept are of the last blocks.
 use Rattle.std.proofs.Common.{◌≡◌, ◌≢◌, ◌<◌, ◌≤◌, ℕ, zero, suc, ◌+◌, ◌-◌, Bool, true, false, List, [], ◌∷◌, ◌++◌, length, map, replicate, refl, sym, ◌∙◌, ap, arith, append_assoc, length-append, inl, inr, ◌⊎◌, None, flat_map, subst}
 use Rattle.std.specs.Prelude.{◌/◌, ◌==◌, if◌then◌else◌}
 use Rattle.std.proofs.lemmas.Bool.{eq-eqb}

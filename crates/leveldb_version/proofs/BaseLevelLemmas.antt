@@ -86,7 +86,8 @@ module _ (level : ℕ) (files : List (ℕ × FileMetaData)) (count : ℕ) (bound
             let kept = kept_passes (λ (f : NewFile). f.level == n) (map new_file_of (drop count files)) file c in
             passes_kept (λ (f : NewFile). f.level == n) (map new_file_of files) file (there_deeper file kept.0).0 kept.1
 
-    -- a search through them that finds a file or none tells whether the key is in a range below the level
+    -- a search through them that finds a file or none tells whether the key is in a range below the
+    -- level
     pub search_tells : (found : Option (Bor (ℕ × FileMetaData))) (new : List NewFile)
         → TakesNextFile cmp key (map new_file_of (drop count files)) (option_map new_file_of (option_copied found)) new
         → AreDisjointLevels cmp (map new_file_of files) → not (is_some found) ≡ is_base_level_for cmp level (map new_file_of files) key

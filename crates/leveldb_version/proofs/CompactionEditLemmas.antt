@@ -1,5 +1,5 @@
--- The edit of a compaction changes nothing that is shown, and it may be logged. A table that is moved
--- is a compaction's output.
+-- The edit of a compaction changes nothing that is shown, and it may be logged. A table that is
+-- moved is a compaction's output.
 use Rattle.leveldb_base.proofs.HistoryLemmas.{in_front, in_none}
 use Rattle.leveldb_base.proofs.NamesLemmas.{made_name, one_reading}
 use Rattle.leveldb_base.proofs.ThinningLemmas.{at_most_greatest}

@@ -106,8 +106,8 @@ module _ (cmp : List ℕ → List ℕ → Ordering) where
       by false false e f = absurd (none (and_from (not (is_lt (cmp (user_part file.largest) low)))
           (not (is_lt (cmp high (user_part file.smallest)))) (ap not e) (ap not f)))
 
-  -- an input beside a file that stays in the next level: it lies in the range, or it meets the range
-  -- and is apart from that file
+  -- an input beside a file that stays in the next level: it lies in the range, or it meets the
+  -- range and is apart from that file
   abbrev pub IsPlaced : List ℕ → List ℕ → NewFile → NewFile → Type 0
   IsPlaced low high r a =
       ((is_lt (cmp (user_part a.smallest) low) ≡ false)

@@ -107,7 +107,8 @@ module _ {E C FP F : Type 0} (order : CmpGhosts (InternalKeyCmp C)) (env : EnvGh
   abbrev numbers : List ℕ
   numbers = map (λ file. file.number) files
 
-  -- the order of the files that were looked in and of those that are left, where those of each level are apart
+  -- the order of the files that were looked in and of those that are left, where those of each
+  -- level are apart
   pub record AreInTurn (looked left : List NewFile) : Type 0 where
     pub in_range : All (λ file. IsInRange cmp file (user_part key)) looked
     pub in_order : AllPairs IsTriedBefore looked

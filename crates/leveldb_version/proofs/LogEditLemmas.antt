@@ -208,7 +208,8 @@ All-unmap P f xs all = λ i d there. holds_of_element P f xs i d there all
 
 -- ---- the whole call
 
--- an edit of levels that there are, given to a set that isn't broken, is appended or begins a manifest
+-- an edit of levels that there are, given to a set that isn't broken, is appended or begins a
+-- manifest
 pub logged_by : {models_disk : Bool} {set : VersionSetValue} {edit : Edit} {before after : Observed} {failed now_failed : ℕ} {result : Result (Unit {0}) Status} {new : VersionSetValue}
     → set.manifest ≢ broken → LevelsFit edit
     → ((manifest : OpenManifest) → set.manifest ≡ in_use manifest → AppendsEdit models_disk manifest set edit before failed result new after now_failed)

@@ -33,7 +33,8 @@ use Rattle.leveldb_table.specs.TableReader.{HasNoneFrom, HasParts, KeepsUsersTog
 use Rattle.leveldb_version.specs.Batches.{Each}
 use Rattle.leveldb_version.specs.Store.{IsInternalPair, any_user_key}
 
--- A pair that was found, or none, says what pairs have of the user's key of an internal key, at its number. Where there is one, its key has a tag.
+-- A pair that was found, or none, says what pairs have of the user's key of an internal key, at its
+-- number. Where there is one, its key has a tag.
 pub record SaysNewest (pairs : List Pair) (key : List ℕ) (found : Option Pair) : Type 0 where
   pub newest : FindsNewest (entries_of_pairs pairs) (sequence_part key) (user_part key) (found_at (user_part key) found)
   pub tagged : IfSome found (λ pair. 8 ≤ length pair.0)

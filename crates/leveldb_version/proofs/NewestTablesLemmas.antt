@@ -1,4 +1,5 @@
--- What a search that ends at the first table with an entry of the key finds, all tables together have.
+-- What a search that ends at the first table with an entry of the key finds, all tables together
+-- have.
 use Rattle.std.specs.Prelude.{◌≢◌, All, Contains, IsPermutation}
 use Rattle.std.proofs.Common.{◌≡◌, ◌⊎◌, inl, inr, ⊎_elim, ℕ, ◌==◌, ◌<◌, ◌≤◌, false, List, [], ◌∷◌, ◌++◌, Option, None, Some, length, map, refl, sym, ◌∙◌, ap, subst, arith}
 use Rattle.std.proofs.lemmas.Bool.{cases_lt, eqb-true}

@@ -1,4 +1,5 @@
--- Which compaction a version asks for: where a level or a range asks for one, there are files to take.
+-- Which compaction a version asks for: where a level or a range asks for one, there are files to
+-- take.
 use Rattle.std.specs.Prelude.{◌≢◌, Contains, IfSome, IsSomeAnd, IfOk, find, is_some, nat_lt, not, option_and_then, ◌||◌, if◌then◌else◌, slice_get, sum_by}
 use Rattle.std.proofs.Common.{◌≡◌, ◌∙◌, ◌↔◌, ◌<◌, ◌≤◌, ◌*◌, ◌^◌, ◌⊎◌, ◌++◌, inl, inr, ⊎_elim, ap, ◌∷◌, ℕ, zero, suc, Bool, true, false, cond, List, [], Err, Ok, Option, Result, None, Some, arith, length, map, ◌==◌, refl, subst, sym, take}
 use Rattle.std.proofs.lemmas.Bool.{and_from, and_parts, eq-eqb, eqb-true, lt-ltb}

@@ -1,4 +1,5 @@
--- What a look-up by the compressors of a format finds in a table that is one by what its ids mean, and why it fails there.
+-- What a look-up by the compressors of a format finds in a table that is one by what its ids mean,
+-- and why it fails there.
 use Rattle.std.specs.Prelude.{◌≢◌, IsSome, IsSomeAnd, slice_get}
 use Rattle.std.proofs.Common.{◌≡◌, inl, inr, ℕ, ◌+◌, ◌<◌, Bool, true, false, List, [], ◌∷◌, ◌++◌, length, map, Option, None, Some, Ok, Err, refl, sym, ◌∙◌, ap, subst, arith, if◌then◌else◌}
 use Rattle.std.proofs.lemmas.List.{length-append, length-map}
@@ -104,7 +105,8 @@ module _ {format : Format} {meaning : Meaning} (agrees : Agrees format meaning) 
     filtered = opens.filtered;
   }
 
-  -- a file that can be opened by what its ids mean can't by the format only where that lacks a compressor
+  -- a file that can be opened by what its ids mean can't by the format only where that lacks a
+  -- compressor
   module _ {cmp : List ℕ → List ℕ → Ordering} {key bytes : List ℕ} {lines : List Pair} {meta index : Handle} {filters : Option (List (List ℕ))} (opens : OpensAs meaning.codings cmp key bytes (length bytes) lines meta index filters) where
     same_ends : {other_meta other_index : Handle} → EndsInFooter bytes (length bytes) other_meta other_index → (meta ≡ other_meta) × (index ≡ other_index)
     same_ends ends =

@@ -133,7 +133,8 @@ module _ (cmp : List ℕ → List ℕ → Ordering) where
 
 -- ---- the files that are left
 
--- Files that are left of others, after some were passed over that don't have the key in their range.
+-- Files that are left of others, after some were passed over that don't have the key in their
+-- range.
 pub record AreLeft (cmp : List ℕ → List ℕ → Ordering) (key : List ℕ) (old new : List NewFile) : Type 0 where
   pub passed : List NewFile
   pub once : IsPermutation old (new ++ passed)

@@ -1,4 +1,5 @@
--- What a search for a key in one table finds, and why it fails, in a table that is one by what its ids mean.
+-- What a search for a key in one table finds, and why it fails, in a table that is one by what its
+-- ids mean.
 use Rattle.std.specs.Prelude.{Contains, IfErr, IfOk, IfSome, IsErrAnd, IsSome, IsSomeAnd, IsTrue}
 use Rattle.std.proofs.Common.{◌≡◌, ◌≢◌, ◌⊎◌, inl, inr, ⊎_elim, ℕ, ◌+◌, ◌==◌, ◌<◌, ◌≤◌, ◌^◌, Bool, true, false, List, [], ◌∷◌, length, map, Option, None, Some, Result, Ok, Err, refl, sym, ◌∙◌, ap, subst, arith, if◌then◌else◌}
 use Rattle.std.specs.declared.cmp.Ordering.{Ordering}

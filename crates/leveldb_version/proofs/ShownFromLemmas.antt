@@ -12,8 +12,8 @@ use Rattle.std.specs.declared.cmp.Ordering.{Ordering}
 
 -- ---- what is shown from a number on
 
--- a call that keeps what is shown from every number on keeps it so, where what is shown from a number
--- on is shown from later ones on
+-- a call that keeps what is shown from every number on keeps it so, where what is shown from a
+-- number on is shown from later ones on
 pub keeps_each : (smallest : ℕ) (history : History) (Was Is : ℕ → Type 0)
     → ((a b : ℕ) → a ≤ b → Is a → Is b) → ((since : ℕ) → Was since → Is since)
     → KeepsFrom smallest history Was Is

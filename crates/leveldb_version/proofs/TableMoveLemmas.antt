@@ -1,4 +1,5 @@
--- A move in the table of a number, through a cache of open tables: where it leads, why it fails, and what it leaves.
+-- A move in the table of a number, through a cache of open tables: where it leads, why it fails,
+-- and what it leaves.
 use Rattle.std.specs.Prelude.{IfOk, IsErrAnd, IsSomeAnd, IsTrue, OnErr, OnOk, is_some}
 use Rattle.std.proofs.Common.{◌≡◌, ◌≢◌, inl, inr, ⊎_elim, ℕ, ◌<◌, ◌^◌, Bool, List, map, Option, None, Some, Result, Ok, Err, refl, sym, ◌∙◌, ap, subst, arith}
 use Rattle.std.specs.declared.cmp.Ordering.{Ordering}

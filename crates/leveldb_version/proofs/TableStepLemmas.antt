@@ -1,4 +1,5 @@
--- Where a step by the compressors of a format leads in a table that is one by what its ids mean, and why it fails there.
+-- Where a step by the compressors of a format leads in a table that is one by what its ids mean,
+-- and why it fails there.
 use Rattle.std.specs.Prelude.{◌≢◌, IsSomeAnd, slice_get}
 use Rattle.std.proofs.Common.{◌≡◌, inl, inr, ℕ, zero, suc, ◌+◌, ◌-◌, ◌<◌, if◌then◌else◌, nat_lt, Bool, true, List, [], ◌∷◌, ◌++◌, length, map, Option, None, Some, Ok, Err, refl, sym, ◌∙◌, ap, subst, arith}
 use Rattle.std.proofs.lemmas.Bool.Decides.{nat_tests}

@@ -1,5 +1,5 @@
--- Steps of a walk over the tables of files to the pair before: in its block, in the block before, and
--- in the file before.
+-- Steps of a walk over the tables of files to the pair before: in its block, in the block before,
+-- and in the file before.
 use Rattle.std.specs.Prelude.{IfOk, OnOk, is_some, nat_lt, slice_get}
 use Rattle.std.proofs.Common.{◌≡◌, ◌≢◌, ℕ, zero, suc, ◌+◌, ◌-◌, ◌<◌, Bool, true, false, if◌then◌else◌, List, [], ◌∷◌, length, Option, None, Some, Result, Ok, refl, sym, ◌∙◌, ap, subst, arith}
 use Rattle.std.proofs.lemmas.Bool.Decides.{nat_tests}

@@ -314,8 +314,8 @@ mapped_in_place {A} f xs ys i d y within is y_is =
     ∙ mapped_more f xs i d within
     ∙ ap (λ (n : ℕ). map f (take n xs) ++ drop n xs) e
 
--- files stay in order when one takes a seek; the list is written as a `Vec` has it after a change of
--- its slice
+-- files stay in order when one takes a seek; the list is written as a `Vec` has it after a change
+-- of its slice
 pub seeks_keep_order : (cmp : List ℕ → List ℕ → Ordering) (at : LevelFile)
     (xs ys : List (ℕ × FileMetaData)) (n : ℕ) → AreInVersionOrder cmp (map new_file_of xs)
     → ys ≡ map (after_seek at) xs → n ≡ length xs

@@ -1,4 +1,5 @@
--- What edits leave, one after another: which files are live, the same as a list, and one edit for many.
+-- What edits leave, one after another: which files are live, the same as a list, and one edit for
+-- many.
 use Rattle.std.proofs.Common.{◌≡◌, ◌⊎◌, inl, inr, ⊎_elim, if◌then◌else◌, ◌==◌, ◌&&◌, ◌||◌, ℕ, List, [], ◌∷◌, ◌++◌, map, Option, None, Some, All, Bool, true, false, refl, sym, ◌∙◌, ap, subst, append-nil, arith, ◌<◌, length, get_or}
 use Rattle.std.specs.Prelude.{◌↔◌, flat_map, Contains, is_some, IsSome}
 use Rattle.std.specs.List.{filter_map, cons_option, last_or, list_any, AllByRecursion, IsDistinct}

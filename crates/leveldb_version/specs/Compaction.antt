@@ -116,9 +116,10 @@ module _ (cmp : List ℕ → List ℕ → Ordering) where
 
   -- ---- the tables that it makes
 
-  -- Tables that a compaction makes for a level: their files are of that level and have the ranges of
-  -- their keys, no two of them share a number, and no user key is in two of them. That no other table
-  -- of the level has such a number is said of the tables that are live after it (`HasTables`).
+  -- Tables that a compaction makes for a level: their files are of that level and have the ranges
+  -- of their keys, no two of them share a number, and no user key is in two of them. That no other
+  -- table of the level has such a number is said of the tables that are live after it
+  -- (`HasTables`).
   pub record AreOutputs (level : ℕ) (outputs : List LiveTable) : Type 0 where
     pub levels : (table : LiveTable) → Contains outputs table → table.file.level ≡ level
     pub bounded : AreBounded outputs

@@ -1,5 +1,6 @@
 -- Inputs of a compaction that contradict the edits which added them: their tables, read pair by
--- pair in one order, have a key that no such tables have. A compaction fails with `Corruption` then.
+-- pair in one order, have a key that no such tables have. A compaction fails with `Corruption`
+-- then.
 use Rattle.std.specs.Prelude.{◌≡◌, ◌≢◌, ◌≤◌, ◌<◌, ◌⊎◌, ◌&&◌, Bool, not, ℕ, List, ◌∷◌, ◌++◌, length, Contains}
 use Rattle.std.specs.Cmp.{IsTotalOrder}
 use Rattle.std.specs.List.{list_any}

@@ -12,8 +12,8 @@ pub record VersionsValue (C : Type 0) : Type 0 where
   -- the same files by levels, with the seeks that each may take
   pub current : VersionValue C
 
--- the version has this comparator, and the live files of the set, up to their seeks, in the order of
--- a version; their numbers and their sizes have 64 bits
+-- the version has this comparator, and the live files of the set, up to their seeks, in the order
+-- of a version; their numbers and their sizes have 64 bits
 pub record IsCurrent {C : Type 0} (order : List ℕ → List ℕ → Ordering) (cmp : C)
     (set : VersionSetValue) (version : VersionValue C) : Type 0 where
   pub cmp_is : version.cmp ≡ cmp

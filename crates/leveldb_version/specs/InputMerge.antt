@@ -12,8 +12,8 @@ use Rattle.leveldb_version.specs.Version.{VersionValue}
 use Rattle.leveldb_version.specs.VersionIters.{AreVersionIters}
 use Rattle.leveldb_version.specs.declared.version_iter.VersionIter.{VersionIter}
 
--- A merge of walks over the tables of a version, by this comparator's order of internal keys. None of
--- the walks has begun.
+-- A merge of walks over the tables of a version, by this comparator's order of internal keys. None
+-- of the walks has begun.
 pub record MergesTablesOf {E T C : Type 0} (walk : WalkGhosts (VersionIter C) E T)
     (order : CmpGhosts (InternalKeyCmp C)) (cmp : C) (version : VersionValue C)
     (merge : MergeCore (InternalKeyCmp C) (VersionIter C)) : Type 0 where

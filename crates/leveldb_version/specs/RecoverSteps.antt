@@ -78,8 +78,8 @@ pub record IsPlan (models_disk : Bool) (cmp : List ℕ → List ℕ → Ordering
   pub next_file : plan.next_file ≡ next_number_after old manifest.edits manifest.number
   pub fits : plan.next_file + 1 < 2 ^ 64
 
--- the set that was planned, with the manifest that was read where it goes on to be used, else with a
--- new one to be made, which takes a number
+-- the set that was planned, with the manifest that was read where it goes on to be used, else with
+-- a new one to be made, which takes a number
 abbrev pub set_settled : VersionSetValue → Plan → Bool → VersionSetValue
 set_settled old plan goes_on = record old {
   full = edit_of plan.left.full;

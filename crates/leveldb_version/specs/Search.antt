@@ -1,5 +1,5 @@
--- Which files a look-up of a key goes through, in what order, what it finds in their tables, and why
--- it fails.
+-- Which files a look-up of a key goes through, in what order, what it finds in their tables, and
+-- why it fails.
 use Rattle.std.specs.Prelude.{◌≡◌, ◌≢◌, ◌⊎◌, ◌<◌, ◌≤◌, ◌^◌, ℕ, List, [], ◌∷◌, ◌++◌, length, map, Option, None, Some, Result, IfOk, IfSome, IsSome, IsSomeAnd, IsTrue, OnOk, All, AllPairs, Contains, IsPermutation}
 use Rattle.std.specs.Option.{option_to_list}
 use Rattle.std.specs.Cmp.{IsTotalOrder}
@@ -94,8 +94,8 @@ module _ (cmp : List ℕ → List ℕ → Ordering) where
 
 -- ---- what a look-up finds in a table
 
--- `by` says what tables are opened with, and `key` is an internal key; the environment and the cache
--- are those at the beginning.
+-- `by` says what tables are opened with, and `key` is an internal key; the environment and the
+-- cache are those at the beginning.
 module _ {E C FP F : Type 0} (order : CmpGhosts (InternalKeyCmp C)) (env : EnvGhosts E F)
     (by : TableOptions C FP) (key : List ℕ) (from : E) (old : TableCache E C FP F) where
   -- the disk is observed, and the open tables are those in its files
@@ -125,8 +125,8 @@ module _ {E C FP F : Type 0} (order : CmpGhosts (InternalKeyCmp C)) (env : EnvGh
   FindsInLast (file ∷ second ∷ files) found =
       FindsInTable file.number Absent × FindsInLast (second ∷ files) found
 
-  -- Why a number's table can't be read for the key: its file is missing or no table, it lacks a block
-  -- on the way to the key, or the pair there has a key without a tag.
+  -- Why a number's table can't be read for the key: its file is missing or no table, it lacks a
+  -- block on the way to the key, or the pair there has a key without a tag.
   pub data IsUnreadable (number : ℕ) (status : Status) : Type 0 where
     unopened : IsTableUnopened by.format (files_at env from) (path_at old number) status
         → IsUnreadable number status
@@ -226,8 +226,8 @@ module _ {E C FP F : Type 0} (order : CmpGhosts (InternalKeyCmp C)) (env : EnvGh
 
 -- ---- a law
 
--- When the files of each level are apart: where a store may begin with the edits that leave them; as
--- long as files are left out or put in another order; and with one file more that isn't turned
+-- When the files of each level are apart: where a store may begin with the edits that leave them;
+-- as long as files are left out or put in another order; and with one file more that isn't turned
 -- round, in the level that is picked for its range.
 pub record StayDisjoint : Type 0 where
   pub usable : (cmp : List ℕ → List ℕ → Ordering) → IsTotalOrder cmp → (comparator : List ℕ)

@@ -1,4 +1,5 @@
--- Moves of a walk over the table of a number, which a cache of open tables opens where it isn't open.
+-- Moves of a walk over the table of a number, which a cache of open tables opens where it isn't
+-- open.
 use Rattle.std.specs.Prelude.{◌≡◌, ◌≢◌, ◌<◌, ◌≤◌, ◌^◌, ℕ, Bool, true, List, Option, None, Some, Result, Ok, false, IfOk, IsErrAnd, OnErr, OnOk, IsTrue, is_some}
 use Rattle.std.specs.declared.cmp.Ordering.{Ordering}
 use Rattle.leveldb_base.specs.Cmp.{internal_accepts}

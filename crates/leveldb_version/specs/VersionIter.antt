@@ -1,4 +1,5 @@
--- Walks over the tables of files, one after the other: which list such a walk is over, and where it is.
+-- Walks over the tables of files, one after the other: which list such a walk is over, and where it
+-- is.
 use Rattle.std.specs.Prelude.{◌≡◌, ◌⊎◌, ◌-◌, ◌<◌, ◌≤◌, ◌^◌, ℕ, Bool, Result, IfOk, IfErr, IsSome, OnOk, OnErr, is_some, List, [], Option, None, Some, length, map, slice_index_or}
 use Rattle.std.specs.Ordering.{is_lt}
 use Rattle.std.specs.declared.cmp.Ordering.{Ordering}
@@ -103,8 +104,8 @@ module _ {E C FP K F : Type 0} (order : CmpGhosts (InternalKeyCmp C)) (env : Env
     pub at : IsAtPairOrNone (table_parts over.tables) (Some it.at)
         (table_pairs (table_in over.tables it.at)) inner position
 
-  -- Why a move fails that begins in one world and ends in another: for a fault of a table; and where
-  -- the files are tables, only since the format lacks a compressor.
+  -- Why a move fails that begins in one world and ends in another: for a fault of a table; and
+  -- where the files are tables, only since the format lacks a compressor.
   pub record FailsInTables (world : E × ReadTables E C FP K F) (it : VersionIter C)
       (later : E × ReadTables E C FP K F) (status : Status) : Type 0 where
     pub fault : FailsOr env cmp filters codings (IsTableFault

@@ -1,5 +1,5 @@
--- The laws of a walk over the tables of files. They are in specs/ since its impl of `Walk` proves them
--- by this, and the checker takes no term of proofs/ there.
+-- The laws of a walk over the tables of files. They are in specs/ since its impl of `Walk` proves
+-- them by this, and the checker takes no term of proofs/ there.
 use Rattle.std.specs.Prelude.{◌<◌, ◌≤◌, ◌^◌}
 use Rattle.std.proofs.Common.{◌≡◌, ℕ, List, Option, None, Some, refl, sym, ◌∙◌, ap, subst, inl, inr, arith}
 use Rattle.std.specs.Borrow.{Bor}

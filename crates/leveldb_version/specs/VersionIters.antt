@@ -1,5 +1,5 @@
--- The walks over a version's tables: one for each file of level 0, the newest first, and one for each
--- deeper level that has files.
+-- The walks over a version's tables: one for each file of level 0, the newest first, and one for
+-- each deeper level that has files.
 use Rattle.std.specs.Prelude.{◌≡◌, ◌↔◌, ◌<◌, ◌^◌, ℕ, true, List, [], ◌∷◌, ◌++◌, All, Contains, IsPermutation, None, flat_map, length, map, reverse, slice_get, Some}
 use Rattle.std.specs.List.{IsDistinct}
 use Rattle.std.specs.declared.cmp.Ordering.{Ordering}
@@ -93,8 +93,8 @@ pub record OrdersInternalKeys {C : Type 0} (order : CmpGhosts (InternalKeyCmp C)
 
 module _ {E C FP K F : Type 0} (order : CmpGhosts (InternalKeyCmp C)) (env : EnvGhosts E F)
     (cmp : CmpGhosts C) (filters : FilterGhosts FP) (codings : K → Codings) where
-  -- The tables of a version are there, by what names and ids mean, in a world whose open tables match
-  -- the files.
+  -- The tables of a version are there, by what names and ids mean, in a world whose open tables
+  -- match the files.
   pub record AreTablesToWalk (version : VersionValue C) (meaning : Meaning)
       (world : E × ReadTables E C FP K F) (tables : List LiveTable) : Type 0 where
     -- the open tables match the files
@@ -119,8 +119,8 @@ module _ {E C FP K F : Type 0} (order : CmpGhosts (InternalKeyCmp C)) (env : Env
     -- they are in levels
     pub levels : LevelOrder (cmp.cmp world.1.cmp) tables
 
-  -- Walks are over lists whose entries are layers, the newer first, and together exactly the entries
-  -- of tables.
+  -- Walks are over lists whose entries are layers, the newer first, and together exactly the
+  -- entries of tables.
   pub record AreOverLayers (world : E × ReadTables E C FP K F)
       (iters : List (VersionIter C)) (tables : List LiveTable) : Type 0 where
     pub lists : List (List Pair)

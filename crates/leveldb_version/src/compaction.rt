@@ -130,7 +130,7 @@ impl<C: UserCmp + Copy + Drop> Compaction<C> {
         self.inputs.num_level_files(self.level + parent)
     }
 
-    /// The file of this index among them, if there are so many.
+    /// The file of this index among them, if there is one.
     pub fn input(&self, parent: usize, index: usize) -> Option<&(usize, FileMetaData)>
         requires { parent < 2 }
         ensures { option_copied result
@@ -187,8 +187,8 @@ impl<C: UserCmp + Copy + Drop> Compaction<C> {
         self.version.is_base_level_for(self.level + 1, key)
     }
 
-    /// Whether a user key is within the range from the first key of one of the files that it takes to
-    /// the last key of one.
+    /// Whether a user key is within the range from the first key of one of the files that it takes
+    /// to the last key of one.
     pub fn is_among_inputs(&self, key: UserKey<'_>) -> bool
         ensures test { result ≡ is_among_inputs (C.cmp self.now.version.cmp)
             (new_files_of self.now.inputs) key.now }
@@ -201,8 +201,8 @@ impl<C: UserCmp + Copy + Drop> Compaction<C> {
 
 impl<C: UserCmp + Copy + Drop> Compaction<C> {
     /// Whether it only moves its one file to the next level: it takes none of the next level, and
-    /// the files two levels down that overlap the file have fewer bytes than ten files may. One that
-    /// was asked for by a range never does.
+    /// the files two levels down that overlap the file have fewer bytes than ten files may. One
+    /// that was asked for by a range never does.
     pub fn is_trivial_move(&self) -> bool
         ensures { let it = self.now in
             IsTrue result ↔ MayMove (C.cmp it.version.cmp) it.max_file_size it.level it.manual
@@ -251,8 +251,8 @@ impl<C: UserCmp + Copy + Drop> Compaction<C> {
         (size as u128) < product(10, self.max_file_size)
     }
 
-    /// Whether an output is to end before this key, as it has passed more bytes two levels down than
-    /// ten files may have. The keys come in order, each once, those that are dropped, too.
+    /// Whether an output is to end before this key, as it has passed more bytes two levels down
+    /// than ten files may have. The keys come in order, each once, those that are dropped, too.
     pub fn should_stop_before(&mut self, key: InternalKey<'_>) -> bool
         ensures passes { let it = self.old in
             PassesFiles (C.cmp it.version.cmp)

@@ -92,8 +92,8 @@ impl<E: Env, C: UserCmp + Copy + Drop, FP: FilterPolicy + Copy + Drop> TableCach
     /// filters rule the key out or there is no such pair. The table is opened if it isn't open, and
     /// is the one most recently used then, even if the look-up fails. The options are those that
     /// the open tables were opened with; else nothing is promised of what is found. `Corruption` if
-    /// the table's file is missing or is no table, `NotSupported` if a block's compressor isn't set,
-    /// and out of memory also if there is none to keep a table that was opened.
+    /// the table's file is missing or is no table, `NotSupported` if a block's compressor isn't
+    /// set, and out of memory also if there is none to keep a table that was opened.
     pub fn get(
         &mut self,
         env: &mut E,
@@ -183,8 +183,8 @@ impl<E: Env, C: UserCmp + Copy + Drop, FP: FilterPolicy + Copy + Drop> TableCach
         )
     }
 
-    /// The key of the pair that `find` or `get` found last. After one that finds no pair or fails it
-    /// is of no use.
+    /// The key of the pair that `find` or `get` found last. After one that finds no pair or fails
+    /// it is of no use.
     pub fn found_key(&self) -> &[u8]
         ensures { result.now ≡ found_key self.now }
     {

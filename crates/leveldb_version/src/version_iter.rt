@@ -113,8 +113,8 @@ impl<'a, C: UserCmp + Copy + Drop> VersionIter<'a, C> {
         )
     }
 
-    // Moves to the first or the last pair of the table of the file of this index; past the last file
-    // to no position. Returns whether it is at a pair then.
+    // Moves to the first or the last pair of the table of the file of this index; past the last
+    // file to no position. Returns whether it is at a pair then.
     fn to_file<'b, E: Env, FP: FilterPolicy + Copy + Drop, K: ReadsTables<E, C, FP>>(
         &mut self,
         env: &mut E,

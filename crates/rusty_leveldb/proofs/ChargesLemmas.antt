@@ -1,5 +1,5 @@
--- Files of a store that are charged with seeks: nothing of the store changes but its version, so all
--- stays that compactions keep.
+-- Files of a store that are charged with seeks: nothing of the store changes but its version, so
+-- all stays that compactions keep.
 use Rattle.std.proofs.Common.{◌≡◌, ◌∙◌, ℕ, List, [], ◌∷◌, Some, Ok, Result, ap, arith, inl, inr, refl, subst, sym}
 use Rattle.leveldb_base.specs.declared.cmp.Cmp.{Ghosts as CmpGhosts}
 use Rattle.leveldb_base.specs.declared.cmp.internal.InternalKeyCmp.{InternalKeyCmp}

@@ -1,4 +1,5 @@
--- After a crash the disk that is left holds what it carries, all of it durable; and so on through later crashes.
+-- After a crash the disk that is left holds what it carries, all of it durable; and so on through
+-- later crashes.
 use Rattle.std.proofs.Common.{◌≡◌, ◌≤◌, ◌+◌, inl, ℕ, List, [], ◌∷◌, ◌++◌, length, refl, sym, ◌∙◌, ap, subst, arith, false, Option, Some, None, append-nil}
 use Rattle.std.proofs.lemmas.List.{take_all}
 use Rattle.leveldb_base.specs.History.{History, IsHistory, entries_of, greatest}

@@ -1,5 +1,5 @@
--- What an engine's memory has to do with the disk and the state: its mode, and how what the calls on
--- its store leave is a step of the machine.
+-- What an engine's memory has to do with the disk and the state: its mode, and how what the calls
+-- on its store leave is a step of the machine.
 use Rattle.std.specs.Prelude.{Contains}
 use Rattle.std.proofs.Common.{◌≡◌, ◌≤◌, ◌+◌, ◌∙◌, ⊎_elim, inl, inr, ℕ, true, false, List, length, refl, sym, ap, subst, arith, Option, Some, None, IsTrue}
 use Rattle.std.specs.declared.cmp.Ordering.{Ordering}

@@ -1,5 +1,5 @@
--- An engine's store shows the history from the smallest number on that is held: so as it is now, and at
--- each snapshot that is held. And why its tables aren't made, as a cause of the machine.
+-- An engine's store shows the history from the smallest number on that is held: so as it is now,
+-- and at each snapshot that is held. And why its tables aren't made, as a cause of the machine.
 use Rattle.std.specs.Prelude.{Contains, map}
 use Rattle.std.proofs.Common.{◌≡◌, ◌≢◌, ◌≤◌, ◌<◌, ◌⊎◌, ⊎_elim, inl, inr, ℕ, List, [], ◌∷◌, refl, sym, ap, subst, arith, Option, Some, None, IsTrue}
 use Rattle.std.proofs.lemmas.Bool.{cases_lt}

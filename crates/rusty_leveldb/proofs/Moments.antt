@@ -1,7 +1,8 @@
--- How the parts of a call join that have states between them, as a sync of the log and then a new log: what a crash leaves at each moment of the
--- call is spared if it is at each moment of each part. `steps_join` joins two parts, `spared_now` begins one at a state that the disk
--- represents, and `grows_same` and `grows_by` say that a part risks no batch more, or one more. `spared_since` is what the run of a whole call
--- then says of a crash.
+-- How the parts of a call join that have states between them, as a sync of the log and then a new
+-- log: what a crash leaves at each moment of the call is spared if it is at each moment of each
+-- part. `steps_join` joins two parts, `spared_now` begins one at a state that the disk represents,
+-- and `grows_same` and `grows_by` say that a part risks no batch more, or one more. `spared_since`
+-- is what the run of a whole call then says of a crash.
 use Rattle.std.proofs.Common.{◌≡◌, ◌≤◌, ◌+◌, inl, ℕ, zero, suc, Bool, List, [], ◌∷◌, ◌++◌, length, take, refl, sym, ◌∙◌, ap, subst, arith, Result, IsTrue}
 use Rattle.leveldb_base.specs.declared.error.Status.{Status}
 use Rattle.std.proofs.lemmas.List.{length-take}
@@ -79,7 +80,8 @@ module _ (store : List ℕ) (meaning : Meaning) where
         carries = carries_more store (Reads store meaning) risk.bound more.bound grows.bound c.part left (carries_allow store (Reads store meaning) risk.bound c.part left allows c.carries);
       }
 
-  -- One step after another: the first is spared with the state in which the call began, the second with the one between them.
+  -- One step after another: the first is spared with the state in which the call began, the second
+  -- with the one between them.
   pub steps_join : {first mid now : Observed} (old middle : State) (risk more : Risk) → old.durable ≤ middle.durable → Allows old risk old more → Allows middle more old more → Grows risk more
       → Run (IsSpared store meaning old risk) first mid → Run (IsSpared store meaning middle more) mid now → Run (IsSpared store meaning old more) first now
   steps_join old middle risk more few first then grows before after = Run-trans
@@ -106,7 +108,8 @@ module _ (store : List ℕ) (meaning : Meaning) where
   pub spared_now : (disk : Disk) (state : State) → StandsFor store meaning disk state → IsSpared store meaning state (risk_between state) disk.files
   spared_now disk state stands = stands.holds.crash
 
-  -- Each honest disk that a crash leaves since the call began carries a prefix of what is at risk, with all that was durable then.
+  -- Each honest disk that a crash leaves since the call began carries a prefix of what is at risk,
+  -- with all that was durable then.
   pub spared_since : {first now : Observed} (old : State) (risk : Risk) → Run (IsSpared store meaning old risk) first now → ((files : Files) → now.at_moment now.moment files → files ≡ now.disk.files)
       → (files left : Files) → Since now first.moment files left → IsHonest store files left → CarriesPrefix store (Reads store meaning) (StaysOr risk.opening old.store) risk.bound old.durable risk.history left
   spared_since old risk run only files left since honest = since_start run only since.0 files since.1 since.2 since.3 left since.4 honest

@@ -42,8 +42,8 @@ event_of moment request answer failures =
 -- ---- words for runs
 
 module _ {E F : Type 0} (C FP : Type 0) {B : Boxed} (keys : InternalOrder C) (env : Ghosts E F) (formats : OptionsOf C FP B → Format) (store : List ℕ) (meaning : Meaning) where
-  -- these requests had these answers, each at its moment, from what the disk has on, and what engine and
-  -- disk represent then
+  -- these requests had these answers, each at its moment, from what the disk has on, and what
+  -- engine and disk represent then
   abbrev pub LeadsAt : E → List Request → List Answer → List ℕ → Option (EngineOf E C FP F B) → E → State → Type 0
   LeadsAt from requests answers moments engine to old = Runs store meaning (Recalls keys env formats store meaning) env.models_moments
       (scene env None from) requests answers moments (scene env engine to) old
@@ -370,7 +370,8 @@ pub no_other : {M N : Type 0} {store : List ℕ} {meaning : Meaning} {this : M �
 no_other disk state represents = record { disk_is = represents.disk_is; memory_is = represents.memory_is }
 
 module _ {E F : Type 0} {B : Boxed} (C FP : Type 0) (keys : InternalOrder C) (env : Ghosts E F) (formats : OptionsOf C FP B → Format) (store : List ℕ) where
-  -- so far the store was opened and these commands were given these replies and snapshots, from every state that the disk stood for
+  -- so far the store was opened and these commands were given these replies and snapshots, from
+  -- every state that the disk stood for
   abbrev pub PlaysSoFar : E → Opening → List Command → List Reply → List Snapshot → EngineOf E C FP F B → E → Type 0
   PlaysSoFar from wanted commands given taken engine to = IsTrue env.models_disk → (opening : Opening) → IsOpening store wanted opening
       → (meaning : Meaning) → Agrees opening.format meaning → (old : State) → Represents store meaning (Recalls keys env formats store meaning) None (env.observed from).disk old

@@ -1,5 +1,5 @@
--- The entries of the tables that a repair left are a found set: no two different ones have one key and
--- one number.
+-- The entries of the tables that a repair left are a found set: no two different ones have one key
+-- and one number.
 use Rattle.std.specs.Prelude.{◌≢◌, Contains}
 use Rattle.std.specs.Cmp.{IsTotalOrder, nat_cmp_total}
 use Rattle.std.specs.Ordering.{nat_cmp, ordering_reverse, ordering_then}

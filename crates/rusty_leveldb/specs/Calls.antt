@@ -87,8 +87,8 @@ module _ {E C FP F : Type 0} {B : Boxed} (env : Ghosts E F) where
 -- ---- what becomes of an engine
 
 module _ {E C FP F : Type 0} {B : Boxed} where
-  -- what a read leaves of an engine: its mode, and its store but for the version (of which a look-up
-  -- charges a file with a seek, and may choose it)
+  -- what a read leaves of an engine: its mode, and its store but for the version (of which a
+  -- look-up charges a file with a seek, and may choose it)
   abbrev pub IsReadOnly : EngineOf E C FP F B → EngineOf E C FP F B → Type 0
   IsReadOnly before after = (after.mode ≡ before.mode)
       × (after.store ≡ record before.store { current = after.store.current })
@@ -190,8 +190,8 @@ module _ {E C FP F P : Type 0} {B : Boxed} {keys : InternalOrder C} {key_filters
         (record after.store.set { last_sequence = before.store.set.last_sequence }))
     -- Err leaves what memory shows, and the mode, or a broken store
     pub failed : OnErr result (KeepsModeOrBreaks before after × KeepsMemory before after)
-    -- Ok or Err, and whatever the files are: what was in memory, and the batch if it was written, is
-    -- in memory, or in tables that were added, of which one compaction may have taken some
+    -- Ok or Err, and whatever the files are: what was in memory, and the batch if it was written,
+    -- is in memory, or in tables that were added, of which one compaction may have taken some
     pub entries : KeepsOrCompacts env (formats_of choices (options_in before))
         (entries_added result (next_batch before.store items)) before.store from after.store to
     -- an Err came before the batch was appended to the log, or broke the store
@@ -459,8 +459,8 @@ module _ {E C FP F P : Type 0} {B : Boxed} {keys : InternalOrder C} {key_filters
         × Opens old opening new
         × AreReadAs name meaning (env.observed from).disk.files new.history new.last)
     pub opened : IfOk result (IsOpened env (formats_of choices) name options)
-    -- Ok: after its files were opened one compaction was done at most. It is done where the score of
-    -- a level asks for it, and takes a file of that level, unless it fails for a cause.
+    -- Ok: after its files were opened one compaction was done at most. It is done where the score
+    -- of a level asks for it, and takes a file of that level, unless it fails for a cause.
     pub ends : IfOk result (λ engine. EngineEndsOpening env choices name options asked engine to)
     -- the lock was free, and is held
     pub held : OnOk result (IsTrue env.models_disk
@@ -485,9 +485,9 @@ module _ {E C FP F P : Type 0} {B : Boxed} {keys : InternalOrder C} {key_filters
     -- one that isn't to be made, or one that is there and must not be; and its files stay
     pub never_opens : IsTrue env.models_disk → NeverOpens name asked (env.observed from).disk
         → OnOk result ⊥ × MakesLockAlone name (env.observed from) (env.observed to)
-    -- One that fails loses nothing of a store that was there, whatever its files are: at each moment
-    -- every file but `CURRENT` and temporary ones is there still, and begins with the bytes that it
-    -- had.
+    -- One that fails loses nothing of a store that was there, whatever its files are: at each
+    -- moment every file but `CURRENT` and temporary ones is there still, and begins with the bytes
+    -- that it had.
     pub kept : OnErr result (LosesNothing env name from to)
     -- an opening that fails gives back the lock
     pub unopened : IfErr result (λ status. IsTrue env.models_disk

@@ -50,8 +50,8 @@ pub record EngineCompactsStore {E C FP F P : Type 0} {B : Boxed} {keys : Interna
   -- it is broken where the store is
   pub mode : FollowsStore after.mode after.store
 
--- How an opening that gave an engine ended: its files were opened as a store, and then one compaction
--- was done at most, for which the score of a level asks.
+-- How an opening that gave an engine ended: its files were opened as a store, and then one
+-- compaction was done at most, for which the score of a level asks.
 pub record EngineEndsOpening {E C FP F P : Type 0} {B : Boxed} {keys : InternalOrder C}
     {key_filters : FilterGhosts P} (env : Ghosts E F)
     (choices : OptionsOf C FP B → TableChoices keys key_filters) (name : List ℕ)

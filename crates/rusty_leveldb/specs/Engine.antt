@@ -229,10 +229,10 @@ module _ {E C FP F P : Type 0} {B : Boxed} {keys : InternalOrder C} {key_filters
 
   -- Why a write may fail where the device didn't: the store is closed or broken, the batch is too
   -- long, memory ran out, no numbers of entries are left, or the entries are too many in memory.
-  -- And where the memtable is full: no tables are made of what is in memory, or tables aren't merged
-  -- in the compaction for which the store asks then (`FailsToCompactRange`); or the batch is too
-  -- large for an empty memtable. Or a file is lost. `left` is the store after the call: its next
-  -- number tells whether the numbers of files are used up.
+  -- And where the memtable is full: no tables are made of what is in memory, or tables aren't
+  -- merged in the compaction for which the store asks then (`FailsToCompactRange`); or the batch is
+  -- too large for an empty memtable. Or a file is lost. `left` is the store after the call: its
+  -- next number tells whether the numbers of files are used up.
   abbrev pub WriteExcused : List Item → OpenStoreValue C → Status → Type 0
   WriteExcused items left e = RefusedByMode engine.mode e
       ⊎ ((e.code ≡ InvalidArgument) × IsLongBatch items)

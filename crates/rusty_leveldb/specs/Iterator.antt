@@ -59,8 +59,8 @@ abbrev pub FailsMove : {E F C FP K V : Type 0} → Ghosts E F
 FailsMove env Own Unreadable old new =
     FailsBetween env (world_in old) (world_in new) (λ e. Own e ⊎ Unreadable e)
 
--- an open store whose history an iterator shows: the format of its tables, and what names and ids in
--- them mean
+-- an open store whose history an iterator shows: the format of its tables, and what names and ids
+-- in them mean
 pub record ShownStore (C : Type 0) : Type 0 where
   pub value : OpenStoreValue C
   pub format : Format
@@ -144,7 +144,8 @@ module _ {E F C FP K V : Type 0} (keys : InternalOrder C) (env : Ghosts E F) (cm
 -- ---- a call that makes one
 
 -- An iterator that is made over an open store at a sequence number, beside borrows of the
--- environment and of the store's open tables, which are read with this policy and these compressors.
+-- environment and of the store's open tables, which are read with this policy and these
+-- compressors.
 pub record IsMadeOver {E F C FP K V : Type 0} (keys : InternalOrder C) (env : Ghosts E F)
     (cmp : CmpGhosts C) (filters : FilterGhosts FP) (codings : K → Codings)
     (walk : WalkGhosts V E (ReadTables E C FP K F)) (value : OpenStoreValue C) (policy : FP)

@@ -14,8 +14,8 @@ use Rattle.rusty_leveldb.specs.declared.db_iter.StoreIterator.{StoreIterator}
 module _ {E F C FP K V : Type 0} (keys : InternalOrder C) (env : Ghosts E F) (cmp : CmpGhosts C)
     (filters : FilterGhosts FP) (codings : K → Codings)
     (walk : WalkGhosts V E (ReadTables E C FP K F)) where
-  -- a move forward that leads to a pair, and then one back, lead to where the iterator was, be it at
-  -- a pair or at none
+  -- a move forward that leads to a pair, and then one back, lead to where the iterator was, be it
+  -- at a pair or at none
   abbrev pub PrevUndoesNext : Type 0
   PrevUndoesNext = (shown : ShownStore C) (pairs : List Pair) (position : Option ℕ) (there : Pair)
       (it next back : StoreIterator E C FP K V F) (is_back : Bool)

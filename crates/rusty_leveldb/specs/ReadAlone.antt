@@ -89,12 +89,14 @@ abbrev pub read_state : {E C FP F : Type 0} {B : Boxed} → (OptionsOf C FP B �
 read_state formats reader history =
     opened_state (formats (reader_options reader)) history reader.store.set.last_sequence
 
--- why a look-up fails: the key is too long, memory ran out, or a table can't be read, for this cause
+-- why a look-up fails: the key is too long, memory ran out, or a table can't be read, for this
+-- cause
 abbrev pub LookUpExcused : List ℕ → (Status → Type 0) → Status → Type 0
 LookUpExcused key Unreadable e =
     ((e.code ≡ InvalidArgument) × IsLongKey key) ⊎ IsOutOfMemory e ⊎ Unreadable e
 
--- a look-up that fails before it begins, since the key is too long or memory ran out; nothing changes
+-- a look-up that fails before it begins, since the key is too long or memory ran out; nothing
+-- changes
 abbrev pub IsNotSought : {E C FP F T : Type 0} {B : Boxed} → ReaderOf E C FP F B → E → List ℕ
     → Result T Status → ReaderOf E C FP F B → E → Type 0
 IsNotSought before from key result after to =
@@ -193,7 +195,8 @@ module _ {E C FP F V : Type 0} {B : Boxed} (keys : InternalOrder C) (env : Ghost
         (result : Result
         (StoreIterator E C FP (CompressorList B.compressors B.compressor) V F) Status)
         : Type 0 where
-      -- where the disk is modelled, it is over the view of each history that is read, at no position
+      -- where the disk is modelled, it is over the view of each history that is read, at no
+      -- position
       pub over : IfOk result (λ it. IsTrue env.models_disk → (meaning : Meaning)
           (history : History) → ReadsHistory keys env formats_in meaning before
           (files_at env from) history → (pairs : List Pair)
@@ -213,8 +216,9 @@ module _ {E C FP F V : Type 0} {B : Boxed} (keys : InternalOrder C) (env : Ghost
 
 -- ---- opening
 
--- Why a store isn't opened to be read alone, where the device didn't fail: out of memory, or the name
--- or an option doesn't fit; the compressor of new blocks isn't set; or the files can't be read so.
+-- Why a store isn't opened to be read alone, where the device didn't fail: out of memory, or the
+-- name or an option doesn't fit; the compressor of new blocks isn't set; or the files can't be read
+-- so.
 abbrev pub ReadOpenExcused : {E F : Type 0} → Ghosts E F → List ℕ → Opening → E → Status → Type 0
 ReadOpenExcused env store asked from e = IsOutOfMemory e
     ⊎ ((e.code ≡ InvalidArgument) × (IsStoreName store × IsTrue asked.fits → ⊥))
@@ -248,8 +252,8 @@ module _ {E C FP F : Type 0} {B : Boxed} (keys : InternalOrder C) (env : Ghosts 
     pub options_are : IfOk result (λ reader. reader_options reader ≡ options)
     -- no file changes at any moment, nor does a lock
     pub still : KeepsDisk env from to
-    -- Err: of a disk that represents a state no file is damaged, and the machine has its cause, as of
-    -- an opening of a store that must be there
+    -- Err: of a disk that represents a state no file is damaged, and the machine has its cause, as
+    -- of an opening of a store that must be there
     pub err : IfErr result (λ e. IsTrue env.models_disk → (opening : Opening)
         → IsOpening name (of_present asked) opening → (meaning : Meaning)
         → Agrees opening.format meaning → (old : State)

@@ -1,4 +1,5 @@
--- Samples of the keys that iterators read: when one is taken, and which file it charges with a seek.
+-- Samples of the keys that iterators read: when one is taken, and which file it charges with a
+-- seek.
 use Rattle.std.specs.Prelude.{◌≡◌, ◌≤◌, ◌<◌, ◌-◌, ◌%◌, ◌++◌, ◌∷◌, [], ℕ, Bool, List, Option, None, Some, Result, IfErr, OnErr, OnOk, false, true, fold, take}
 use Rattle.std.specs.declared.cmp.Ordering.{Ordering}
 use Rattle.leveldb_base.specs.Error.{IsOutOfMemory}

@@ -1,4 +1,5 @@
--- An engine that only reads, as clauses see it: what it has in memory of a store that is read alone.
+-- An engine that only reads, as clauses see it: what it has in memory of a store that is read
+-- alone.
 use Rattle.leveldb_store.specs.OpenStore.{OpenStoreValue}
 
 -- an engine that only reads, whose options and open tables have these types

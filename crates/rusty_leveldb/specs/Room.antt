@@ -28,8 +28,8 @@ use Rattle.rusty_leveldb.specs.Engine.{formats_of, options_in, tables_by}
 use Rattle.rusty_leveldb.specs.EngineValue.{FollowsStore}
 
 -- What was logged: tables of memtables, which take no file away, and then at most one edit of a
--- compaction. Where the score of a level asks for a compaction in the files that those leave, there is
--- one, which takes a file from this level and adds none to it.
+-- compaction. Where the score of a level asks for a compaction in the files that those leave, there
+-- is one, which takes a file from this level and adds none to it.
 pub record LogsRoom (cmp : List ℕ → List ℕ → Ordering) (old new : VersionSetValue) : Type 0 where
   pub tabled : VersionSetValue
   pub tables : LogsTableEdits 2 old tabled
@@ -61,15 +61,15 @@ pub record KeepsOrCompacts {E F C : Type 0} (env : Ghosts E F) (format : Format)
   -- and what is in memory stays there, with the batch, and nothing else is
   pub memory : SameEntries (in_memory tabled ++ batch) (in_memory new)
 
--- Room is made in the memtable of a store that isn't broken, and where it was full the compaction is
--- done for which the store asks then, down to the smallest number at which it is read.
+-- Room is made in the memtable of a store that isn't broken, and where it was full the compaction
+-- is done for which the store asks then, down to the smallest number at which it is read.
 pub record StoreMakesRoom {E F C FP D P : Type 0} (order : CmpGhosts (InternalKeyCmp C))
     (env : Ghosts E F) (by : TableOptions C FP) (old : OpenStoreValue C) (from : E)
     (tables : TableCache E C FP F) {keys : CmpGhosts D} {filters : FilterGhosts P}
     (choices : TableChoices keys filters) (limit smallest : ℕ) (result : Result (Unit {0}) Status)
     (new : OpenStoreValue C) (to : E) (now : TableCache E C FP F) : Type 0 where
-  -- It fails for what a compaction of a range fails for: no tables are made of what is in memory, or
-  -- tables aren't merged.
+  -- It fails for what a compaction of a range fails for: no tables are made of what is in memory,
+  -- or tables aren't merged.
   pub keeps : KeepsCompacted order env by old from tables smallest
       (FailsToCompactRange order env by old from tables choices) result new to now
   -- where it isn't full, nothing is done

@@ -77,9 +77,9 @@ module _ {E F : Type 0} (env : Ghosts E F) (store : List ℕ) where
   -- that it gave.
   pub record HasReadAlone (asked : Opening) (commands : List Command) (from : E)
       (given : List Reply) (ended : Result (Unit {0}) Status) (to : E) : Type 0 where
-    -- Ok: from each state that the disk represents, which is modelled, each command is answered as in
-    -- a store that an opening left with one history that it finds, if the options say of names and
-    -- ids what they mean
+    -- Ok: from each state that the disk represents, which is modelled, each command is answered as
+    -- in a store that an opening left with one history that it finds, if the options say of names
+    -- and ids what they mean
     pub answers : OnOk ended (IsTrue env.models_disk → (meaning : Meaning)
         → Agrees asked.format meaning → (old : State)
         → StandsFor store meaning (env.observed from).disk old → (history : History) × (last : ℕ)

@@ -166,7 +166,8 @@ impl<
     }
 
     // Counts the bytes that the view has read since they were counted last, and samples the key of
-    // the pair that it is at, if a key is to be sampled. Without memory for that the sample is lost.
+    // the pair that it is at, if a key is to be sampled. Without memory for that the sample is
+    // lost.
     #[inline]
     fn count_read(&mut self)
         ensures samples { CountsRead (C.cmp self.old.store.now.cmp) self.old.store.now

@@ -26,8 +26,8 @@ const READ_BYTES_PERIOD: u64 = 1 << 20;
 const MOST_CHARGES: usize = 4096;
 
 /// The samples of the keys that a store's iterators read. Once in a while, by the bytes that they
-/// read, a key is sampled, and the file that this charges with a seek is kept, until a compaction is
-/// looked for.
+/// read, a key is sampled, and the file that this charges with a seek is kept, until a compaction
+/// is looked for.
 #[derive(Drop)]
 pub struct ReadSamples {
     // What the periods are drawn from.
@@ -67,8 +67,9 @@ impl ReadSamples {
         }
     }
 
-    /// Takes the bytes that were read off those that are left until a key is sampled. Returns whether
-    /// one is to be sampled now: more were read than were left, and one new period is drawn.
+    /// Takes the bytes that were read off those that are left until a key is sampled. Returns
+    /// whether one is to be sampled now: more were read than were left, and one new period is
+    /// drawn.
     #[inline]
     pub fn count(&mut self, bytes: u64) -> bool
         ensures { TakesBytes bytes self.old result self.new }

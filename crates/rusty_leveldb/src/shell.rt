@@ -1,4 +1,4 @@
-//! The store's commands as values: what is asked of a store, and what it answers; and as text.
+//! The store's commands as values: what is asked of a store, and what it replies; and as text.
 
 mod commands;
 mod crash_runs;

@@ -1,4 +1,4 @@
-//! An engine, which is lent its environment in each call.
+//! An engine, which borrows its environment in each call.
 use leveldb_base::error::Result;
 use rusty_leveldb::db_impl::Engine;
 use rusty_leveldb::{MemEnv, Options};

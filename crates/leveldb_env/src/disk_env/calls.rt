@@ -76,8 +76,8 @@ fn to_append() -> OpenOptions {
     options
 }
 
-/// Opens a file, to be appended to; a missing one is created. Its folder is synced where the file is
-/// new, and where the folder `is_settled` by no earlier sync. A file of which a sync failed is
+/// Opens a file, to be appended to; a missing one is created. Its folder is synced where the file
+/// is new, and where the folder `is_settled` by no earlier sync. A file of which a sync failed is
 /// replaced by a copy first.
 pub(super) fn create<R: Files<File = File> + AllocGlobal>(
     rt: &R,

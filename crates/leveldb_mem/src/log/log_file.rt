@@ -53,7 +53,8 @@ impl<E: Env> LogFile<E> {
         }
     }
 
-    /// A log under this path that is broken from the start. Its file isn't opened, and may be missing.
+    /// A log under this path that is broken from the start. Its file isn't opened, and may be
+    /// missing.
     pub fn unopened(alloc: Global, path: String) -> LogFile<E>
         ensures { result ≡ record {
           path = string_bytes path;
@@ -84,7 +85,7 @@ impl<E: Env> LogFile<E> {
         Ok(LogFile::new(alloc, path, file, WriterCore::new(alloc)))
     }
 
-    /// Opens the log under this path, which has so many bytes; it is made where there is none.
+    /// Opens the log under this path, which has `size` bytes; it is made where there is none.
     pub fn open(alloc: Global, env: &mut E, path: String, size: usize) -> Result<LogFile<E>>
         ensures does { ChangesFiles E.models_disk (created (string_bytes path))
             (BeforeOrAfter (created (string_bytes path)))
@@ -107,8 +108,8 @@ impl<E: Env> LogFile<E> {
         self.writer.is_broken()
     }
 
-    /// Appends a record, which is not empty. If that fails once it has begun, the log is broken: from
-    /// then on every call is `IOError`. `Corruption` where the file is missing.
+    /// Appends a record, which is not empty. If that fails once it has begun, the log is broken:
+    /// from then on every call is `IOError`. `Corruption` where the file is missing.
     pub fn append(&mut self, env: &mut E, text: &[u8]) -> Result<()>
         requires { text.now ≢ [] }
         ensures { AppendsRecord E.Env self.old env.old text.now result self.new env.new }

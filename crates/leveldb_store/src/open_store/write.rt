@@ -37,7 +37,7 @@ impl<E: Env, C: UserCmp + Copy> OpenStore<E, C> {
         self.versions.set_last_seq(last);
     }
 
-    // The first number of a batch of so many entries after the last.
+    // The first number of a batch of `count` entries after the last.
     fn next_sequence(&self, count: u32) -> Result<SequenceNumber>
         ensures ok { IfOk result (λ first. first ≡ self.now.set.last_sequence + 1) }
         ensures numbers { OnOk result (HasNumbers self.now.set.last_sequence count) }

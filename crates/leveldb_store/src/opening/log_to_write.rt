@@ -45,7 +45,7 @@ pub(super) fn open_log<E: Env, C: UserCmp + Copy>(
     }
 }
 
-// The log of this number, which has so many bytes.
+// The log of this number, which has `size` bytes.
 fn reopen_log<E: Env>(
     alloc: Global,
     env: &mut E,

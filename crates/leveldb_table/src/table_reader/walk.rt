@@ -115,8 +115,8 @@ impl<C: Cmp + Copy + Drop> TableCore<C> {
         })
     }
 
-    /// The same walk, which puts blocks that it reads into the cache only if `fills` says so. In one
-    /// over whole tables they would take the place of those that others look for.
+    /// The same walk, which puts blocks that it reads into the cache only if `fills` says so. In
+    /// one over whole tables they would take the place of those that others look for.
     pub fn filling(self, fills: bool) -> TableCore<C>
         ensures { result ≡ self }
     {

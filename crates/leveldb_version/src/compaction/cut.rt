@@ -57,8 +57,8 @@ impl OutputCut {
         }
     }
 
-    /// Whether an output is to end before this key, as it has passed more bytes two levels down than
-    /// ten files may have. The keys come in order, each once, those that are dropped, too.
+    /// Whether an output is to end before this key, as it has passed more bytes two levels down
+    /// than ten files may have. The keys come in order, each once, those that are dropped, too.
     pub fn stops_before<C: UserCmp + Copy + Drop>(
         &mut self,
         compaction: &Compaction<C>,
@@ -77,8 +77,8 @@ impl OutputCut {
         )
     }
 
-    // Passes the files that end before the key. Returns whether the output has passed more bytes with
-    // it than ten files may have; then the next one has passed none.
+    // Passes the files that end before the key. Returns whether the output has passed more bytes
+    // with it than ten files may have; then the next one has passed none.
     fn passes<C: UserCmp>(
         &mut self,
         ucmp: &C,

@@ -57,9 +57,9 @@ pub fn compaction_by_reads<C: UserCmp + Copy + Drop>(
     compaction_with(alloc, version, file, max_file_size)
 }
 
-/// The compaction of the files of a level that overlap the range between two keys, if there are some:
-/// an empty user key is an open end. From level 1 on it begins with no more of them than have more
-/// bytes than `max_file_size` with the last one, which no clause says.
+/// The compaction of the files of a level that overlap the range between two keys, if there are
+/// some: an empty user key is an open end. From level 1 on it begins with no more of them than have
+/// more bytes than `max_file_size` with the last one, which no clause says.
 pub fn compact_range<C: UserCmp + Copy + Drop>(
     alloc: Global,
     version: &Version<C>,
@@ -281,8 +281,8 @@ fn compaction_of<'v, C: UserCmp + Copy + Drop>(
     Ok(Some(compaction))
 }
 
-// Inputs with more files of the level, where they take as many of the next and have fewer bytes than
-// 25 files may; else the same.
+// Inputs with more files of the level, where they take as many of the next and have fewer bytes
+// than 25 files may; else the same.
 fn grown<'v, C: UserCmp>(
     alloc: Global,
     version: &'v Version<C>,

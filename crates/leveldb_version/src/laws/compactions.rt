@@ -16,8 +16,8 @@ use leveldb_base::cmp::{Cmp, InternalKeyCmp, UserCmp};
 use leveldb_env::env::Env;
 use leveldb_env::filter::FilterPolicy;
 
-/// A compaction keeps the order of levels, and all entries show the same after it, from the smallest
-/// held number on. So does a table that is moved to the next level.
+/// A compaction keeps the order of levels, and all entries show the same after it, from the
+/// smallest held number on. So does a table that is moved to the next level.
 pub fn compactions_keep_levels_and_views()
     ensures { CompactionsKeepViews }
 {}
@@ -28,8 +28,8 @@ pub fn ranges_tell_base_levels()
     ensures test { TestTellsBaseLevel }
 {}
 
-/// Outputs with what the rule leaves of merged inputs have dropped exactly what may go, and no other
-/// set of entries has.
+/// Outputs with what the rule leaves of merged inputs have dropped exactly what may go, and no
+/// other set of entries has.
 pub fn merged_tables_drop_what_may_go()
     ensures sets { DropsGoBySets }
     ensures all { ThinnedTablesDropAll }
@@ -67,9 +67,9 @@ pub fn replaced_tables_show_the_same<F: StoreFormat>()
     ensures switches { (store : List ℕ) → SwitchesReplace store F.cmp F.is_table }
 {}
 
-/// A compaction's edit may be logged once its outputs are kept, where no entries wait: every history
-/// is kept at each moment, and the store is written on with the same memory. So may the edit that
-/// moves a table.
+/// A compaction's edit may be logged once its outputs are kept, where no entries wait: every
+/// history is kept at each moment, and the store is written on with the same memory. So may the
+/// edit that moves a table.
 pub fn compactions_are_logged<F: StoreFormat>()
     ensures edits { (store : List ℕ) → EditsAreLogged store F.cmp F.is_table F.allowed }
     ensures outputs { (store : List ℕ) → MadeOutputsCompact store F.cmp F.is_table }
@@ -90,8 +90,8 @@ pub fn compacted_tables_show_the_same<F: StoreFormat>()
     ensures kept { ShownIsKept F.cmp }
 {}
 
-/// Files may be compacted that are chosen so: of one level, closed if it is level 0, with those that
-/// overlap them in the next.
+/// Files may be compacted that are chosen so: of one level, closed if it is level 0, with those
+/// that overlap them in the next.
 pub fn chosen_files_may_be_compacted()
     ensures chosen { ChosenMayBeCompacted }
     ensures widened { WidenedAreClosed }
@@ -109,9 +109,9 @@ pub fn walks_stay_beside_new_tables<E: Env, C: UserCmp, FP: FilterPolicy, K>()
         FP.FilterPolicy codings }
 {}
 
-/// What is read of a compaction's inputs agrees with the edits that added them, or a key contradicts
-/// these. Tables always agree; and files that are made of what agrees, and cut between user keys,
-/// lie within the inputs and are apart, whatever is in them.
+/// What is read of a compaction's inputs agrees with the edits that added them, or a key
+/// contradicts these. Tables always agree; and files that are made of what agrees, and cut between
+/// user keys, lie within the inputs and are apart, whatever is in them.
 pub fn inputs_agree_with_their_edits()
     ensures one { AgreeOrContradict }
     ensures tables { TablesAgreeWithEdits }

@@ -28,8 +28,8 @@ pub fn picked_levels_can_take_tables()
 {}
 
 /// The files of each level from 1 on are apart where a store may begin with them, and stay so when
-/// some are left out, when they are put in another order, and when a file is added to the level that
-/// `pick_memtable_output_level` returns for its first and last user keys.
+/// some are left out, when they are put in another order, and when a file is added to the level
+/// that `pick_memtable_output_level` returns for its first and last user keys.
 pub fn levels_stay_disjoint()
     ensures { StayDisjoint }
 {}

@@ -20,9 +20,9 @@ pub trait ReadsTables<E: Env, C: UserCmp + Copy + Drop, FP: FilterPolicy + Copy 
 where
     InternalKeyCmp<C>: Cmp,
 {
-    /// Makes a move in the table of this number, which is opened where it isn't open: by the walk, or
-    /// by a new one where there is none yet, which puts blocks that it reads into the cache only if
-    /// `fills` says so. Returns whether it is at a pair then.
+    /// Makes a move in the table of this number, which is opened where it isn't open: by the walk,
+    /// or by a new one where there is none yet, which puts blocks that it reads into the cache only
+    /// if `fills` says so. Returns whether it is at a pair then.
     fn move_in_table(
         &self,
         env: &mut E,
@@ -75,7 +75,8 @@ impl<E: Env, C: UserCmp + Copy + Drop, FP: FilterPolicy + Copy + Drop> ReadsTabl
 }
 
 /// The same compressors, for walks over whole tables, such as those of a compaction: blocks that
-/// they read don't go into the cache, where they would take the place of those that others look for.
+/// they read don't go into the cache, where they would take the place of those that others look
+/// for.
 #[derive(Drop)]
 pub struct ReadOnce<'k, K>(pub &'k K);
 
@@ -106,8 +107,8 @@ impl<
 }
 
 impl<E: Env, C: UserCmp + Copy + Drop, FP: FilterPolicy + Copy + Drop> TableCache<E, C, FP> {
-    // Makes a move in the table of this number, which is the one most recently used then. A walk that
-    // begins with it puts the blocks that it reads into the cache, if `fills` says so.
+    // Makes a move in the table of this number, which is the one most recently used then. A walk
+    // that begins with it puts the blocks that it reads into the cache, if `fills` says so.
     fn move_core(
         &mut self,
         env: &mut E,

@@ -19,9 +19,10 @@ use std::alloc::Global;
 use std::collections::BTreeSet;
 
 impl<C: UserCmp> Version<C> {
-    /// A copy of the version after an edit: without the files that the edit deletes, and with copies
-    /// of those that it adds. These get their first seeks, and the others keep the seeks that they
-    /// have left. The file that was chosen for a compaction stays chosen unless the edit deletes it.
+    /// A copy of the version after an edit: without the files that the edit deletes, and with
+    /// copies of those that it adds. These get their first seeks, and the others keep the seeks
+    /// that they have left. The file that was chosen for a compaction stays chosen unless the edit
+    /// deletes it.
     pub fn with_edit(&self, alloc: Global, edit: &VersionEdit) -> Result<Version<C>>
     where
         C: Copy + Drop,

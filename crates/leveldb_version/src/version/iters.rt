@@ -14,8 +14,8 @@ use leveldb_base::types::FileMetaData;
 use std::alloc::Global;
 
 impl<C: UserCmp + Copy + Drop> Version<C> {
-    /// Walks over the version's tables, which have not begun: one for each file of level 0, the newest
-    /// first, and then one for each deeper level that has files. This reads nothing.
+    /// Walks over the version's tables, which have not begun: one for each file of level 0, the
+    /// newest first, and then one for each deeper level that has files. This reads nothing.
     pub fn new_iters(&self, alloc: Global) -> Result<Vec<VersionIter<'_, C>>>
         ensures ok { IfOk result (λ iters. AreVersionIters self.now iters.items) }
         ensures in_order { AreInVersionOrder (C.cmp self.now.cmp) (new_files_of self.now) }

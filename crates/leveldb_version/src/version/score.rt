@@ -7,8 +7,8 @@ use super::Version;
 use leveldb_base::cmp::UserCmp;
 
 impl<C: UserCmp> Version<C> {
-    /// The level whose score asks for a compaction: the first of those of greatest score, if that is
-    /// 1 or more. Level 6 has no score.
+    /// The level whose score asks for a compaction: the first of those of greatest score, if that
+    /// is 1 or more. Level 6 has no score.
     pub fn level_by_score(&self) -> Option<usize>
         ensures { result ≡ level_by_score (new_files_of self.now) }
     {

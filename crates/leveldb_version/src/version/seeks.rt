@@ -17,8 +17,8 @@ use leveldb_base::key_types::{InternalKey, UserKey, split_sequence};
 use leveldb_base::types::{FileMetaData, FileNum};
 
 impl<C: UserCmp> Version<C> {
-    /// The file that is charged with a seek for a sample of the keys that are read, by its level and
-    /// number: the first one that a look-up of the user key tries, if there is a second.
+    /// The file that is charged with a seek for a sample of the keys that are read, by its level
+    /// and number: the first one that a look-up of the user key tries, if there is a second.
     pub fn sampled(&self, key: UserKey<'_>) -> Option<(usize, FileNum)>
         ensures { let cmp = C.cmp self.now.cmp in
             let files = new_files_of self.now in

@@ -35,8 +35,8 @@ impl<E: Env, C: UserCmp + Copy + Drop> VersionSet<E, C> {
     }
 
     /// The compaction for which the current version asks: by its score, of the files after the
-    /// level's compaction pointer, or else by reads. It has copies of what it needs of the set, whose
-    /// files the version has.
+    /// level's compaction pointer, or else by reads. It has copies of what it needs of the set,
+    /// whose files the version has.
     // LevelDB: VersionSet::PickCompaction
     pub fn pick_compaction<FP>(&self, options: &Options<C, FP>) -> Result<Option<Compaction<C>>>
         ensures ok { IfOk result (IsAskedFor (C.cmp self.now.current.cmp)

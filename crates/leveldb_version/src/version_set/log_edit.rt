@@ -30,8 +30,8 @@ impl<E: Env> LiveFiles<E> {
         edit
     }
 
-    /// Logs an edit that has the set's numbers, and applies it: it is appended to the manifest in use,
-    /// which is synced, or it begins a new manifest, which `CURRENT` then names. A call of the
+    /// Logs an edit that has the set's numbers, and applies it: it is appended to the manifest in
+    /// use, which is synced, or it begins a new manifest, which `CURRENT` then names. A call of the
     /// environment that fails breaks the set, which is not broken before.
     pub(super) fn log(&mut self, env: &mut E, edit: VersionEdit) -> Result<()>
         requires usable { self.old.manifest ≢ broken }

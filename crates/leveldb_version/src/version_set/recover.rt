@@ -113,8 +113,8 @@ impl<E: Env> LiveFiles<E> {
         Ok(true)
     }
 
-    // Becomes what was planned: with the manifest that was read if this is its file, else with a new
-    // one that the next edit begins. It takes no memory.
+    // Becomes what was planned: with the manifest that was read if this is its file, else with a
+    // new one that the next edit begins. It takes no memory.
     fn settle(&mut self, plan: Plan, file: Option<E::File>)
         requires named { IfSome file (λ file.
             IsTrue E.models_disk → E.name_of file ≡ string_bytes plan.path) }

@@ -97,10 +97,10 @@ impl<E: Env, C: UserCmp + Copy + Drop> VersionSet<E, C> {
     }
 
     /// Logs an edit with the set's numbers, and then applies it to the files and to the current
-    /// version: it is appended to the manifest in use, which is synced, or it begins a new manifest,
-    /// which `CURRENT` then names. A call of the environment that fails breaks the set: from then on
-    /// every call is `IOError`. Returns `InvalidArgument` if the edit names a level of 7 or more.
-    /// After an Err the version is as it was.
+    /// version: it is appended to the manifest in use, which is synced, or it begins a new
+    /// manifest, which `CURRENT` then names. A call of the environment that fails breaks the set:
+    /// from then on every call is `IOError`. Returns `InvalidArgument` if the edit names a level of
+    /// 7 or more. After an Err the version is as it was.
     // LevelDB: VersionSet::LogAndApply
     pub fn log_and_apply(&mut self, env: &mut E, edit: VersionEdit) -> Result<()>
         ensures log { LogEditResult E.models_disk self.old.set (edit_of edit) (E.observed env.old)

@@ -21,16 +21,16 @@ use std::alloc::Global;
 use std::marker::PhantomData;
 
 impl<E: Env, C: UserCmp + Copy, FP: FilterPolicy + Copy> Engine<E, C, FP> {
-    /// Opens the store under this name, which isn't empty and doesn't end in a slash.
-    /// A missing store is made, or `InvalidArgument` if the options say so; one that is there is
-    /// opened, or `AlreadyExists` if they say so; a locked one is `LockError`. Options that
-    /// `Options::check` refuses make no call. An opening that fails gives back the lock that it
-    /// took, unless the device failed once more. At its end it does one compaction, where the score
-    /// of a level asks for one; if that fails, the opening is Ok and a line goes to the options' log,
-    /// but where it broke the store it isn't opened. A store that is locked, or is missing and isn't to
-    /// be made, or is there and must not be, or that has tables or logs and no `CURRENT`, or a
-    /// manifest whose edits can't be used, is never opened; its files stay as they are, but that
-    /// its lock's file may be made.
+    /// Opens the store under this name, which isn't empty and doesn't end in a slash. A missing
+    /// store is made, or `InvalidArgument` if the options say so; one that is there is opened, or
+    /// `AlreadyExists` if they say so; a locked one is `LockError`. Options that `Options::check`
+    /// refuses make no call. An opening that fails gives back the lock that it took, unless the
+    /// device failed once more. At its end it does one compaction, where the score of a level asks
+    /// for one; if that fails, the opening is Ok and a line goes to the options' log, but where it
+    /// broke the store it isn't opened. A store that is locked, or is missing and isn't to be made,
+    /// or is there and must not be, or that has tables or logs and no `CURRENT`, or a manifest
+    /// whose edits can't be used, is never opened; its files stay as they are, but that its lock's
+    /// file may be made.
     pub fn open(
         alloc: Global,
         name: &str,

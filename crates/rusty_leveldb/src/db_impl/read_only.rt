@@ -24,8 +24,8 @@ use std::alloc::Global;
 use std::marker::{Model, PhantomData};
 
 /// A store that is read alone, without its environment: what its files held when it was opened. It
-/// has no lock and no snapshots, and nothing is written to it. `O` are the options that it was opened
-/// with, and `T` holds its open tables; there are calls only for the defaults.
+/// has no lock and no snapshots, and nothing is written to it. `O` are the options that it was
+/// opened with, and `T` holds its open tables; there are calls only for the defaults.
 pub struct ReadOnlyEngine<E: Env, C: Cmp, FP, O = Options<C, FP>, T = TableCache<E, C, FP>> {
     alloc: Global,
     // A parameter, since a struct with bounds that owns the options' boxes can't have a model.
@@ -66,11 +66,11 @@ impl<E: Env, C: Cmp, FP, O, T> Model for ReadOnlyEngine<E, C, FP, O, T> {
 }
 
 impl<E: Env, C: UserCmp + Copy, FP: FilterPolicy + Copy> ReadOnlyEngine<E, C, FP> {
-    /// Opens the store under this name to be read alone: no lock is asked for, and no file is made or
-    /// changed, whoever has the store open. It shows what `Engine::open` would find now. A name or
-    /// options that `Engine::open` refuses make no call; a missing store is `InvalidArgument`
-    /// whatever the options say, and one that is there may be there. All that its logs have comes to
-    /// memory.
+    /// Opens the store under this name to be read alone: no lock is asked for, and no file is made
+    /// or changed, whoever has the store open. It shows what `Engine::open` would find now. A name
+    /// or options that `Engine::open` refuses make no call; a missing store is `InvalidArgument`
+    /// whatever the options say, and one that is there may be there. All that its logs have comes
+    /// to memory.
     pub fn open(
         alloc: Global,
         name: &str,

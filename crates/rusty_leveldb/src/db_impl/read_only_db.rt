@@ -21,9 +21,9 @@ use leveldb_iter::walk::Walk;
 use leveldb_store::open_store::StoreView;
 use std::alloc::Global;
 
-/// A store that is read alone: it shows the map that `DB::open` would have found when it was opened.
-/// No call of it changes a file or a lock, so it may be dropped at any time, and nothing needs to be
-/// closed.
+/// A store that is read alone: it shows the map that `DB::open` would have found when it was
+/// opened. No call of it changes a file or a lock, so it may be dropped at any time, and nothing
+/// needs to be closed.
 ///
 /// | Code | Where a call may return it |
 /// |---|---|
@@ -34,13 +34,13 @@ use std::alloc::Global;
 /// | `Corruption` | a file of the store is damaged or missing |
 pub type ReadOnlyDB<'e, E, C, FP> = Store<'e, E, ReadOnlyEngine<E, C, FP>>;
 
-/// Opens the store under this name to be read alone, whoever has its lock. No lock is asked for, and no
-/// file is made or changed. A missing store is `InvalidArgument` whatever the options say. What is
-/// read of files that another process changes meanwhile no contract says.
+/// Opens the store under this name to be read alone, whoever has its lock. No lock is asked for,
+/// and no file is made or changed. A missing store is `InvalidArgument` whatever the options say.
+/// What is read of files that another process changes meanwhile no contract says.
 ///
 /// Ok: it shows the history that `DB::open` would find, and the last number that this would have.
-/// Err: it has a cause. But no contract says which environment this is, since its borrow is gone with
-/// the store that wasn't opened: use `ReadOnlyEngine::open` where you go on with that.
+/// Err: it has a cause. But no contract says which environment this is, since its borrow is gone
+/// with the store that wasn't opened: use `ReadOnlyEngine::open` where you go on with that.
 pub fn open_read_only<'e, E: Env, C: UserCmp + Copy, FP: FilterPolicy + Copy>(
     alloc: Global,
     name: &str,
@@ -95,10 +95,9 @@ impl<'e, E: Env, C: UserCmp + Copy, FP: FilterPolicy + Copy> Store<
     /// nothing else is done with that.
     ///
     /// Ok: the iterator is over the history's sorted map, and so is each move (`ReaderIterates`,
-    /// `MovesIterator`); no move changes a file or a lock.
-    /// Err: there is no memory for an iterator.
-    /// After it: once this was called, also in vain, no contract says what the store shows. Use `walk`
-    /// where you need the store after an iterator.
+    /// `MovesIterator`); no move changes a file or a lock. Err: there is no memory for an iterator.
+    /// After it: once this was called, also in vain, no contract says what the store shows. Use
+    /// `walk` where you need the store after an iterator.
     pub fn new_iter<'a>(&'a mut self) -> Result<DBIterator<'a, E, C, FP>>
         ensures { let codings = ⟦<CompressorList as Compressors>⟧.codings in
             let walk = ⟦<StoreView<'a, C> as Walk<E, StoreTables<'a, E, C, FP>>>⟧ in

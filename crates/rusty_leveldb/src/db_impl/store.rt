@@ -36,13 +36,14 @@ pub struct Store<'e, E: Env, S: Drop> {
 
 /// A store that was opened: an ordered map from keys to values, kept in an environment's files.
 ///
-/// Whatever calls are made and wherever crashes come, opening it again finds exactly the map of some
-/// prefix of the batches that were handed to its log. Each batch is found whole or not at all, and
-/// each that a synced write, `flush` or `close` made durable is found. A look-up, and each move of
-/// an iterator, gives what the sorted map of that history gives, now or at a snapshot. A call that
-/// fails changes no answer and has a named cause; at worst it breaks the store, which may then be
-/// read and abandoned. The lock is held until `close` or `abandon` gives it back, also if the store
-/// is dropped. Of a store of which an iterator was asked for no contract says more: `new_iter`.
+/// Whatever calls are made and wherever crashes come, opening it again finds exactly the map of
+/// some prefix of the batches that were handed to its log. Each batch is found whole or not at all,
+/// and each that a synced write, `flush` or `close` made durable is found. A look-up, and each move
+/// of an iterator, gives what the sorted map of that history gives, now or at a snapshot. A call
+/// that fails changes no answer and has a named cause; at worst it breaks the store, which may then
+/// be read and abandoned. The lock is held until `close` or `abandon` gives it back, also if the
+/// store is dropped. Of a store of which an iterator was asked for no contract says more:
+/// `new_iter`.
 ///
 /// | Code | Where a call may return it |
 /// |---|---|
@@ -82,8 +83,8 @@ impl<'e, E: Env, S: Drop> Store<'e, E, S> {
 }
 
 impl<'e, E: Env, C: UserCmp + Copy, FP: FilterPolicy + Copy> Store<'e, E, Engine<E, C, FP>> {
-    /// Opens the store under this name, which isn't empty and doesn't end in a slash. A missing store
-    /// is made, or `InvalidArgument` if the options say so; one that is there is opened, or
+    /// Opens the store under this name, which isn't empty and doesn't end in a slash. A missing
+    /// store is made, or `InvalidArgument` if the options say so; one that is there is opened, or
     /// `AlreadyExists` if they say so; a locked one is `LockError`. Options that `Options::check`
     /// refuses make no call.
     ///
@@ -147,8 +148,9 @@ impl<'e, E: Env, C: UserCmp + Copy, FP: FilterPolicy + Copy> Store<'e, E, Engine
     }
 
     /// Makes the batch's changes together, in their order and after all others. A memtable that is
-    /// full becomes a table first, and then one compaction is done where a level's score or reads ask
-    /// for it. If that fails, so does the write; made again it goes through, unless the store broke.
+    /// full becomes a table first, and then one compaction is done where a level's score or reads
+    /// ask for it. If that fails, so does the write; made again it goes through, unless the store
+    /// broke.
     ///
     /// Ok: the history ends with the batch (`Writes`); with `sync` all of it is durable.
     /// Err: no answer changes; out of memory or by the device the store may be broken, as it is by
@@ -184,8 +186,9 @@ impl<'e, E: Env, C: UserCmp + Copy, FP: FilterPolicy + Copy> Store<'e, E, Engine
     }
 
     /// Makes tables of all entries in memory, and compacts those that overlap the range between two
-    /// keys, ends included, from level 0 down to the deepest that has such a table: from levels 1 to
-    /// 5, or level 1. An empty key is an open end. Entries that no look-up finds any more may go.
+    /// keys, ends included, from level 0 down to the deepest that has such a table: from levels 1
+    /// to 5, or level 1. An empty key is an open end. Entries that no look-up finds any more may
+    /// go.
     ///
     /// Ok: no answer changes (`Keeps`); tables alone have all that is found, now and at each
     /// snapshot, and no file of these levels overlaps the range.
@@ -219,9 +222,9 @@ impl<'e, E: Env, C: UserCmp + Copy, FP: FilterPolicy + Copy> Store<'e, E, Engine
         self.state.get(&mut *self.env, key)
     }
 
-    /// Returns the value that the key had when the snapshot was given out, or none if it had none. A
-    /// snapshot that isn't held is `InvalidArgument`; it is known by its two numbers, so one that an
-    /// earlier opening gave out may be taken for one that is held.
+    /// Returns the value that the key had when the snapshot was given out, or none if it had none.
+    /// A snapshot that isn't held is `InvalidArgument`; it is known by its two numbers, so one that
+    /// an earlier opening gave out may be taken for one that is held.
     ///
     /// Ok: the value that the history's map had (`FindsValue`).
     /// Err: nothing changes (`StaysAsItWas`).
@@ -313,8 +316,8 @@ impl<'e, E: Env, C: UserCmp + Copy, FP: FilterPolicy + Copy> Store<'e, E, Engine
         state.new_iter(&mut **env)
     }
 
-    /// Returns an iterator over the store as it was when a snapshot was given out, at no position. A
-    /// snapshot that isn't held is `InvalidArgument`. Its moves, and what is known of the store
+    /// Returns an iterator over the store as it was when a snapshot was given out, at no position.
+    /// A snapshot that isn't held is `InvalidArgument`. Its moves, and what is known of the store
     /// after it, are as of `new_iter`.
     pub fn new_iter_at<'a>(&'a mut self, snapshot: &Snapshot) -> Result<DBIterator<'a, E, C, FP>>
         ensures { let codings = ⟦<CompressorList as Compressors>⟧.codings in
@@ -345,7 +348,8 @@ impl<'e, E: Env, C: UserCmp + Copy, FP: FilterPolicy + Copy> Store<'e, E, Engine
         self.state.close(&mut *self.env)
     }
 
-    /// Gives back the lock, where `close` hasn't. Nothing is synced; of a closed store nothing is done.
+    /// Gives back the lock, where `close` hasn't. Nothing is synced; of a closed store nothing is
+    /// done.
     ///
     /// Ok: nothing is held, and the lock is free (`IsAbandoned`).
     /// Err: the device failed; nothing is held, and the lock is as it was (`NotUnlocked`).

@@ -52,9 +52,9 @@ impl<E: Env, C: UserCmp + Copy, FP: FilterPolicy + Copy> Engine<E, C, FP> {
     }
 
     /// Makes the batch's changes together, after all others; with `sync` they are durable once this
-    /// is Ok. A memtable that is full becomes a table first, and the compaction is done for which the
-    /// store asks then. An append or a sync of the log that fails breaks the engine. `DB::write` says
-    /// what each result means.
+    /// is Ok. A memtable that is full becomes a table first, and the compaction is done for which
+    /// the store asks then. An append or a sync of the log that fails breaks the engine.
+    /// `DB::write` says what each result means.
     pub fn write(&mut self, env: &mut E, batch: WriteBatch, sync: bool) -> Result<()>
         ensures { let choices = choices_of C.Cmp FP.FilterPolicy
             ⟦<InternalKeyCmp<C> as Cmp>⟧ ⟦<InternalFilterPolicy<FP> as FilterPolicy>⟧
@@ -70,9 +70,9 @@ impl<E: Env, C: UserCmp + Copy, FP: FilterPolicy + Copy> Engine<E, C, FP> {
         written
     }
 
-    // Makes room in the memtable of an engine that is open, where it is full, and does the compaction
-    // then for which its store asks. Entries that are shadowed at the smallest number at which the
-    // engine is read may go. If that breaks the store, the engine is broken.
+    // Makes room in the memtable of an engine that is open, where it is full, and does the
+    // compaction then for which its store asks. Entries that are shadowed at the smallest number at
+    // which the engine is read may go. If that breaks the store, the engine is broken.
     fn make_room(&mut self, env: &mut E) -> Result<()>
         requires { self.old.mode ≡ open_mode }
         ensures { let choices = choices_of C.Cmp FP.FilterPolicy

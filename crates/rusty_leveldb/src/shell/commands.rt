@@ -1,4 +1,4 @@
-//! What is asked of a store, and what it answers.
+//! What is asked of a store, and what it replies.
 
 use bytes::Bytes;
 use leveldb_base::error::Status;
@@ -40,7 +40,7 @@ pub enum Item {
     Delete(Vec<u8>),
 }
 
-/// What a command is answered.
+/// The reply to a command.
 #[derive(Debug, Drop)]
 pub enum Reply {
     Done,

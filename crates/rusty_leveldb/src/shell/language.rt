@@ -16,8 +16,7 @@ pub enum Script {
     BadLine(usize),
 }
 
-/// Reads a text of commands, one a line; the last newline may be missing. It is refused for want of
-/// memory.
+/// Reads a text of commands, one a line; the last newline may be missing. Fails out of memory.
 pub fn parse(alloc: Global, text: &[u8]) -> Result<Script, AllocError>
     ensures { IfOk result (IsReading text.now) }
 {

@@ -9,7 +9,7 @@ use super::walks::read_walk;
 use super::words::{after, read_number, read_word, split_once};
 use std::alloc::{AllocError, Global};
 
-/// The command that a line spells; none where it spells none. It is refused for want of memory.
+/// The command that a line encodes, or none where it encodes none. Fails out of memory.
 pub(super) fn read_line(alloc: Global, line: &[u8]) -> Result<Option<Command>, AllocError>
     ensures { IfOk result (IsLineReading line.now) }
 {

@@ -77,10 +77,10 @@ impl fmt::Display for Fault {
 
 /// Runs the commands of `input` over the store in the folder that is the last argument, and writes
 /// their replies to `out`. After `--read-only` the store is read alone (`run_read_only`). After
-/// `--repair` it is repaired (`repair`): no input is read, and `repaired` is written. Else a folder is
-/// the only argument. A fault is told on `err`, and what the store says of its files is a line for
-/// `log`. The status is 0 if all was answered and written, 2 if the arguments, a line or the length of
-/// the input is wrong, and 1 if a call failed.
+/// `--repair` it is repaired (`repair`): no input is read, and `repaired` is written. Else a folder
+/// is the only argument. A fault is a line on `err`, and what the store says of its files is a line
+/// for `log`. The status is 0 if all was answered and written, 2 if the arguments, a line or the
+/// length of the input is wrong, and 1 if a call failed.
 pub fn ldb_main<E: Env, I: Read, O: Write, F: Write>(
     alloc: Global,
     env: &mut E,
@@ -101,7 +101,7 @@ pub fn ldb_main<E: Env, I: Read, O: Write, F: Write>(
     }
 }
 
-// Tells a fault in a line, as far as it can be written, and answers its status.
+// Writes a fault in a line, as far as that can be written, and returns its status.
 fn tell_fault<F: Write>(err: &mut F, fault: Fault) -> u8
     ensures { result ≡ status_of fault }
 {
@@ -230,7 +230,7 @@ fn run_by<E: Env, C: UserCmp + Copy, FP: FilterPolicy + Copy>(
     }
 }
 
-// Writes the lines that tell these replies; where memory is refused, those that it has.
+// Writes the lines of these replies; out of memory, those that it has.
 fn print<O: Write>(alloc: Global, out: &mut O, replies: &[Reply]) -> Result<(), Status>
     ensures { OnOk result
         (Appends (O.contents out.old) (O.contents out.new) (reply_lines replies.now)) }
@@ -242,7 +242,7 @@ fn print<O: Write>(alloc: Global, out: &mut O, replies: &[Reply]) -> Result<(), 
     Ok(told?)
 }
 
-// The commands that the input spells.
+// The commands that the input encodes.
 fn read_commands<I: Read>(alloc: Global, input: &mut I) -> Result<Vec<Command>, Fault>
     ensures ok { IfOk result (λ commands. IsInput (I.remaining input.old) commands.items) }
     ensures fault { IfErr result (IsInputFault (I.remaining input.old)) }

@@ -22,11 +22,11 @@ use leveldb_env::options::Options;
 use leveldb_iter::moves::{Move, Step};
 use std::alloc::Global;
 
-/// Opens a store to be read alone, and answers the commands one after another: look-ups, and walks
-/// over the store as it is now. Each other command is `InvalidArgument`. No file is made or changed,
-/// and no lock is asked for. The replies come after those that are there. It fails out of memory
-/// before it begins, or since the store isn't opened: a missing one is `InvalidArgument`, whatever the
-/// options say.
+/// Opens a store to be read alone, and replies to the commands one after another: look-ups, and
+/// walks over the store as it is now. Each other command is `InvalidArgument`. No file is made or
+/// changed, and no lock is asked for. The replies come after those that are there. It fails out of
+/// memory before it begins, or since the store isn't opened: a missing one is `InvalidArgument`,
+/// whatever the options say.
 pub fn run_read_only<E: Env, C: UserCmp + Copy, FP: FilterPolicy + Copy>(
     env: &mut E,
     name: &str,
@@ -55,7 +55,7 @@ pub fn run_read_only<E: Env, C: UserCmp + Copy, FP: FilterPolicy + Copy>(
     Ok(())
 }
 
-// What a command is answered by an engine that only reads.
+// The reply of an engine that only reads to a command.
 fn answer<E: Env, C: UserCmp + Copy, FP: FilterPolicy + Copy>(
     alloc: Global,
     engine: &mut ReadOnlyEngine<E, C, FP>,

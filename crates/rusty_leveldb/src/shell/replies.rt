@@ -7,8 +7,8 @@ use super::words::put_word;
 use leveldb_base::error::StatusCode;
 use std::alloc::AllocError;
 
-/// Writes the lines that tell these replies after the text. Where it is refused, for want of
-/// memory, those of the first replies stand there.
+/// Appends the lines of these replies to the text. Where it fails, out of memory, those of the
+/// first replies are there.
 pub fn put_replies(out: &mut Vec<u8>, replies: &[Reply]) -> Result<(), AllocError>
     ensures { (told : ℕ) × (out.new.items ≡ out.old.items ++ reply_lines (take told replies.now))
         × OnOk result (told ≡ length replies.now) }
@@ -19,7 +19,7 @@ pub fn put_replies(out: &mut Vec<u8>, replies: &[Reply]) -> Result<(), AllocErro
     Ok(())
 }
 
-// Writes the lines that tell a reply after the text, or leaves the text as it was.
+// Appends the lines of a reply to the text, or leaves the text as it was.
 fn put_reply(out: &mut Vec<u8>, reply: &Reply) -> Result<(), AllocError>
     ensures ok { OnOk result (out.new.items ≡ out.old.items ++ reply_text reply.now) }
     ensures err { OnErr result (out.new.items ≡ out.old.items) }
@@ -32,8 +32,7 @@ fn put_reply(out: &mut Vec<u8>, reply: &Reply) -> Result<(), AllocError>
     put
 }
 
-// Writes the lines that tell a reply after the text. Where it is refused, part of them may stand
-// there.
+// Appends the lines of a reply to the text. Where it fails, part of them may be there.
 fn put_text(out: &mut Vec<u8>, reply: &Reply) -> Result<(), AllocError>
     ensures { Appends out.old.items out.new.items result (reply_text reply.now) }
 {
@@ -47,7 +46,7 @@ fn put_text(out: &mut Vec<u8>, reply: &Reply) -> Result<(), AllocError>
     }
 }
 
-// Writes the line that tells a value after the text.
+// Appends the line of a value to the text.
 fn put_value(out: &mut Vec<u8>, value: &[u8]) -> Result<(), AllocError>
     ensures { Appends out.old.items out.new.items result
         (codes "value " ++ hex_word value.now ++ codes "\n") }
@@ -57,7 +56,7 @@ fn put_value(out: &mut Vec<u8>, value: &[u8]) -> Result<(), AllocError>
     out.extend_from_slice(b"\n")
 }
 
-// Writes the line that tells a snapshot's number after the text.
+// Appends the line of a snapshot's number to the text.
 fn put_snapshot(out: &mut Vec<u8>, number: usize) -> Result<(), AllocError>
     ensures { Appends out.old.items out.new.items result
         (codes "snapshot " ++ decimal number ++ codes "\n") }
@@ -66,7 +65,7 @@ fn put_snapshot(out: &mut Vec<u8>, number: usize) -> Result<(), AllocError>
     out.extend_from_slice(line.as_bytes())
 }
 
-// Writes the lines that tell where moves led after the text.
+// Appends the lines that say where moves led to the text.
 fn put_steps(out: &mut Vec<u8>, steps: &[Step]) -> Result<(), AllocError>
     ensures { Appends out.old.items out.new.items result (flat_map step_line steps.now) }
 {
@@ -76,7 +75,7 @@ fn put_steps(out: &mut Vec<u8>, steps: &[Step]) -> Result<(), AllocError>
     Ok(())
 }
 
-// Writes the line that tells where a move led after the text.
+// Appends the line that says where a move led to the text.
 fn put_step(out: &mut Vec<u8>, step: &Step) -> Result<(), AllocError>
     ensures { Appends out.old.items out.new.items result (step_line step.now) }
 {
@@ -87,7 +86,7 @@ fn put_step(out: &mut Vec<u8>, step: &Step) -> Result<(), AllocError>
     }
 }
 
-// Writes the line that tells a pair after the text.
+// Appends the line of a pair to the text.
 fn put_pair(out: &mut Vec<u8>, key: &[u8], value: &[u8]) -> Result<(), AllocError>
     ensures { Appends out.old.items out.new.items result
         (codes "at " ++ hex_word key.now ++ codes " " ++ hex_word value.now ++ codes "\n") }
@@ -99,7 +98,7 @@ fn put_pair(out: &mut Vec<u8>, key: &[u8], value: &[u8]) -> Result<(), AllocErro
     out.extend_from_slice(b"\n")
 }
 
-// Writes the line that tells a refusal after the text.
+// Appends the line of a refusal to the text.
 fn put_refusal(out: &mut Vec<u8>, code: StatusCode) -> Result<(), AllocError>
     ensures { Appends out.old.items out.new.items result (refusal_line code) }
 {

@@ -28,8 +28,8 @@ use leveldb_iter::snapshot::Snapshot;
 use leveldb_mem::write_batch::WriteBatch;
 use std::alloc::Global;
 
-/// Opens a store, answers the commands one after another, and gives back its lock if no command
-/// did. A command that fails is answered, and the run goes on. The replies come after those that
+/// Opens a store, replies to the commands one after another, and gives back its lock if no command
+/// did. A command that fails has a reply, and the run goes on. The replies come after those that
 /// are there, also if the run fails: out of memory before it begins, or since the store isn't
 /// opened or its lock isn't given back. A store that is locked, or is missing and isn't to be made,
 /// or that has tables or logs and no `CURRENT`, or a manifest whose edits can't be used, is never
@@ -70,7 +70,7 @@ pub fn run<E: Env, C: UserCmp + Copy, FP: FilterPolicy + Copy>(
     engine.abandon(env)
 }
 
-// What a command is answered, after these snapshots were taken: it is a call of the engine.
+// The reply to a command, after these snapshots were taken: it tells a call of the engine.
 pub(super) fn answer<E: Env, C: UserCmp + Copy, FP: FilterPolicy + Copy>(
     alloc: Global,
     engine: &mut Engine<E, C, FP>,

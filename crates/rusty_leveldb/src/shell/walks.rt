@@ -6,8 +6,7 @@ use super::commands::{Command, Move};
 use super::words::{after, read_number, read_word, split_once};
 use std::alloc::{AllocError, Global};
 
-/// A walk, by the words after its name; none where they spell none. It is refused for want of
-/// memory.
+/// A walk, by the words after its name, or none where they encode none. Fails out of memory.
 pub(super) fn read_walk(alloc: Global, words: &[u8]) -> Result<Option<Command>, AllocError>
     ensures { IfOk result (IsLineReading (codes "walk " ++ words.now)) }
 {

@@ -11,8 +11,8 @@ use std::str;
 
 const DIGITS: &[u8; 16] = b"0123456789abcdef";
 
-/// Writes bytes as a word after the text. Where it is refused, for want of memory, part of the
-/// word may stand there.
+/// Appends bytes as a word to the text. Where it fails, out of memory, part of the word may be
+/// there.
 pub(super) fn put_word(out: &mut Vec<u8>, bytes: &[u8]) -> Result<(), AllocError>
     ensures { Appends out.old.items out.new.items result (hex_word bytes.now) }
 {
@@ -32,7 +32,7 @@ fn digits(byte: u8) -> [u8; 2]
     [DIGITS[(byte / 16) as usize], DIGITS[(byte % 16) as usize]]
 }
 
-/// The bytes that a word spells; none where it spells none. It is refused for want of memory.
+/// The bytes that a word encodes, or none where it encodes none. Fails out of memory.
 pub(super) fn read_word(alloc: Global, word: &[u8]) -> Result<Option<Vec<u8>>, AllocError>
     ensures { IfOk result (IsWordReading word.now) }
 {
@@ -48,7 +48,7 @@ pub(super) fn read_word(alloc: Global, word: &[u8]) -> Result<Option<Vec<u8>>, A
     }
 }
 
-// The bytes of a word, whichever the case of its digits; where it is one, those that it spells.
+// The bytes of a word, whichever the case of its digits; where it is one, those that it encodes.
 fn read_digits(alloc: Global, word: &[u8]) -> Result<Option<Vec<u8>>, AllocError>
     ensures { IfOk result (λ found. MatchOption found
         ((bytes : List ℕ) → IsWord word.now bytes → ⊥)
@@ -89,8 +89,7 @@ pub(super) fn after<'a>(text: &'a [u8], head: &[u8]) -> Option<&'a [u8]>
     text.strip_prefix(head)
 }
 
-/// What stands before the first of these bytes in a text, and what comes after it, where there is
-/// one.
+/// What comes before the first of these bytes in a text, and what after it, where there is one.
 pub(super) fn split_once(text: &[u8], separator: u8) -> (&[u8], Option<&[u8]>)
     ensures before { Contains result.0.now separator → ⊥ }
     ensures parts { MatchOption result.1 (result.0.now ≡ text.now)

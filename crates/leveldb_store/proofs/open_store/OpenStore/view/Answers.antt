@@ -16,7 +16,8 @@ returns-clause-views g c =
     c.in_ok-children.children.items c.in_ok-children.ensures.ok c.args.sequence c.view_over.result
     c.self.inside.cmp (ap (λ v. v.cmp) c.self.view_is) c.min-last.result last c.view_over.ensures
 
--- what a call reads, and how its errors are counted, is by the errors of its children alone: those of a memtable's walk are none
+-- what a call reads, and how its errors are counted, is by the errors of its children alone: those
+-- of a memtable's walk are none
 
 pub returns-in_err-children-clause-reads : goal.returns-in_err-children-clause-reads
 returns-in_err-children-clause-reads g c = view_reads g.E.Env g.C.Cmp g.FP.FilterPolicy g.K.Compressors.codings _

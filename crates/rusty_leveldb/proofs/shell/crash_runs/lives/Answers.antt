@@ -1,4 +1,5 @@
--- Each life joins those before it, with its crash; a refusal is that of a life's memory or of a crash.
+-- Each life joins those before it, with its crash; a refusal is that of a life's memory or of a
+-- crash.
 use Rattle.std.proofs.Common.{rules, vec_len, vec_capacity, ◌<◌, append-nil, append_assoc, ◌≡◌, ◌+◌, ◌++◌, ◌∷◌, inl, inr, ⊎_elim, [], length, refl, sym, subst, ◌∙◌, ap, arith}
 use Rattle.std.proofs.lemmas.List.{nil_from_length}
 use Rattle.std.proofs.lemmas.Result.{err_from_is_err_and}
