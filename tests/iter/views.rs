@@ -123,24 +123,24 @@ fn all_moves_in_all_orders(rt: HostRuntime) -> Result<()> {
 // The moves that are made with a device that fails.
 const WALK: &[u8] = b"aaapaplpppaasaflpspa";
 
-// Whether each move leads where it leads in the list, or fails and leaves no position.
-fn goes_on(it: &mut View, device: &mut Device, pairs: &Pairs) -> bool {
+// Whether each move leads where it leads in the list, or fails and leaves no position. Err: a move found no memory.
+fn goes_on(it: &mut View, device: &mut Device, pairs: &Pairs) -> Result<bool> {
     let mut at = None;
     for letter in WALK {
         at = match go(it, device, *letter) {
             Ok(()) => gone(pairs.keys.as_slice(), at, *letter),
             Err(status) => {
                 if status.code != StatusCode::IOError {
-                    return false;
+                    return Err(status);
                 }
                 None
             }
         };
         if !is_at(it, pairs.at(at)) {
-            return false;
+            return Ok(false);
         }
     }
-    true
+    Ok(true)
 }
 
 #[test]
@@ -150,7 +150,7 @@ fn a_failed_move_leaves_no_position_and_the_view_goes_on(rt: HostRuntime) -> Res
     for calls_left in 0..80 {
         let mut it = view(rt.alloc(), entries.as_slice(), 5)?;
         let mut device = Device { calls_left };
-        assert!(rt; goes_on(&mut it, &mut device, &pairs), "{calls_left}");
+        assert!(rt; goes_on(&mut it, &mut device, &pairs)?, "{calls_left}");
     }
     Ok(())
 }
