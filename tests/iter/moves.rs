@@ -1,9 +1,9 @@
 //! Lists of moves of a walk over a list in memory.
 use super::children::{Device, Source, list_of};
 use leveldb_base::cmp::DefaultCmp;
-use leveldb_base::error::{Result, StatusCode};
+use leveldb_base::error::{Result, Status, StatusCode};
 use leveldb_iter::moves::{Move, Step, make_moves};
-use std::alloc::Global;
+use std::alloc::{AllocError, Global};
 
 // The moves of letters: f to the first pair, n to the next, p to the one before, and s to the first
 // at or after "d".
@@ -20,7 +20,7 @@ fn moves_of(alloc: Global, letters: &[u8]) -> Result<Vec<Move>> {
     Ok(moves)
 }
 
-// Where steps led: the letter of the key, '-' for no position, and '!' where the device failed.
+// Where steps led: the letter of the key, '-' for no position, and '!' where the device failed. Err: a move found no memory.
 fn text_of(alloc: Global, steps: &[Step]) -> Result<Vec<u8>> {
     let mut text = Vec::new(alloc);
     for step in steps {
@@ -30,6 +30,9 @@ fn text_of(alloc: Global, steps: &[Step]) -> Result<Vec<u8>> {
                 _ => b'?',
             },
             Step::Invalid => b'-',
+            Step::Refused(status) if status.code == StatusCode::OutOfMemory => {
+                return Err(Status::from(AllocError));
+            }
             Step::Refused(status) if status.code == StatusCode::IOError => b'!',
             Step::Refused(_) => b'?',
         })?;

@@ -123,24 +123,24 @@ fn all_moves_in_all_orders(rt: HostRuntime) -> Result<()> {
 // The moves that are made with a device that fails.
 const WALK: &[u8] = b"aaapaplpppaasaflpspa";
 
-// Whether each move leads where it leads in the list, or fails and leaves no position.
-fn goes_on(it: &mut View, device: &mut Device, pairs: &Pairs) -> bool {
+// Whether each move leads where it leads in the list, or fails and leaves no position. Err: a move found no memory.
+fn goes_on(it: &mut View, device: &mut Device, pairs: &Pairs) -> Result<bool> {
     let mut at = None;
     for letter in WALK {
         at = match go(it, device, *letter) {
             Ok(()) => gone(pairs.keys.as_slice(), at, *letter),
             Err(status) => {
                 if status.code != StatusCode::IOError {
-                    return false;
+                    return Err(status);
                 }
                 None
             }
         };
         if !is_at(it, pairs.at(at)) {
-            return false;
+            return Ok(false);
         }
     }
-    true
+    Ok(true)
 }
 
 #[test]
@@ -150,7 +150,7 @@ fn a_failed_move_leaves_no_position_and_the_view_goes_on(rt: HostRuntime) -> Res
     for calls_left in 0..80 {
         let mut it = view(rt.alloc(), entries.as_slice(), 5)?;
         let mut device = Device { calls_left };
-        assert!(rt; goes_on(&mut it, &mut device, &pairs), "{calls_left}");
+        assert!(rt; goes_on(&mut it, &mut device, &pairs)?, "{calls_left}");
     }
     Ok(())
 }
@@ -163,14 +163,19 @@ const DAMAGED: [(&str, &str, &str, &str); 3] = [
     ("a4+b4-", "", "laafal", "!a!a!!"),
 ];
 
-// Whether a move leads to the pair of this key, or fails there and leaves no position.
-fn leads_to(it: &mut View, letter: u8, key: u8) -> bool {
+// Whether a move leads to the pair of this key, or fails there and leaves no position. Err: it found no memory.
+fn leads_to(it: &mut View, letter: u8, key: u8) -> Result<bool> {
     let mut device = Device {
         calls_left: u64::MAX,
     };
     match go(it, &mut device, letter) {
-        Ok(()) => is_at(it, Some((key, 4))),
-        Err(status) => { key == b'!' && status.code == StatusCode::Corruption && is_at(it, None) }
+        Ok(()) => Ok(is_at(it, Some((key, 4)))),
+        Err(status) => {
+            if status.code != StatusCode::Corruption {
+                return Err(status);
+            }
+            Ok(key == b'!' && is_at(it, None))
+        }
     }
 }
 
@@ -182,7 +187,7 @@ fn a_key_without_a_tag_is_corrupt_and_the_view_goes_on(rt: HostRuntime) -> Resul
         let list = list_of_damaged(rt.alloc(), front.as_slice(), back.as_slice())?;
         let mut it = DbIterCore::new::<Device, ()>(rt.alloc(), Source { list }, 9);
         for (letter, key) in letters.as_bytes().iter().zip(keys.as_bytes()) {
-            assert!(rt; leads_to(&mut it, *letter, *key), "{letters}: {letter}");
+            assert!(rt; leads_to(&mut it, *letter, *key)?, "{letters}: {letter}");
         }
     }
     Ok(())

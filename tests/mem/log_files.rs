@@ -1,11 +1,11 @@
 //! Logs in files: the bytes that they get, what a crash keeps of them, and calls that fail.
 
-use leveldb_base::error::{Result, StatusCode};
+use leveldb_base::error::{Result, Status, StatusCode};
 use leveldb_env::env::Env;
 use leveldb_env::env::whole_files::read_file;
 use leveldb_env::mem_env::{MemEnv, Pick, RecordEnv};
 use leveldb_mem::log::{LogFile, LogWriter};
-use std::alloc::Global;
+use std::alloc::{AllocError, Global};
 use std::process::Abort;
 use support::failed_with;
 
@@ -140,7 +140,7 @@ fn a_failed_sync_breaks_a_log(rt: HostRuntime) -> Result<()> {
     assert_broken(&rt, &mut env, &mut log)
 }
 
-/// Whether a call failed since the log's file is missing, and its text names the file.
+/// Whether a call failed since the log's file is missing, and its text names the file. Err: it or its text found no memory.
 fn is_missing(answer: Result<()>) -> Result<bool> {
     let Err(status) = answer else {
         return Ok(false);
@@ -148,9 +148,10 @@ fn is_missing(answer: Result<()>) -> Result<bool> {
     if status.code == StatusCode::OutOfMemory {
         return Err(status);
     }
-    let named = status.err.is_some_and(|text| text
-        .as_str()
-        .ends_with("missing file: db/000003.log"));
+    let Some(text) = status.err else {
+        return Err(Status::from(AllocError));
+    };
+    let named = text.as_str().ends_with("missing file: db/000003.log");
     Ok(status.code == StatusCode::Corruption && named)
 }
 

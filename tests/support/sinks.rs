@@ -1,7 +1,7 @@
 //! A sink of an information log that waits for one line.
-use leveldb_base::error::Result;
+use leveldb_base::error::{Result, Status};
 use leveldb_env::infolog::{InfoSink, Logger};
-use std::alloc::Global;
+use std::alloc::{AllocError, Global};
 use std::cell::Cell;
 use std::rc::Rc;
 
@@ -51,5 +51,13 @@ impl Lines {
     /// All lines, and those that were right.
     pub fn counts(&self) -> (usize, usize) {
         (self.count.get(), self.right.get())
+    }
+
+    /// Whether the log was given the line, once, and no other. Err: it was given none, as where the line finds no memory.
+    pub fn are_right(&self) -> Result<bool> {
+        match self.counts() {
+            (0, _) => Err(Status::from(AllocError)),
+            counts => Ok(counts == (1, 1)),
+        }
     }
 }

@@ -501,11 +501,10 @@ fn blocks_that_are_not_decoded(rt: HostRuntime) -> Result<()> {
         assert!(rt; failed_with(answer, StatusCode::CompressionError)?);
         for at in 0..bytes.len() {
             change_byte(&mut bytes, at, 1);
-            let answer = judged(rt.alloc(), &bytes);
-            if let Err(status) = &answer {
-                assert!(rt; status.code == StatusCode::NotSupported, "byte {at}");
+            match judged(rt.alloc(), &bytes) {
+                Err(status) if status.code != StatusCode::NotSupported => return Err(status),
+                answer => assert!(rt; !answer.unwrap_or(false), "byte {at}"),
             }
-            assert!(rt; !answer.unwrap_or(false), "byte {at}");
             change_byte(&mut bytes, at, 255);
         }
     }
