@@ -113,8 +113,8 @@ module _ (store : List ℕ) (files : Files) where
   IsMissingLog file = (file.kind ≡ Log)
       × (files (in_folder store (string_bytes file.name)) ≡ None)
 
-  -- The file is a log that begins with batches whose numbers entries may have, and which are found so;
-  -- the last of them is too large for a memtable of its own.
+  -- The file is a log that begins with batches whose numbers entries may have, and which are found
+  -- so; the last of them is too large for a memtable of its own.
   abbrev pub HasLargeBatch : ListedFile → Type 0
   HasLargeBatch file = (file.kind ≡ Log) × (batches : List Batch) × (batch : Batch)
       × BeginsAt (files (in_folder store (string_bytes file.name))) (batches ++ batch ∷ [])

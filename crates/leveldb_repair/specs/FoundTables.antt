@@ -155,8 +155,8 @@ module _ {E C F : Type 0} (order : CmpGhosts (InternalKeyCmp C)) (env : EnvGhost
       -- they are in the order of internal keys
       pub rising : All (λ pairs. AreRising (internal_cmp (cmp.cmp compares)) pairs) lists
       pub numbered : All AreNumberedPairs lists
-      -- If these are the files of the folder, each pair is one of its readable tables, whatever other
-      -- ids of compressors mean.
+      -- If these are the files of the folder, each pair is one of its readable tables, whatever
+      -- other ids of compressors mean.
       pub pairs : AreFilesIn env store from listed → (meaning : Meaning)
           → DecodesMore (Decodes (codings compressors)) (Decodes meaning.codings)
           → (pair : Pair) → IsPairOf lists pair

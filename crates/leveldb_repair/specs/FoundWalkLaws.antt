@@ -1,5 +1,5 @@
--- The laws of walks over found tables, and of the children of a repair's merge. They are in specs/ since
--- their impls of `Walk` prove them by this, and the checker takes no term of proofs/ there.
+-- The laws of walks over found tables, and of the children of a repair's merge. They are in specs/
+-- since their impls of `Walk` prove them by this, and the checker takes no term of proofs/ there.
 use Rattle.std.specs.Prelude.{◌≤◌}
 use Rattle.std.proofs.Common.{◌≡◌, ℕ, List, Option, None, Some, refl, sym, ◌∙◌, ap, subst, inl, inr, arith}
 use Rattle.leveldb_base.specs.Types.{IsPosition, Pair, pair_at}

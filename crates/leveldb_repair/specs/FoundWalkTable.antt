@@ -1,5 +1,5 @@
--- Walks over tables that are found in a store's folder: which list such a walk is over, where it is, and
--- why a move fails.
+-- Walks over tables that are found in a store's folder: which list such a walk is over, where it
+-- is, and why a move fails.
 use Rattle.std.specs.Prelude.{◌≡◌, ◌⊎◌, ◌-◌, ◌<◌, ◌≤◌, ◌^◌, ℕ, Bool, true, false, List, length, Option, None, Result, IfOk, IsSomeAnd, IsTrue, is_some}
 use Rattle.std.specs.Str.{bytes_eq}
 use Rattle.std.specs.declared.cmp.Ordering.{Ordering}
@@ -187,8 +187,8 @@ module _ {E C F : Type 0} (order : CmpGhosts (InternalKeyCmp C)) (env : EnvGhost
 
 -- ---- while other files change
 
--- An environment after other calls than reads of found tables: no file has changed but tables of the
--- numbers that may be made, and no failure is forgotten.
+-- An environment after other calls than reads of found tables: no file has changed but tables of
+-- the numbers that may be made, and no failure is forgotten.
 pub record ChangesBesideFound {E K F : Type 0} (env : EnvGhosts E F) (files : ReadFiles K)
     (from to : E) : Type 0 where
   pub later : env.failures from ≤ env.failures to

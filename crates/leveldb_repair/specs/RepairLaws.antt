@@ -1,5 +1,5 @@
--- What holds of a repair and of another one after it. These are the statements that the contracts of
--- module `laws` name.
+-- What holds of a repair and of another one after it. These are the statements that the contracts
+-- of module `laws` name.
 use Rattle.std.specs.Prelude.{ℕ, List}
 use Rattle.leveldb_base.specs.History.{SameView}
 use Rattle.leveldb_env.specs.Env.{Files, FilesCrashTo}
@@ -24,8 +24,8 @@ CrashLeavesFound store = (format : Format) (meaning : Meaning) (old new left : F
     → ((path : List ℕ) → IsKept (old path)) → FilesCrashTo new left
     → SameFound store (IsAnyTable format.order meaning) old left
 
--- Another repair, of the files that the first one left, makes tables of the same entries, which show
--- the same at every number.
+-- Another repair, of the files that the first one left, makes tables of the same entries, which
+-- show the same at every number.
 abbrev pub AnotherRepairChangesNothing : List ℕ → Type 0
 AnotherRepairChangesNothing store = (format : Format) (meaning : Meaning) (old mid new : Files)
     → Agrees format meaning → (first : HoldsAllFound store format meaning old mid)

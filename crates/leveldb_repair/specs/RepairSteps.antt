@@ -1,5 +1,5 @@
--- The steps of a repair: the lists of pairs that have all that is found, walks over them, and what is
--- made of these.
+-- The steps of a repair: the lists of pairs that have all that is found, walks over them, and what
+-- is made of these.
 use Rattle.std.specs.Prelude.{◌≡◌, ◌↔◌, ◌+◌, ◌<◌, ◌^◌, ℕ, List, All, Contains, Result, IfErr, IfOk, IsTrue}
 use Rattle.leveldb_base.specs.Entries.{entries_of_pairs}
 use Rattle.leveldb_base.specs.History.{AreRising, Entry}
@@ -90,8 +90,8 @@ module _ {C FP : Type 0} {order : CmpGhosts C} {filters : FilterGhosts FP}
     pub moves : MovesLeaveFiles env walk
     pub bears : (at : E × T) → walk.keeps start at
         → BearsNewTables env walk store (taken + 2) at
-    -- whatever it reads, a move fails out of memory, at a failure of the device, or with the code of
-    -- a block that is lacking
+    -- whatever it reads, a move fails out of memory, at a failure of the device, or with the code
+    -- of a block that is lacking
     pub fails : (later : E × T) (status : Status) → walk.fails start it later status
         → FailsBetweenOr env (HasLackCode env choices.format.codings status) start.0 later.0
         status
@@ -100,9 +100,9 @@ module _ {C FP : Type 0} {order : CmpGhosts C} {filters : FilterGhosts FP}
         × HaveFound store choices.format (env.observed start.0).disk.files lists
         × IsOverLists lists
 
-  -- One over pairs that are all that was found of the files of an earlier environment, each once, and
-  -- were looked over since. A move fails out of memory or at a failure of the device alone, where a
-  -- disk is modelled.
+  -- One over pairs that are all that was found of the files of an earlier environment, each once,
+  -- and were looked over since. A move fails out of memory or at a failure of the device alone,
+  -- where a disk is modelled.
   pub record IsOverAll (from : E) (found : LookedOver) : Type 0 where
     pub moves : MovesLeaveFiles env walk
     pub bears : BearsNewTables env walk store (taken + 2) start
@@ -147,8 +147,8 @@ module _ {E C K F FP : Type 0} {order : CmpGhosts (InternalKeyCmp C)} {filters :
     (choices : TableChoices order filters) (env : EnvGhosts E F) (cmp : CmpGhosts C)
     (codings : K → Codings) (compressors : K) (compares : C) (store : List ℕ)
     (listed : List ListedFile) (files : Files) where
-  -- Walks are over the pairs of all readable tables of the folder, and memtables have the entries of
-  -- its logs.
+  -- Walks are over the pairs of all readable tables of the folder, and memtables have the entries
+  -- of its logs.
   pub record AreFoundIn (to : E) (walks : List (FoundTable E C F)) (logs : List (MemTableState C))
       : Type 0 where
     pub lists : List (List Pair)

@@ -1,5 +1,5 @@
--- What a repair of the files in a store's folder leaves and returns: a store of all that was found, or
--- the files as they were; what they are meanwhile, and why it fails.
+-- What a repair of the files in a store's folder leaves and returns: a store of all that was found,
+-- or the files as they were; what they are meanwhile, and why it fails.
 use Rattle.std.specs.Prelude.{◌≡◌, ◌≢◌, ◌⊎◌, ◌≤◌, ◌+◌, ◌^◌, ℕ, List, Contains, Result, None, Some, IfErr, OnOk, IsTrue}
 use Rattle.leveldb_base.specs.Entries.{entries_of_pairs, entry_of_pair, internal_pair}
 use Rattle.leveldb_base.specs.History.{AreRising, Entry}
@@ -52,13 +52,13 @@ module _ (store : List ℕ) (format : Format) (meaning : Meaning) (old : Files) 
     -- they are a store of the tables
     pub repaired : IsRepaired store format.order (IsTableOf format.order meaning)
         format.order_name (taken + 1) next last tables new
-    -- No entry is left out, and none came, whatever texts are decoded beside those that the format's
-    -- compressors decode.
+    -- No entry is left out, and none came, whatever texts are decoded beside those that the
+    -- format's compressors decode.
     pub found : (more : Meaning) → DecodesMore (Decodes format.codings) (Decodes more.codings)
         → AreFound store (IsAnyTable format.order more) old (table_entries tables)
 
-  -- A repair of the old files, which have a table or a log, has come to these: no file has changed but
-  -- those of a repair, and `CURRENT` is as it was, or all is done.
+  -- A repair of the old files, which have a table or a log, has come to these: no file has changed
+  -- but those of a repair, and `CURRENT` is as it was, or all is done.
   pub record HoldsOldOrAllFound (now : Files) : Type 0 where
     pub taken : ℕ
     pub next : ℕ
@@ -89,8 +89,8 @@ module _ (store : List ℕ) (files : Files) where
   IsFoundPair IsTableOf pair = IsTablePair store files IsTableOf pair
       ⊎ ((entry : Entry) × IsInLog store files entry × (internal_pair entry ≡ pair))
 
-  -- Two pairs that are found are one deletion, and have different bytes in place of a value, which no
-  -- reader looks at.
+  -- Two pairs that are found are one deletion, and have different bytes in place of a value, which
+  -- no reader looks at.
   pub record HasUnlikeDeletions (IsTableOf : List ℕ → List Pair → Type 0) : Type 0 where
     pub one : Pair
     pub other : Pair
@@ -117,16 +117,16 @@ module _ (store : List ℕ) (files : Files) where
   abbrev pub HasLargeBatchInLog : Type 0
   HasLargeBatchInLog = (file : ListedFile) × MatchesName file × HasLargeBatch store files file
 
-  -- 64 bits don't have three numbers above those of all names: the manifest's, the next log's, and one
-  -- after it
+  -- 64 bits don't have three numbers above those of all names: the manifest's, the next log's, and
+  -- one after it
   abbrev pub HasTooFewNumbers : Type 0
   HasTooFewNumbers = (taken : ℕ) × IsGreatestInFolder store files taken × (2 ^ 64 ≤ taken + 3)
 
 module _ {E F : Type 0} (env : EnvGhosts E F) (format : Format) (store : List ℕ) (from : E) where
-  -- Why the files of a folder aren't repaired: neither a table nor a log is there; two found entries
-  -- clash, or two pairs of one deletion; a batch is too large for memory, or the numbers of files are
-  -- used up; or a block's id has no compressor, or that one fails for it. Where no disk is modelled a
-  -- file that is listed may be missing, too, or lack a block.
+  -- Why the files of a folder aren't repaired: neither a table nor a log is there; two found
+  -- entries clash, or two pairs of one deletion; a batch is too large for memory, or the numbers of
+  -- files are used up; or a block's id has no compressor, or that one fails for it. Where no disk
+  -- is modelled a file that is listed may be missing, too, or lack a block.
   abbrev pub WhyNotRepaired : Status → Type 0
   WhyNotRepaired status =
       let where_modelled : (Files → Type 0) → Type 0
@@ -149,8 +149,8 @@ module _ {C FP : Type 0} {order : CmpGhosts C} {filters : FilterGhosts FP}
     (choices : TableChoices order filters) {E F : Type 0} (env : EnvGhosts E F) where
   module _ (store : List ℕ) (from : E) where
     -- Why a repair that was begun isn't ended: no table is built of some pairs, whose entries are
-    -- found, or the numbers of files are used up. Where no disk is modelled a file that was there may
-    -- be missing or lack a block.
+    -- found, or the numbers of files are used up. Where no disk is modelled a file that was there
+    -- may be missing or lack a block.
     abbrev pub WhyNotEnded : Status → Type 0
     WhyNotEnded status =
         ((pairs : List Pair) × (IsTrue env.models_disk
@@ -176,8 +176,8 @@ module _ {C FP : Type 0} {order : CmpGhosts C} {filters : FilterGhosts FP}
       pub bytes : BytesAreAppended env from to
       pub locks : SameLocks env.models_disk (env.observed from) (env.observed to)
       pub later : env.failures from ≤ env.failures to
-      -- It fails out of memory or at a failure of the device; or it wasn't begun, and no file changed
-      -- at any moment; or it wasn't ended.
+      -- It fails out of memory or at a failure of the device; or it wasn't begun, and no file
+      -- changed at any moment; or it wasn't ended.
       pub cause : IfErr result (λ status. FailsBetweenOr env
           ((WhyNotBegun env choices.format store from status × (IsTrue env.models_disk
           → Run (FilesUnchanged (env.observed from).disk.files) (env.observed from)

@@ -1,5 +1,5 @@
--- How what was found goes to new tables: which tables they are, what changes meanwhile, and why that
--- stops.
+-- How what was found goes to new tables: which tables they are, what changes meanwhile, and why
+-- that stops.
 use Rattle.std.specs.Prelude.{◌≡◌, ◌⊎◌, ◌≤◌, ◌+◌, ◌++◌, ℕ, true, false, length, List, [], map, All, Contains, Result, IfErr, IfOk, IsTrue}
 use Rattle.leveldb_base.specs.Entries.{entries_of_pairs}
 use Rattle.leveldb_base.specs.History.{AreRising}
@@ -45,14 +45,14 @@ files_of_level_one files = map (λ file. new_file_of (1, file)) files
 
 module _ {C FP : Type 0} {order : CmpGhosts C} {filters : FilterGhosts FP}
     (choices : TableChoices order filters) where
-  -- a merge of which nothing goes: no number is held, no level is known to be the deepest one that has
-  -- a user key, and each user key is among the inputs
+  -- a merge of which nothing goes: no number is held, no level is known to be the deepest one that
+  -- has a user key, and each user key is among the inputs
   abbrev pub merge_of_all : List ℕ → Merge order filters
   merge_of_all store = merge_of choices store 0 (λ user. false) (λ user. true)
 
   module _ {E F : Type 0} (env : EnvGhosts E F) (store : List ℕ) (first : ℕ) where
-    -- Files are tables of exactly the pairs that were read, in their order; they are cut between user
-    -- keys, and have the numbers from the first on and below the next.
+    -- Files are tables of exactly the pairs that were read, in their order; they are cut between
+    -- user keys, and have the numbers from the first on and below the next.
     pub record HasWritten (read : List Pair) (next : ℕ) (files : List FileMetaData) (to : E)
         : Type 0 where
       -- the keys have tags, and rise
@@ -88,8 +88,8 @@ module _ {C FP : Type 0} {order : CmpGhosts C} {filters : FilterGhosts FP}
       pub changes : ChangesNewTables env store first later start.0 end.0
       -- moves of the walk and new tables lead to where it ends, so that what both keep is kept
       pub comes : ComesOf env walk store first start end
-      -- A move failed; or, after some pairs were read, at last a call that writes. Where the walk is
-      -- over a list, and bears new tables, they are the first of it.
+      -- A move failed; or, after some pairs were read, at last a call that writes. Where the walk
+      -- is over a list, and bears new tables, they are the first of it.
       pub cause : IfErr result (λ status. FailsOnWay env walk store first start it end status
           ⊎ ((mid : ℕ) × (env.failures start.0 ≤ mid) × (read : List Pair)
           × (BearsNewTables env walk store first start → (pairs : List Pair)

@@ -17,8 +17,8 @@ pub use files::{ReadFiles, ReadsFound};
 pub use open::open_found;
 pub use table::{FoundMove, FoundTable};
 
-/// A child of a repair's merge: over memory, or over a table by a walk of this type, `FoundTable`. All
-/// children of a merge are of one type.
+/// A child of a repair's merge: over memory, or over a table by a walk of this type, `FoundTable`.
+/// All children of a merge are of one type.
 #[derive(Drop)]
 pub enum FoundWalk<T, M> {
     /// Over a memtable.

@@ -16,9 +16,9 @@ pub struct LookedOver {
     pub any: bool,
 }
 
-/// Goes once over all pairs of a walk, from the first on, and changes nothing. The keys are internal
-/// keys; `Corruption` where one has no tag. A walk that merges lists comes to its end only where
-/// these have one pair of each key: else it fails.
+/// Goes once over all pairs of a walk, from the first on, and changes nothing. The keys are
+/// internal keys; `Corruption` where one has no tag. A walk that merges lists comes to its end only
+/// where these have one pair of each key: else it fails.
 pub fn look_over<E, T, W: Walk<E, T>>(
     alloc: Global,
     env: &mut E,

@@ -74,10 +74,10 @@ impl Cuts for NoCuts {
     }
 }
 
-/// Writes all pairs of a walk over internal keys to new tables, each as it is: these are cut between
-/// user keys, past the options' `max_file_size`, and take the next numbers of `versions`. Without a
-/// pair there is no table. `Corruption` where a key has no tag or isn't after the one before it.
-/// After an Err some of the tables may be there, which nothing names.
+/// Writes all pairs of a walk over internal keys to new tables, each as it is: these are cut
+/// between user keys, past the options' `max_file_size`, and take the next numbers of `versions`.
+/// Without a pair there is no table. `Corruption` where a key has no tag or isn't after the one
+/// before it. After an Err some of the tables may be there, which nothing names.
 pub fn write_found<
     E: Env,
     T,

@@ -124,8 +124,8 @@ ldb_keys = internal_keys.ghosts default_row default_user.ghosts default_user.dic
 abbrev pub ldb_filters : FilterGhosts ℕ
 ldb_filters = internal_filters.ghosts bloom_row bloom.ghosts bloom.dict
 
--- What the program makes the tables of a repair with: these, with ten bits a key, and blocks of 4096
--- bytes, stored as they are, with a restart point every 16 entries.
+-- What the program makes the tables of a repair with: these, with ten bits a key, and blocks of
+-- 4096 bytes, stored as they are, with a restart point every 16 entries.
 abbrev pub ldb_choices : TableChoices ldb_keys ldb_filters
 ldb_choices = record {
   format = ldb_opening.format;
@@ -154,7 +154,8 @@ module _ {E F : Type 0} (env : Ghosts E F) where
       × HasRunBy one folder ldb_opening commands from given (Ok tt) to
       × Appends held holds (reply_lines given)
 
-  -- a repair of the store in a folder, as it is asked for, whose tables are made by the program's choices
+  -- a repair of the store in a folder, as it is asked for, whose tables are made by the program's
+  -- choices
   abbrev pub HasRepaired : List ℕ → Opening → E → Result (Unit {0}) Status → E → Type 0
   HasRepaired folder asked from ended to =
       Repairs env folder asked from (WhyNotEnded ldb_choices env folder from) ended to

@@ -75,9 +75,9 @@ IsMomentOfLockedRepair store format meaning old now =
 -- ---- why it fails
 
 module _ {E F : Type 0} (env : Ghosts E F) (store : List ℕ) (asked : Opening) (from : E) where
-  -- Why nothing is repaired where the device didn't fail, beside out of memory: the name or an option
-  -- doesn't fit, or the compressor of new blocks isn't set; the lock is held; or the files aren't
-  -- repaired, for a cause of their own.
+  -- Why nothing is repaired where the device didn't fail, beside out of memory: the name or an
+  -- option doesn't fit, or the compressor of new blocks isn't set; the lock is held; or the files
+  -- aren't repaired, for a cause of their own.
   abbrev pub RepairRefused : Status → Type 0
   RepairRefused e =
       ((e.code ≡ InvalidArgument) × (IsStoreName store × IsTrue asked.fits → ⊥))
@@ -94,16 +94,16 @@ module _ {E F : Type 0} (env : Ghosts E F) (store : List ℕ) (asked : Opening) 
 
   -- `NotEnded` says why a repair that was begun isn't ended.
   module _ (NotEnded : Status → Type 0) where
-    -- Why a repair fails where the device didn't: out of memory; or nothing is repaired, and then no
-    -- file has changed at any moment but that the lock's may be made; or it isn't ended.
+    -- Why a repair fails where the device didn't: out of memory; or nothing is repaired, and then
+    -- no file has changed at any moment but that the lock's may be made; or it isn't ended.
     abbrev pub RepairExcused : E → Status → Type 0
     RepairExcused to e = IsOutOfMemory e
         ⊎ (RepairRefused e × (IsTrue env.models_disk
         → MakesLockAlone store (env.observed from) (env.observed to)))
         ⊎ NotEnded e
 
-    -- After a repair that fails the lock is as it was. Or it is held, where giving it back failed: as
-    -- one more call of the device than the failure tells, or alone, after all was repaired.
+    -- After a repair that fails the lock is as it was. Or it is held, where giving it back failed:
+    -- as one more call of the device than the failure tells, or alone, after all was repaired.
     abbrev pub IsLockReturned : E → Status → Type 0
     IsLockReturned to e =
         ((env.observed to).disk.locked (lock_path store)
@@ -158,8 +158,8 @@ module _ {E F : Type 0} (env : Ghosts E F) (store : List ℕ) (asked : Opening) 
           × (IsLockHeld store (env.observed to).disk → ⊥))
       -- Err: it is given back, too
       pub returned : IfErr result (λ e. IsTrue env.models_disk → IsLockReturned to e)
-      -- under a name that is no store's nothing is repaired, and no call is made; nor with a size or a
-      -- count past its limits, or without the compressor of new blocks
+      -- under a name that is no store's nothing is repaired, and no call is made; nor with a size
+      -- or a count past its limits, or without the compressor of new blocks
       pub misnamed : (IsStoreName store × IsTrue asked.fits × IsTrue asked.compresses → ⊥)
           → (to ≡ from) × OnOk result ⊥
       -- nor where neither a table nor a log is there

@@ -25,8 +25,8 @@ use Rattle.rusty_leveldb.specs.Rows.{RepresentsAt}
 use Rattle.rusty_leveldb.specs.Serves.{StandsFor}
 use Rattle.rusty_leveldb.specs.State.{Opening, State}
 
--- After a repair that was Ok an opening with this order finds the set that was found of the files as
--- they were: it is the whole history, and no number is past its greatest.
+-- After a repair that was Ok an opening with this order finds the set that was found of the files
+-- as they were: it is the whole history, and no number is past its greatest.
 abbrev pub OpensWhatRepairFound : {E C FP F P : Type 0} {B : Boxed} {keys : InternalOrder C}
     {key_filters : FilterGhosts P} → Ghosts E F
     → (OptionsOf C FP B → TableChoices keys key_filters) → OptionsOf C FP B → Type 0
@@ -43,8 +43,8 @@ OpensWhatRepairFound {E = E} {C = C} {FP = FP} {F = F} {B = B} {keys = keys} env
     × RepresentsAt keys env (formats_of choices) name meaning (Some engine) to new
     × (new.history ≡ found ∷ []) × (new.last ≡ greatest found)
 
--- Another repair, of what a repair that was Ok left, finds what that one found: the disk represents the
--- state of the same set again, so that no map changes.
+-- Another repair, of what a repair that was Ok left, finds what that one found: the disk represents
+-- the state of the same set again, so that no map changes.
 abbrev pub AnotherRepairFindsTheSame : {E F D P : Type 0} {keys : CmpGhosts D}
     {key_filters : FilterGhosts P} → Ghosts E F → TableChoices keys key_filters → Type 0
 AnotherRepairFindsTheSame {E = E} env choices = (name : List ℕ) (asked : Opening) (from mid to : E)
@@ -58,8 +58,9 @@ AnotherRepairFindsTheSame {E = E} env choices = (name : List ℕ) (asked : Openi
     × StandsFor name meaning (env.observed mid).disk (repaired_state asked.format found)
     × StandsFor name meaning (env.observed to).disk (repaired_state asked.format found)
 
--- Wherever an honest crash comes since a repair began, inside it or at its end, what is left represents
--- a state of the crash row: of the state that the disk represented, or of the set that was found.
+-- Wherever an honest crash comes since a repair began, inside it or at its end, what is left
+-- represents a state of the crash row: of the state that the disk represented, or of the set that
+-- was found.
 abbrev pub CrashSinceRepair : {E F D P : Type 0} {keys : CmpGhosts D} {key_filters : FilterGhosts P}
     → Ghosts E F → TableChoices keys key_filters → Type 0
 CrashSinceRepair {E = E} env choices = (name : List ℕ) (asked : Opening) (from to : E)
@@ -76,8 +77,8 @@ CrashSinceRepair {E = E} env choices = (name : List ℕ) (asked : Opening) (from
     × (Crashes old (risk_between old) after ⊎ Crashes repaired (risk_between repaired) after)
     × StandsFor name meaning left after
 
--- The files have no table and no log but those that the store reads: whatever edits its manifest has,
--- each table that is there is live, and each log is replayed.
+-- The files have no table and no log but those that the store reads: whatever edits its manifest
+-- has, each table that is there is live, and each log is replayed.
 abbrev pub HasNothingElse : List ℕ → Files → Type 0
 HasNothingElse store files = (edits : List Edit) → HasEdits store files edits
     → HasNoOtherFile store (live_after edits) files

@@ -1,6 +1,6 @@
--- A run of commands by its calls: an opening, then each command as that call of the engine which the
--- calls before it left, and at last the engine is given up. So why a reply is a refusal is what the
--- record of its call says, of the memory that those before it left.
+-- A run of commands by its calls: an opening, then each command as that call of the engine which
+-- the calls before it left, and at last the engine is given up. So why a reply is a refusal is what
+-- the record of its call says, of the memory that those before it left.
 use Rattle.std.specs.Prelude.{◌≡◌, ◌⊎◌, ℕ, false, List, [], ◌∷◌, ◌++◌, map, Option, Some, None, Result, Ok, Err, IsErrAnd, slice_get, unwrap_or}
 use Rattle.std.specs.Option.{option_map}
 use Rattle.leveldb_base.specs.Error.{IsOutOfMemory}
@@ -116,8 +116,8 @@ module _ {E C FP F P : Type 0} {B : Boxed} {keys : InternalOrder C} {key_filters
       × CallsInTurn engine opened [] commands given last done left
       × EngineAbandons keys env (formats_of choices) last done ended to
 
-  -- a run of commands over the store of this name, which is opened so; or there was no memory before
-  -- it began
+  -- a run of commands over the store of this name, which is opened so; or there was no memory
+  -- before it began
   abbrev pub RunsByCalls : List ℕ → OptionsOf C FP B → Opening → List Command → E → List Reply
       → Result (Unit {0}) Status → E → Type 0
   RunsByCalls name options asked commands from given ended to =

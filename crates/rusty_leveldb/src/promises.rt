@@ -38,9 +38,9 @@ pub fn what_is_read_alone_is_what_an_opening_finds<
     let _ = options;
 }
 
-/// Wherever an honest crash comes since a repair began, what is left represents a state that a crash
-/// leaves of the one that the disk represented, or of the set of entries that was found; if the repair
-/// has these options.
+/// Wherever an honest crash comes since a repair began, what is left represents a state that a
+/// crash leaves of the one that the disk represented, or of the set of entries that was found; if
+/// the repair has these options.
 pub fn crashes_of_repairs_leave_the_old_or_the_found<
     E: Env,
     C: UserCmp + Copy,
@@ -53,9 +53,9 @@ pub fn crashes_of_repairs_leave_the_old_or_the_found<
     let _ = options;
 }
 
-/// An opening after a repair that was Ok finds the set of entries that was found of the files: it is
-/// the whole history, and the last number is its greatest. And of a store with no table and no log
-/// beside those that it reads, what a repair finds shows what an opening finds.
+/// An opening after a repair that was Ok finds the set of entries that was found of the files: it
+/// is the whole history, and the last number is its greatest. And of a store with no table and no
+/// log beside those that it reads, what a repair finds shows what an opening finds.
 pub fn what_a_repair_finds_is_opened<E: Env, C: UserCmp + Copy, FP: FilterPolicy + Copy>(
     options: &Options<C, FP>,
 )
@@ -69,8 +69,8 @@ pub fn what_a_repair_finds_is_opened<E: Env, C: UserCmp + Copy, FP: FilterPolicy
     let _ = options;
 }
 
-/// Another repair with these options, of what one that was Ok left, finds what that one found: after
-/// it the disk represents what it did, so that no map changes.
+/// Another repair with these options, of what one that was Ok left, finds what that one found:
+/// after it the disk represents what it did, so that no map changes.
 pub fn another_repair_finds_the_same<E: Env, C: UserCmp + Copy, FP: FilterPolicy + Copy>(
     options: &Options<C, FP>,
 )
@@ -157,15 +157,15 @@ pub fn compacted_stores_show_by_tables_alone<C: UserCmp>()
     ensures { AreViewsInTables C }
 {}
 
-/// A walk that goes forward from no position on, until it is at none again, gives the view: each key
-/// once, and in order. A move back after one forward leads to where the walk was.
+/// A walk that goes forward from no position on, until it is at none again, gives the view: each
+/// key once, and in order. A move back after one forward leads to where the walk was.
 pub fn walks_give_the_view()
     ensures forward { ForwardWalkGivesView }
     ensures back { PrevUndoesAdvance }
 {}
 
-/// A scan of an iterator that goes forward from no position, until it is at none again, is at each of
-/// the pairs that it is over, in their order.
+/// A scan of an iterator that goes forward from no position, until it is at none again, is at each
+/// of the pairs that it is over, in their order.
 pub fn scans_give_the_pairs<
     'a,
     E: Env + 'a,

@@ -8,8 +8,8 @@ use leveldb_base::types::FileNum;
 use leveldb_env::compressor::{CompressorList, Compressors};
 use leveldb_env::env::Env;
 
-/// Compressors by which found tables are read. A type that holds a borrow of such names it by a type
-/// parameter: the checker states no type that has the tables beside the boxes of compressors.
+/// Compressors by which found tables are read. A type that holds a borrow of such names it by a
+/// type parameter: the checker states no type that has the tables beside the boxes of compressors.
 pub trait ReadsFound<E: Env, C: UserCmp + Copy + Drop>: Compressors
 where
     InternalKeyCmp<C>: Cmp,

@@ -10,8 +10,8 @@ use leveldb_env::env::whole_files::found;
 use std::alloc::Global;
 
 /// A walk over the table in the file at this path, under this order of users' keys, at no position.
-/// It reads the footer and the index. `Corruption` where the file is missing or has none; the causes
-/// of `read_table_block`.
+/// It reads the footer and the index. `Corruption` where the file is missing or has none; the
+/// causes of `read_table_block`.
 pub fn open_found<E: Env, C: UserCmp + Copy + Drop>(
     alloc: Global,
     env: &mut E,

@@ -16,13 +16,15 @@ use leveldb_env::options::Options;
 use leveldb_repair::repair_store::repair_store;
 use std::alloc::Global;
 
-/// Makes a store of all that is found in the folder of this name, which isn't empty and doesn't end in
-/// a slash: the entries of every table that is readable, and of every log as far as it is read, named
-/// by a manifest or not. No version of a key is added or left out. They are in new tables of level 1,
-/// which a new manifest names, and `CURRENT` names that. Nothing is deleted: the next opening does that.
+/// Makes a store of all that is found in the folder of this name, which isn't empty and doesn't end
+/// in a slash: the entries of every table that is readable, and of every log as far as it is read,
+/// named by a manifest or not. No version of a key is added or left out. They are in new tables of
+/// level 1, which a new manifest names, and `CURRENT` names that. Nothing is deleted: the next
+/// opening does that.
 ///
-/// The store's lock is held meanwhile, and given back however the call ends. The folder is made where
-/// it is missing. Whether a store must be there, or may be, the options don't say to a repair.
+/// The store's lock is held meanwhile, and given back however the call ends. The folder is made
+/// where it is missing. Whether a store must be there, or may be, the options don't say to a
+/// repair.
 ///
 /// | Code | When |
 /// |---|---|
@@ -34,11 +36,11 @@ use std::alloc::Global;
 /// | that of a compressor | it failed for a block |
 /// | `Corruption` | two entries that are found have one key and number, and differ |
 ///
-/// Where the lock is held, or what was looked at isn't repaired for a cause of this table, no file has
-/// changed, but that the lock's may be made; after numbers or a compressor that fail while tables are
-/// written, some of these may be there. After any other error, and wherever a crash came, the files hold
-/// what they held, or what was found. Another repair finds the same: of one after an Ok this is proved, of
-/// one after an error or a crash it is tested.
+/// Where the lock is held, or what was looked at isn't repaired for a cause of this table, no file
+/// has changed, but that the lock's may be made; after numbers or a compressor that fail while
+/// tables are written, some of these may be there. After any other error, and wherever a crash
+/// came, the files hold what they held, or what was found. Another repair finds the same: of one
+/// after an Ok this is proved, of one after an error or a crash it is tested.
 pub fn repair<E: Env, C: UserCmp + Copy, FP: FilterPolicy + Copy>(
     alloc: Global,
     name: &str,
