@@ -8,14 +8,18 @@ use std::alloc::Global;
 pub trait Rule {
     /// Is asked before each call that could change a file or a lock. Where it fails, so does the
     /// call, and nothing is done.
-    fn may_change(&mut self) -> Result<()>;
+    fn may_change(&mut self) -> Result<()> {
+        Ok(())
+    }
 
     /// Is told of each append, and whether it is one to a log or a manifest.
-    fn count_append(&mut self, is_to_log: bool);
+    fn count_append(&mut self, _is_to_log: bool) {}
 
     /// How many bytes a read gives at most, of those that are asked for, by its offset or by how
     /// many are asked for.
-    fn most(&self, number: usize, asked: usize) -> usize;
+    fn most(&self, _number: usize, asked: usize) -> usize {
+        asked
+    }
 }
 
 /// An environment, and the rule that its calls follow.
@@ -54,12 +58,6 @@ impl Rule for RefusesChanges {
             err: None,
         })
     }
-
-    fn count_append(&mut self, _is_to_log: bool) {}
-
-    fn most(&self, _number: usize, asked: usize) -> usize {
-        asked
-    }
 }
 
 /// An environment that can only be read.
@@ -81,12 +79,6 @@ pub struct GivesFew {
 }
 
 impl Rule for GivesFew {
-    fn may_change(&mut self) -> Result<()> {
-        Ok(())
-    }
-
-    fn count_append(&mut self, _is_to_log: bool) {}
-
     fn most(&self, number: usize, asked: usize) -> usize {
         self.at_most.unwrap_or(1 + number % 9).min(asked)
     }
@@ -118,16 +110,8 @@ pub struct CountsAppends {
 }
 
 impl Rule for CountsAppends {
-    fn may_change(&mut self) -> Result<()> {
-        Ok(())
-    }
-
     fn count_append(&mut self, is_to_log: bool) {
         self.begun = self.begun.saturating_add(usize::from(is_to_log));
-    }
-
-    fn most(&self, _number: usize, asked: usize) -> usize {
-        asked
     }
 }
 
