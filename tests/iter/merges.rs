@@ -3,7 +3,7 @@ use super::children::{Device, Source, list_of, list_of_keys};
 use leveldb_base::cmp::DefaultCmp;
 use leveldb_base::error::{Result, StatusCode};
 use leveldb_iter::merging_iter::{MergeCore, MergingIter};
-use leveldb_iter::unlent::Unlent;
+use leveldb_iter::in_memory::InMemory;
 use leveldb_iter::walk::Walk;
 use leveldb_iter::walk_iter::WalkIter;
 use std::alloc::Global;
@@ -198,7 +198,7 @@ fn iterators_as_walks(rt: HostRuntime) -> Result<()> {
     let mut tables = ();
     let mut children = Vec::new(rt.alloc());
     for keys in ["ac", "bd"] {
-        children.push(Unlent(list_of(rt.alloc(), keys)?))?;
+        children.push(InMemory(list_of(rt.alloc(), keys)?))?;
     }
     let core = MergeCore::new::<Device, ()>(DefaultCmp, children);
     let mut it = WalkIter::new(core, &mut device, &mut tables);
@@ -222,8 +222,8 @@ fn keys_that_share_a_prefix(rt: HostRuntime) -> Result<()> {
     let mut device = Device { calls_left: 0 };
     let mut tables = ();
     let mut children = Vec::new(alloc);
-    children.push(Unlent(list_of_keys(alloc, &[b"aba", b"abc", b"abe"])?))?;
-    children.push(Unlent(list_of_keys(alloc, &[b"abb", b"abd"])?))?;
+    children.push(InMemory(list_of_keys(alloc, &[b"aba", b"abc", b"abe"])?))?;
+    children.push(InMemory(list_of_keys(alloc, &[b"abb", b"abd"])?))?;
     let core = MergeCore::new::<Device, ()>(DefaultCmp, children);
     let mut it = WalkIter::new(core, &mut device, &mut tables);
     it.seek(b"ab0")?;

@@ -12,7 +12,7 @@ use leveldb_env::filter::BloomPolicy;
 use leveldb_env::mem_env::MemEnv;
 use leveldb_env::options::{Options, in_memory};
 use leveldb_iter::merging_iter::MergeCore;
-use leveldb_iter::unlent::Unlent;
+use leveldb_iter::in_memory::InMemory;
 use leveldb_iter::walk::Walk;
 use leveldb_repair::found_walk::{FoundTable, FoundWalk, ReadFiles, open_found};
 use leveldb_table::table_builder::TableBuilder;
@@ -176,7 +176,7 @@ fn tables_and_memory_merged(rt: HostRuntime) -> Result<()> {
     let listed = Listed::new(cmp, pairs_of(&rt, (1, 90, 1))?);
     let children: Vec<Child> = vec![in rt.alloc();
         FoundWalk::Table(first),
-        FoundWalk::Memory(Unlent(listed)),
+        FoundWalk::Memory(InMemory(listed)),
         FoundWalk::Table(other),
     ]?;
     let mut merge = MergeCore::new::<MemEnv, Read>(cmp, children);

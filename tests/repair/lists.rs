@@ -4,14 +4,14 @@ use leveldb_base::cmp::{DefaultCmp, InternalKeyCmp};
 use leveldb_base::error::Result;
 use leveldb_base::key_types::{ValueType, parse_internal_key, tag_bytes};
 use leveldb_iter::merging_iter::MergeCore;
-use leveldb_iter::unlent::Unlent;
+use leveldb_iter::in_memory::InMemory;
 use std::alloc::Global;
 use support::Listed;
 
 /// The letter of a key, its number, and the letter of its value, or none for a deletion.
 pub type Row = (u8, u64, Option<u8>);
 
-pub type List = Unlent<Listed<InternalKeyCmp<DefaultCmp>>>;
+pub type List = InMemory<Listed<InternalKeyCmp<DefaultCmp>>>;
 
 pub type Merged = MergeCore<InternalKeyCmp<DefaultCmp>, List>;
 
@@ -63,7 +63,7 @@ pub fn joined(alloc: Global, words: &[String]) -> Result<String> {
 
 /// A walk over these pairs.
 pub fn list_of(pairs: Vec<(Bytes, Bytes)>) -> List {
-    Unlent(Listed::new(InternalKeyCmp(DefaultCmp), pairs))
+    InMemory(Listed::new(InternalKeyCmp(DefaultCmp), pairs))
 }
 
 /// The merge of lists of these rows.

@@ -13,7 +13,7 @@ use leveldb_base::types::FileMetaData;
 use leveldb_env::env::Env;
 use leveldb_env::filter::BloomPolicy;
 use leveldb_env::mem_env::RecordEnv;
-use leveldb_iter::unlent::Unlent;
+use leveldb_iter::in_memory::InMemory;
 use leveldb_store::merge_tables::{Cuts, MergePlan, merge_tables};
 use leveldb_store::passing::MergeLevels;
 use leveldb_version::version_set::VersionSet;
@@ -124,7 +124,7 @@ pub fn slow_merge(alloc: Global, smallest: u64, entries: &[Put]) -> Result<Vec<P
     Ok(left)
 }
 
-fn walk_over(alloc: Global, entries: &[Put]) -> Result<Unlent<Listed<InternalKeyCmp<DefaultCmp>>>> {
+fn walk_over(alloc: Global, entries: &[Put]) -> Result<InMemory<Listed<InternalKeyCmp<DefaultCmp>>>> {
     let mut pairs = Vec::new(alloc);
     for entry in entries {
         pairs.push((
@@ -132,7 +132,7 @@ fn walk_over(alloc: Global, entries: &[Put]) -> Result<Unlent<Listed<InternalKey
             Bytes::copy_from_slice(alloc, entry.value.as_slice())?,
         ))?;
     }
-    Ok(Unlent(Listed::new(InternalKeyCmp(DefaultCmp), pairs)))
+    Ok(InMemory(Listed::new(InternalKeyCmp(DefaultCmp), pairs)))
 }
 
 fn merge(

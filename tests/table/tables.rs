@@ -18,7 +18,7 @@ use leveldb_table::block_cache::BlockCache;
 use leveldb_table::cache::Cache;
 use leveldb_table::table_block::{read_filter_block, read_table_block};
 use leveldb_table::table_builder::Footer;
-use leveldb_table::table_reader::{Finder, Table, TableCore, TableIterator};
+use leveldb_table::table_reader::{KeyBuffers, Table, TableCore, TableIterator};
 use std::alloc::Global;
 use std::process::Abort;
 use support::{ShortReads, change_byte, failed_with};
@@ -234,9 +234,9 @@ impl<E: Env, FP: FilterPolicy> Reader<'_, E, FP> {
     }
 
     /// Looks a key up with a finder.
-    fn find(&mut self, alloc: Global, key: &[u8], finder: &mut Finder) -> Result<Option<Bytes>> {
+    fn find(&mut self, alloc: Global, key: &[u8], key_buffers: &mut KeyBuffers) -> Result<Option<Bytes>> {
         self.table
-            .find(alloc, self.env, self.cache, self.compressors, key, finder)
+            .find(alloc, self.env, self.cache, self.compressors, key, key_buffers)
     }
 }
 
@@ -265,10 +265,10 @@ fn is_found(
 }
 
 /// Whether a look-up with a finder found the same pair, whose key is in the finder.
-fn is_same_find(found: &Option<(Bytes, Bytes)>, value: &Option<Bytes>, finder: &Finder) -> bool {
+fn is_same_find(found: &Option<(Bytes, Bytes)>, value: &Option<Bytes>, key_buffers: &KeyBuffers) -> bool {
     match (found, value) {
         (Some((key, found)), Some(value)) => {
-            finder.key() == key.as_slice() && value.as_slice() == found.as_slice()
+            key_buffers.key() == key.as_slice() && value.as_slice() == found.as_slice()
         }
         (None, None) => true,
         _ => false,
@@ -280,14 +280,14 @@ fn finds<E: Env, FP: FilterPolicy>(
     alloc: Global,
     reader: &mut Reader<'_, E, FP>,
     key: &[u8],
-    finder: &mut Finder,
+    key_buffers: &mut KeyBuffers,
     pairs: &[Given<'_>],
     filtered: bool,
 ) -> Result<bool> {
     let found = reader.get(alloc, key)?;
-    let value = reader.find(alloc, key, finder)?;
+    let value = reader.find(alloc, key, key_buffers)?;
     let is_right = is_found(&found, first_from(pairs, key), key, filtered);
-    Ok(is_right && is_same_find(&found, &value, finder))
+    Ok(is_right && is_same_find(&found, &value, key_buffers))
 }
 
 /// Looks up keys, each by itself and with one finder for all.
@@ -297,9 +297,9 @@ fn check_gets<E: Env, FP: FilterPolicy>(
     pairs: &[Given<'_>],
     filtered: bool,
 ) -> Result<()> {
-    let mut finder = Finder::new(rt.alloc());
+    let mut key_buffers = KeyBuffers::new(rt.alloc());
     for key in &PROBES {
-        let is_right = finds(rt.alloc(), reader, key, &mut finder, pairs, filtered)?;
+        let is_right = finds(rt.alloc(), reader, key, &mut key_buffers, pairs, filtered)?;
         assert!(rt; is_right, "for {key:?}");
     }
     Ok(())

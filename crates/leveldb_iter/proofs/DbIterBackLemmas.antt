@@ -22,7 +22,7 @@ use Rattle.leveldb_base.proofs.EntriesLemmas.{entries_append, key_le}
 use Rattle.leveldb_base.proofs.ScanLemmas.{skip_after, shown_append, sorted_front, sorted_back}
 use Rattle.leveldb_base.proofs.BackwardLemmas.{each_scan_steps_back, each_previous_is_last}
 use Rattle.leveldb_iter.specs.declared.walk.Walk.{Ghosts as WalkGhosts}
-use Rattle.leveldb_iter.specs.DbIterSteps.{IsNoEntry, IsUnread, IsEndBack, IsFoundBack, IsTaken, IsOnScanBack, IsFoundPrevious, IsStepBack, KeepsBelow, MovesBelow}
+use Rattle.leveldb_iter.specs.DbIterSteps.{IsNoEntry, FailsToRead, IsEndBack, IsFoundBack, IsTaken, IsOnScanBack, IsFoundPrevious, IsStepBack, KeepsBelow, MovesBelow}
 use Rattle.leveldb_iter.specs.MergedEntries.{internal_order}
 use Rattle.leveldb_iter.specs.Walk.{KeyOrder, WalkLaws, StepsBack}
 use Rattle.leveldb_iter.proofs.DbIterLemmas.{none_from_is_some, at_front, sorted_entries, unread, same_moved, stayed, joined, revalued}
@@ -232,7 +232,7 @@ module _ {E T M : Type 0} (walk : WalkGhosts M E T) (laws : WalkLaws walk.over w
 
   -- ---- a step of a scan back
 
-  pub step_back_unread : {world : E × T} {inner mid : M} {s : ℕ} {found : Option Pair} {To : Option Bool → KeyOrder → List Pair → List Pair → ℕ → Type 0} {status : Status} → mid ≡ inner → IsUnread (walk.here inner) status
+  pub step_back_unread : {world : E × T} {inner mid : M} {s : ℕ} {found : Option Pair} {To : Option Bool → KeyOrder → List Pair → List Pair → ℕ → Type 0} {status : Status} → mid ≡ inner → FailsToRead (walk.here inner) status
       → MovesBelow walk (IsOnScanBack walk world inner s found) To world inner (Err status) world mid
   step_back_unread same fails = unread walk laws same (λ order below pairs n on. (previous_position (Some (length on.front)), on.at)) fails
 

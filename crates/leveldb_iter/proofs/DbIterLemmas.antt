@@ -22,7 +22,7 @@ use Rattle.leveldb_iter.specs.declared.entry.Seen.{Seen}
 use Rattle.leveldb_iter.specs.declared.entry.Seen.TheVariants.{End, Shown, Passed}
 use Rattle.leveldb_iter.specs.declared.walk.Walk.{Ghosts as WalkGhosts}
 use Rattle.leveldb_iter.specs.DbIter.{IsAtEntry, IsBeforeEntries, IsPlaced, FailsOver}
-use Rattle.leveldb_iter.specs.DbIterSteps.{IsNoEntry, IsUnread, IsSeen, IsOnScan, IsFoundNext, IsNextStep, IsLeft, KeepsBelow, MovesBelow, number_after}
+use Rattle.leveldb_iter.specs.DbIterSteps.{IsNoEntry, FailsToRead, IsSeen, IsOnScan, IsFoundNext, IsNextStep, IsLeft, KeepsBelow, MovesBelow, number_after}
 use Rattle.leveldb_iter.specs.MergedEntries.{internal_order}
 use Rattle.leveldb_iter.specs.Walk.{KeyOrder, Way, WalkLaws, MovesWalk, Advances, SeeksFirst}
 
@@ -109,10 +109,10 @@ module _ {E T M : Type 0} (walk : WalkGhosts M E T) (laws : WalkLaws walk.over w
   -- a part that can't read the pair that it is at
   pub unread : {R : Type 0} {From : KeyOrder → List Pair → List Pair → ℕ → Type 0} {To : R → KeyOrder → List Pair → List Pair → ℕ → Type 0} {world : E × T} {inner mid : M} {status : Status} → mid ≡ inner
       → ((order : KeyOrder) (below pairs : List Pair) (n : ℕ) → From order below pairs n → (position : Option ℕ) × walk.is_at world inner (internal_order order) below position)
-      → IsUnread (walk.here inner) status → MovesBelow walk From To world inner (Err status) world mid
+      → FailsToRead (walk.here inner) status → MovesBelow walk From To world inner (Err status) world mid
   unread {From = From} {To} {world} {inner} {mid} {status} same at fails = subst (λ it. MovesBelow walk From To world inner (Err status) world it) (sym same) (record { ok = tt; keeps = kept_itself world inner; cause = by fails })
     where
-      by : IsUnread (walk.here inner) status → FailsOver walk (λ order pairs. (below : List Pair) × (n : ℕ) × From order below pairs n) world inner world status
+      by : FailsToRead (walk.here inner) status → FailsOver walk (λ order pairs. (below : List Pair) × (n : ℕ) × From order below pairs n) world inner world status
       by (inl memory) = inr (inl memory)
       by (inr short) = inr (inr (
         short.0,
@@ -255,7 +255,7 @@ module _ {E T M : Type 0} (walk : WalkGhosts M E T) (laws : WalkLaws walk.over w
 
   -- ---- a step of a scan forward
 
-  pub step_unread : {world : E × T} {inner mid : M} {s : ℕ} {skip : Option (List ℕ)} {To : Option Bool → KeyOrder → List Pair → List Pair → ℕ → Type 0} {status : Status} → mid ≡ inner → IsUnread (walk.here inner) status
+  pub step_unread : {world : E × T} {inner mid : M} {s : ℕ} {skip : Option (List ℕ)} {To : Option Bool → KeyOrder → List Pair → List Pair → ℕ → Type 0} {status : Status} → mid ≡ inner → FailsToRead (walk.here inner) status
       → MovesBelow walk (IsOnScan walk world inner s skip) To world inner (Err status) world mid
   step_unread same fails = unread same (λ order below pairs n on. (position_within below (length on.front), on.at)) fails
 

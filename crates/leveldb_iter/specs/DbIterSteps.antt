@@ -38,8 +38,8 @@ IsUntagged here status = (status.code ≡ Corruption)
     × (pair : Pair) × (here ≡ Some pair) × (length pair.0 < 8)
 
 -- the errors of a pair that is read and kept
-abbrev pub IsUnread : Option Pair → Status → Type 0
-IsUnread here status = IsOutOfMemory status ⊎ IsUntagged here status
+abbrev pub FailsToRead : Option Pair → Status → Type 0
+FailsToRead here status = IsOutOfMemory status ⊎ IsUntagged here status
 
 -- the type, the sequence number, the user's key and the value of the pair
 abbrev pub IsEntryRead : Option Pair → Option (ValueType × ℕ × Bor (List ℕ) × Bor (List ℕ)) → Type 0

@@ -1,8 +1,8 @@
 pub mod Walk
 pub mod WalkIter
 pub mod Moves
-pub mod Unlent
-pub mod UnlentLaws
+pub mod InMemory
+pub mod InMemoryLaws
 pub mod Merge
 pub mod MergedEntries
 pub mod Children

@@ -71,7 +71,7 @@ impl<M> DbIterCore<M> {
 // Scans forward.
 impl<M> DbIterCore<M> {
     ghost use Rattle.leveldb_base.specs.KeyTypes.{user_part};
-    ghost use Rattle.leveldb_iter.specs.DbIterSteps.{IsSeen, IsUnread, MovesBelow, IsOnScan, IsNextStep, IsFoundNext, IsLeft};
+    ghost use Rattle.leveldb_iter.specs.DbIterSteps.{IsSeen, FailsToRead, MovesBelow, IsOnScan, IsNextStep, IsFoundNext, IsLeft};
 
     // The error of more entries than any memory holds: out of memory.
     fn too_long(&self) -> Result<()>
@@ -90,7 +90,7 @@ impl<M> DbIterCore<M> {
         ensures ok { IfOk result (IsSeen self.old.sequence
             (then_some skipping self.old.saved_key.items) (M.here self.old.walk)
             self.new.saved_key.items) }
-        ensures cause { IfErr result (IsUnread (M.here self.old.walk)) }
+        ensures cause { IfErr result (FailsToRead (M.here self.old.walk)) }
     {
         let alloc = *self.saved_key.allocator();
         let Some((kind, sequence, user, value)) = entry_at::<E, T, M>(alloc, &self.walk)? else {
@@ -222,7 +222,7 @@ impl<M> DbIterCore<M> {
 
 // Scans back, and the first halves of seeks.
 impl<M> DbIterCore<M> {
-    ghost use Rattle.leveldb_iter.specs.DbIterSteps.{IsTaken, IsUnread, MovesBelow, IsOnScan, IsOnScanBack, IsStepBack, IsTurning, IsFoundPrevious, IsLeftBack, IsSought, IsWhole, is_at_key};
+    ghost use Rattle.leveldb_iter.specs.DbIterSteps.{IsTaken, FailsToRead, MovesBelow, IsOnScan, IsOnScanBack, IsStepBack, IsTurning, IsFoundPrevious, IsLeftBack, IsSought, IsWhole, is_at_key};
 
     // Takes the entry that the walk below is at for the pair to be shown, and returns whether one
     // is taken. A deletion takes it back. An entry of another key ends the search.
@@ -236,7 +236,7 @@ impl<M> DbIterCore<M> {
             (then_some taken (self.old.saved_key.items, self.old.saved_value.items))
             (M.here self.old.walk) (self.old.saved_key.items, self.old.saved_value.items)
             (self.new.saved_key.items, self.new.saved_value.items)) }
-        ensures cause { IfErr result (IsUnread (M.here self.old.walk)) }
+        ensures cause { IfErr result (FailsToRead (M.here self.old.walk)) }
     {
         let alloc = *self.saved_key.allocator();
         let Some((kind, sequence, user, value)) = entry_at::<E, T, M>(alloc, &self.walk)? else {

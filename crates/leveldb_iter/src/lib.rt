@@ -5,10 +5,10 @@
 mod children;
 pub mod db_iter;
 mod entry;
+pub mod in_memory;
 pub mod laws;
 pub mod merging_iter;
 pub mod moves;
 pub mod snapshot;
-pub mod unlent;
 pub mod walk;
 pub mod walk_iter;

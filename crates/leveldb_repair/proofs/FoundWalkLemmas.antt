@@ -8,9 +8,9 @@ use Rattle.leveldb_base.specs.declared.error.Status.{Status}
 use Rattle.leveldb_base.specs.declared.types.LdbIterator.{Ghosts as IteratorGhosts}
 use Rattle.leveldb_env.specs.Compressor.{Codings}
 use Rattle.leveldb_env.specs.declared.env.Env.{Ghosts as EnvGhosts}
-use Rattle.leveldb_iter.specs.Unlent.{IsAloneOver, IsAloneAt, FailsAlone, alone_here}
+use Rattle.leveldb_iter.specs.InMemory.{IsAloneOver, IsAloneAt, FailsAlone, alone_here}
 use Rattle.leveldb_iter.specs.Walk.{KeyOrder, MovesWalk, Resets, Way}
-use Rattle.leveldb_iter.specs.declared.unlent.Unlent.{Unlent}
+use Rattle.leveldb_iter.specs.declared.in_memory.InMemory.{InMemory}
 use Rattle.leveldb_repair.proofs.FoundWalkTableLemmas.{found_one_list}
 use Rattle.leveldb_repair.specs.FoundWalk.{FailsInWalk, IsWalkAt, IsWalkOver, walk_here}
 use Rattle.leveldb_repair.specs.FoundWalkLaws.{found_kept}
@@ -35,9 +35,9 @@ module _ {E C K M F : Type 0} (order : CmpGhosts (InternalKeyCmp C)) (env : EnvG
   -- of a walk over memory
   pub memory_moves : {R : Type 0}
       (From : E × ReadFiles K → FoundWalk E C M F → KeyOrder → List Pair → Option ℕ → Type 0)
-      (AloneFrom : E × ReadFiles K → Unlent M → KeyOrder → List Pair → Option ℕ → Type 0) (to : Way)
-      (world : E × ReadFiles K) (old : Unlent M) (result : Result R Status)
-      (later : E × ReadFiles K) (new : Unlent M)
+      (AloneFrom : E × ReadFiles K → InMemory M → KeyOrder → List Pair → Option ℕ → Type 0) (to : Way)
+      (world : E × ReadFiles K) (old : InMemory M) (result : Result R Status)
+      (later : E × ReadFiles K) (new : InMemory M)
       → ((keys : KeyOrder) (pairs : List Pair) (position : Option ℕ)
       → From world (Memory old) keys pairs position → AloneFrom world old keys pairs position)
       → MovesWalk (IsAloneOver iterator) (IsAloneAt iterator) (alone_here iterator)

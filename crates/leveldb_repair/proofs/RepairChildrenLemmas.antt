@@ -18,10 +18,10 @@ use Rattle.leveldb_env.specs.declared.env.Env.{Ghosts as EnvGhosts}
 use Rattle.leveldb_iter.specs.Merge.{HaveOnePairAKey, IsMerge}
 use Rattle.leveldb_iter.specs.MergedEntries.{internal_order}
 use Rattle.leveldb_iter.specs.MergingIter.{AreMerged, IsMergeAt}
-use Rattle.leveldb_iter.specs.Unlent.{IsAloneOver}
+use Rattle.leveldb_iter.specs.InMemory.{IsAloneOver}
 use Rattle.leveldb_iter.specs.Walk.{IsSortedIn, KeyOrder, key_order}
 use Rattle.leveldb_iter.specs.declared.merging_iter.MergeCore.{MergeCore}
-use Rattle.leveldb_iter.specs.declared.unlent.Unlent.{Unlent}
+use Rattle.leveldb_iter.specs.declared.in_memory.InMemory.{InMemory}
 use Rattle.leveldb_iter.specs.declared.walk.Walk.{Ghosts as WalkGhosts}
 use Rattle.leveldb_mem.specs.MemTable.{MemTableState}
 use Rattle.leveldb_version.proofs.PairwiseLemmas.{as_long, each_of_map, each_second}
@@ -105,7 +105,7 @@ module _ {E C K M F : Type 0} (order : CmpGhosts (InternalKeyCmp C)) (env : EnvG
     Over it pairs = IsWalkOver order env codings iterator world it keys pairs
 
     -- walks over memtables are over their entries
-    pub memory_over : (memory : List (Unlent M)) (tables : List (MemTableState C))
+    pub memory_over : (memory : List (InMemory M)) (tables : List (MemTableState C))
         → Each (λ it (table : MemTableState C).
         IsOverMemory iterator (cmp.cmp compares) it table.kept.entries) memory tables
         → Each (λ it pairs. IsAloneOver iterator world it keys pairs) memory (memory_lists tables)
@@ -135,7 +135,7 @@ module _ {E C K M F : Type 0} (order : CmpGhosts (InternalKeyCmp C)) (env : EnvG
 
     -- the children are over the lists of tables and of memtables
     pub children_over : (tables : List (FoundTable E C F)) (lists : List (List Pair))
-        (memory : List (Unlent M)) (logs : List (MemTableState C))
+        (memory : List (InMemory M)) (logs : List (MemTableState C))
         → Each (λ it pairs. IsFoundOver order env codings world it keys pairs) tables lists
         → Each (λ it (table : MemTableState C).
         IsOverMemory iterator (cmp.cmp compares) it table.kept.entries) memory logs

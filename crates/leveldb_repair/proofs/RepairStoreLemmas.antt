@@ -11,7 +11,7 @@ use Rattle.leveldb_env.specs.declared.filter.FilterPolicy.{Ghosts as FilterGhost
 use Rattle.leveldb_table.specs.TableLaws.{DecodesMore}
 use Rattle.leveldb_version.specs.Format.{Agrees, Format, Meaning}
 use Rattle.leveldb_version.specs.Found.{HasNoTableNorLog, IsAnyTable}
-use Rattle.leveldb_version.specs.Repairing.{IsRepairing}
+use Rattle.leveldb_version.specs.Repairing.{IsAmidRepair}
 use Rattle.leveldb_store.specs.BuildTable.{TableChoices}
 use Rattle.leveldb_store.specs.Merging.{LeavesFiles}
 use Rattle.leveldb_store.specs.OpensStore.{IsBareFolder}
@@ -33,7 +33,7 @@ decodes_by {format} {meaning} agrees id stored text decoded =
 
 -- where nothing was made yet
 pub repairing_none : (store : List ℕ) {taken next : ℕ} {old now : Files}
-    → IsRepairing store taken next old now → IsRepairing store taken next old old
+    → IsAmidRepair store taken next old now → IsAmidRepair store taken next old old
 repairing_none store r = record {
   taken_is = r.taken_is;
   others = λ path tables manifest temp current lock. refl;
@@ -108,22 +108,22 @@ module _ {C FP : Type 0} {order : CmpGhosts C} {filters : FilterGhosts FP}
     ok_after : {to : E} → IsTrue env.models_disk → (meaning : Meaning)
         → ((it : HoldsAllFound store choices.format meaning (env.observed mid).disk.files
         (env.observed to).disk.files)
-        × Run (IsRepairing store it.taken it.next (env.observed mid).disk.files)
+        × Run (IsAmidRepair store it.taken it.next (env.observed mid).disk.files)
         (env.observed mid) (env.observed to))
         → (it : HoldsAllFound store choices.format meaning (env.observed from).disk.files
         (env.observed to).disk.files)
-        × Run (IsRepairing store it.taken it.next (env.observed from).disk.files)
+        × Run (IsAmidRepair store it.taken it.next (env.observed from).disk.files)
         (env.observed from) (env.observed to)
     ok_after {to} modelled meaning (it, run) =
         let files : Files = (env.observed mid).disk.files in
-        let before : Run (IsRepairing store it.taken it.next files) (env.observed from)
+        let before : Run (IsAmidRepair store it.taken it.next files) (env.observed from)
         (env.observed mid) =
-        Run-mono (λ now same. subst (IsRepairing store it.taken it.next files)
+        Run-mono (λ now same. subst (IsAmidRepair store it.taken it.next files)
         (same_files modelled ∙ sym same) (repairing_none store it.repairing))
         (leaves.run modelled) in
         subst (λ (old : Files).
         (made : HoldsAllFound store choices.format meaning old (env.observed to).disk.files)
-        × Run (IsRepairing store made.taken made.next old) (env.observed from)
+        × Run (IsAmidRepair store made.taken made.next old) (env.observed from)
         (env.observed to)) (same_files modelled)
         (it, Run-trans before (λ now is. is) run)
 
@@ -144,11 +144,11 @@ module _ {C FP : Type 0} {order : CmpGhosts C} {filters : FilterGhosts FP}
     -- so is why it isn't ended
     ended_after : {status : Status} → WhyNotEnded choices env store mid status
         → WhyNotEnded choices env store from status
-    ended_after (inl (pairs, found, not_tabled)) = inl (
+    ended_after (inl (pairs, found, not_built)) = inl (
       pairs,
       λ modelled. subst (λ (files : Files). ArePairsFound store files choices.format pairs)
           (same_files modelled) (found modelled),
-      not_tabled,
+      not_built,
     )
     ended_after (inr rest) = inr rest
 

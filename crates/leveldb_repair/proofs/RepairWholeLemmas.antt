@@ -19,7 +19,7 @@ use Rattle.leveldb_env.specs.declared.filter.FilterPolicy.{Ghosts as FilterGhost
 use Rattle.leveldb_iter.specs.Merge.{IsPairOf}
 use Rattle.leveldb_iter.specs.MergedEntries.{internal_order}
 use Rattle.leveldb_iter.specs.Walk.{key_order}
-use Rattle.leveldb_iter.specs.declared.unlent.Unlent.{Unlent}
+use Rattle.leveldb_iter.specs.declared.in_memory.InMemory.{InMemory}
 use Rattle.leveldb_mem.specs.MemTable.{MemTableState}
 use Rattle.leveldb_version.proofs.OneStoreLemmas.{flat_in}
 use Rattle.leveldb_version.proofs.SearchLemmas.{all_from_contains}
@@ -133,7 +133,7 @@ module _ {E C K F FP : Type 0} {order : CmpGhosts (InternalKeyCmp C)} {filters :
       (codings_are : codings compressors ≡ choices.format.codings) {from mid : E}
       {found : Found E C F} (finds : Finds from (Ok found) mid) (read : ReadFiles K) (by : read.compressors.now ≡ compressors)
       (same : read.store.now ≡ store) (below : read.below ≡ found.greatest + 1)
-      {children : List (FoundWalk E C M F)} (memory : List (Unlent M))
+      {children : List (FoundWalk E C M F)} (memory : List (InMemory M))
       (are_children : children ≡ map Table found.tables.items ++ map Memory memory)
       (over_memory : AreOverMemory iterator cmp found.logs.items memory) where
     has : HasFound choices env cmp codings compressors compares store from mid found
@@ -163,7 +163,7 @@ module _ {E C K F FP : Type 0} {order : CmpGhosts (InternalKeyCmp C)} {filters :
         (at.over, tables_over walks lists each.1)
 
     -- all memtables are in one order
-    memory_over : (walks : List (Unlent M)) (logs : List (MemTableState C))
+    memory_over : (walks : List (InMemory M)) (logs : List (MemTableState C))
         → All (λ (table : MemTableState C). table.cmp ≡ compares) logs
         → AreOverMemory iterator cmp logs walks
         → Each (λ it (table : MemTableState C).

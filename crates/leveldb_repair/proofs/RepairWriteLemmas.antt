@@ -41,7 +41,7 @@ use Rattle.leveldb_version.specs.NewManifest.{MakingManifest, with_manifest}
 use Rattle.leveldb_version.specs.NewStore.{MakesManifest}
 use Rattle.leveldb_version.specs.Opening.{FitsEdit}
 use Rattle.leveldb_version.specs.Paths.{current_path, lock_path}
-use Rattle.leveldb_version.specs.Repairing.{IsGreatestInFolder, IsRepaired, IsRepairing, ManifestRepairs, repaired_edit, repaired_manifest}
+use Rattle.leveldb_version.specs.Repairing.{IsGreatestInFolder, IsRepairedStore, IsAmidRepair, ManifestRepairs, repaired_edit, repaired_manifest}
 use Rattle.leveldb_version.specs.VersionEdit.{Edit, IsEncodable, NewFile, file_order, new_file_of}
 use Rattle.leveldb_store.specs.BuildTable.{TableChoices}
 use Rattle.leveldb_store.specs.Merging.{AreRead, BearsNewTables, FailsOnWay, IsMergeFault, LeavesFiles}
@@ -73,7 +73,7 @@ module _ (store : List ℕ) (taken next : ℕ) (old now : Files)
 
   -- new tables alone are a part of a repair
   pub tables_repair : IsGreatestInFolder store old taken → taken + 2 ≤ next → next < 2 ^ 64
-      → IsRepairing store taken next old now
+      → IsAmidRepair store taken next old now
   tables_repair is begun fits = record {
     taken_is = is;
     others = λ path tables manifest temp current lock.
@@ -199,8 +199,8 @@ module _ {C FP : Type 0} {order : CmpGhosts C} {filters : FilterGhosts FP}
       bytes = repaired_manifest name next found.last these
 
       -- the files are repaired
-      unfoldable is_repair : (now : Files) → IsRepairing store taken next old now
-          → IsRepaired store choices.format.order (IsTableOf choices.format.order meaning) name
+      unfoldable is_repair : (now : Files) → IsAmidRepair store taken next old now
+          → IsRepairedStore store choices.format.order (IsTableOf choices.format.order meaning) name
           (taken + 1) next found.last repaired.tables now
           → HoldsAllFound store choices.format meaning old now
       is_repair now repairing done = record {
@@ -221,7 +221,7 @@ module _ {C FP : Type 0} {order : CmpGhosts C} {filters : FilterGhosts FP}
           (repaired_manifest name next found.last added) at_end) (sym repaired.files_are)
 
       while_named : (now : Files) → MakingManifest store (taken + 1) bytes at_end now
-          → IsRepairing store taken next old now
+          → IsAmidRepair store taken next old now
       while_named now making = manifests_go_on store taken next bytes old at_end now
           (tables_repair store taken next old at_end tables.has is.taken_is begun fits) making
 
@@ -235,7 +235,7 @@ module _ {C FP : Type 0} {order : CmpGhosts C} {filters : FilterGhosts FP}
         current = ⊎_elim
             (λ (same : now (current_path store) ≡ at_end (current_path store)).
             inl (same ∙ current_stays store taken next old at_end tables.has))
-            (λ (done : IsRepaired store choices.format.order
+            (λ (done : IsRepairedStore store choices.format.order
             (IsTableOf choices.format.order meaning) name (taken + 1) next found.last
             repaired.tables now). inr (is_repair now (while_named now making) done))
             (manifest.meanwhile now (subst (λ (added : List NewFile).
@@ -251,7 +251,7 @@ module _ {C FP : Type 0} {order : CmpGhosts C} {filters : FilterGhosts FP}
               (env.observed to)
           named_moments = Run-trans (Run-mono at_tables tables) at_named (Run-call modelled makes)
 
-          named_run : Run (IsRepairing store taken next old) (env.observed from) (env.observed to)
+          named_run : Run (IsAmidRepair store taken next old) (env.observed from) (env.observed to)
           named_run = Run-trans (Run-mono (λ now same.
               tables_repair store taken next old now same is.taken_is begun fits) tables)
               while_named (Run-call modelled makes)
@@ -260,11 +260,11 @@ module _ {C FP : Type 0} {order : CmpGhosts C} {filters : FilterGhosts FP}
           named_repair : (env.observed to).disk.files
               ≡ with_manifest store (taken + 1) bytes at_end
               → (it : HoldsAllFound store choices.format meaning old (env.observed to).disk.files)
-              × Run (IsRepairing store it.taken it.next old) (env.observed from)
+              × Run (IsAmidRepair store it.taken it.next old) (env.observed from)
               (env.observed to)
           unfolding is_repair
           named_repair done = (
-            is_repair (env.observed to).disk.files named_run.has (subst (IsRepaired store
+            is_repair (env.observed to).disk.files named_run.has (subst (IsRepairedStore store
                 choices.format.order (IsTableOf choices.format.order meaning) name (taken + 1) next
                 found.last repaired.tables) (sym (done ∙ manifest_same)) manifest.after),
             named_run,
@@ -373,10 +373,10 @@ module _ {C FP : Type 0} {order : CmpGhosts C} {filters : FilterGhosts FP}
           ⊎ ((mid ≡ 2 ^ 64 - 1) × (env.failures end.0 ≡ mid))
           → FailsBetweenOr env (WhyNotEnded choices env store from status) from end.0 status
       by (inl (inl memory)) = inl memory
-      by (inl (inr (inl not_tabled, same))) = inr (inr (inr (inl (
+      by (inl (inr (inl not_built, same))) = inr (inr (inr (inl (
         read,
         λ modelled. read_found modelled read begins,
-        not_tabled,
+        not_built,
       ))))
       by (inl (inr (inr (inl used_up), same))) = inr (inr (inr (inr (inl (later, used_up)))))
       by (inl (inr (inr (inr (code, misplaced)), same))) = inr (inr (inr (inr (inr (

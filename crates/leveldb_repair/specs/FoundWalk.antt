@@ -7,7 +7,7 @@ use Rattle.leveldb_base.specs.declared.error.Status.{Status}
 use Rattle.leveldb_base.specs.declared.types.LdbIterator.{Ghosts as IteratorGhosts}
 use Rattle.leveldb_env.specs.Compressor.{Codings}
 use Rattle.leveldb_env.specs.declared.env.Env.{Ghosts as EnvGhosts}
-use Rattle.leveldb_iter.specs.Unlent.{IsAloneOver, IsAloneAt, FailsAlone, alone_here}
+use Rattle.leveldb_iter.specs.InMemory.{IsAloneOver, IsAloneAt, FailsAlone, alone_here}
 use Rattle.leveldb_iter.specs.Walk.{KeyOrder}
 use Rattle.leveldb_repair.specs.FoundWalkTable.{FailsInFound, IsFoundAt, IsFoundOver, found_here}
 use Rattle.leveldb_repair.specs.FoundWalkOf.{FoundWalk}

@@ -9,10 +9,10 @@ use Rattle.leveldb_base.specs.declared.error.Status.{Status}
 use Rattle.leveldb_base.specs.declared.types.LdbIterator.{Ghosts as IteratorGhosts}
 use Rattle.leveldb_env.specs.Compressor.{Codings}
 use Rattle.leveldb_env.specs.declared.env.Env.{Ghosts as EnvGhosts}
-use Rattle.leveldb_iter.specs.Unlent.{IsAloneOver}
-use Rattle.leveldb_iter.specs.UnlentLaws.{alone_laws}
+use Rattle.leveldb_iter.specs.InMemory.{IsAloneOver}
+use Rattle.leveldb_iter.specs.InMemoryLaws.{alone_laws}
 use Rattle.leveldb_iter.specs.Walk.{IsSortedIn, KeyOrder, WalkLaws, key_order}
-use Rattle.leveldb_iter.specs.declared.unlent.Unlent.{Unlent}
+use Rattle.leveldb_iter.specs.declared.in_memory.InMemory.{InMemory}
 use Rattle.leveldb_table.proofs.TableBlockLemmas.{FileHas-after, KeepsDisk-refl, KeepsDisk-trans}
 use Rattle.leveldb_table.proofs.TableReaderWalkLemmas.{current_at, within_in}
 use Rattle.leveldb_table.specs.BlockWalk.{position_over}
@@ -152,7 +152,7 @@ module _ {E C K F : Type 0} {order : CmpGhosts (InternalKeyCmp C)} {env : EnvGho
 -- ---- the children of a merge
 
 -- a walk over memory reads from no world
-stays_alone : {W M : Type 0} {iterator : IteratorGhosts M} (first second : W) (it : Unlent M)
+stays_alone : {W M : Type 0} {iterator : IteratorGhosts M} (first second : W) (it : InMemory M)
     (keys : KeyOrder) (pairs : List Pair) → IsAloneOver iterator first it keys pairs
     → IsAloneOver iterator second it keys pairs
 stays_alone first second it keys pairs over =

@@ -16,7 +16,7 @@ use Rattle.leveldb_env.specs.declared.env.Env.{Ghosts as EnvGhosts}
 use Rattle.leveldb_env.specs.declared.filter.FilterPolicy.{Ghosts as FilterGhosts}
 use Rattle.leveldb_iter.specs.Merge.{HaveOnePairAKey, IsMerge, IsPairOf}
 use Rattle.leveldb_iter.specs.Walk.{key_order}
-use Rattle.leveldb_iter.specs.declared.unlent.Unlent.{Unlent}
+use Rattle.leveldb_iter.specs.declared.in_memory.InMemory.{InMemory}
 use Rattle.leveldb_iter.specs.declared.walk.Walk.{Ghosts as WalkGhosts}
 use Rattle.leveldb_mem.specs.MemTable.{MemTableState}
 use Rattle.leveldb_table.specs.TableBlock.{HasLackCode}
@@ -137,7 +137,7 @@ module _ {E C K M F FP : Type 0} {order : CmpGhosts (InternalKeyCmp C)} {filters
 
 -- these are walks over the memtables, each in its order of users' keys
 abbrev pub AreOverMemory : {C M : Type 0} → IteratorGhosts M → CmpGhosts C
-    → List (MemTableState C) → List (Unlent M) → Type 0
+    → List (MemTableState C) → List (InMemory M) → Type 0
 AreOverMemory {C} iterator cmp logs memory = Each (λ it (table : MemTableState C).
     IsOverMemory iterator (cmp.cmp table.cmp) it table.kept.entries) memory logs
 

@@ -21,9 +21,9 @@ use Rattle.leveldb_version.specs.Format.{Agrees, Format, IsTableOf, Meaning}
 use Rattle.leveldb_version.specs.Found.{AreFound, HasNoTableNorLog, IsAnyTable, IsFound}
 use Rattle.leveldb_version.specs.Levels.{LiveTable, table_entries}
 use Rattle.leveldb_version.specs.Paths.{current_path}
-use Rattle.leveldb_version.specs.Repairing.{IsGreatestInFolder, IsRepaired, IsRepairing}
+use Rattle.leveldb_version.specs.Repairing.{IsGreatestInFolder, IsRepairedStore, IsAmidRepair}
 use Rattle.leveldb_version.specs.VersionSetValue.{AreFileNumbersUsedUp}
-use Rattle.leveldb_store.specs.BuildTable.{AreSomeNotTabled, TableChoices}
+use Rattle.leveldb_store.specs.BuildTable.{AreSomeNotBuilt, TableChoices}
 use Rattle.leveldb_store.specs.Listing.{MatchesName}
 use Rattle.leveldb_store.specs.OpensStore.{IsBareFolder}
 use Rattle.leveldb_store.specs.SoundCall.{BytesAreAppended}
@@ -48,9 +48,9 @@ module _ (store : List ℕ) (format : Format) (meaning : Meaning) (old : Files) 
     pub last : ℕ
     pub tables : List LiveTable
     -- no file has changed but those of a repair
-    pub repairing : IsRepairing store taken next old new
+    pub repairing : IsAmidRepair store taken next old new
     -- they are a store of the tables
-    pub repaired : IsRepaired store format.order (IsTableOf format.order meaning)
+    pub repaired : IsRepairedStore store format.order (IsTableOf format.order meaning)
         format.order_name (taken + 1) next last tables new
     -- No entry is left out, and none came, whatever texts are decoded beside those that the
     -- format's compressors decode.
@@ -62,7 +62,7 @@ module _ (store : List ℕ) (format : Format) (meaning : Meaning) (old : Files) 
   pub record HoldsOldOrAllFound (now : Files) : Type 0 where
     pub taken : ℕ
     pub next : ℕ
-    pub repairing : IsRepairing store taken next old now
+    pub repairing : IsAmidRepair store taken next old now
     pub some : HasNoTableNorLog store old → ⊥
     pub current : (now (current_path store) ≡ old (current_path store)) ⊎ HoldsAllFound now
 
@@ -155,7 +155,7 @@ module _ {C FP : Type 0} {order : CmpGhosts C} {filters : FilterGhosts FP}
     WhyNotEnded status =
         ((pairs : List Pair) × (IsTrue env.models_disk
         → ArePairsFound store (env.observed from).disk.files choices.format pairs)
-        × AreSomeNotTabled choices pairs status)
+        × AreSomeNotBuilt choices pairs status)
         ⊎ ((number : ℕ) × AreFileNumbersUsedUp number status)
         ⊎ (HasLackCode env choices.format.codings status × (IsTrue env.models_disk → ⊥))
 
@@ -166,7 +166,7 @@ module _ {C FP : Type 0} {order : CmpGhosts C} {filters : FilterGhosts FP}
           → Agrees choices.format meaning
           → (it : HoldsAllFound store choices.format meaning (env.observed from).disk.files
           (env.observed to).disk.files)
-          × Run (IsRepairing store it.taken it.next (env.observed from).disk.files)
+          × Run (IsAmidRepair store it.taken it.next (env.observed from).disk.files)
           (env.observed from) (env.observed to))
       -- now and at each moment the files are those of a moment of it, also where it fails
       pub moments : IsTrue env.models_disk → (meaning : Meaning) → Agrees choices.format meaning

@@ -23,7 +23,7 @@ pub use Rattle.leveldb_version.specs.Repairing.{AreLevelOne}
 use Rattle.leveldb_version.specs.Store.{IsInternalPair}
 use Rattle.leveldb_version.specs.VersionEdit.{NewFile, new_file_of}
 use Rattle.leveldb_store.specs.BuildTable.{TableChoices}
-use Rattle.leveldb_store.specs.Merging.{BearsNewTables, ComesOf, FailsOnWay, IsMergeFault, Merge, all_pairs, merge_of}
+use Rattle.leveldb_store.specs.Merging.{BearsNewTables, IsReachedFrom, FailsOnWay, IsMergeFault, Merge, all_pairs, merge_of}
 use Rattle.leveldb_store.specs.Outputs.{AreTables, ChangesNewTables}
 use Rattle.leveldb_store.specs.TableFile.{FailsToWrite}
 
@@ -87,7 +87,7 @@ module _ {C FP : Type 0} {order : CmpGhosts C} {filters : FilterGhosts FP}
       -- now and at each moment on the way no file changes but tables of numbers that were given
       pub changes : ChangesNewTables env store first later start.0 end.0
       -- moves of the walk and new tables lead to where it ends, so that what both keep is kept
-      pub comes : ComesOf env walk store first start end
+      pub comes : IsReachedFrom env walk store first start end
       -- A move failed; or, after some pairs were read, at last a call that writes. Where the walk
       -- is over a list, and bears new tables, they are the first of it.
       pub cause : IfErr result (λ status. FailsOnWay env walk store first start it end status

@@ -6,7 +6,7 @@ use leveldb_base::cmp::{Cmp, InternalKeyCmp, UserCmp};
 use leveldb_base::error::Result;
 use leveldb_base::types::LdbIterator;
 use leveldb_env::env::Env;
-use leveldb_iter::unlent::Unlent;
+use leveldb_iter::in_memory::InMemory;
 use leveldb_iter::walk::Walk;
 
 mod files;
@@ -22,7 +22,7 @@ pub use table::{FoundMove, FoundTable};
 #[derive(Drop)]
 pub enum FoundWalk<T, M> {
     /// Over a memtable.
-    Memory(Unlent<M>),
+    Memory(InMemory<M>),
     /// Over a table.
     Table(T),
 }

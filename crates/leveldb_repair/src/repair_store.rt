@@ -20,7 +20,7 @@ mod restore;
 
 use children::children_of;
 use find::find;
-use restore::{Plan, restore_walks};
+use restore::{RepairPlan, restore_walks};
 
 /// Makes a store of all entries that are found in a store's folder, whose lock the caller holds: of
 /// each readable table, and of each log as far as `found_logs` reads it. They go to new tables in
@@ -46,7 +46,7 @@ pub fn repair_store<E: Env, C: UserCmp + Copy + Drop, FP: FilterPolicy + Copy + 
     let greatest = found.greatest;
     let mut versions = set_above(alloc, store, &options.cmp, greatest)?;
     let children = children_of(alloc, found.tables, found.logs.as_slice())?;
-    let plan = Plan {
+    let plan = RepairPlan {
         alloc,
         store,
         options,

@@ -21,24 +21,24 @@ use Rattle.leveldb_version.specs.VersionSetValue.{OpenManifest, VersionSetValue,
 use Rattle.leveldb_version.specs.Writing.{table_edit}
 use Rattle.leveldb_store.proofs.CurrentVersionLemmas.{lower_stay}
 use Rattle.leveldb_store.proofs.TableKeepsLemmas.{appending_and_syncing, is_table_path, types_apart}
-use Rattle.leveldb_store.proofs.TableWaitingLemmas.{has_made}
+use Rattle.leveldb_store.proofs.Level0TableLemmas.{has_made}
 use Rattle.leveldb_store.specs.BuildTable.{MakesTable, TableChoices}
 use Rattle.leveldb_store.specs.KeptEntries.{AddsTableOf, IsAddedTable}
 use Rattle.leveldb_store.specs.OpenStore.{AreNumbersGiven, HasOwnManifest, OpenStoreValue}
-use Rattle.leveldb_store.specs.Written.{waiting_entries}
+use Rattle.leveldb_store.specs.Written.{imm_entries}
 
 module _ {E F C D FP : Type 0} {order : CmpGhosts D} {filters : FilterGhosts FP} (env : Ghosts E F)
     (choices : TableChoices order filters) (old : OpenStoreValue C) (from mid : E)
-    (level : ℕ) (file : FileMetaData) (some : waiting_entries old.waiting ≢ [])
-    (each : Each IsInternalPair (map internal_pair (waiting_entries old.waiting))
-    (waiting_entries old.waiting))
-    (m : MakesTable choices (map internal_pair (waiting_entries old.waiting)) env (λ status. ⊥)
+    (level : ℕ) (file : FileMetaData) (some : imm_entries old.imm ≢ [])
+    (each : Each IsInternalPair (map internal_pair (imm_entries old.imm))
+    (imm_entries old.imm))
+    (m : MakesTable choices (map internal_pair (imm_entries old.imm)) env (λ status. ⊥)
     old.set.store old.set.next_file from (Ok file) mid) where
   abbrev it : NewFile
   it = new_file_of (level, file)
 
   abbrev table : LiveTable
-  table = record { file = it; entries = waiting_entries old.waiting }
+  table = record { file = it; entries = imm_entries old.imm }
 
   abbrev Logs : OpenManifest → VersionSetValue → E → Type 0
   Logs manifest set to = AppendsEdit env.models_disk manifest (with_number_given old.set)
@@ -91,14 +91,14 @@ module _ {E F C D FP : Type 0} {order : CmpGhosts D} {filters : FilterGhosts FP}
       fits : file.num < 2 ^ 64
       fits = omega (arith, number, next_fits)
 
-  pub waiting_added : old.set.next_file + 1 < 2 ^ 64 → AreNumbersGiven old.set old.set.full.added
+  pub imm_added : old.set.next_file + 1 < 2 ^ 64 → AreNumbersGiven old.set old.set.full.added
       → (manifest : OpenManifest) → old.set.manifest ≡ in_use manifest
       → (IsTrue env.models_disk → HasOwnManifest old.set)
       → (set : VersionSetValue) (to : E) → Logs manifest set to
       → (new : VersionSetValue) → new ≡ set
-      → AddsTableOf env choices.format (waiting_entries old.waiting) old.set new to
-  waiting_added next_fits given manifest used own set to l new same =
-      subst (λ s. AddsTableOf env choices.format (waiting_entries old.waiting) old.set s to)
+      → AddsTableOf env choices.format (imm_entries old.imm) old.set new to
+  imm_added next_fits given manifest used own set to l new same =
+      subst (λ s. AddsTableOf env choices.format (imm_entries old.imm) old.set s to)
       (sym same) (
         it,
         its_entries next_fits given manifest used own set to l,

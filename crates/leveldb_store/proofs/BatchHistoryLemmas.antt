@@ -30,17 +30,17 @@ use Rattle.leveldb_store.proofs.SyncBatchLemmas.{log_there, written_after_sync}
 use Rattle.leveldb_store.proofs.TableKeepsLemmas.{KeepsHistory-refl, appending_and_syncing}
 use Rattle.leveldb_version.specs.Format.{IsTableOf, Meaning}
 use Rattle.leveldb_store.specs.OpenStore.{OpenStoreValue}
-use Rattle.leveldb_store.specs.Write.{HasNumbers, logged, open_log_path, with_recent, with_writer}
+use Rattle.leveldb_store.specs.Write.{HasNumbers, logged, open_log_path, with_mem, with_writer}
 use Rattle.leveldb_store.specs.WriteBatch.{AddsBatch, HoldsBatches, IsOf, LeavesHistory, next_batch}
 use Rattle.leveldb_store.specs.Written.{IsWritten, KeepsShown, memory_of}
 
 -- the store after a batch of these items, whose record has this text
 abbrev pub after_batch : {C : Type 0} → OpenStoreValue C → List Item → List ℕ → Kept
     → OpenStoreValue C
-after_batch old items text recent = record old {
+after_batch old items text mem = record old {
   set = record old.set { last_sequence = old.set.last_sequence + length items };
   log = record old.log { writer = after_frame old.log.writer text };
-  recent = recent;
+  mem = mem;
 }
 
 module _ {C : Type 0} (cmp : List ℕ → List ℕ → Ordering) (meaning : Meaning)
@@ -79,18 +79,18 @@ module _ {C : Type 0} (cmp : List ℕ → List ℕ → Ordering) (meaning : Mean
   -- ---- where nothing came to the log
 
   -- there may be more room in the memtable
-  pub room_leaves : (recent : Kept) → recent.entries ≡ old.recent.entries
-      → LeavesHistory cmp meaning allowed old from history durable None (with_recent old recent)
+  pub room_leaves : (mem : Kept) → mem.entries ≡ old.mem.entries
+      → LeavesHistory cmp meaning allowed old from history durable None (with_mem old mem)
       from
-  room_leaves recent same = keeps_history cmp meaning allowed old (with_recent old recent) from from
+  room_leaves mem same = keeps_history cmp meaning allowed old (with_mem old mem) from from
       history durable is_of
       (record {
         moments = λ bound reached. begun from (KeepsHistory-refl files);
-        written = λ unbroken. written_as cmp meaning (with_recent old recent) files w.edits
+        written = λ unbroken. written_as cmp meaning (with_mem old mem) files w.edits
             (subst (λ es. IsWrittenBy store cmp T files w.edits
-            (record (memory_of old) { recent = es })) (sym same) w.by) log_file
+            (record (memory_of old) { mem = es })) (sym same) w.by) log_file
             (log_there cmp meaning allowed old files w) w.writer;
-        shows = λ then since s. shows_stay cmp meaning old (with_recent old recent) files files then
+        shows = λ then since s. shows_stay cmp meaning old (with_mem old mem) files files then
             since refl refl same refl (λ file live. refl) s;
       }) refl refl
 
@@ -153,14 +153,14 @@ module _ {C : Type 0} (cmp : List ℕ → List ℕ → Ordering) (meaning : Mean
           (sym is) (pending_at now part).crash) run_framed
 
       -- a writer that broke on the way
-      pub pending_leaves : (writer : WriterState) → writer.broken ≡ true → (recent : Kept)
-          → recent.entries ≡ old.recent.entries
+      pub pending_leaves : (writer : WriterState) → writer.broken ≡ true → (mem : Kept)
+          → mem.entries ≡ old.mem.entries
           → LeavesHistory cmp meaning allowed old from history durable (Some batch)
-          (with_writer (with_recent old recent) writer) to
-      pending_leaves writer broken recent same = record {
+          (with_writer (with_mem old mem) writer) to
+      pending_leaves writer broken mem same = record {
         written = λ unbroken. let never : true ≡ false = sym broken ∙ unbroken.log in
             absurd (cc never);
-        shows = λ since s. shows_stay cmp meaning old (with_writer (with_recent old recent) writer)
+        shows = λ since s. shows_stay cmp meaning old (with_writer (with_mem old mem) writer)
             files to.disk.files history since refl refl same refl
             (λ file live. tables_then file.number) s;
         holds = pending_at to.disk.files run_framed.has;
@@ -169,9 +169,9 @@ module _ {C : Type 0} (cmp : List ℕ → List ℕ → Ordering) (meaning : Mean
 
       -- ---- after it
 
-      module _ (recent : Kept) (union : IsUnion old.recent.entries batch recent.entries) where
+      module _ (mem : Kept) (union : IsUnion old.mem.entries batch mem.entries) where
         abbrev new : OpenStoreValue C
-        new = after_batch old items text recent
+        new = after_batch old items text mem
 
         writer_is : after_frame old.log.writer text
             ≡ new_writer log_block_size
@@ -193,7 +193,7 @@ module _ {C : Type 0} (cmp : List ℕ → List ℕ → Ordering) (meaning : Mean
         longer_is_of : IsOf cmp meaning allowed new longer (history ++ batch ∷ []) durable
         longer_is_of = record {
           written = written_as cmp meaning new longer w.edits
-              (written.written framing_bytes recent.entries union) (longer_file framing log_file)
+              (written.written framing_bytes mem.entries union) (longer_file framing log_file)
               (extended-same path framing files log_file
               (log_there cmp meaning allowed old files w))
               writer_is;

@@ -15,46 +15,46 @@ use Rattle.leveldb_version.specs.Writing.{EngineMemory, ShowsHistory}
 module _ (cmp : List ℕ → List ℕ → Ordering) (memory other : EngineMemory)
     (tables : List LiveTable) (history : History) (batch : List Entry) (since last : ℕ)
     (reached : greatest (entries_of history) ≤ last) (above : AreAbove last batch)
-    (union : IsUnion memory.recent batch other.recent) (waits : other.waiting ≡ memory.waiting)
+    (union : IsUnion memory.mem batch other.mem) (waits : other.imm ≡ memory.imm)
     (s : ShowsHistory cmp memory tables history since) where
   abbrev older : List Entry
-  older = memory.waiting ++ table_entries tables
+  older = memory.imm ++ table_entries tables
 
   abbrev front : List Entry
-  front = memory.recent ++ older
+  front = memory.mem ++ older
 
   abbrev whole : List Entry
-  whole = other.recent ++ (other.waiting ++ table_entries tables)
+  whole = other.mem ++ (other.imm ++ table_entries tables)
 
-  waiting_is : (entry : Entry) → Contains other.waiting entry → Contains memory.waiting entry
-  waiting_is entry = subst (λ (es : List Entry). Contains es entry) waits
+  imm_is : (entry : Entry) → Contains other.imm entry → Contains memory.imm entry
+  imm_is entry = subst (λ (es : List Entry). Contains es entry) waits
 
   -- the entries are those from before and the batch's
   to : (entry : Entry) → Contains whole entry → Contains (front ++ batch) entry
   to entry c = ⊎_elim
-      (λ (new : Contains other.recent entry). ⊎_elim
-      (λ (r : Contains memory.recent entry). Contains-append_left front batch entry
-      (Contains-append_left memory.recent older entry r))
+      (λ (new : Contains other.mem entry). ⊎_elim
+      (λ (r : Contains memory.mem entry). Contains-append_left front batch entry
+      (Contains-append_left memory.mem older entry r))
       (λ (b : Contains batch entry). Contains-append_right front batch entry b)
-      (Contains-append_cases memory.recent batch entry ((union entry).0 new)))
-      (λ (rest : Contains (other.waiting ++ table_entries tables) entry).
-      Contains-append_left front batch entry (Contains-append_right memory.recent older entry
+      (Contains-append_cases memory.mem batch entry ((union entry).0 new)))
+      (λ (rest : Contains (other.imm ++ table_entries tables) entry).
+      Contains-append_left front batch entry (Contains-append_right memory.mem older entry
       (subst (λ (es : List Entry). Contains (es ++ table_entries tables) entry) waits rest)))
-      (Contains-append_cases other.recent (other.waiting ++ table_entries tables) entry c)
+      (Contains-append_cases other.mem (other.imm ++ table_entries tables) entry c)
 
   back : (entry : Entry) → Contains (front ++ batch) entry → Contains whole entry
   back entry c = ⊎_elim
       (λ (f : Contains front entry). ⊎_elim
-      (λ (r : Contains memory.recent entry). new (Contains-append_left memory.recent batch entry r))
+      (λ (r : Contains memory.mem entry). new (Contains-append_left memory.mem batch entry r))
       (λ (rest : Contains older entry).
-      Contains-append_right other.recent (other.waiting ++ table_entries tables) entry
+      Contains-append_right other.mem (other.imm ++ table_entries tables) entry
       (subst (λ (es : List Entry). Contains (es ++ table_entries tables) entry) (sym waits) rest))
-      (Contains-append_cases memory.recent older entry f))
-      (λ (b : Contains batch entry). new (Contains-append_right memory.recent batch entry b))
+      (Contains-append_cases memory.mem older entry f))
+      (λ (b : Contains batch entry). new (Contains-append_right memory.mem batch entry b))
       (Contains-append_cases front batch entry c)
     where
-      new : Contains (memory.recent ++ batch) entry → Contains whole entry
-      new c = Contains-append_left other.recent (other.waiting ++ table_entries tables) entry
+      new : Contains (memory.mem ++ batch) entry → Contains whole entry
+      new c = Contains-append_left other.mem (other.imm ++ table_entries tables) entry
           ((union entry).1 c)
 
   same_entries : SameEntries whole (front ++ batch)
@@ -81,25 +81,25 @@ module _ (cmp : List ℕ → List ℕ → Ordering) (memory other : EngineMemory
         (λ (b : Contains batch entry).
         let low = up_to_greatest batch entry b in omega (arith, low, greatest_is))
         (Contains-append_cases front batch entry (to entry c));
-    waiting_older = λ a b in_a in_b same_key. ⊎_elim
-        (λ (r : Contains memory.recent b).
-        s.waiting_older a b (waiting_is a in_a) r same_key)
+    imm_older = λ a b in_a in_b same_key. ⊎_elim
+        (λ (r : Contains memory.mem b).
+        s.imm_older a b (imm_is a in_a) r same_key)
         (λ (new : Contains batch b).
-        let low = in_front_up_to a (Contains-append_right memory.recent older a
-        (Contains-append_left memory.waiting (table_entries tables) a (waiting_is a in_a))) in
+        let low = in_front_up_to a (Contains-append_right memory.mem older a
+        (Contains-append_left memory.imm (table_entries tables) a (imm_is a in_a))) in
         let high = above b new in omega (arith, low, high))
-        (Contains-append_cases memory.recent batch b ((union b).0 in_b));
+        (Contains-append_cases memory.mem batch b ((union b).0 in_b));
     tables_older = λ a b in_a in_b same_key. ⊎_elim
-        (λ (recent : Contains other.recent b). ⊎_elim
-        (λ (r : Contains memory.recent b). s.tables_older a b in_a
-        (Contains-append_left memory.recent memory.waiting b r) same_key)
+        (λ (mem : Contains other.mem b). ⊎_elim
+        (λ (r : Contains memory.mem b). s.tables_older a b in_a
+        (Contains-append_left memory.mem memory.imm b r) same_key)
         (λ (new : Contains batch b).
-        let low = in_front_up_to a (Contains-append_right memory.recent older a
-        (Contains-append_right memory.waiting (table_entries tables) a in_a)) in
+        let low = in_front_up_to a (Contains-append_right memory.mem older a
+        (Contains-append_right memory.imm (table_entries tables) a in_a)) in
         let high = above b new in omega (arith, low, high))
-        (Contains-append_cases memory.recent batch b ((union b).0 recent)))
-        (λ (w : Contains other.waiting b). s.tables_older a b in_a
-        (Contains-append_right memory.recent memory.waiting b (waiting_is b w)) same_key)
-        (Contains-append_cases other.recent other.waiting b in_b);
+        (Contains-append_cases memory.mem batch b ((union b).0 mem)))
+        (λ (w : Contains other.imm b). s.tables_older a b in_a
+        (Contains-append_right memory.mem memory.imm b (imm_is b w)) same_key)
+        (Contains-append_cases other.mem other.imm b in_b);
     levels = s.levels;
   }

@@ -22,7 +22,7 @@ use Rattle.leveldb_version.specs.WalksBeside.{ChangesBesideTables}
 use Rattle.leveldb_version.specs.declared.table_cache.moves.ReadTables.{ReadTables}
 use Rattle.leveldb_version.specs.declared.version_iter.VersionIter.{VersionIter}
 use Rattle.leveldb_store.specs.MergeInputs.{ReadsBelow}
-use Rattle.leveldb_store.specs.Merging.{BearsNewTables, ComesOf, LeavesFiles, by_move, by_writing, itself}
+use Rattle.leveldb_store.specs.Merging.{BearsNewTables, IsReachedFrom, LeavesFiles, by_move, by_writing, itself}
 use Rattle.leveldb_store.specs.Outputs.{ChangesNewTables}
 use Rattle.leveldb_store.proofs.OutputsLemmas.{tables_apart}
 
@@ -50,7 +50,7 @@ module _ {E F T W : Type 0} (env : EnvGhosts E F) (walk : WalkGhosts W E T) (sto
 
   module _ (moves : MovesKeep) (bears : NewTablesKeep) where
     given_then : {start : E × T} → Given start → (world : E × T)
-        → ComesOf env walk store first start world → Given world
+        → IsReachedFrom env walk store first start world → Given world
     given_then given world itself = given
     given_then given world (by_move at to come keeps) =
         moves at to (given_then given at come) keeps

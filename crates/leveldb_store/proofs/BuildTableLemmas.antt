@@ -38,7 +38,7 @@ use Rattle.leveldb_table.specs.TableBuilder.{TableBuilt, AddsPair, stage, IsBegu
 use Rattle.leveldb_version.specs.Batches.{Each}
 use Rattle.leveldb_version.specs.Paths.{table_path}
 use Rattle.leveldb_version.specs.Store.{IsFirstKey, IsInternalPair, IsLastKey, IsStoreTable, any_user_key}
-use Rattle.leveldb_store.specs.BuildTable.{AddsPairs, CanBeTabled, HasTaken, IsNotTabled, IsTableBuilt, IsTableFile, IsTableOfStore, IsTableUnder, IsUnused, MakesTable, ReadsNoFile, StaysOver, StopsAtPair, StopsBuilding, TableChoices, passed, puts_all}
+use Rattle.leveldb_store.specs.BuildTable.{AddsPairs, CanBeBuilt, HasTaken, IsNotBuilt, IsTableBuilt, IsTableFile, IsTableOfStore, IsTableUnder, IsUnused, MakesTable, ReadsNoFile, StaysOver, StopsAtPair, StopsBuilding, TableChoices, passed, puts_all}
 use Rattle.leveldb_store.specs.TableFile.{AddsAllToFile, AddsToFile, ChangesOneFile, FailsToWrite, FinishesFile, IsAddFault, IsFinishFault, IsMetadataOf, IsThere, StopsWriting, WritesTable}
 use Rattle.leveldb_store.proofs.TableFileLemmas.{fails_later, longer_file_is, longer_there, own_stops, stops_after, stops_so, synced_file_is}
 
@@ -221,12 +221,12 @@ KeepsChoices-trans first second = record {
 
 module _ {C FP : Type 0} (order : CmpGhosts C) where
   -- the next pair may be added
-  pub next_accepted : {core mid : TableBuilt C FP} (pairs : List Pair) (count : ℕ) (pair : Pair) → CanBeTabled (order.accepts (order_of core)) (order.cmp (order_of core)) pairs → KeepsChoices core mid
+  pub next_accepted : {core mid : TableBuilt C FP} (pairs : List Pair) (count : ℕ) (pair : Pair) → CanBeBuilt (order.accepts (order_of core)) (order.cmp (order_of core)) pairs → KeepsChoices core mid
       → slice_get pairs count ≡ Some pair → order.accepts (order_of mid) pair.0 ≡ true
   next_accepted {core} {mid} pairs count pair can kept there =
       subst (λ c. order.accepts c pair.0 ≡ true) (sym kept.same_order) (accepted_at (λ (p : Pair). order.accepts (order_of core) p.0 ≡ true) pairs count pair can.accepted there)
 
-  pub next_rises : {core mid : TableBuilt C FP} (pairs : List Pair) (count : ℕ) (pair : Pair) → CanBeTabled (order.accepts (order_of core)) (order.cmp (order_of core)) pairs → KeepsChoices core mid
+  pub next_rises : {core mid : TableBuilt C FP} (pairs : List Pair) (count : ℕ) (pair : Pair) → CanBeBuilt (order.accepts (order_of core)) (order.cmp (order_of core)) pairs → KeepsChoices core mid
       → slice_get pairs count ≡ Some pair → last_of mid ≡ last_added (take count pairs) → mid.count ≡ count → 0 < mid.count → order.cmp (order_of mid) (last_of mid) pair.0 ≡ Less
   next_rises {core} {mid} pairs count pair can kept there last counted some =
       let less = rises_next (order.cmp (order_of core)) pairs count pair can.rising there (omega (arith, counted, some)) in
@@ -458,7 +458,7 @@ tagged_accepted {accepts} all pairs tagged k d here =
 
 module _ {C FP : Type 0} {order : CmpGhosts C} {filters : FilterGhosts FP} (choices : TableChoices order filters) (pairs : List Pair) {E F : Type 0} (env : EnvGhosts E F) (Fails : Status → Type 0) (store : List ℕ) (number : ℕ) where
   abbrev Why : Status → Type 0
-  Why status = IsNotTabled choices pairs status ⊎ Fails status
+  Why status = IsNotBuilt choices pairs status ⊎ Fails status
 
   -- an error before any call of the device
   pub MakesTable-before : {old new : E} {status : Status} → new ≡ old → IsOutOfMemory status ⊎ Fails status → MakesTable choices pairs env Fails store number old (Err status) new
@@ -610,7 +610,7 @@ pub written_why : {C FP : Type 0} {order : CmpGhosts C} {filters : FilterGhosts 
     choices.restarts core → ((s : Status) → Others s → Fails s)
     → FailsToWrite (λ s. StopsBuilding order filters choices.format.codings core pairs s
     ⊎ Others s) before now result
-    → FailsToWrite (λ s. IsNotTabled choices pairs s ⊎ Fails s) before now result
+    → FailsToWrite (λ s. IsNotBuilt choices pairs s ⊎ Fails s) before now result
 written_why choices pairs (Ok made) is_new so cause =
     record { later = cause.later; ok = cause.ok; uncounted = tt; cause = tt }
 written_why choices pairs {core} (Err status) is_new so cause =

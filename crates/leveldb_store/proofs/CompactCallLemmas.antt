@@ -27,7 +27,7 @@ use Rattle.leveldb_version.specs.declared.version_edit.VersionEdit.{VersionEdit}
 use Rattle.leveldb_store.proofs.CompactEditLemmas.{compaction_keeps_levels, compaction_levels, edit_made, replaces_files}
 use Rattle.leveldb_store.proofs.CompactKeepsLemmas.{with_numbers}
 use Rattle.leveldb_store.proofs.CompactStoreLemmas.{compacts_logged, compacts_unlogged, compacts_unmade}
-use Rattle.leveldb_store.proofs.TableWaitingLemmas.{in_use_of}
+use Rattle.leveldb_store.proofs.Level0TableLemmas.{in_use_of}
 use Rattle.leveldb_store.specs.BuildTable.{TableChoices}
 use Rattle.leveldb_store.specs.Compact.{CompactsStore, FailsToCompact, MakesReplacements, ReplacesFiles}
 use Rattle.leveldb_store.specs.OpenStore.{AreInLevels, HasOwnManifest, IsUnbroken, OpenStoreValue}
@@ -100,7 +100,7 @@ module _ {E F C FP D P X : Type 0} (order : CmpGhosts (InternalKeyCmp C)) {keys 
 
   -- ---- the edit
 
-  module _ (total : IsTotalOrder by.format.order) (none : old.waiting ≡ None)
+  module _ (total : IsTotalOrder by.format.order) (none : old.imm ≡ None)
       (usable : IsUnbroken old) (file_size : ℕ)
       (chosen : IsCompactionOf by.format.order old.current it.manual file_size it) (x : X)
       (deleted : List LevelFile)
@@ -200,7 +200,7 @@ module _ {E F C FP D P X : Type 0} (order : CmpGhosts (InternalKeyCmp C)) {keys 
         (replaces_files by.format.order it value.log.number deleted (files x) chosen.only
         chosen.pointer takes m.fit.0) (new_files_of old.current) chosen.may
 
-    module _ (total : IsTotalOrder by.format.order) (none : old.waiting ≡ None)
+    module _ (total : IsTotalOrder by.format.order) (none : old.imm ≡ None)
         (usable : IsUnbroken old) where
       pub made_levels : (user : CmpGhosts C) → by.format.order ≡ user.cmp old.cmp
           → AreInLevels env.models_disk (user.cmp value.cmp) value.set.full.added

@@ -38,7 +38,7 @@ use Rattle.leveldb_store.proofs.NewTablesLemmas.{new_tables_keep, written_new}
 use Rattle.leveldb_store.proofs.TableKeepsLemmas.{KeepsHistory-refl, KeepsHistory-trans, appending_and_syncing, in_range_of, is_log_path, is_table_path, live_below, live_on, live_tables, one_reading_of, shows_again, types_apart, written_again}
 use Rattle.leveldb_store.specs.OpenStore.{OpenStoreValue}
 use Rattle.leveldb_store.specs.Outputs.{SameButNewTables}
-use Rattle.leveldb_store.specs.Written.{HasLiveTables, IsWritten, KeepsStore, KeepsWritten, memory_of, waiting_entries}
+use Rattle.leveldb_store.specs.Written.{HasLiveTables, IsWritten, KeepsStore, KeepsWritten, memory_of, imm_entries}
 use Rattle.leveldb_store.specs.WrittenFrom.{KeepsStoreFrom}
 
 -- a store with these numbers of files given
@@ -158,7 +158,7 @@ module _ {C : Type 0} (cmp : List ℕ → List ℕ → Ordering) (meaning : Mean
         pub edit_is : IsCompactionEdit old.log.number inputs outputs edit
         pub can : numbered.set.next_file < 2 ^ 64 → IsEncodable (written_edit numbered.set edit)
 
-      module _ (total : IsTotalOrder cmp) (none : old.waiting ≡ None)
+      module _ (total : IsTotalOrder cmp) (none : old.imm ≡ None)
           (is : IsWritten cmp meaning old v0.disk.files) where
         abbrev w : IsWrittenBy store cmp T v1.disk.files is.edits (memory_of numbered)
         w = by_now is
@@ -231,7 +231,7 @@ module _ {C : Type 0} (cmp : List ℕ → List ℕ → Ordering) (meaning : Mean
               → CompactionIsLogged store cmp T allowed v1.disk.files is.edits (memory_of numbered) w
               edit after
           logged allowed = compactions_are_logged store cmp T allowed one total range v1.disk.files
-              is.edits (memory_of numbered) w (ap waiting_entries none) smallest level before
+              is.edits (memory_of numbered) w (ap imm_entries none) smallest level before
               h.inputs h.outputs after has h.made replaced.1 edit h.edit_is (h.can fits) are_bytes
 
           moments_logged : (allowed : Store → Type 0) (bound : ℕ) → old.set.last_sequence ≤ bound

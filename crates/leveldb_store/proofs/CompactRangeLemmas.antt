@@ -41,8 +41,8 @@ module _ {E F C FP D P : Type 0} (order : CmpGhosts (InternalKeyCmp C)) (env : G
       → FailsToMakeRoom env by.format.order old from choices status → Fails new status
   fails_in_memory new status (inl memory) = inl (inl memory)
   fails_in_memory new status (inr (inl few)) = inr (inl few)
-  fails_in_memory new status (inr (inr (inl recent))) = inr (inr (inl recent))
-  fails_in_memory new status (inr (inr (inr (inl waiting)))) = inr (inr (inr waiting))
+  fails_in_memory new status (inr (inr (inl mem))) = inr (inr (inl mem))
+  fails_in_memory new status (inr (inr (inr (inl imm)))) = inr (inr (inr imm))
   fails_in_memory new status (inr (inr (inr (inr lost)))) = inl (inr (inr (inr (record {
     fault = inl lost.0;
     lacks = λ meaning live has. absurd (lost.1 has.has_open.modelled meaning

@@ -160,7 +160,7 @@ module _ {E F C FP D P X : Type 0} (order : CmpGhosts (InternalKeyCmp C)) {keys 
 
   -- ---- its edit
 
-  module _ (x : X) (m : Makes (Ok x)) (total : IsTotalOrder cmp) (none : old.waiting ≡ None)
+  module _ (x : X) (m : Makes (Ok x)) (total : IsTotalOrder cmp) (none : old.imm ≡ None)
       (usable : IsUnbroken old) (deleted : List LevelFile) (only : OnlyPoints it.edit)
       (takes : DeletesFiles (new_files_of it.inputs) it.edit.deleted deleted)
       (pointed : ReplacesFiles cmp old.log.number it

@@ -19,7 +19,7 @@ use Rattle.leveldb_store.proofs.GivenTablesLemmas.{given_same}
 use Rattle.leveldb_store.proofs.NoNewEntriesLemmas.{adds_none, adds_none_then}
 use Rattle.leveldb_store.proofs.RoomLemmas.{spares_then}
 use Rattle.leveldb_store.proofs.SoundLemmas.{failed_later, goes_on_then, nothing_goes_on, sound_ok, sound_unbroken}
-use Rattle.leveldb_store.proofs.TableWaitingLemmas.{keeps_nothing}
+use Rattle.leveldb_store.proofs.Level0TableLemmas.{keeps_nothing}
 use Rattle.leveldb_store.proofs.WrittenFromLemmas.{keeps_from, keeps_from_then}
 use Rattle.leveldb_store.specs.BuildTable.{TableChoices}
 use Rattle.leveldb_store.specs.Compact.{CompactsTables, FailsToMerge, HasTablesWritten, KeepsCompacted}
@@ -79,7 +79,7 @@ module _ {E F C FP : Type 0} {order : CmpGhosts (InternalKeyCmp C)} {env : Ghost
     merge_between choices new status (inr (inl used)) = inr (inl used)
     merge_between choices new status (inr (inr (inl unbuilt))) = inr (inr (inl (record {
       pairs = unbuilt.pairs;
-      not_tabled = unbuilt.not_tabled;
+      not_built = unbuilt.not_built;
       theirs = λ meaning live has.
           let now = tables_between meaning live has in
           All-weaker

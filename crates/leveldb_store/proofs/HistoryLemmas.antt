@@ -21,7 +21,7 @@ use Rattle.leveldb_store.proofs.TableKeepsLemmas.{live_tables, one_reading_of}
 use Rattle.leveldb_version.specs.Format.{IsTableOf, Meaning}
 use Rattle.leveldb_store.specs.OpenStore.{IsUnbroken, OpenStoreValue}
 use Rattle.leveldb_store.specs.WriteBatch.{AddsBatch, HoldsBatches, IsOf, LeavesHistory, MakesDurable, SparesBatches}
-use Rattle.leveldb_store.specs.Written.{HasLiveTables, IsWritten, KeepsStore, Shows, memory_of}
+use Rattle.leveldb_store.specs.Written.{HasLiveTables, IsWritten, KeepsStore, HasView, memory_of}
 
 -- ---- what is shown
 
@@ -56,7 +56,7 @@ module _ {C : Type 0} (cmp : List ℕ → List ℕ → Ordering) (meaning : Mean
     pub written_shows : (value : OpenStoreValue C) (files : Files) (history : History)
         (durable : ℕ) → IsWritten cmp meaning value files
         → HoldsBatches cmp meaning allowed value files history durable None
-        → Shows cmp meaning value files history (greatest (entries_of history))
+        → HasView cmp meaning value files history (greatest (entries_of history))
     written_shows value files history durable w holds =
         let t = live_tables_of value files w in
         record {

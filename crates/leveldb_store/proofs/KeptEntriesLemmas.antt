@@ -25,12 +25,12 @@ use Rattle.leveldb_version.specs.VersionSetValue.{VersionSetValue, broken, with_
 use Rattle.leveldb_store.proofs.CompactsOnceLemmas.{none_compacted}
 use Rattle.leveldb_store.proofs.NoNewEntriesLemmas.{live_table_left}
 use Rattle.leveldb_store.specs.BuildTable.{TableChoices}
-use Rattle.leveldb_store.specs.KeptEntries.{AddsNoOther, AddsTableOf, CompactsInTurn, CompactsThrough, IsAddedTable, KeepsEntries, KeepsLiveTables, TablesMemory}
+use Rattle.leveldb_store.specs.KeptEntries.{AddsNoOther, AddsTableOf, CompactsInTurn, CompactsThrough, IsAddedTable, KeepsEntries, KeepsLiveTables, CompactsMemtables}
 use Rattle.leveldb_store.specs.OpenStore.{OpenStoreValue}
 use Rattle.leveldb_store.specs.Read.{in_memory}
 use Rattle.leveldb_store.specs.Room.{TidiesUp}
-use Rattle.leveldb_store.specs.Switch.{MayGiveNumber, SwitchesLog, TablesWaiting}
-use Rattle.leveldb_store.specs.Written.{KeepsTables, waiting_entries}
+use Rattle.leveldb_store.specs.Switch.{MayGiveNumber, SwitchesLog, WritesLevel0Table}
+use Rattle.leveldb_store.specs.Written.{KeepsTables, imm_entries}
 
 -- equal lists have the same entries
 pub equal_entries : (these those : List Entry) → these ≡ those → SameEntries these those
@@ -193,21 +193,21 @@ module _ {E F : Type 0} (env : Ghosts E F) (format : Format) where
 
     -- the memtables stay
     memory_stays : (old : OpenStoreValue C) (from : E) (new : OpenStoreValue C) (to : E)
-        → new.recent ≡ old.recent → new.waiting ≡ old.waiting → new.set.full ≡ old.set.full
+        → new.mem ≡ old.mem → new.imm ≡ old.imm → new.set.full ≡ old.set.full
         → KeepsTables env.models_disk old.set (env.observed from) new.set (env.observed to)
         → KeepsEntries env format old from new to
-    memory_stays old from new to recent waiting full kept = entries_stay old from new to
-        (ap (λ (kept : Kept). kept.entries ++ waiting_entries new.waiting) recent
-        ∙ ap (λ w. old.recent.entries ++ waiting_entries w) waiting) full
+    memory_stays old from new to mem imm full kept = entries_stay old from new to
+        (ap (λ (kept : Kept). kept.entries ++ imm_entries new.imm) mem
+        ∙ ap (λ w. old.mem.entries ++ imm_entries w) imm) full
         (live_kept env.models_disk old.set (env.observed from) new.set (env.observed to) kept)
 
     -- the entries that waited are in a table
-    entries_tabled : (old : OpenStoreValue C) (from : E) (new : OpenStoreValue C) (to : E)
-        → new.recent ≡ old.recent → new.waiting ≡ None
+    entries_in_tables : (old : OpenStoreValue C) (from : E) (new : OpenStoreValue C) (to : E)
+        → new.mem ≡ old.mem → new.imm ≡ None
         → KeepsTables env.models_disk old.set (env.observed from) new.set (env.observed to)
-        → AddsTableOf env format (waiting_entries old.waiting) old.set new.set to
+        → AddsTableOf env format (imm_entries old.imm) old.set new.set to
         → KeepsEntries env format old from new to
-    entries_tabled old from new to recent none kept adds = record {
+    entries_in_tables old from new to mem none kept adds = record {
       added = table ∷ [];
       each = λ other there. ⊎_elim
           (λ (same : table ≡ other). subst (IsAddedTable env format old.set new.set to) same
@@ -219,29 +219,29 @@ module _ {E F : Type 0} (env : Ghosts E F) (format : Format) where
     }
       where
         waited : List Entry
-        waited = waiting_entries old.waiting
+        waited = imm_entries old.imm
 
         table : LiveTable
         table = record { file = adds.0; entries = waited }
 
-        memory : in_memory new ≡ old.recent.entries
-        memory = ap (λ (kept : Kept). kept.entries ++ waiting_entries new.waiting) recent
-            ∙ ap (λ w. old.recent.entries ++ waiting_entries w) none
-            ∙ append-nil old.recent.entries
+        memory : in_memory new ≡ old.mem.entries
+        memory = ap (λ (kept : Kept). kept.entries ++ imm_entries new.imm) mem
+            ∙ ap (λ w. old.mem.entries ++ imm_entries w) none
+            ∙ append-nil old.mem.entries
 
         now : in_memory new ++ (waited ++ []) ≡ in_memory old
         now = ap (λ (es : List Entry). es ++ (waited ++ [])) memory
-            ∙ ap (λ (es : List Entry). old.recent.entries ++ es) (append-nil waited)
+            ∙ ap (λ (es : List Entry). old.mem.entries ++ es) (append-nil waited)
 
     -- the log was switched, where no entries waited
-    pub entries_switched : (old : OpenStoreValue C) (from : E) → old.waiting ≡ None
+    pub entries_switched : (old : OpenStoreValue C) (from : E) → old.imm ≡ None
         → (result : Result (Unit {0}) Status) (new : OpenStoreValue C) (to : E)
         → SwitchesLog env old from result new to → KeepsEntries env format old from new to
     entries_switched old from none (Ok unit) new to switched = entries_stay old from new to (
-        ap (λ (es : List Entry). es ++ waiting_entries new.waiting) switched.empty
-        ∙ ap waiting_entries switched.waits
-        ∙ sym (append-nil old.recent.entries)
-        ∙ sym (ap (λ w. old.recent.entries ++ waiting_entries w) none)
+        ap (λ (es : List Entry). es ++ imm_entries new.imm) switched.empty
+        ∙ ap imm_entries switched.waits
+        ∙ sym (append-nil old.mem.entries)
+        ∙ sym (ap (λ w. old.mem.entries ++ imm_entries w) none)
         )
         (ap (λ (s : VersionSetValue). s.full) switched.set)
         (live_kept env.models_disk old.set (env.observed from) new.set (env.observed to)
@@ -289,36 +289,36 @@ module _ {E F : Type 0} (env : Ghosts E F) (format : Format) where
         made : List Entry
         made = table_entries first.added
 
-        tabled : List Entry
-        tabled = table_entries second.added
+        tables_made : List Entry
+        tables_made = table_entries second.added
 
         forth : (entry : Entry) → Contains (in_memory old) entry
-            → Contains (in_memory new ++ (tabled ++ made)) entry
+            → Contains (in_memory new ++ (tables_made ++ made)) entry
         forth entry there = ⊎_elim
             (λ stays. ⊎_elim
-            (λ now. Contains-append_left (in_memory new) (tabled ++ made) entry now)
-            (λ later. Contains-append_right (in_memory new) (tabled ++ made) entry
-            (Contains-append_left tabled made entry later))
-            (Contains-append_cases (in_memory new) tabled entry ((second.same entry).0 stays)))
-            (λ in_table. Contains-append_right (in_memory new) (tabled ++ made) entry
-            (Contains-append_right tabled made entry in_table))
+            (λ now. Contains-append_left (in_memory new) (tables_made ++ made) entry now)
+            (λ later. Contains-append_right (in_memory new) (tables_made ++ made) entry
+            (Contains-append_left tables_made made entry later))
+            (Contains-append_cases (in_memory new) tables_made entry ((second.same entry).0 stays)))
+            (λ in_table. Contains-append_right (in_memory new) (tables_made ++ made) entry
+            (Contains-append_right tables_made made entry in_table))
             (Contains-append_cases (in_memory mid) made entry ((first.same entry).0 there))
 
-        from_middle : (entry : Entry) → Contains (in_memory new ++ tabled) entry
+        from_middle : (entry : Entry) → Contains (in_memory new ++ tables_made) entry
             → Contains (in_memory old) entry
         from_middle entry there = (first.same entry).1
             (Contains-append_left (in_memory mid) made entry ((second.same entry).1 there))
 
-        back : (entry : Entry) → Contains (in_memory new ++ (tabled ++ made)) entry
+        back : (entry : Entry) → Contains (in_memory new ++ (tables_made ++ made)) entry
             → Contains (in_memory old) entry
         back entry there = ⊎_elim
-            (λ now. from_middle entry (Contains-append_left (in_memory new) tabled entry now))
+            (λ now. from_middle entry (Contains-append_left (in_memory new) tables_made entry now))
             (λ in_tables. ⊎_elim
-            (λ later. from_middle entry (Contains-append_right (in_memory new) tabled entry later))
+            (λ later. from_middle entry (Contains-append_right (in_memory new) tables_made entry later))
             (λ before. (first.same entry).1
             (Contains-append_right (in_memory mid) made entry before))
-            (Contains-append_cases tabled made entry in_tables))
-            (Contains-append_cases (in_memory new) (tabled ++ made) entry there)
+            (Contains-append_cases tables_made made entry in_tables))
+            (Contains-append_cases (in_memory new) (tables_made ++ made) entry there)
 
 -- ---- compactions
 
@@ -346,10 +346,10 @@ module _ {E F C : Type 0} (env : Ghosts E F) (cmp : List ℕ → List ℕ → Or
 module _ {E F C : Type 0} (env : Ghosts E F) (format : Format) (old : OpenStoreValue C)
     (from : E) where
   -- tables were made
-  pub memory_tabled : {mid : OpenStoreValue C} (at : E) → mid.set.store ≡ old.set.store
-      → KeepsEntries env format old from mid at → TablesMemory env format old from mid at
-  memory_tabled {mid} at path kept = record {
-    tabled = mid;
+  pub memory_in_tables : {mid : OpenStoreValue C} (at : E) → mid.set.store ≡ old.set.store
+      → KeepsEntries env format old from mid at → CompactsMemtables env format old from mid at
+  memory_in_tables {mid} at path kept = record {
+    tables_made = mid;
     at = at;
     path = path;
     tables = kept;
@@ -358,20 +358,20 @@ module _ {E F C : Type 0} (env : Ghosts E F) (format : Format) (old : OpenStoreV
   }
 
   -- nothing is done
-  pub memory_same : TablesMemory env format old from old from
-  memory_same = memory_tabled from refl (entries_same env format old from)
+  pub memory_same : CompactsMemtables env format old from old from
+  memory_same = memory_in_tables from refl (entries_same env format old from)
 
   -- and then compactions are logged, or none
   pub memory_compacts : {mid new : OpenStoreValue C} {at to : E}
-      → TablesMemory env format old from mid at
+      → CompactsMemtables env format old from mid at
       → new ≡ record mid { set = new.set; current = new.current }
-      → CompactsInTurn env format.order mid at new to → TablesMemory env format old from new to
+      → CompactsInTurn env format.order mid at new to → CompactsMemtables env format old from new to
   memory_compacts {mid} {new} {at} {to} first rest more = record {
-    tabled = first.tabled;
+    tables_made = first.tables_made;
     at = first.at;
     path = first.path;
     tables = first.tables;
-    compacts = in_turn_then env format.order first.tabled mid new first.at at to first.compacts
+    compacts = in_turn_then env format.order first.tables_made mid new first.at at to first.compacts
         more;
     memory = ap (λ (v : OpenStoreValue C). in_memory v) rest ∙ first.memory;
   }
@@ -379,12 +379,12 @@ module _ {E F C : Type 0} (env : Ghosts E F) (format : Format) (old : OpenStoreV
   -- the version of the files before doesn't count
   pub memory_of_charged : (charged new : OpenStoreValue C) (to : E)
       → charged ≡ record old { current = charged.current }
-      → TablesMemory env format charged from new to → TablesMemory env format old from new to
+      → CompactsMemtables env format charged from new to → CompactsMemtables env format old from new to
   memory_of_charged charged new to only its = record {
-    tabled = its.tabled;
+    tables_made = its.tables_made;
     at = its.at;
     path = its.path ∙ ap (λ (v : OpenStoreValue C). v.set.store) only;
-    tables = entries_of_charged env format old charged from its.tabled its.at only its.tables;
+    tables = entries_of_charged env format old charged from its.tables_made its.at only its.tables;
     compacts = its.compacts;
     memory = its.memory;
   }
@@ -396,14 +396,14 @@ module _ {E F C D FP : Type 0} {order : CmpGhosts D} {filters : FilterGhosts FP}
     (pairs : List Pair) where
   -- it is made, or they wait still
   pub entries_of_table : (result : Result (Unit {0}) Status) (new : OpenStoreValue C) (to : E)
-      → TablesWaiting env old from choices pairs result new to
-      → OnOk result (AddsTableOf env choices.format (waiting_entries old.waiting) old.set new.set
+      → WritesLevel0Table env old from choices pairs result new to
+      → OnOk result (AddsTableOf env choices.format (imm_entries old.imm) old.set new.set
       to)
       → KeepsEntries env choices.format old from new to
   entries_of_table (Ok unit) new to t adds =
-      entries_tabled env choices.format old from new to t.recent t.none_waits t.tables adds
+      entries_in_tables env choices.format old from new to t.mem t.none_waits t.tables adds
   entries_of_table (Err status) new to t adds =
-      memory_stays env choices.format old from new to t.recent t.waits (⊎_elim
+      memory_stays env choices.format old from new to t.mem t.waits (⊎_elim
       (λ (may : MayGiveNumber old.set new.set). full_given old.set new.set may)
       (λ (broke : new.set ≡ record (with_number_given old.set) { manifest = broken }).
       ap (λ (s : VersionSetValue). s.full) broke) t.err) t.tables

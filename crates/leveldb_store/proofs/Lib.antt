@@ -36,8 +36,8 @@ mod CurrentVersionLemmas
 mod LevelsApartLemmas
 mod LevelsReadLemmas
 pub mod TableKeepsLemmas
-pub mod TableWaitingLemmas
-pub mod NotTabledLemmas
+pub mod Level0TableLemmas
+pub mod NotBuiltLemmas
 pub mod SoundLemmas
 pub mod RoomLemmas
 pub mod WrittenFromLemmas
@@ -105,6 +105,6 @@ pub mod CompactRangeLemmas
 pub mod LoggedEditsLemmas
 pub mod AskedCompactionLemmas
 mod EndsOpeningLemmas
-mod TabledEntriesLemmas
+mod TableEntriesLemmas
 mod AddedTableLemmas
 pub mod CompactsOnceLemmas

@@ -19,7 +19,7 @@ use Rattle.leveldb_version.specs.Paths.{table_path}
 use Rattle.leveldb_version.specs.StoreSteps.{AppendedAreBytes}
 use Rattle.leveldb_version.specs.VersionSetValue.{VersionSetValue}
 use Rattle.leveldb_store.specs.BuildTable.{TableChoices, passed}
-use Rattle.leveldb_store.specs.Merging.{BearsNewTables, ComesOf, HasMerged, LeavesFiles, Merge, MergesTables, MovesLeaveFiles, TakesPair, by_move, by_writing, itself}
+use Rattle.leveldb_store.specs.Merging.{BearsNewTables, IsReachedFrom, HasMerged, LeavesFiles, Merge, MergesTables, MovesLeaveFiles, TakesPair, by_move, by_writing, itself}
 use Rattle.leveldb_store.specs.Opening.{GivesNumbers, TakesBackNew}
 use Rattle.leveldb_store.specs.Outputs.{AreFinished, ChangesNewTables, FinishesOpen, HaveOutputs, IsOpenAfter, OutputsValue}
 use Rattle.leveldb_store.specs.Switch.{MayGiveNumber}
@@ -27,7 +27,7 @@ use Rattle.leveldb_store.specs.declared.passing.Passing.{Passing}
 use Rattle.leveldb_store.specs.declared.table_file.TableFile.{TableFile}
 use Rattle.leveldb_store.proofs.BuildTableLemmas.{pair_passed, passed_first, passed_next, taken_all, taken_next}
 use Rattle.leveldb_store.proofs.MergingLemmas.{merged_all, open_read}
-use Rattle.leveldb_store.proofs.NotTabledLemmas.{some_not_tabled}
+use Rattle.leveldb_store.proofs.NotBuiltLemmas.{some_not_built}
 use Rattle.leveldb_store.proofs.OutputsLemmas.{new-rise, new-trans}
 use Rattle.leveldb_store.proofs.ReplayFilesLemmas.{GivesNumbers-trans}
 use Rattle.leveldb_store.proofs.TableFileLemmas.{fails_later, own_fails}
@@ -184,7 +184,7 @@ module _ {C FP : Type 0} {order : CmpGhosts C} {filters : FilterGhosts FP}
   -- passed them. Nothing changed but new tables.
   pub record MergesSoFar (next : ℕ) (at : E × T) (it : W) (passing : Passing)
       (outputs : OutputsValue E C FP F) : Type 0 where
-    pub come : ComesOf env walk merge.store first start at
+    pub come : IsReachedFrom env walk merge.store first start at
     pub changes : ChangesNewTables env merge.store first next start.0 at.0
     pub read : List Pair
     pub merged : HasMerged merge env first read next at.0 passing outputs
@@ -414,7 +414,7 @@ module _ {C FP : Type 0} {order : CmpGhosts C} {filters : FilterGhosts FP}
           so_far.changes.later,
           so_far.read,
           first_read,
-          fails_later refl (λ not. inl (some_not_tabled merge.choices
+          fails_later refl (λ not. inl (some_not_built merge.choices
               (open_read merge env exact cmp_is so_far.merged) not)) finishes.cause,
         );
       }

@@ -41,7 +41,7 @@ use Rattle.leveldb_version.specs.declared.table_cache.moves.ReadTables.{ReadTabl
 use Rattle.leveldb_version.specs.declared.version_iter.VersionIter.{VersionIter}
 use Rattle.leveldb_store.specs.BuildTable.{TableChoices}
 use Rattle.leveldb_store.specs.Compact.{FailsToMerge, HasTablesWritten, IsOfStore}
-use Rattle.leveldb_store.specs.Merging.{AreRead, BearsNewTables, ComesOf, FailsOnWay, IsMergeFault, Merge, MergesTables, MovesLeaveFiles, merge_of}
+use Rattle.leveldb_store.specs.Merging.{AreRead, BearsNewTables, IsReachedFrom, FailsOnWay, IsMergeFault, Merge, MergesTables, MovesLeaveFiles, merge_of}
 use Rattle.leveldb_store.specs.MergeInputs.{MergesTablesOf}
 use Rattle.leveldb_store.specs.OpenStore.{OpenStoreValue}
 use Rattle.leveldb_store.specs.Read.{HasOpenTables, in_memory}
@@ -283,7 +283,7 @@ module _ {E F C FP K P : Type 0} {keys : CmpGhosts (InternalKeyCmp C)}
           → IsMergeFault (merge_for smallest) new.set.next_file read status → Fails status
       on_merge status read first (inl some) = inr (inr (inl (record {
         pairs = some.some;
-        not_tabled = some.not_tabled;
+        not_built = some.not_built;
         theirs = λ meaning live w. all_from_contains
             (λ pair. Contains (in_memory value ++ table_entries live) (entry_of_pair pair)) some.some
             (λ pair there. read_theirs meaning live w smallest read first pair
@@ -365,7 +365,7 @@ module _ {E F C FP K : Type 0} {keys : CmpGhosts (InternalKeyCmp C)} (env : EnvG
 
   -- and the open tables stay borrowed
   pub inputs_reference : {store : List ℕ} {first : ℕ} {start end : E × ReadTables E C FP K F}
-      → ComesOf env walk store first start end
+      → IsReachedFrom env walk store first start end
       → end.1.cache.ghost_name ≡ start.1.cache.ghost_name
   inputs_reference {store} {first} {start} {end} come =
       (reads_on env cmp filters codings walk merges.leaves store first start end come).reference

@@ -36,7 +36,7 @@ use Rattle.leveldb_store.proofs.BuildTableLemmas.{file_of_store}
 use Rattle.leveldb_store.proofs.MergeInputsLemmas.{AreInternal, pair_internal, pairs_internal}
 use Rattle.leveldb_store.proofs.MergedFilesLemmas.{IsFinished, files_apart, tables_finished, tables_read, tables_rise}
 use Rattle.leveldb_store.proofs.OutputsLemmas.{file_numbers_within}
-use Rattle.leveldb_store.proofs.TableWaitingLemmas.{agreed_decode_more}
+use Rattle.leveldb_store.proofs.Level0TableLemmas.{agreed_decode_more}
 
 -- ---- tables of files
 

@@ -16,7 +16,7 @@ use Rattle.leveldb_version.specs.VersionIter.{KeepsReading, reading}
 use Rattle.leveldb_version.specs.VersionIterLaws.{reading_stays}
 use Rattle.leveldb_version.specs.VersionSetValue.{VersionSetValue}
 use Rattle.leveldb_version.specs.declared.table_cache.moves.ReadTables.{ReadTables}
-use Rattle.leveldb_store.specs.Merging.{ComesOf, MovesLeaveFiles, by_move, by_writing, itself}
+use Rattle.leveldb_store.specs.Merging.{IsReachedFrom, MovesLeaveFiles, by_move, by_writing, itself}
 use Rattle.leveldb_store.specs.MergeInputs.{ReadsBelow}
 use Rattle.leveldb_store.specs.OpenStore.{OpenStoreValue}
 use Rattle.leveldb_store.specs.OpenTables.{AreOpenTablesOf}
@@ -92,7 +92,7 @@ module _ {E F C FP K W : Type 0} {keys : CmpGhosts (InternalKeyCmp C)} (env : En
   moves_leave from to kept = reading_leaves env (leaves from to kept)
 
   module _ (store : List ℕ) (first : ℕ) (start : E × ReadTables E C FP K F) where
-    pub reads_on : (world : E × ReadTables E C FP K F) → ComesOf env walk store first start world
+    pub reads_on : (world : E × ReadTables E C FP K F) → IsReachedFrom env walk store first start world
         → ReadsAsBefore env cmp filters codings start world
     reads_on world itself = record { options = refl; reference = refl; later = omega arith }
     reads_on world (by_move at to come kept) =
@@ -117,7 +117,7 @@ module _ {E F C FP K W : Type 0} {keys : CmpGhosts (InternalKeyCmp C)} (env : En
     pub world_on : (start : E × ReadTables E C FP K F)
         → IsWorldOf keys env cmp filters codings value start
         → (world : E × ReadTables E C FP K F)
-        → ComesOf env walk value.set.store value.set.next_file start world
+        → IsReachedFrom env walk value.set.store value.set.next_file start world
         → IsWorldOf keys env cmp filters codings value world
     world_on start is world itself = is
     world_on start is world (by_move at to come kept) =
@@ -130,7 +130,7 @@ module _ {E F C FP K W : Type 0} {keys : CmpGhosts (InternalKeyCmp C)} (env : En
     -- and its open tables are those of the store, after numbers were given
     pub open_on : (start world : E × ReadTables E C FP K F)
         → IsWorldOf keys env cmp filters codings value start
-        → ComesOf env walk value.set.store value.set.next_file start world
+        → IsReachedFrom env walk value.set.store value.set.next_file start world
         → (set : VersionSetValue) → set.store ≡ value.set.store
         → value.set.next_file ≤ set.next_file
         → AreOpenTablesOf keys env (options_in env cmp filters codings start) set

@@ -32,7 +32,7 @@ use Rattle.leveldb_store.specs.Outputs.{AreFinished, AreNextNumbers, AreTables, 
 use Rattle.leveldb_store.specs.Passing.{IsJustBefore, may_come, may_follow}
 use Rattle.leveldb_store.specs.declared.passing.Passing.{Passing}
 use Rattle.leveldb_store.specs.declared.table_file.TableFile.{TableFile}
-use Rattle.leveldb_store.proofs.NotTabledLemmas.{more_not_tabled}
+use Rattle.leveldb_store.proofs.NotBuiltLemmas.{more_not_built}
 use Rattle.leveldb_store.proofs.OutputsLemmas.{new-none}
 use Rattle.leveldb_store.proofs.TableFileLemmas.{all_written, fails_later, own_fails}
 
@@ -504,7 +504,7 @@ module _ {C FP : Type 0} {order : CmpGhosts C} {filters : FilterGhosts FP}
         not_put same puts = record {
           ok = tt;
           changes = puts.changes;
-          cause = fails_later refl (⊎_elim (λ not. inl (more_not_tabled merge.choices put_read not))
+          cause = fails_later refl (⊎_elim (λ not. inl (more_not_built merge.choices put_read not))
               (⊎_elim (λ used_up. inr (inl used_up))
               (λ unfit. absurd (never_unfit (subst (λ o. IsUnfit order o pair.0) same unfit.1)))))
               puts.cause;

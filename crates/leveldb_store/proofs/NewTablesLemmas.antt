@@ -341,8 +341,8 @@ module _ (store : List ℕ) (cmp : List ℕ → List ℕ → Ordering)
         writable = writable_now;
         log_is = w.log_is;
         from_log = w.from_log;
-        recent_is = w.recent_is;
-        waiting_is = w.waiting_is;
+        mem_is = w.mem_is;
+        imm_is = w.imm_is;
         reached = w.reached;
         last_fits = w.last_fits;
       }

@@ -30,7 +30,7 @@ use Rattle.leveldb_store.specs.OpenStore.{OpenStoreValue}
 use Rattle.leveldb_store.specs.Read.{in_memory}
 use Rattle.leveldb_store.specs.RoomSteps.{AddsNone, IsStepToRoom}
 use Rattle.leveldb_store.specs.Switch.{IsObsoletePath, RemovesNoOther, SwitchesLog}
-use Rattle.leveldb_store.specs.Written.{HasLiveTables, IsWritten, memory_of, waiting_entries}
+use Rattle.leveldb_store.specs.Written.{HasLiveTables, IsWritten, memory_of, imm_entries}
 use Rattle.leveldb_store.specs.WrittenFrom.{AddsNoEntry}
 
 -- ---- live tables where obsolete files are removed
@@ -111,15 +111,15 @@ module _ {C : Type 0} (cmp : List ℕ → List ℕ → Ordering) (meaning : Mean
   )
 
   -- a table is made of the entries that waited, and added at the end
-  pub adds_none_tabled : (old new : OpenStoreValue C) (before after : Files) (table : LiveTable)
+  pub adds_none_tables_made : (old new : OpenStoreValue C) (before after : Files) (table : LiveTable)
       → IsWritten cmp meaning old before → new.set.store ≡ old.set.store
       → new.set.full.added ≡ old.set.full.added ++ table.file ∷ []
       → SameGiven old.set before after
       → HasTable old.set.store cmp (IsTableOf cmp meaning) after table
-      → table.entries ≡ waiting_entries old.waiting → new.recent.entries ≡ old.recent.entries
-      → waiting_entries new.waiting ≡ []
+      → table.entries ≡ imm_entries old.imm → new.mem.entries ≡ old.mem.entries
+      → imm_entries new.imm ≡ []
       → AddsNoEntry cmp meaning old before new after
-  adds_none_tabled old new before after table w store added same made entries recent none live has =
+  adds_none_tables_made old new before after table w store added same made entries mem none live has =
       (all, record { files_are = files_are; each = each }, from)
     where
       all : List LiveTable
@@ -148,22 +148,22 @@ module _ {C : Type 0} (cmp : List ℕ → List ℕ → Ordering) (meaning : Mean
       there : List Entry
       there = in_memory old ++ table_entries live
 
-      of_recent : (entry : Entry) → Contains old.recent.entries entry → Contains there entry
-      of_recent entry c = Contains-append_left (in_memory old) (table_entries live) entry
-          (Contains-append_left old.recent.entries (waiting_entries old.waiting) entry c)
+      of_mem : (entry : Entry) → Contains old.mem.entries entry → Contains there entry
+      of_mem entry c = Contains-append_left (in_memory old) (table_entries live) entry
+          (Contains-append_left old.mem.entries (imm_entries old.imm) entry c)
 
-      of_waiting : (entry : Entry) → Contains (waiting_entries old.waiting) entry
+      of_imm : (entry : Entry) → Contains (imm_entries old.imm) entry
           → Contains there entry
-      of_waiting entry c = Contains-append_left (in_memory old) (table_entries live) entry
-          (Contains-append_right old.recent.entries (waiting_entries old.waiting) entry c)
+      of_imm entry c = Contains-append_left (in_memory old) (table_entries live) entry
+          (Contains-append_right old.mem.entries (imm_entries old.imm) entry c)
 
       of_memory : (entry : Entry) → Contains (in_memory new) entry → Contains there entry
       of_memory entry c = ⊎_elim
-          (λ (here : Contains new.recent.entries entry).
-          of_recent entry (subst (λ es. Contains es entry) recent here))
-          (λ (here : Contains (waiting_entries new.waiting) entry).
+          (λ (here : Contains new.mem.entries entry).
+          of_mem entry (subst (λ es. Contains es entry) mem here))
+          (λ (here : Contains (imm_entries new.imm) entry).
           absurd (in_none entry (subst (λ es. Contains es entry) none here)))
-          (Contains-append_cases new.recent.entries (waiting_entries new.waiting) entry c)
+          (Contains-append_cases new.mem.entries (imm_entries new.imm) entry c)
 
       of_table : (entry : Entry) (t : LiveTable) → Contains t.entries entry → Contains all t
           → Contains there entry
@@ -171,7 +171,7 @@ module _ {C : Type 0} (cmp : List ℕ → List ℕ → Ordering) (meaning : Mean
           (λ (old_one : Contains live t). Contains-append_right (in_memory old)
           (table_entries live) entry (flat_in (λ (x : LiveTable). x.entries) live t entry old_one c))
           (λ (is_new : Contains (table ∷ []) t). ⊎_elim
-          (λ (e : table ≡ t). of_waiting entry
+          (λ (e : table ≡ t). of_imm entry
           (subst (λ es. Contains es entry) (ap (λ (x : LiveTable). x.entries) (sym e) ∙ entries) c))
           (λ (none_there : Contains [] t). absurd (in_none t none_there))
           (in_cases table t [] is_new))
@@ -196,12 +196,12 @@ adds_none_switched env cmp meaning old from new to modelled w s =
     (ap (λ (set : VersionSetValue). set.store) s.set)
     (ap (λ (set : VersionSetValue). set.full) s.set) (s.tables.files modelled)
     (λ entry c. ⊎_elim
-    (λ (here : Contains new.recent.entries entry).
+    (λ (here : Contains new.mem.entries entry).
     absurd (in_none entry (subst (λ es. Contains es entry) s.empty here)))
-    (λ (here : Contains (waiting_entries new.waiting) entry).
-    Contains-append_left old.recent.entries (waiting_entries old.waiting) entry
-    (subst (λ waiting. Contains (waiting_entries waiting) entry) s.waits here))
-    (Contains-append_cases new.recent.entries (waiting_entries new.waiting) entry c))
+    (λ (here : Contains (imm_entries new.imm) entry).
+    Contains-append_left old.mem.entries (imm_entries old.imm) entry
+    (subst (λ imm. Contains (imm_entries imm) entry) s.waits here))
+    (Contains-append_cases new.mem.entries (imm_entries new.imm) entry c))
 
 -- ---- steps in a row
 

@@ -45,7 +45,7 @@ use Rattle.leveldb_store.specs.FoundLogs.{HasLogNotKept, LacksNumbersFor, LogsBe
 use Rattle.leveldb_store.specs.KeptBytes.{HasNewNumbers, LosesNoBytesMeanwhile, TableNumbersAreBelow}
 use Rattle.leveldb_store.specs.OpenStore.{AreInLevels, AreNumbersGiven, HasOwnManifest, OpenStoreValue}
 use Rattle.leveldb_store.specs.Opening.{SameButTables}
-use Rattle.leveldb_store.specs.OpeningSteps.{AreDamagedLogs, BeginsWriting, LogsIfWanted, MayBeWritten, OpensLog, ReplaysLogs, WasRecovered, WhyNotBegun, WhyNotReplayed, entries_to_write, files_to_write, made_files, number_to_write, set_to_write, size_to_write}
+use Rattle.leveldb_store.specs.OpeningSteps.{AreDamagedLogs, OpensToWrite, LogsIfWanted, MayBeWritten, OpensLog, ReplaysLogs, WasRecovered, WhyNotBegun, WhyNotReplayed, entries_to_write, files_to_write, made_files, number_to_write, set_to_write, size_to_write}
 use Rattle.leveldb_store.specs.OpensStore.{AreTablesThere, IsOpenedAs, KeepsFound, SameBesideOwn}
 use Rattle.leveldb_store.specs.ReplayLog.{HasCauseOr}
 use Rattle.leveldb_store.specs.Room.{IsFull}
@@ -130,7 +130,7 @@ module _ {E F D FP : Type 0} (env : Ghosts E F) {order : CmpGhosts D} {filters :
   HasFile files file = (file.number < 2 ^ 64) × IsSome (files (table_path store file.number))
 
   abbrev Begins : (C : Type 0) → Result (OpenStoreValue C) Status → E → Type 0
-  Begins C result to = BeginsWriting env choices store set logs from limit result to
+  Begins C result to = OpensToWrite env choices store set logs from limit result to
 
   abbrev Why : Status → Type 0
   Why = WhyNotBegun env choices store set logs from
@@ -667,7 +667,7 @@ module _ {E F D FP : Type 0} (env : Ghosts E F) {order : CmpGhosts D} {filters :
                 manifest = λ e. in_use_unbroken is_ended.used (sym is_ended.is_in_use ∙ sym (ap (λ (s : VersionSetValue). s.manifest) is.set_is) ∙ e);
                 log = ap (λ (w : WriterState). w.broken) is.writer;
               };
-              room = not_full_to_write limit replay.used replays.room value.recent is.recent_is;
+              room = not_full_to_write limit replay.used replays.room value.mem is.mem_is;
               tables = λ modelled. subst (λ (s : VersionSetValue). AreTablesThere store (env.observed e3).disk.files s.full.added) (sym is.set_is)
                   (All-weaker (HasFile (env.observed e3).disk.files) (λ (file : NewFile). IsSome ((env.observed e3).disk.files (table_path store file.number)))
                   (λ file has. has.1) set4.full.added (is_ended.tables modelled));

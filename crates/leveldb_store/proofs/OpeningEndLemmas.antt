@@ -41,7 +41,7 @@ use Rattle.leveldb_store.specs.OpenStore.{AreInLevels, AreNumbersGiven, HasOwnMa
 use Rattle.leveldb_store.specs.OpeningSteps.{LogsTables, files_to_write, made_files, number_to_write}
 use Rattle.leveldb_store.specs.OpensStore.{IsManifestThere, IsOpenedAs, IsOwnPath, SameBesideOwn}
 use Rattle.leveldb_store.specs.Write.{open_log_path}
-use Rattle.leveldb_store.specs.Written.{memory_of, waiting_entries}
+use Rattle.leveldb_store.specs.Written.{memory_of, imm_entries}
 use Rattle.leveldb_store.specs.declared.opening.replay.UsedLog.{UsedLog}
 use Rattle.leveldb_store.proofs.GivenNumbersLemmas.{all_with_each, given_later}
 use Rattle.leveldb_store.proofs.LevelsApartLemmas.{levels_with_zeros}
@@ -101,19 +101,19 @@ none_before path bytes files gone =
 -- ---- the value
 
 -- The value of a store that is open with this set, and with a log of this number, size and entries.
-pub record IsOpenValue {C : Type 0} (set : VersionSetValue) (log size : ℕ) (recent : List Entry)
+pub record IsOpenValue {C : Type 0} (set : VersionSetValue) (log size : ℕ) (mem : List Entry)
     (value : OpenStoreValue C) : Type 0 where
   pub set_is : value.set ≡ set
   pub number : value.log.number ≡ log
   pub writer : value.log.writer ≡ new_writer log_block_size (size % log_block_size)
-  pub recent_is : value.recent.entries ≡ recent
-  pub waiting : value.waiting ≡ None
+  pub mem_is : value.mem.entries ≡ mem
+  pub imm : value.imm ≡ None
 
 module _ (store : List ℕ) (cmp : List ℕ → List ℕ → Ordering) (meaning : Meaning)
     (comparator : List ℕ) (contents : Contents) (made_is : contents.store ≡ made (Some comparator))
     (leaves : Bool) (built : List FileMetaData) (set : VersionSetValue) (log size : ℕ)
-    (recent : List Entry) (files : Files)
-    (h : HasLogOpen store cmp meaning contents leaves built set log size recent files) where
+    (mem : List Entry) (files : Files)
+    (h : HasLogOpen store cmp meaning contents leaves built set log size mem files) where
   abbrev T : List ℕ → List Pair → Type 0
   T = IsTableOf cmp meaning
 
@@ -122,8 +122,8 @@ module _ (store : List ℕ) (cmp : List ℕ → List ℕ → Ordering) (meaning 
       → then.store ≡ store → then.last_sequence ≡ set.last_sequence
       → now (log_path store log) ≡ files (log_path store log)
       → ((allowed : Store → Type 0) → IsOpened store cmp T allowed contents now edits
-      (opened_memory then log recent))
-      → (value : OpenStoreValue C) → IsOpenValue then log size recent value
+      (opened_memory then log mem))
+      → (value : OpenStoreValue C) → IsOpenValue then log size mem value
       → IsOpenedAs cmp meaning store comparator contents value now
   opened_as {C} now edits then path_is last_is same_log opened value is = record {
     written = written_as cmp meaning value now edits by h.to_write.file there
@@ -144,12 +144,12 @@ module _ (store : List ℕ) (cmp : List ℕ → List ℕ → Ordering) (meaning 
       last_now : then.last_sequence ≡ contents.last
       last_now = last_is ∙ sym h.last
 
-      memory_is : opened_memory then log recent ≡ memory_of value
+      memory_is : opened_memory then log mem ≡ memory_of value
       memory_is = λ i. record {
         set = sym is.set_is i;
         log = sym is.number i;
-        recent = sym is.recent_is i;
-        waiting = sym (ap waiting_entries is.waiting) i;
+        mem = sym is.mem_is i;
+        imm = sym (ap imm_entries is.imm) i;
       }
 
       store_is : store ≡ value.set.store
@@ -170,12 +170,12 @@ module _ (store : List ℕ) (cmp : List ℕ → List ℕ → Ordering) (meaning 
 
   -- where a manifest is in use and no log is left, the store is open
   pub went_on : {C : Type 0} (manifest : OpenManifest) → set.manifest ≡ in_use manifest
-      → leaves ≡ false → (value : OpenStoreValue C) → IsOpenValue set log size recent value
+      → leaves ≡ false → (value : OpenStoreValue C) → IsOpenValue set log size mem value
       → IsOpenedAs cmp meaning store comparator contents value files
   went_on manifest used none value is =
       opened_as files h.edits set h.by.tracked.store_is refl refl
       (λ allowed. openings_go_on store cmp T allowed files h.edits set h.by contents h.managed
-      h.last h.last_fits log recent h.to_write (h.none_below none) manifest used) value is
+      h.last h.last_fits log mem h.to_write (h.none_below none) manifest used) value is
 
   -- ---- the edit
 
@@ -183,12 +183,12 @@ module _ (store : List ℕ) (cmp : List ℕ → List ℕ → Ordering) (meaning 
   edit = tables_edit log (made_files built)
 
   ends : (allowed : Store → Type 0)
-      → EndsOpening store cmp T allowed contents files h.edits set edit log recent
+      → EndsOpening store cmp T allowed contents files h.edits set edit log mem
   ends allowed = subst
       (λ new. EndsOpening store cmp T allowed contents files h.edits set (tables_edit log new) log
-      recent) h.files_are
+      mem) h.files_are
       (openings_end store cmp T allowed (one_reading_of cmp meaning) files h.edits set h.by contents
-      h.managed h.last h.last_fits log recent h.to_write h.tables h.log_tables h.next_fits h.fit)
+      h.managed h.last h.last_fits log mem h.to_write h.tables h.log_tables h.next_fits h.fit)
 
   is_log : IsFilePath Log store (log_path store log)
   is_log = is_log_path store log h.to_write.fits
@@ -227,8 +227,8 @@ module _ {E F : Type 0} (env : Ghosts E F) (modelled : IsTrue env.models_disk)
     (store : List ℕ) (cmp : List ℕ → List ℕ → Ordering) (meaning : Meaning)
     (comparator : List ℕ) (contents : Contents) (made_is : contents.store ≡ made (Some comparator))
     (leaves : Bool) (built : List FileMetaData) (set : VersionSetValue) (log size : ℕ)
-    (recent : List Entry) (from to : E)
-    (h : HasLogOpen store cmp meaning contents leaves built set log size recent
+    (mem : List Entry) (from to : E)
+    (h : HasLogOpen store cmp meaning contents leaves built set log size mem
     (env.observed from).disk.files) (new : VersionSetValue) where
   abbrev files : Files
   files = (env.observed from).disk.files
@@ -244,8 +244,8 @@ module _ {E F : Type 0} (env : Ghosts E F) (modelled : IsTrue env.models_disk)
 
   ended : (allowed : Store → Type 0)
       → EndsOpening store cmp (IsTableOf cmp meaning) allowed contents files h.edits set plain log
-      recent
-  ended = ends store cmp meaning comparator contents made_is leaves built set log size recent files h
+      mem
+  ended = ends store cmp meaning comparator contents made_is leaves built set log size mem files h
 
   -- ---- while the edit is logged
 
@@ -288,7 +288,7 @@ module _ {E F : Type 0} (env : Ghosts E F) (modelled : IsTrue env.models_disk)
   -- ---- after it
 
   module _ (done : Unit {0}) {C : Type 0} (value : OpenStoreValue C)
-      (is : IsOpenValue new log size recent value) where
+      (is : IsOpenValue new log size mem value) where
     abbrev Opened : Type 0
     Opened = IsOpenedAs cmp meaning store comparator contents value then
 
@@ -299,13 +299,13 @@ module _ {E F : Type 0} (env : Ghosts E F) (modelled : IsTrue env.models_disk)
         let bytes = frame manifest.writer (edit_record set plain) in
         let now : then ≡ with_bytes_kept manifest.path bytes files = (l.does modelled).ok modelled in
         subst (λ (f : Files). IsOpenedAs cmp meaning store comparator contents value f) (sym now)
-        (opened_as store cmp meaning comparator contents made_is leaves built set log size recent
+        (opened_as store cmp meaning comparator contents made_is leaves built set log size mem
         files h (with_bytes_kept manifest.path bytes files)
         (h.edits ++ written_edit set plain ∷ []) (set_appended manifest set plain) path_is refl
-        (same_appended store cmp meaning comparator contents made_is leaves built set log size recent
+        (same_appended store cmp meaning comparator contents made_is leaves built set log size mem
         files h manifest used bytes (with_bytes_kept manifest.path bytes files) (inr refl))
         (λ allowed. (ended allowed).appended manifest used) value
-        (subst (λ v. IsOpenValue v log size recent value) l.ok is))
+        (subst (λ v. IsOpenValue v log size mem value) l.ok is))
 
     begun_is : set.manifest ≡ unmade
         → BeginsManifest env.models_disk set plain (env.observed from) (env.failures from)
@@ -318,16 +318,16 @@ module _ {E F : Type 0} (env : Ghosts E F) (modelled : IsTrue env.models_disk)
         let making : MakingManifest store set.manifest_number bytes files then =
         subst (λ s. MakingManifest s set.manifest_number bytes files then) path_is
         ((l.does modelled).now modelled) in
-        opened_as store cmp meaning comparator contents made_is leaves built set log size recent
+        opened_as store cmp meaning comparator contents made_is leaves built set log size mem
         files h then (set.full ∷ written_edit set plain ∷ []) (set_begun set plain) path_is refl
-        (same_made store cmp meaning comparator contents made_is leaves built set log size recent
+        (same_made store cmp meaning comparator contents made_is leaves built set log size mem
         files h unmade_is bytes then making)
         (λ allowed. subst
         (λ (f : Files). IsOpened store cmp (IsTableOf cmp meaning) allowed contents f
         (set.full ∷ written_edit set plain ∷ [])
-        (opened_memory (set_begun set plain) log recent))
+        (opened_memory (set_begun set plain) log mem))
         (sym made_then) ((ended allowed).made unmade_is)) value
-        (subst (λ v. IsOpenValue v log size recent value) l.ok is)
+        (subst (λ v. IsOpenValue v log size mem value) l.ok is)
 
     opened_by : (state : ManifestState) → set.manifest ≡ state → Logs (Ok done) → Opened
     opened_by unmade at logs = begun_is at (logs.not_made (made_levels_fit log built) at)

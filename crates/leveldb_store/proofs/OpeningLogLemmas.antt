@@ -49,7 +49,7 @@ use Rattle.leveldb_version.specs.VersionSetValue.{VersionSetValue, with_number_g
 use Rattle.leveldb_version.specs.Writing.{IsRecoveredBy}
 use Rattle.leveldb_version.specs.Format.{IsTableOf, Meaning}
 use Rattle.leveldb_store.specs.Opening.{IsMadeTable}
-use Rattle.leveldb_store.specs.OpeningSteps.{AreTabledBut, HasReplayedLogs, entries_to_write, files_to_write, made_files, number_to_write, set_to_write, size_to_write}
+use Rattle.leveldb_store.specs.OpeningSteps.{AreInTablesBut, HasReplayedLogs, entries_to_write, files_to_write, made_files, number_to_write, set_to_write, size_to_write}
 use Rattle.leveldb_store.specs.ReplayLog.{MakesTablesOnly}
 use Rattle.leveldb_store.specs.declared.opening.replay.Replay.{Replay}
 use Rattle.leveldb_store.specs.declared.opening.replay.UsedLog.{UsedLog}
@@ -82,7 +82,7 @@ pub record IsReplayedWith {C : Type 0} (store : List ℕ) (cmp : List ℕ → Li
       → file.number < 2 ^ 64 → (live_after edits).file (level_file file) ≡ Some file
       → file.number < table.file.number
   pub rising : AllPairs IsMadeBefore tables
-  pub tabled : AreTabledBut used logs tables
+  pub tables_made : AreInTablesBut used logs tables
   pub stays : leaves ≡ false → (tables ≡ []) × ((log : ReplayedLog) → Contains logs log
       → IfSome used (λ it. log.number ≡ it.number) × IsSome used)
   pub from_log : IfSome used (λ it. set.log_number ≤ it.number)
@@ -91,14 +91,14 @@ pub record IsReplayedWith {C : Type 0} (store : List ℕ) (cmp : List ℕ → Li
 -- are in tables that were made.
 pub record HasLogOpen (store : List ℕ) (cmp : List ℕ → List ℕ → Ordering) (meaning : Meaning)
     (contents : Contents) (leaves : Bool) (made : List FileMetaData) (set : VersionSetValue)
-    (log size : ℕ) (recent : List Entry) (files : Files) : Type 0 where
+    (log size : ℕ) (mem : List Entry) (files : Files) : Type 0 where
   pub edits : List Edit
   pub by : IsRecoveredBy store cmp (IsTableOf cmp meaning) files edits set
   pub managed : IsManagedBy store cmp (IsTableOf cmp meaning) files edits contents
   pub last : contents.last ≡ set.last_sequence
   pub last_fits : set.last_sequence ≤ greatest_sequence
   pub next_fits : set.next_file < 2 ^ 64
-  pub to_write : IsLogToWrite store files set log recent
+  pub to_write : IsLogToWrite store files set log mem
   pub size_is : length (bytes_of to_write.file) ≡ size
   pub tables : List LiveTable
   pub files_are : map (λ (table : LiveTable). table.file) tables ≡ made_files made
@@ -303,7 +303,7 @@ module _ {C : Type 0} (store : List ℕ) (cmp : List ℕ → List ℕ → Orderi
         let below = live_below file fits is in
         omega (arith, least, below);
     rising = h.made_tables.rising;
-    tabled = h.tabled;
+    tables_made = h.tables_made;
     stays = h.leaves;
     from_log = log_from replay.used from_log;
   }
@@ -376,16 +376,16 @@ module _ {C : Type 0} (store : List ℕ) (cmp : List ℕ → List ℕ → Orderi
   module _ (used : UsedLog C)
       (h : IsReplayedWith store cmp meaning contents (Some used) leaves made set files) where
     abbrev front : List ReplayedLog
-    front = h.tabled.0
+    front = h.tables_made.0
 
     abbrev last : ReplayedLog
-    last = h.tabled.1
+    last = h.tables_made.1
 
     split : h.logs ≡ front ++ last ∷ []
-    split = h.tabled.2
+    split = h.tables_made.2
 
     number : last.number ≡ used.number
-    number = h.tabled.3
+    number = h.tables_made.3
 
     last_in : Contains h.logs last
     last_in = subst (λ logs. Contains logs last) (sym split) (Contains-push front last)
@@ -433,11 +433,11 @@ module _ {C : Type 0} (store : List ℕ) (cmp : List ℕ → List ℕ → Orderi
       file = has_last.0;
       there = log_there;
       records = has_last.2.records;
-      clean_end = subst (λ e. IsLogFile (bytes_of has_last.0) has_last.2.records e) h.tabled.4
+      clean_end = subst (λ e. IsLogFile (bytes_of has_last.0) has_last.2.records e) h.tables_made.4
           has_last.2.read;
       batches = last.batches;
       each = has_last.2.each;
-      recent_is = h.tabled.6;
+      mem_is = h.tables_made.6;
     }
 
     used_tables : AreLogTables store cmp (IsTableOf cmp meaning) files h.edits used.number h.tables
@@ -458,7 +458,7 @@ module _ {C : Type 0} (store : List ℕ) (cmp : List ℕ → List ℕ → Orderi
           (λ (is : last ≡ one).
           let same = ap number_of is in absurd (omega (arith, same, number, less)))
           (front_or_last one c));
-      entries = h.tabled.7;
+      entries = h.tables_made.7;
     }
 
     pub used_open : HasLogOpen store cmp meaning contents leaves made set used.number used.size
@@ -471,7 +471,7 @@ module _ {C : Type 0} (store : List ℕ) (cmp : List ℕ → List ℕ → Orderi
       last_fits = h.last_fits;
       next_fits = h.next_fits;
       to_write = used_to_write;
-      size_is = sym has_last.2.size ∙ h.tabled.5;
+      size_is = sym has_last.2.size ∙ h.tables_made.5;
       tables = h.tables;
       files_are = h.files_are;
       log_tables = used_tables;
@@ -574,7 +574,7 @@ module _ {C : Type 0} (store : List ℕ) (cmp : List ℕ → List ℕ → Orderi
           clean_end = refl;
           batches = [];
           each = tt;
-          recent_is = λ entry. (λ c. c, λ c. c);
+          mem_is = λ entry. (λ c. c, λ c. c);
         }
 
         table_same : (k : ℕ) → later (table_path store k) ≡ files (table_path store k)
@@ -595,7 +595,7 @@ module _ {C : Type 0} (store : List ℕ) (cmp : List ℕ → List ℕ → Orderi
           rising = h.rising;
           taken = h.logs;
           has_taken = below_it h.logs (λ one c. c) (λ one c. c);
-          entries = h.tabled;
+          entries = h.tables_made;
         }
 
         pub new_open : HasLogOpen store cmp meaning contents leaves made (with_number_given set) n 0

@@ -20,7 +20,7 @@ use Rattle.leveldb_store.proofs.OpeningKeptLemmas.{table_numbers_below}
 use Rattle.leveldb_store.specs.KeptBytes.{HasNewNumbers, LosesNoBytesMeanwhile, LosesNothing}
 use Rattle.leveldb_store.specs.OpenStore.{OpenStoreValue}
 use Rattle.leveldb_store.specs.OpeningState.{with_comparator}
-use Rattle.leveldb_store.specs.OpeningSteps.{BeginsWriting, RecoversStore, WasRecovered, WhyNotBegun}
+use Rattle.leveldb_store.specs.OpeningSteps.{OpensToWrite, RecoversStore, WasRecovered, WhyNotBegun}
 use Rattle.leveldb_store.specs.OpensStore.{FailsToOpen, IsOpenedAs, IsSound, KeepsFound, LacksNumbers, OpensStore, WhyNotOpened}
 use Rattle.leveldb_store.specs.SoundCall.{BytesAreAppended}
 use Rattle.leveldb_store.specs.declared.opening.recovered_set.RecoveredSet.{RecoveredSet}
@@ -95,7 +95,7 @@ module _ {E F D FP : Type 0} (env : Ghosts E F) {keys : CmpGhosts D} {filters : 
 
     module _ {C : Type 0} where
       abbrev Begins : Result (OpenStoreValue C) Status → Type 0
-      Begins result = BeginsWriting env choices store it.versions it.logs.keys mid limit result to
+      Begins result = OpensToWrite env choices store it.versions it.logs.keys mid limit result to
 
       -- open with the contents of the store that it is by now, it is so with those that were there
       opened_as : (meaning : Meaning) (contents : Contents) (value : OpenStoreValue C) (files : Files)

@@ -201,8 +201,8 @@ module _ {E F : Type 0} (env : Ghosts E F) (format : Format) (store : List ℕ) 
               keeps_found_then store format.order_name format.order meaning contents contents (env.observed mid) (env.observed then) (env.observed to) (inl refl) (set_keeps (Ok it) then sets modelled meaning contents sound)
               (λ allowed there may bound reached. Run-mono
               (λ now being. keeping_keeps store format.order (IsTableOf format.order meaning) (λ one. IsTrue (allowed one)) bound logs (env.observed then).disk.files now
-              (logs_there env format reuse limit store mid then it.is_anew it.versions logs sets.ok modelled)
-              (then_bytes env format reuse limit store mid then it.is_anew it.versions logs sets.ok modelled meaning contents sound) being)
+              (logs_there env format reuse limit store mid then it.needs_new_manifest it.versions logs sets.ok modelled)
+              (then_bytes env format reuse limit store mid then it.needs_new_manifest it.versions logs sets.ok modelled meaning contents sound) being)
               (run modelled))
 
           all_keep : (modelled : IsTrue env.models_disk) (meaning : Meaning) (contents : Contents) → IsSound format.order meaning store first contents
@@ -216,7 +216,7 @@ module _ {E F : Type 0} (env : Ghosts E F) (format : Format) (store : List ℕ) 
               let both = both_spare (Ok it) then sets modelled in
               Run-trans both
               (λ now being. spares_then store first (env.observed then).disk.files now both.has
-              (keeping_spares store logs (have_numbers env format reuse limit store mid then it.is_anew it.versions logs sets.ok) (env.observed then).disk.files now being))
+              (keeping_spares store logs (have_numbers env format reuse limit store mid then it.needs_new_manifest it.versions logs sets.ok) (env.observed then).disk.files now being))
               (run modelled)
 
           all_lose : LosesNothing env store from to
@@ -232,8 +232,8 @@ module _ {E F : Type 0} (env : Ghosts E F) (format : Format) (store : List ℕ) 
           is_usable modelled (inr (inl bare)) = not_refused modelled (inr bare)
           is_usable modelled (inr (inr lacks)) =
               let same = (found_same (Ok done) mid finds modelled lacks.0).has in
-              let edits = edits_read env format reuse limit store mid then it.is_anew it.versions logs sets.ok in
-              lacks.1 edits (subst (λ f. HasEdits store f edits) same (is_read env format reuse limit store mid then it.is_anew it.versions logs sets.ok modelled).has_edits) sets.ok.recovers.usable
+              let edits = edits_read env format reuse limit store mid then it.needs_new_manifest it.versions logs sets.ok in
+              lacks.1 edits (subst (λ f. HasEdits store f edits) same (is_read env format reuse limit store mid then it.needs_new_manifest it.versions logs sets.ok modelled).has_edits) sets.ok.recovers.usable
 
           all_locks : SameLocks env.models_disk (env.observed from) (env.observed to)
           all_locks modelled = locks modelled ∙ sets.locks modelled ∙ finds.locks modelled
@@ -262,8 +262,8 @@ module _ {E F : Type 0} (env : Ghosts E F) (format : Format) (store : List ℕ) 
                 → IsRecoveredWith store format.order meaning (with_comparator format.order_name contents) it.versions logs (env.observed to).disk.files
             all_recovered modelled meaning contents sound =
                 let there = found_is_sound store format first (env.observed mid).disk.files (found modelled) meaning contents sound in
-                let is = comparator_is env format reuse limit store mid then it.is_anew it.versions logs sets.ok modelled meaning there.0 there.1 in
-                let recovered = is_recovered env format reuse limit store mid then it.is_anew it.versions logs sets.ok modelled meaning there.0 there.1 (sets.files modelled) in
+                let is = comparator_is env format reuse limit store mid then it.needs_new_manifest it.versions logs sets.ok modelled meaning there.0 there.1 in
+                let recovered = is_recovered env format reuse limit store mid then it.needs_new_manifest it.versions logs sets.ok modelled meaning there.0 there.1 (sets.files modelled) in
                 subst (λ f. IsRecoveredWith store format.order meaning (with_comparator format.order_name contents) it.versions logs f) (sym (kept modelled))
                 (subst (λ c. IsRecoveredWith store format.order meaning c it.versions logs (with_logs_kept store logs (env.observed then).disk.files)) (like there.0 is there.2) recovered)
               where
@@ -274,46 +274,46 @@ module _ {E F : Type 0} (env : Ghosts E F) (format : Format) (store : List ℕ) 
 
             numbers : IsTrue env.models_disk → (next : ℕ) × ComesAfterFound store first next × (it.versions.next_file ≤ next + 1)
             numbers modelled =
-                let after = numbers_after env format reuse limit store mid then it.is_anew it.versions logs sets.ok modelled in
+                let after = numbers_after env format reuse limit store mid then it.needs_new_manifest it.versions logs sets.ok modelled in
                 (after.0, (after.1.0, found_before store format first (env.observed mid).disk.files (found modelled) after.1.0 after.1.1, after.1.2), after.2)
 
             logs_were : IsTrue env.models_disk → (n : ℕ) (batches : List Batch) → Contains logs n → LogBeginsWith store (env.observed to).disk.files n batches → LogBeginsWith store first n batches
             logs_were modelled n batches there begins =
-                log_before store format first (env.observed mid).disk.files (found modelled) n (have_numbers env format reuse limit store mid then it.is_anew it.versions logs sets.ok n there) batches
-                (log_was env format reuse limit store mid then it.is_anew it.versions logs sets.ok modelled n batches (subst (λ f. LogBeginsWith store f n batches) (kept modelled) begins))
+                log_before store format first (env.observed mid).disk.files (found modelled) n (have_numbers env format reuse limit store mid then it.needs_new_manifest it.versions logs sets.ok n there) batches
+                (log_was env format reuse limit store mid then it.needs_new_manifest it.versions logs sets.ok modelled n batches (subst (λ f. LogBeginsWith store f n batches) (kept modelled) begins))
 
             damage : IsTrue env.models_disk → AreDamagedLogs store (env.observed to).disk.files logs → IsDamaged store format first
             damage modelled damaged = damaged_before store format first (env.observed mid).disk.files (found modelled) at_mid
               where
                 at_mid : IsDamaged store format (env.observed mid).disk.files
                 at_mid meaning order contents fits read =
-                    let edits = edits_read env format reuse limit store mid then it.is_anew it.versions logs sets.ok in
-                    logs_read env format reuse limit store mid then it.is_anew it.versions logs sets.ok modelled order (IsTableOf order meaning) contents
+                    let edits = edits_read env format reuse limit store mid then it.needs_new_manifest it.versions logs sets.ok in
+                    logs_read env format reuse limit store mid then it.needs_new_manifest it.versions logs sets.ok modelled order (IsTableOf order meaning) contents
                     (managed_of store order (IsTableOf order meaning) (env.observed mid).disk.files edits contents
-                    (is_read env format reuse limit store mid then it.is_anew it.versions logs sets.ok modelled).has_edits read)
+                    (is_read env format reuse limit store mid then it.needs_new_manifest it.versions logs sets.ok modelled).has_edits read)
                     (subst (λ f. AreDamagedLogs store f logs) (kept modelled) damaged)
 
             pub all_done : (last : Unit {0}) → HasCause {T = Unit {0}} IsOutOfMemory (env.failures then) (env.failures to) (Ok last) → Recovers (Ok it) to
             all_done last cause = record {
               ok = record {
                 may = record {
-                  path = path_is env format reuse limit store mid then it.is_anew it.versions logs sets.ok;
+                  path = path_is env format reuse limit store mid then it.needs_new_manifest it.versions logs sets.ok;
                   fits = sets.ok.fits;
                   given = sets.ok.given;
                   levels = sets.ok.levels;
                   tables = λ modelled. subst (λ (f : Files). AreTablesThere store f it.versions.full.added) (sym (kept modelled))
-                      (tables_there env format reuse limit store mid then it.is_anew it.versions logs sets.ok modelled);
-                  manifest_fits = manifest_below env format reuse limit store mid then it.is_anew it.versions logs sets.ok;
-                  unbroken = unbroken_is env format reuse limit store mid then it.is_anew it.versions logs sets.ok;
-                  goes_on = in_use_is env format reuse limit store mid then it.is_anew it.versions logs sets.ok;
-                  own = own_is env format reuse limit store mid then it.is_anew it.versions logs sets.ok;
+                      (tables_there env format reuse limit store mid then it.needs_new_manifest it.versions logs sets.ok modelled);
+                  manifest_fits = manifest_below env format reuse limit store mid then it.needs_new_manifest it.versions logs sets.ok;
+                  unbroken = unbroken_is env format reuse limit store mid then it.needs_new_manifest it.versions logs sets.ok;
+                  goes_on = in_use_is env format reuse limit store mid then it.needs_new_manifest it.versions logs sets.ok;
+                  own = own_is env format reuse limit store mid then it.needs_new_manifest it.versions logs sets.ok;
                   there = λ modelled manifest used.
                       subst (λ (f : Files). f manifest.path ≢ None) (sym (kept modelled))
-                      (manifest_there env format reuse limit store mid then it.is_anew it.versions logs sets.ok modelled manifest used);
+                      (manifest_there env format reuse limit store mid then it.needs_new_manifest it.versions logs sets.ok modelled manifest used);
                 };
                 recovered = λ modelled meaning agrees contents sound. all_recovered modelled meaning contents sound;
                 new_numbers = λ modelled. subst (HasNewNumbers store it.versions) (sym (kept modelled))
-                    (new_numbers env format reuse limit store mid then it.is_anew it.versions logs sets.ok modelled);
+                    (new_numbers env format reuse limit store mid then it.needs_new_manifest it.versions logs sets.ok modelled);
                 numbers = numbers;
                 logs = logs_were;
                 rising = sets.ok.logs_are.rising;

@@ -26,12 +26,12 @@ use Rattle.leveldb_env.specs.declared.filter.FilterPolicy.{Ghosts as FilterGhost
 use Rattle.leveldb_table.specs.TableBuilder.{IsNewBuilder, KeepsChoices, TableBuilt, last_of}
 use Rattle.leveldb_version.specs.Paths.{table_path}
 use Rattle.leveldb_version.specs.Store.{IsFirstKey, IsLastKey}
-use Rattle.leveldb_store.specs.BuildTable.{IsNotTabled, TableChoices, puts_all}
+use Rattle.leveldb_store.specs.BuildTable.{IsNotBuilt, TableChoices, puts_all}
 use Rattle.leveldb_store.specs.Outputs.{AddsPair, AreCutBefore, AreFinished, AreNextNumbers, AreTables, ChangesNewTables, FinishesOpen, HaveOutputs, IsBeginFault, IsCutBefore, IsOpenAfter, IsOpenTable, IsUnfit, OutputsValue, PutsPair, is_due, is_due_in, numbers_of, pairs_after, tables_after, with_table}
 use Rattle.leveldb_store.specs.TableFile.{AddsToFile, ChangesOneFile, FailsToWrite, FinishesFile, IsAddFault, IsFinishFault, IsMetadataOf, IsThere, StopsWriting}
 use Rattle.leveldb_store.specs.declared.table_file.TableFile.{TableFile}
 use Rattle.leveldb_store.proofs.BuildTableLemmas.{HasTaken-none, IsTableUnder-same, last_key_of, last_pushed, taken_added, taken_begun}
-use Rattle.leveldb_store.proofs.NotTabledLemmas.{not_tabled_end, not_tabled_next, some_not_tabled}
+use Rattle.leveldb_store.proofs.NotBuiltLemmas.{not_built_end, not_built_next, some_not_built}
 use Rattle.leveldb_store.proofs.TableFileLemmas.{all_written, changes-trans, changes_named, fails_later, fails_so, longer_changes, longer_file_is, opened_is, opening_changes, own_fails, sync_changes, synced_file_is}
 
 -- ---- numbers
@@ -370,8 +370,8 @@ module _ {C FP : Type 0} {order : CmpGhosts C} {filters : FilterGhosts FP}
       → IsNewBuilder order filters choices.cmp choices.policy choices.id choices.block_size
       choices.restarts core
       → made ≡ core → IsAddFault order filters choices.format.codings made pair status
-      → IsNotTabled choices (pair ∷ []) status
-  not_begun {core} pair {status} is_new made_is fault = not_tabled_next choices is_new
+      → IsNotBuilt choices (pair ∷ []) status
+  not_begun {core} pair {status} is_new made_is fault = not_built_next choices is_new
       (HasTaken-none choices.format.codings puts_all core [] is_new.unbroken) pair
       (subst (λ (b : TableBuilt C FP). IsAddFault order filters choices.format.codings b pair
       status) made_is fault)
@@ -514,7 +514,7 @@ module _ {C FP : Type 0} {order : CmpGhosts C} {filters : FilterGhosts FP}
       record {
         ok = tt;
         changes = open_changes have is stopped.changes;
-        cause = fails_later refl (not_tabled_next choices opened.is_new opened.taken pair)
+        cause = fails_later refl (not_built_next choices opened.is_new opened.taken pair)
             stopped.cause;
       }
 
@@ -618,7 +618,7 @@ module _ {C FP : Type 0} {order : CmpGhosts C} {filters : FilterGhosts FP}
         record {
           ok = tt;
           changes = open_changes have is stopped.changes;
-          cause = fails_later refl (not_tabled_end choices opened.is_new opened.taken)
+          cause = fails_later refl (not_built_end choices opened.is_new opened.taken)
               stopped.cause;
         }
 
@@ -696,7 +696,7 @@ module _ {C FP : Type 0} {order : CmpGhosts C} {filters : FilterGhosts FP}
           (tables_after b tables pairs) (pairs_after b pairs pair))) (sym due) adds.ok;
       changes = adds.changes;
       cause = fails_so result refl
-          (λ status not. inl (some_not_tabled choices (λ other there. there) not)) adds.cause;
+          (λ status not. inl (some_not_built choices (λ other there. there) not)) adds.cause;
     }
 
     -- the open table wasn't finished before it
@@ -707,7 +707,7 @@ module _ {C FP : Type 0} {order : CmpGhosts C} {filters : FilterGhosts FP}
     unfinished_not_put {status = status} finishes = record {
       ok = tt;
       changes = finishes.changes;
-      cause = fails_later refl (λ not. inl (some_not_tabled choices
+      cause = fails_later refl (λ not. inl (some_not_built choices
           (Contains-append_left pairs (pair ∷ [])) not)) finishes.cause;
     }
 
@@ -752,7 +752,7 @@ module _ {C FP : Type 0} {order : CmpGhosts C} {filters : FilterGhosts FP}
       changes = new-trans env store (new-rise env store up finishes.changes)
           (new-wider env store (next_range first next _ have.numbers) changes);
       cause = fails_so result finishes.cause.ok
-          (λ status. ⊎_elim (λ not. inl (some_not_tabled choices
+          (λ status. ⊎_elim (λ not. inl (some_not_built choices
           (Contains-append_right pairs (pair ∷ [])) not)) (λ used_up. inr (inl used_up))) cause;
     }
       where

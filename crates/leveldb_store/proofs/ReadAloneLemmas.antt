@@ -40,7 +40,7 @@ use Rattle.leveldb_store.specs.FoundLogs.{LogsBeginWith}
 use Rattle.leveldb_store.specs.OpensToRead.{FailsToOpenToRead, IsReadAlone, IsReadAs, OpensToRead, WhyNotReadable}
 use Rattle.leveldb_store.specs.ReadLogs.{HasReadLogs, ReadsLogs, WhyLogsUnread}
 use Rattle.leveldb_store.specs.ReplayLog.{HasCauseOr}
-use Rattle.leveldb_store.specs.Written.{HasLiveTables, Shows, memory_of}
+use Rattle.leveldb_store.specs.Written.{HasLiveTables, HasView, memory_of}
 use Rattle.leveldb_store.specs.declared.opening.replay_log.ReplayedLog.{ReplayedLog}
 use Rattle.leveldb_store.proofs.HistoryLemmas.{tables_for}
 use Rattle.leveldb_store.proofs.OpeningRecoveredLemmas.{edits_read, is_read, last_is, logs_are, path_is}
@@ -57,7 +57,7 @@ one_some x y e = cc
 -- `memory` has the entries of a store's logs, and the set its files
 module _ {C : Type 0} (store : List ℕ) (cmp : List ℕ → List ℕ → Ordering) (meaning : Meaning) (files : Files) (edits : List Edit) (contents : Contents)
     (m : IsManagedBy store cmp (IsTableOf cmp meaning) files edits contents) (value : OpenStoreValue C) (in_store : value.set.store ≡ store)
-    (lists : ListsFiles (live_after edits) value.set.full.added) (none_waits : value.waiting ≡ None) (recent : SameEntries value.recent.entries (log_entries m.logs)) where
+    (lists : ListsFiles (live_after edits) value.set.full.added) (none_waits : value.imm ≡ None) (mem : SameEntries value.mem.entries (log_entries m.logs)) where
   abbrev IsTable : List ℕ → List Pair → Type 0
   IsTable = IsTableOf cmp meaning
 
@@ -98,27 +98,27 @@ module _ {C : Type 0} (store : List ℕ) (cmp : List ℕ → List ℕ → Orderi
   back = tables_in store cmp IsTable (one_reading_of cmp meaning) files (live_after edits) m.tables tables m.has_tables has
 
   -- all entries are those of the contents
-  same : SameEntries (value.recent.entries ++ ([] ++ table_entries tables)) contents.entries
+  same : SameEntries (value.mem.entries ++ ([] ++ table_entries tables)) contents.entries
   same entry = (
     λ c. subst (λ (x : Contents). Contains x.entries entry) (sym m.is) (⊎_elim
-        (λ (r : Contains value.recent.entries entry). Contains-append_right (table_entries m.tables) (log_entries m.logs) entry ((recent entry).0 r))
+        (λ (r : Contains value.mem.entries entry). Contains-append_right (table_entries m.tables) (log_entries m.logs) entry ((mem entry).0 r))
         (λ (t : Contains (table_entries tables) entry). Contains-append_left (table_entries m.tables) (log_entries m.logs) entry (to entry t))
-        (Contains-append_cases value.recent.entries (table_entries tables) entry c)),
+        (Contains-append_cases value.mem.entries (table_entries tables) entry c)),
     λ c. ⊎_elim
-        (λ (t : Contains (table_entries m.tables) entry). Contains-append_right value.recent.entries (table_entries tables) entry (back entry t))
-        (λ (l : Contains (log_entries m.logs) entry). Contains-append_left value.recent.entries (table_entries tables) entry ((recent entry).1 l))
+        (λ (t : Contains (table_entries m.tables) entry). Contains-append_right value.mem.entries (table_entries tables) entry (back entry t))
+        (λ (l : Contains (log_entries m.logs) entry). Contains-append_left value.mem.entries (table_entries tables) entry ((mem entry).1 l))
         (Contains-append_cases (table_entries m.tables) (log_entries m.logs) entry (subst (λ (x : Contents). Contains x.entries entry) m.is c)),
   )
 
   module _ (history : History) (matches : MatchesHistory (λ any. Unit {0}) contents.last contents history) where
-    shows_without : ShowsHistory cmp (record { set = value.set; log = value.log.number; recent = value.recent.entries; waiting = [] }) tables history (greatest (entries_of history))
+    shows_without : ShowsHistory cmp (record { set = value.set; log = value.log.number; mem = value.mem.entries; imm = [] }) tables history (greatest (entries_of history))
     shows_without = record {
-      same = λ t late. view_trans (value.recent.entries ++ ([] ++ table_entries tables)) contents.entries (entries_of history) t
-          (same_sets (value.recent.entries ++ ([] ++ table_entries tables)) contents.entries same t) (matches.same t late);
+      same = λ t late. view_trans (value.mem.entries ++ ([] ++ table_entries tables)) contents.entries (entries_of history) t
+          (same_sets (value.mem.entries ++ ([] ++ table_entries tables)) contents.entries same t) (matches.same t late);
       up_to = λ entry c. matches.up_to entry ((same entry).0 c);
-      waiting_older = λ a b none in_b same_key. absurd (in_none a none);
-      tables_older = λ a b in_a in_b same_key. m.fit.below a b (to a in_a) ((recent b).0 (⊎_elim (λ (r : Contains value.recent.entries b). r) (λ (none : Contains [] b). absurd (in_none b none))
-          (Contains-append_cases value.recent.entries [] b in_b)));
+      imm_older = λ a b none in_b same_key. absurd (in_none a none);
+      tables_older = λ a b in_a in_b same_key. m.fit.below a b (to a in_a) ((mem b).0 (⊎_elim (λ (r : Contains value.mem.entries b). r) (λ (none : Contains [] b). absurd (in_none b none))
+          (Contains-append_cases value.mem.entries [] b in_b)));
       levels = record {
         disjoint = λ a b c d. m.fit.levels.disjoint a b (live_in a c) (live_in b d);
         deeper = λ a b c d. m.fit.levels.deeper a b (live_in a c) (live_in b d);
@@ -126,11 +126,11 @@ module _ {C : Type 0} (store : List ℕ) (cmp : List ℕ → List ℕ → Orderi
       };
     }
 
-    pub shows_all : Shows cmp meaning value files history (greatest (entries_of history))
+    pub shows_all : HasView cmp meaning value files history (greatest (entries_of history))
     shows_all = record {
       tables = tables;
       has = record { files_are = found.1; each = subst (λ s. All (HasTable s cmp IsTable files) tables) (sym in_store) found.2 };
-      shows = subst (λ (waiting : Option Kept). ShowsHistory cmp (memory_of (record value { waiting = waiting })) tables history (greatest (entries_of history))) (sym none_waits) shows_without;
+      shows = subst (λ (imm : Option Kept). ShowsHistory cmp (memory_of (record value { imm = imm })) tables history (greatest (entries_of history))) (sym none_waits) shows_without;
     }
 
 -- ---- the opening
@@ -252,7 +252,7 @@ module _ {E F : Type 0} (env : Ghosts E F) (format : Format) (store : List ℕ) 
             let greater = ap (λ (s : VersionSetValue). s.last_sequence) now_is in
             omega (arith, most, last, greater)
 
-        module _ (value : OpenStoreValue C) (set_is : value.set ≡ record set { last_sequence = max set.last_sequence log.last }) (recent_is : value.recent ≡ log.rest.kept) (none_waits : value.waiting ≡ None)
+        module _ (value : OpenStoreValue C) (set_is : value.set ≡ record set { last_sequence = max set.last_sequence log.last }) (mem_is : value.mem ≡ log.rest.kept) (none_waits : value.imm ≡ None)
             (log_broken : value.log.writer.broken ≡ true) where
           module _ (modelled : IsTrue env.models_disk) (meaning : Meaning) (contents : Contents) (is : IsStore store format.order (IsTableOf format.order meaning) first contents) where
             m : IsManagedBy store format.order (IsTableOf format.order meaning) (env.observed mid).disk.files edits contents
@@ -264,11 +264,11 @@ module _ {E F : Type 0} (env : Ghosts E F) (format : Format) (store : List ℕ) 
                 (logs_are env format false 0 store mid then true as_recovered numbers r.recovered modelled format.order (IsTableOf format.order meaning) contents m)
                 (subst (λ f. AreLogs store f numbers logs.logs) (still2 modelled).has (logs.are_logs modelled))
 
-            recent_same : SameEntries value.recent.entries (log_entries m.logs)
-            recent_same entry =
+            mem_same : SameEntries value.mem.entries (log_entries m.logs)
+            mem_same entry =
                 let it = logs.in_memory.are entry in (
-                  λ c. subst (λ ls. Contains (log_entries ls) entry) same_logs (it.0 (subst (λ (k : Kept). Contains k.entries entry) recent_is c)),
-                  λ c. subst (λ (k : Kept). Contains k.entries entry) (sym recent_is) (it.1 (subst (λ ls. Contains (log_entries ls) entry) (sym same_logs) c)),
+                  λ c. subst (λ ls. Contains (log_entries ls) entry) same_logs (it.0 (subst (λ (k : Kept). Contains k.entries entry) mem_is c)),
+                  λ c. subst (λ (k : Kept). Contains k.entries entry) (sym mem_is) (it.1 (subst (λ ls. Contains (log_entries ls) entry) (sym same_logs) c)),
                 )
 
             full_is : value.set.full ≡ fold full_after empty_edit edits
@@ -288,7 +288,7 @@ module _ {E F : Type 0} (env : Ghosts E F) (format : Format) (store : List ℕ) 
             read_as = subst (IsReadAs format.order meaning contents value) (still1 modelled).has (record {
               last = last_same;
               shows = λ history matches. shows_all store format.order meaning (env.observed mid).disk.files edits contents m value in_store
-                  (subst (λ (full : Edit). ListsFiles (live_after edits) full.added) (sym full_is) (full_of_all edits).added) none_waits recent_same history matches;
+                  (subst (λ (full : Edit). ListsFiles (live_after edits) full.added) (sym full_is) (full_of_all edits).added) none_waits mem_same history matches;
             })
 
           pub opened_to_read : SameLocks env.models_disk (env.observed from) (env.observed to) → Opens (Ok value) to

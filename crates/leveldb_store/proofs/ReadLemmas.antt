@@ -38,7 +38,7 @@ use Rattle.leveldb_version.specs.CurrentVersion.{IsCurrent}
 use Rattle.leveldb_store.specs.OpenStore.{AreNumbersGiven, OpenStoreValue}
 use Rattle.leveldb_store.specs.OpenTables.{AreOpenTablesOf}
 use Rattle.leveldb_store.specs.Read.{FindsInMemory, HasOpenTables, LooksUpKey, charge_of, in_memory, sought_key, value_searched, with_charge}
-use Rattle.leveldb_store.specs.Written.{HasLiveTables, Shows, waiting_entries}
+use Rattle.leveldb_store.specs.Written.{HasLiveTables, HasView, imm_entries}
 
 -- ---- what is found of a key
 
@@ -108,18 +108,18 @@ module _ {E F C FP : Type 0} (order : CmpGhosts (InternalKeyCmp C)) (env : EnvGh
   -- what memory and tables have is the key's value in the history that they show
   shown : {meaning : Meaning} {files : Files} {history : History} {since : ℕ}
       → since ≤ sequence
-      → (shows : Shows by.format.order meaning old files history since)
+      → (shows : HasView by.format.order meaning old files history since)
       → (found : Lookup (List ℕ))
       → FindsNewest (in_memory old ++ table_entries shows.tables) sequence key found
       → IsValueAt (entries_of history) sequence key (value_found found)
   shown {history = history} bound shows found all =
-      let recent = old.recent.entries in
-      let waiting = waiting_entries old.waiting in
+      let mem = old.mem.entries in
+      let imm = imm_entries old.imm in
       let entries = table_entries shows.tables in
-      value_same (recent ++ (waiting ++ entries)) (entries_of history) sequence key
+      value_same (mem ++ (imm ++ entries)) (entries_of history) sequence key
       (value_found found) (shows.shows.same sequence bound)
-      (found_is_value (recent ++ (waiting ++ entries)) sequence key found
-      (subst (λ es. FindsNewest es sequence key found) (append_assoc recent waiting entries) all))
+      (found_is_value (mem ++ (imm ++ entries)) sequence key found
+      (subst (λ es. FindsNewest es sequence key found) (append_assoc mem imm entries) all))
 
   -- ---- memory has the key
 
@@ -130,7 +130,7 @@ module _ {E F C FP : Type 0} (order : CmpGhosts (InternalKeyCmp C)) (env : EnvGh
   got_in_memory found some finds result copy memory = record {
     finds = λ opened meaning agrees history since bound shows. by_result history result copy
         (shown bound shows found (finds_first (in_memory old) (table_entries shows.tables) sequence key
-        found some shows.shows.tables_older (finds shows.shows.waiting_older)));
+        found some shows.shows.tables_older (finds shows.shows.imm_older)));
     reads = read result memory;
     lacks = λ meaning live has. fails_of result memory;
     still_open = λ opened. opened.are;
@@ -216,7 +216,7 @@ module _ {E F C FP : Type 0} (order : CmpGhosts (InternalKeyCmp C)) (env : EnvGh
       -- the key's value is what memory and tables have of it
       finds_value : HasOpenTables order env by old from tables → (meaning : Meaning)
           → Agrees by.format meaning → (history : History) (since : ℕ) → since ≤ sequence
-          → (shows : Shows by.format.order meaning old (files_at env from) history since)
+          → (shows : HasView by.format.order meaning old (files_at env from) history since)
           → (found : Lookup (List ℕ))
           → FindsNewest (table_entries shows.tables) (sequence_part (sought_key sequence key))
           (user_part (sought_key sequence key)) found
@@ -229,7 +229,7 @@ module _ {E F C FP : Type 0} (order : CmpGhosts (InternalKeyCmp C)) (env : EnvGh
           (subst (λ m. FindsNewest entries m (user_part (sought_key sequence key)) found)
           (sequence_part-internal_key key n TypeValue (omega arith)) finds) in
           shown bound shows found (finds_after (in_memory old) entries sequence key found
-          (none shows.shows.waiting_older)
+          (none shows.shows.imm_older)
           (finds_up_to entries sequence key found (tables_up_to by.format.order meaning old.set.store
           (files_at env from) shows.tables shows.has.each) here))
 

@@ -353,7 +353,7 @@ module _ {E F : Type 0} (env : Ghosts E F) (format : Format) (exact : IsExactOrd
 
       module _ (anew : Bool) (set : VersionSetValue) (made : Made (Ok anew) set) (to : E)
           (later_still : IsTrue env.models_disk → Run (FilesUnchanged (env.observed then).disk.files) (env.observed then) (env.observed to)) (later_locks : SameLocks env.models_disk (env.observed then) (env.observed to)) where
-        done : (result : Result (RecoveredSet E F) Status) → IfOk result (λ it. IsRecoveredSet env format reuse limit store from it.is_anew it.versions it.logs.keys to)
+        done : (result : Result (RecoveredSet E F) Status) → IfOk result (λ it. IsRecoveredSet env format reuse limit store from it.needs_new_manifest it.versions it.logs.keys to)
             → HasCauseOr Why (env.failures from) (env.failures to) result → Recovered result to
         done result ok cause = record {
           ok = ok;
@@ -428,8 +428,8 @@ module _ {E F : Type 0} (env : Ghosts E F) (format : Format) (exact : IsExactOrd
 
           -- the set is recovered, and its logs are found
           pub is_recovered : (logs : BTreeSet ℕ) → IsChecked env store set names then logs.keys
-              → Recovered (Ok (record { versions = set; is_anew = anew; logs = logs })) to
-          is_recovered logs checked = done (Ok (record { versions = set; is_anew = anew; logs = logs })) (record {
+              → Recovered (Ok (record { versions = set; needs_new_manifest = anew; logs = logs })) to
+          is_recovered logs checked = done (Ok (record { versions = set; needs_new_manifest = anew; logs = logs })) (record {
             marked = marked;
             gives = marks.gives;
             below = below;
@@ -478,7 +478,7 @@ module _ {E F : Type 0} (env : Ghosts E F) (format : Format) (exact : IsExactOrd
   -- it is read, and is recovered but for its manifest
   pub set_read : (to : E) (set : VersionSetValue) (logs : BTreeSet ℕ) → (IsTrue env.models_disk → Run (FilesUnchanged (env.observed from).disk.files) (env.observed from) (env.observed to))
       → SameLocks env.models_disk (env.observed from) (env.observed to) → set.manifest ≡ broken
-      → AsRecovered (Ok (record { versions = record set { manifest = unmade }; is_anew = true; logs = logs })) to → ReadsSet env format store from (Ok (set, logs)) to
+      → AsRecovered (Ok (record { versions = record set { manifest = unmade }; needs_new_manifest = true; logs = logs })) to → ReadsSet env format store from (Ok (set, logs)) to
   set_read to set logs still locks is_broken recovers = record {
     ok = record { broken_is = is_broken; recovered = recovers.ok };
     still = still;

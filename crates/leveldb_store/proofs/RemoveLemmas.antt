@@ -47,7 +47,7 @@ use Rattle.leveldb_version.specs.Writing.{IsObsolete}
 use Rattle.leveldb_version.specs.Format.{IsTableOf, Meaning}
 use Rattle.leveldb_store.specs.OpenStore.{OpenStoreValue}
 use Rattle.leveldb_store.specs.Switch.{AreRemoved, DeletesFile, HasFirstCause, IsFirstError, IsMemoryOut, IsObsoleteName, IsObsoletePath, LeavesFailed, RemovesName, RemovesNames, RemovesNoOther, RemovesObsolete, without_files}
-use Rattle.leveldb_store.specs.Written.{IsWritten, KeepsShown, KeepsStore, Shows, memory_of}
+use Rattle.leveldb_store.specs.Written.{IsWritten, KeepsShown, KeepsStore, HasView, memory_of}
 use Rattle.leveldb_store.proofs.SwitchLemmas.{Keeps, keeps_same, shows_stay, written_as}
 
 -- ---- the numbers of live files
@@ -195,7 +195,7 @@ module _ {C : Type 0} (cmp : List ℕ → List ℕ → Ordering) (meaning : Mean
   none_kept files now is w = record {
     moments = λ bound. keeps_same cmp meaning allowed store bound files now is;
     written = subst (IsWritten cmp meaning old) (sym is) w;
-    shows = λ history since s. subst (λ f. Shows cmp meaning old f history since) (sym is) s;
+    shows = λ history since s. subst (λ f. HasView cmp meaning old f history since) (sym is) s;
   }
 
   module _ (files : Files) (w : IsWritten cmp meaning old files) (name : List ℕ) (n : ℕ) (kind : FileType) (is : IsFileName name n kind) (gone : IsObsolete old.set kind n) where

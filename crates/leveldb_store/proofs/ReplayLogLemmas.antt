@@ -40,11 +40,11 @@ use Rattle.leveldb_version.specs.Store.{IsInternalPair}
 use Rattle.leveldb_version.specs.StoreSteps.{IsKept}
 use Rattle.leveldb_version.specs.VersionEdit.{NewFile, new_file_of}
 use Rattle.leveldb_version.specs.VersionSetValue.{AreFileNumbersUsedUp, VersionSetValue, with_number_given}
-use Rattle.leveldb_store.specs.BuildTable.{IsNotTabled, MakesTable, TableChoices}
+use Rattle.leveldb_store.specs.BuildTable.{IsNotBuilt, MakesTable, TableChoices}
 use Rattle.leveldb_version.specs.Format.{Agrees, Format, IsTableOf, Meaning}
 use Rattle.leveldb_store.specs.FoundLogs.{AreLastEntries, FailsToKeep, FailsToTable}
 use Rattle.leveldb_store.specs.Opening.{IsMadeTable, SameButTables}
-use Rattle.leveldb_store.specs.ReplayLog.{TakesBatch, FailsAtBatch, FailsToTableRest, Follows, HasReplayed, IsNotFull, MakesRestTable, MakesTablesOnly, TablesRest, TakesNextBatch, table_files}
+use Rattle.leveldb_store.specs.ReplayLog.{TakesBatch, FailsAtBatch, FailsToBuildRest, Follows, HasReplayed, IsNotFull, MakesRestTable, MakesTablesOnly, TablesRest, TakesNextBatch, table_files}
 use Rattle.leveldb_store.specs.Room.{AreFull}
 use Rattle.leveldb_store.specs.declared.opening.replay_log.ReplayedLog.{ReplayedLog}
 use Rattle.leveldb_store.specs.OpenStore.{AreNumbersGiven}
@@ -345,7 +345,7 @@ module _ {D FP : Type 0} {order : CmpGhosts D} {filters : FilterGhosts FP}
   -- no table is made of them
   pub fails_of_rest : (first now : ℕ) → now ≤ first + length are.front → entries ≢ []
       → (status : Status)
-      → AreFileNumbersUsedUp now status ⊎ IsNotTabled choices (map internal_pair entries) status
+      → AreFileNumbersUsedUp now status ⊎ IsNotBuilt choices (map internal_pair entries) status
       → FailsToTable choices first batches status
   fails_of_rest first now few some status (inl used) = inl (record {
     code = used.code;
@@ -412,10 +412,10 @@ module _ {E F : Type 0} (env : Ghosts E F) (format : Format) {C : Type 0} where
     made_tables = was.made_tables;
     entries = λ entry. (
       λ c. subst (λ es. Contains es entry) (sym (all_more batches batch)) (⊎_elim
-          (λ (tabled : Contains (table_entries was.tables) entry).
+          (λ (tables_made : Contains (table_entries was.tables) entry).
           Contains-append_left (all_entries batches) (batch_entries batch) entry
           ((was.entries entry).0
-          (Contains-append_left (table_entries was.tables) old.rest.kept.entries entry tabled)))
+          (Contains-append_left (table_entries was.tables) old.rest.kept.entries entry tables_made)))
           (λ (rest : Contains new.rest.kept.entries entry). ⊎_elim
           (λ (before : Contains old.rest.kept.entries entry).
           Contains-append_left (all_entries batches) (batch_entries batch) entry
@@ -428,8 +428,8 @@ module _ {E F : Type 0} (env : Ghosts E F) (format : Format) {C : Type 0} where
           (Contains-append_cases (table_entries was.tables) new.rest.kept.entries entry c)),
       λ c. ⊎_elim
           (λ (before : Contains (all_entries batches) entry). ⊎_elim
-          (λ (tabled : Contains (table_entries was.tables) entry).
-          Contains-append_left (table_entries was.tables) new.rest.kept.entries entry tabled)
+          (λ (tables_made : Contains (table_entries was.tables) entry).
+          Contains-append_left (table_entries was.tables) new.rest.kept.entries entry tables_made)
           (λ (rest : Contains old.rest.kept.entries entry).
           Contains-append_right (table_entries was.tables) new.rest.kept.entries entry
           ((adds.gains entry).1
@@ -463,13 +463,13 @@ module _ {E F : Type 0} (env : Ghosts E F) (format : Format) {C : Type 0} where
 
   -- ---- a table is made
 
-  pub HasReplayed-tabled : {first set now : VersionSetValue} {last : ℕ} {batches : List Batch}
+  pub HasReplayed-tables_made : {first set now : VersionSetValue} {last : ℕ} {batches : List Batch}
       {old new : ReplayedLog C} {at to : E} → HasReplayed env format first last batches old set at
       → old.rest.kept.entries ≢ [] → MakesTablesOnly env set at now to
       → TablesRest env format old set new now to
       → HasReplayed env format first last batches new now to
   unfolding last_none
-  HasReplayed-tabled {first} {set} {now} {last} {batches} {old} {new} {at} {to} was some spares made = record {
+  HasReplayed-tables_made {first} {set} {now} {last} {batches} {old} {new} {at} {to} was some spares made = record {
     in_order = was.in_order;
     last_is = ap (λ (log : ReplayedLog C). log.last) made.rest ∙ was.last_is;
     numbers = GivesNumbers-trans was.numbers spares.numbers;
@@ -728,7 +728,7 @@ module _ {E F D FP C : Type 0} (env : Ghosts E F) {order : CmpGhosts D} {filters
 
     -- none can be made
     fails_to_make : mid.rest.kept.entries ≢ [] → (at : E) (status : Status)
-        → FailsToTableRest env choices mid set status
+        → FailsToBuildRest env choices mid set status
         → FailsAtBatch env choices batch old set at status
     fails_to_make some at status why = λ first last batches was.
         let added = HasReplayed-added env choices.format was batch follows adds in
@@ -736,15 +736,15 @@ module _ {E F D FP C : Type 0} (env : Ghosts E F) {order : CmpGhosts D} {filters
         first.next_file set.next_file added.few some status why
 
     -- one is made, or an error comes of it
-    pub TakesNextBatch-tabled : mid.rest.kept.entries ≢ []
+    pub TakesNextBatch-tables_made : mid.rest.kept.entries ≢ []
         → limit ≤ memory_of_entries mid.rest.kept.entries → {from to : E} {new : ReplayedLog C}
         {now : VersionSetValue} (result : Result (Unit {0}) Status)
         → MakesRestTable env choices mid set from result new now to
         → TakesNextBatch env choices limit batch old set from result new now to
-    TakesNextBatch-tabled some full {new = new} (Ok done) makes = record {
+    TakesNextBatch-tables_made some full {new = new} (Ok done) makes = record {
       spares = makes.spares;
       ok = λ first last batches was. (
-        HasReplayed-tabled env choices.format
+        HasReplayed-tables_made env choices.format
             (HasReplayed-added env choices.format was batch follows adds) some makes.spares makes.ok,
         inr (full_of_last limit (batches ++ batch ∷ []) mid.rest.kept.entries
             (HasReplayed-added env choices.format was batch follows adds).in_memory (some, full)),
@@ -762,7 +762,7 @@ module _ {E F D FP C : Type 0} (env : Ghosts E F) {order : CmpGhosts D} {filters
         cause = tt;
       };
     }
-    TakesNextBatch-tabled some full {from = from} (Err status) makes = record {
+    TakesNextBatch-tables_made some full {from = from} (Err status) makes = record {
       spares = makes.spares;
       ok = tt;
       room = tt;

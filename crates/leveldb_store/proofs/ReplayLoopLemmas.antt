@@ -22,7 +22,7 @@ use Rattle.leveldb_version.specs.VersionSetValue.{VersionSetValue}
 use Rattle.leveldb_store.specs.BuildTable.{TableChoices}
 use Rattle.leveldb_version.specs.Format.{Agrees, Format, Meaning}
 use Rattle.leveldb_store.specs.FoundLogs.{LogBeginsWith, LogsBeginWith}
-use Rattle.leveldb_store.specs.OpeningSteps.{AreDamagedLogs, AreTabledBut, DamagesLogs, HasReplayedLogs, MakeFewTables, ReplaysLogs, ReplaysNext, WhyNotReplayed, entries_to_write, made_files}
+use Rattle.leveldb_store.specs.OpeningSteps.{AreDamagedLogs, AreInTablesBut, DamagesLogs, HasReplayedLogs, MakeFewTables, ReplaysLogs, ReplaysNext, WhyNotReplayed, entries_to_write, made_files}
 use Rattle.leveldb_store.specs.OpenStore.{AreNumbersGiven}
 use Rattle.leveldb_store.specs.ReplayLog.{FailsAtLog, IsUnusable, MakesTablesOnly}
 use Rattle.leveldb_store.specs.Room.{IsFull}
@@ -122,7 +122,7 @@ module _ {E F D FP C : Type 0} (env : Ghosts E F) {order : CmpGhosts D} {filters
         numbers = λ table c. absurd (in_none table c);
         rising = λ i j d less within. absurd (omega (arith, within));
       };
-      tabled = subst (λ used. AreTabledBut used [] []) (sym unused) (λ entry. (λ c. c, λ c. c));
+      tables_made = subst (λ used. AreInTablesBut used [] []) (sym unused) (λ entry. (λ c. c, λ c. c));
       leaves = λ e. (refl, λ log c. absurd (in_none log c));
     };
     from_log = subst (λ used. IfSome used (λ it. set.log_number ≤ it.number)) (sym unused) tt;

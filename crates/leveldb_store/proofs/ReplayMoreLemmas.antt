@@ -23,7 +23,7 @@ use Rattle.leveldb_version.specs.VersionEdit.{NewFile, new_file_of}
 use Rattle.leveldb_version.specs.VersionSetValue.{VersionSetValue}
 use Rattle.leveldb_version.specs.Format.{Meaning}
 use Rattle.leveldb_store.specs.Opening.{AreMadeTables, GivesNumbers, IsMadeTable, ReplaysLog, SameButTables}
-use Rattle.leveldb_store.specs.OpeningSteps.{AreDamagedLogs, AreLogs, AreTabledBut, HasReplayedLogs}
+use Rattle.leveldb_store.specs.OpeningSteps.{AreDamagedLogs, AreLogs, AreInTablesBut, HasReplayedLogs}
 use Rattle.leveldb_store.specs.ReplayLog.{IsDamagedLog, log_in_memory, table_files}
 use Rattle.leveldb_store.specs.declared.opening.replay.Replay.{Replay}
 use Rattle.leveldb_store.specs.declared.opening.replay.UsedLog.{UsedLog}
@@ -215,14 +215,14 @@ module _ {C : Type 0} (cmp : List ℕ → List ℕ → Ordering) (meaning : Mean
 
     -- ---- entries
 
-    tabled_before : SameEntries (table_entries was.tables) (log_entries was.logs)
-    tabled_before = subst (λ used. AreTabledBut used was.logs was.tables) none was.tabled
+    tables_made_before : SameEntries (table_entries was.tables) (log_entries was.logs)
+    tables_made_before = subst (λ used. AreInTablesBut used was.logs was.tables) none was.tables_made
 
     -- those before it are older than its own
     older : (a b : Entry) → Contains (table_entries was.tables) a
         → Contains (table_entries replays.tables ++ log.rest.kept.entries) b → a.sequence < b.sequence
     older a b c d =
-        let most = up_to_greatest (log_entries was.logs) a ((tabled_before a).0 c) in
+        let most = up_to_greatest (log_entries was.logs) a ((tables_made_before a).0 c) in
         let least = order_above old.last replays.log.batches replays.in_order b
         ((replays.entries b).0 d) in
         let is = was.last_is in
@@ -242,14 +242,14 @@ module _ {C : Type 0} (cmp : List ℕ → List ℕ → Ordering) (meaning : Mean
     same_mid = SameButTables-trans was.gives gives start before between was.same same
 
     -- it is used on
-    module _ (new : Replay C) (is_clean : log.is_clean ≡ true) (untabled : table_files log ≡ []) where
+    module _ (new : Replay C) (is_clean : log.is_clean ≡ true) (not_in_tables : table_files log ≡ []) where
       no_tables : (tables : List LiveTable) → map (λ (table : LiveTable). table.file) tables ≡ []
           → tables ≡ []
       no_tables [] e = refl
       no_tables (table ∷ tables) e = absurd (cc)
 
       no_table : replays.tables ≡ []
-      no_table = no_tables replays.tables (replays.files_are ∙ untabled)
+      no_table = no_tables replays.tables (replays.files_are ∙ not_in_tables)
 
       tables_are : was.tables ++ replays.tables ≡ was.tables
       tables_are = ap (λ ts. was.tables ++ ts) no_table ∙ append-nil was.tables
@@ -271,7 +271,7 @@ module _ {C : Type 0} (cmp : List ℕ → List ℕ → Ordering) (meaning : Mean
         files_are = was.files_are
             ∙ sym (ap (map (λ (file : FileMetaData). new_file_of (0, file))) items);
         made_tables = subst (AreMadeTables cmp meaning first mid between) tables_are made_tables;
-        tabled = subst (λ it. AreTabledBut it logs was.tables) (sym used_is) (
+        tables_made = subst (λ it. AreInTablesBut it logs was.tables) (sym used_is) (
           was.logs,
           replays.log,
           refl,
@@ -281,7 +281,7 @@ module _ {C : Type 0} (cmp : List ℕ → List ℕ → Ordering) (meaning : Mean
           subst (λ es. SameEntries es (all_entries replays.log.batches)) (sym entries_is)
               (subst (λ ts. SameEntries (table_entries ts ++ log.rest.kept.entries)
               (all_entries replays.log.batches)) no_table replays.entries),
-          tabled_before,
+          tables_made_before,
         );
         leaves = λ e.
             let none_left = was.leaves (sym leaves ∙ e) in (
@@ -314,8 +314,8 @@ module _ {C : Type 0} (cmp : List ℕ → List ℕ → Ordering) (meaning : Mean
       abbrev all_tables : List LiveTable
       all_tables = (was.tables ++ replays.tables) ++ more
 
-      all_tabled : SameEntries (table_entries all_tables) (log_entries logs)
-      all_tabled = subst (λ es. SameEntries es (log_entries logs))
+      all_in_tables : SameEntries (table_entries all_tables) (log_entries logs)
+      all_in_tables = subst (λ es. SameEntries es (log_entries logs))
           (sym (tables_append (was.tables ++ replays.tables) more
           ∙ ap (λ es. es ++ table_entries more) (tables_append was.tables replays.tables)
           ∙ append_assoc (table_entries was.tables) (table_entries replays.tables)
@@ -323,14 +323,14 @@ module _ {C : Type 0} (cmp : List ℕ → List ℕ → Ordering) (meaning : Mean
           (subst (SameEntries (table_entries was.tables
           ++ (table_entries replays.tables ++ table_entries more))) (sym entries_are)
           (both_entries (table_entries was.tables) (table_entries replays.tables ++ table_entries more)
-          (log_entries was.logs) (all_entries replays.log.batches) tabled_before
+          (log_entries was.logs) (all_entries replays.log.batches) tables_made_before
           (λ entry.
           let own = replays.entries entry in
           let joined = both_entries (table_entries replays.tables) (table_entries more)
           (table_entries replays.tables) log.rest.kept.entries (λ e. (λ c. c, λ c. c)) rest entry in
           (λ c. own.0 (joined.0 c), λ c. joined.1 (own.1 c)))))
 
-      pub HasReplayedLogs-tabled : (files : List FileMetaData)
+      pub HasReplayedLogs-tables_made : (files : List FileMetaData)
           → map (λ (file : FileMetaData). new_file_of (0, file)) files
           ≡ table_files log ++ map (λ (table : LiveTable). table.file) more → new.used ≡ None
           → new.last ≡ log.last
@@ -338,7 +338,7 @@ module _ {C : Type 0} (cmp : List ℕ → List ℕ → Ordering) (meaning : Mean
           → (new.is_clean ≡ false → (old.is_clean ≡ false) ⊎ (log.is_clean ≡ false))
           → new.tables.items ≡ old.tables.items ++ files → new.leaves_log ≡ true
           → HasReplayedLogs cmp meaning first start (numbers ++ number ∷ []) new now after
-      HasReplayedLogs-tabled files are unused last cleans worsens items leaves = record {
+      HasReplayedLogs-tables_made files are unused last cleans worsens items leaves = record {
         gives = GivesNumbers-trans gives_mid gives_more;
         same = SameButTables-trans gives_mid gives_more start between after same_mid same_more;
         logs = logs;
@@ -357,7 +357,7 @@ module _ {C : Type 0} (cmp : List ℕ → List ℕ → Ordering) (meaning : Mean
         made_tables = AreMadeTables-more cmp meaning first mid now between after
             (was.tables ++ replays.tables) more gives_mid gives_more same_more made_tables made_more
             all_newer;
-        tabled = subst (λ it. AreTabledBut it logs all_tables) (sym unused) all_tabled;
+        tables_made = subst (λ it. AreInTablesBut it logs all_tables) (sym unused) all_in_tables;
         leaves = λ e. absurd (let never : true ≡ false = sym leaves ∙ e in cc);
       }
         where

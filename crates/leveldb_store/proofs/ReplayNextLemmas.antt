@@ -18,7 +18,7 @@ use Rattle.leveldb_version.specs.VersionSetValue.{VersionSetValue}
 use Rattle.leveldb_store.specs.BuildTable.{TableChoices}
 use Rattle.leveldb_store.specs.OpenStore.{AreNumbersGiven}
 use Rattle.leveldb_store.specs.OpeningSteps.{MakesFewTables, ReplaysNext, TablesAll, entries_to_write, made_files}
-use Rattle.leveldb_store.specs.ReplayLog.{FailsAtLog, FailsToTableRest, HasCauseOr, IsNotFull, KeepsBatches, MakesTablesOnly, ReplaysFile}
+use Rattle.leveldb_store.specs.ReplayLog.{FailsAtLog, FailsToBuildRest, HasCauseOr, IsNotFull, KeepsBatches, MakesTablesOnly, ReplaysFile}
 use Rattle.leveldb_store.specs.Room.{IsFull}
 use Rattle.leveldb_store.specs.declared.opening.replay.Replay.{Replay}
 use Rattle.leveldb_store.specs.declared.opening.replay.UsedLog.{UsedLog}
@@ -27,7 +27,7 @@ use Rattle.leveldb_store.proofs.FoundLogsLemmas.{front_few}
 use Rattle.leveldb_store.proofs.GivenNumbersLemmas.{given_append, given_later}
 use Rattle.leveldb_store.proofs.ReplayFilesLemmas.{MakesTablesOnly-trans}
 use Rattle.leveldb_store.proofs.ReplayLogLemmas.{fails_of_rest, some_last}
-use Rattle.leveldb_store.proofs.ReplayMoreLemmas.{HasReplayedLogs-tabled, HasReplayedLogs-used, damaged_after, missing_after, torn_after}
+use Rattle.leveldb_store.proofs.ReplayMoreLemmas.{HasReplayedLogs-tables_made, HasReplayedLogs-used, damaged_after, missing_after, torn_after}
 
 -- whether the logs end cleanly, with one more: they do, and it does
 abbrev pub IsBoth : Bool → Bool → Bool → Type 0
@@ -162,7 +162,7 @@ module _ {E F D FP C : Type 0} (env : Ghosts E F) {order : CmpGhosts D} {filters
           → new.last ≡ log.last → IsBoth old.is_clean log.is_clean new.is_clean
           → new.tables.items ≡ old.tables.items → new.leaves_log ≡ old.leaves_log
           → ReplaysNext env choices limit number may_go_on old set from (Ok tt) new mid at
-      ReplaysNext-used may is_clean untabled new used number_is size_is entries_is used_is last both
+      ReplaysNext-used may is_clean not_in_tables new used number_is size_is entries_is used_is last both
           items leaves = record {
             spares = replays.spares;
             ok = λ modelled meaning agrees first start numbers was.
@@ -170,7 +170,7 @@ module _ {E F D FP C : Type 0} (env : Ghosts E F) {order : CmpGhosts D} {filters
                 (env.observed from).disk.files numbers old was number none log mid
                 (env.observed at).disk.files replays.spares.numbers
                 (replays.spares.run modelled).has (replays.replays modelled meaning agrees) empty new
-                is_clean (ap (map (λ (file : FileMetaData). new_file_of (0, file))) untabled) used
+                is_clean (ap (map (λ (file : FileMetaData). new_file_of (0, file))) not_in_tables) used
                 number_is size_is entries_is used_is last
                 (still_clean old.is_clean log.is_clean new.is_clean both is_clean) items leaves;
             used = subst (λ it. IfSome it (λ some. IsTrue may_go_on × (some.number ≡ number)))
@@ -198,11 +198,11 @@ module _ {E F D FP C : Type 0} (env : Ghosts E F) {order : CmpGhosts D} {filters
         both = MakesTablesOnly-trans env replays.spares spares
 
         -- why no table is made of it
-        abbrev Untabled : Status → Type 0
-        Untabled status =
-            (log.rest.kept.entries ≢ []) × FailsToTableRest env choices log mid status
+        abbrev NotInTables : Status → Type 0
+        NotInTables status =
+            (log.rest.kept.entries ≢ []) × FailsToBuildRest env choices log mid status
 
-        fails_at_log : (status : Status) → Untabled status
+        fails_at_log : (status : Status) → NotInTables status
             → FailsAtLog env choices set number from status
         fails_at_log status why =
             let kept = replays.batches in (
@@ -213,11 +213,11 @@ module _ {E F D FP C : Type 0} (env : Ghosts E F) {order : CmpGhosts D} {filters
             )
 
         -- none is made
-        pub ReplaysNext-untabled : {T : Type 0} (status : Status)
-            → HasCauseOr {T = T} Untabled (env.failures at) (env.failures to)
+        pub ReplaysNext-not_in_tables : {T : Type 0} (status : Status)
+            → HasCauseOr {T = T} NotInTables (env.failures at) (env.failures to)
             (Err status) → (new : Replay C)
             → ReplaysNext env choices limit number may_go_on old set from (Err status) new now to
-        ReplaysNext-untabled {T} status cause new = record {
+        ReplaysNext-not_in_tables {T} status cause new = record {
           spares = both;
           ok = tt;
           used = tt;
@@ -230,7 +230,7 @@ module _ {E F D FP C : Type 0} (env : Ghosts E F) {order : CmpGhosts D} {filters
               (λ it. inr (inl (fails_at_log status it.0), it.1)) why)
               (λ why. ⊎_elim (λ memory. inl (inl memory)) (λ it. inr it.1) why)
               (subst (λ count. HasCause {T = T} (λ e. IsOutOfMemory e
-              ⊎ (Untabled e × (env.failures to ≡ count))) count (env.failures to)
+              ⊎ (NotInTables e × (env.failures to ≡ count))) count (env.failures to)
               (Err status)) replays.cause.ok cause);
         }
 
@@ -254,16 +254,16 @@ module _ {E F D FP C : Type 0} (env : Ghosts E F) {order : CmpGhosts D} {filters
             };
           }
 
-          pub ReplaysNext-tabled : (files : List FileMetaData) → TablesAll env choices.format log mid
+          pub ReplaysNext-tables_made : (files : List FileMetaData) → TablesAll env choices.format log mid
               (map (λ (file : FileMetaData). new_file_of (0, file)) files) now to
               → (new : Replay C) → new.used ≡ None → new.last ≡ log.last
               → IsBoth old.is_clean log.is_clean new.is_clean
               → new.tables.items ≡ old.tables.items ++ files → new.leaves_log ≡ true
               → ReplaysNext env choices limit number may_go_on old set from (Ok tt) new now to
-          ReplaysNext-tabled files all new unused last clean items leaves = record {
+          ReplaysNext-tables_made files all new unused last clean items leaves = record {
             spares = both;
             ok = λ modelled meaning agrees first start numbers was.
-                HasReplayedLogs-tabled choices.format.order meaning first set start
+                HasReplayedLogs-tables_made choices.format.order meaning first set start
                 (env.observed from).disk.files numbers old was number none log mid
                 (env.observed at).disk.files replays.spares.numbers
                 (replays.spares.run modelled).has (replays.replays modelled meaning agrees) empty new

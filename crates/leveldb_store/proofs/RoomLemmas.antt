@@ -20,15 +20,15 @@ use Rattle.leveldb_version.specs.Writing.{IsObsolete}
 use Rattle.leveldb_store.proofs.GivenTablesLemmas.{given_removed, given_same, given_then}
 use Rattle.leveldb_store.proofs.SoundLemmas.{failed_later, failed_once, goes_on_then, never_broken, nothing_goes_on, sound_ok, written_log, written_manifest}
 use Rattle.leveldb_store.proofs.TableKeepsLemmas.{KeepsHistory-trans}
-use Rattle.leveldb_store.proofs.TableWaitingLemmas.{keeps_nothing}
-use Rattle.leveldb_store.specs.BuildTable.{IsNotTabled, TableChoices}
+use Rattle.leveldb_store.proofs.Level0TableLemmas.{keeps_nothing}
+use Rattle.leveldb_store.specs.BuildTable.{IsNotBuilt, TableChoices}
 use Rattle.leveldb_version.specs.Format.{Agrees, Format, IsTableOf, Meaning}
 use Rattle.leveldb_store.specs.OpenStore.{IsUnbroken, OpenLogValue, OpenStoreValue}
-use Rattle.leveldb_store.specs.Room.{AreEntriesNotTabled, FailsFor, FailsToMakeRoom, IsFileLost, IsFull, MakesRoom, TidiesUp}
-use Rattle.leveldb_store.specs.RoomSteps.{FailsToTableIfWaiting, IsStepToRoom}
+use Rattle.leveldb_store.specs.Room.{AreEntriesNotBuilt, FailsFor, FailsToMakeRoom, IsFileLost, IsFull, MakesRoom, TidiesUp}
+use Rattle.leveldb_store.specs.RoomSteps.{FailsToCompactMemtable, IsStepToRoom}
 use Rattle.leveldb_store.specs.SoundCall.{BytesAreAppended, IsSoundCall, TimeGoesOn, any_meaning}
-use Rattle.leveldb_store.specs.Switch.{FailsToSwitch, FailsToTableWaiting, IsObsoletePath, RemovesNoOther, SwitchesLog, TablesWaiting}
-use Rattle.leveldb_store.specs.Written.{IsData, IsDataPath, IsWritten, KeepsWritten, SparesRest, waiting_entries}
+use Rattle.leveldb_store.specs.Switch.{FailsToSwitch, FailsToWriteLevel0Table, IsObsoletePath, RemovesNoOther, SwitchesLog, WritesLevel0Table}
+use Rattle.leveldb_store.specs.Written.{IsData, IsDataPath, IsWritten, KeepsWritten, SparesRest, imm_entries}
 
 -- ---- why a call fails
 
@@ -312,21 +312,21 @@ step_in_order env order format Excused old from result new to same =
 -- ---- a table of the entries that wait
 
 -- a memtable that waits is there
-pub not_tabled_waiting : {D FP : Type 0} {order : CmpGhosts D} {filters : FilterGhosts FP}
-    (choices : TableChoices order filters) (waiting : Option Kept) (status : Status)
-    → waiting ≢ None → IsNotTabled choices (map internal_pair (waiting_entries waiting)) status
-    → AreEntriesNotTabled choices waiting status
-not_tabled_waiting choices None status waits is = absurd (waits refl)
-not_tabled_waiting choices (Some kept) status waits is = is
+pub not_built_imm : {D FP : Type 0} {order : CmpGhosts D} {filters : FilterGhosts FP}
+    (choices : TableChoices order filters) (imm : Option Kept) (status : Status)
+    → imm ≢ None → IsNotBuilt choices (map internal_pair (imm_entries imm)) status
+    → AreEntriesNotBuilt choices imm status
+not_built_imm choices None status waits is = absurd (waits refl)
+not_built_imm choices (Some kept) status waits is = is
 
 module _ {E F C D FP : Type 0} {order : CmpGhosts D} {filters : FilterGhosts FP} (env : Ghosts E F)
     (cmp : List ℕ → List ℕ → Ordering) (choices : TableChoices order filters)
     (old : OpenStoreValue C) (from : E) (unbroken : IsUnbroken old) where
   abbrev Tables : Result (Unit {0}) Status → OpenStoreValue C → E → Type 0
-  Tables = TablesWaiting env old from choices (map internal_pair (waiting_entries old.waiting))
+  Tables = WritesLevel0Table env old from choices (map internal_pair (imm_entries old.imm))
 
   abbrev Fails : Status → Type 0
-  Fails = FailsToTableIfWaiting env cmp choices old from
+  Fails = FailsToCompactMemtable env cmp choices old from
 
   fails_lost : (manifest : OpenManifest) → old.set.manifest ≡ in_use manifest → (to : E)
       (status : Status)
@@ -340,36 +340,36 @@ module _ {E F C D FP : Type 0} {order : CmpGhosts D} {filters : FilterGhosts FP}
         manifest used (missing.1 modelled),
   )))
 
-  fails_to_table : old.waiting ≢ None → (to : E) (status : Status)
-      → FailsToTableWaiting env old from choices
-      (map internal_pair (waiting_entries old.waiting)) to status
+  fails_to_table : old.imm ≢ None → (to : E) (status : Status)
+      → FailsToWriteLevel0Table env old from choices
+      (map internal_pair (imm_entries old.imm)) to status
       → Fails status
   fails_to_table waits to status (inl used) = inr (inl used)
   fails_to_table waits to status (inr (inl memory)) = inl memory
   fails_to_table waits to status (inr (inr (inl built))) =
-      inr (inr (inl (not_tabled_waiting choices old.waiting status waits built.0)))
+      inr (inr (inl (not_built_imm choices old.imm status waits built.0)))
   fails_to_table waits to status (inr (inr (inr (inl lost)))) =
       fails_lost lost.0 lost.1 to status lost.2
   fails_to_table waits to status (inr (inr (inr (inr broke)))) = absurd (unbroken.manifest broke.0)
 
-  pub usable_tabled : (result : Result (Unit {0}) Status) (new : OpenStoreValue C) (to : E)
+  pub usable_tables_made : (result : Result (Unit {0}) Status) (new : OpenStoreValue C) (to : E)
       → Tables result new to → OnOk result (IsUnbroken new)
-  usable_tabled (Ok unit) new to t = record {
+  usable_tables_made (Ok unit) new to t = record {
     manifest = λ is. never_broken _
         (sym (ap (λ (set : VersionSetValue). set.manifest) t.logged.set) ∙ is);
     log = ap (λ (log : OpenLogValue). log.writer.broken) t.log ∙ unbroken.log;
   }
-  usable_tabled (Err status) new to t = tt
+  usable_tables_made (Err status) new to t = tt
 
   -- a number is given
-  pub number_tabled : (new : OpenStoreValue C) (to : E) → Tables (Ok tt) new to
+  pub number_tables_made : (new : OpenStoreValue C) (to : E) → Tables (Ok tt) new to
       → new.set.next_file ≤ old.set.next_file + 1
-  number_tabled new to t =
+  number_tables_made new to t =
       let given : new.set.next_file ≡ old.set.next_file + 1
       = ap (λ (set : VersionSetValue). set.next_file) t.logged.set in
       omega (arith, given)
 
-  pub step_of_table : old.waiting ≢ None → (result : Result (Unit {0}) Status)
+  pub step_of_table : old.imm ≢ None → (result : Result (Unit {0}) Status)
       (new : OpenStoreValue C) (to : E) → Tables result new to
       → (IsTrue env.models_disk → (meaning : Meaning) → Agrees choices.format meaning
       → KeepsWritten cmp meaning old (env.observed from) new (env.observed to))
@@ -377,7 +377,7 @@ module _ {E F C D FP : Type 0} {order : CmpGhosts D} {filters : FilterGhosts FP}
       → IsStepToRoom env cmp choices.format Fails old from result new to
   step_of_table waits result new to t keeps sound = record {
     keeps = keeps;
-    usable = usable_tabled result new to t;
+    usable = usable_tables_made result new to t;
     rest = t.rest;
     cause = fails_for result (fails_to_table waits to) t.cause;
     sound = sound;
@@ -400,11 +400,11 @@ module _ {E F C D FP : Type 0} {order : CmpGhosts D} {filters : FilterGhosts FP}
   }))
 
   -- why the first table isn't made of the entries that wait
-  pub fails_first : (status : Status) → FailsToTableIfWaiting env cmp choices old from status
+  pub fails_first : (status : Status) → FailsToCompactMemtable env cmp choices old from status
       → FailsToMake status
   fails_first status (inl memory) = inl memory
   fails_first status (inr (inl used)) = used_up old.set.next_file status (omega arith) used
-  fails_first status (inr (inr (inl waiting))) = inr (inr (inr (inl waiting)))
+  fails_first status (inr (inr (inl imm))) = inr (inr (inr (inl imm)))
   fails_first status (inr (inr (inr lost))) = inr (inr (inr (inr lost)))
 
   -- why the log isn't switched after it
@@ -422,16 +422,16 @@ module _ {E F C D FP : Type 0} {order : CmpGhosts D} {filters : FilterGhosts FP}
 
   -- why no table is made of the entries that were in the memtable
   pub fails_last : (mid : OpenStoreValue C) (at : E)
-      → mid.set.next_file ≤ old.set.next_file + 2 → mid.waiting ≡ Some old.recent
+      → mid.set.next_file ≤ old.set.next_file + 2 → mid.imm ≡ Some old.mem
       → ((status : Status) → IsFileLost env cmp mid at choices.format status
       → IsFileLost env cmp old from choices.format status)
-      → (status : Status) → FailsToTableIfWaiting env cmp choices mid at status
+      → (status : Status) → FailsToCompactMemtable env cmp choices mid at status
       → FailsToMake status
   fails_last mid at given waits before status (inl memory) = inl memory
   fails_last mid at given waits before status (inr (inl used)) =
       used_up mid.set.next_file status given used
   fails_last mid at given waits before status (inr (inr (inl entries))) =
-      inr (inr (inl (subst (λ kept. AreEntriesNotTabled choices kept status) waits entries)))
+      inr (inr (inl (subst (λ kept. AreEntriesNotBuilt choices kept status) waits entries)))
   fails_last mid at given waits before status (inr (inr (inr lost))) =
       inr (inr (inr (inr (before status lost))))
 
@@ -440,7 +440,7 @@ module _ {E F C D FP : Type 0} {keys : CmpGhosts D} {filters : FilterGhosts FP} 
     (order : C → List ℕ → List ℕ → Ordering) (choices : TableChoices keys filters)
     (old mid : OpenStoreValue C) (from at : E)
     (first : IsStepToRoom env (order old.cmp) choices.format
-    (FailsToTableIfWaiting env (order old.cmp) choices old from) old from (Ok tt) mid at)
+    (FailsToCompactMemtable env (order old.cmp) choices old from) old from (Ok tt) mid at)
     (given : mid.set.next_file ≤ old.set.next_file + 1) where
   abbrev StepToRoom : Result (Unit {0}) Status → OpenStoreValue C → E → Type 0
   StepToRoom = IsStepToRoom env (order old.cmp) choices.format
@@ -463,14 +463,14 @@ module _ {E F C D FP : Type 0} {keys : CmpGhosts D} {filters : FilterGhosts FP} 
       sound))
 
   -- and the second table is made after that
-  pub step_tabled : mid.recent ≡ old.recent → (switched : OpenStoreValue C) (begun : E)
+  pub step_tables_made : mid.mem ≡ old.mem → (switched : OpenStoreValue C) (begun : E)
       → SwitchesLog env mid at (Ok tt) switched begun → StepToRoom (Ok tt) switched begun
       → (result : Result (Unit {0}) Status) (new : OpenStoreValue C) (to : E)
       → IsStepToRoom env (order switched.cmp) choices.format
-      (FailsToTableIfWaiting env (order switched.cmp) choices switched begun) switched begun
+      (FailsToCompactMemtable env (order switched.cmp) choices switched begun) switched begun
       result new to
       → StepToRoom result new to
-  step_tabled same switched begun s second result new to last =
+  step_tables_made same switched begun s second result new to last =
       let next : switched.set.next_file ≡ mid.set.next_file + 1
       = ap (λ (set : VersionSetValue). set.next_file) s.set in
       step_then env (order old.cmp) choices.format old switched from begun second
@@ -479,7 +479,7 @@ module _ {E F C D FP : Type 0} {keys : CmpGhosts D} {filters : FilterGhosts FP} 
       (lost_before env (order old.cmp) choices.format old switched from begun second))
       result new to
       (step_in_order env order choices.format
-      (λ cmp. FailsToTableIfWaiting env cmp choices switched begun) switched begun result new to
+      (λ cmp. FailsToCompactMemtable env cmp choices switched begun) switched begun result new to
       second.rest.cmp last)
 
 module _ {E F C D FP : Type 0} {order : CmpGhosts D} {filters : FilterGhosts FP} (env : Ghosts E F)
@@ -489,7 +489,7 @@ module _ {E F C D FP : Type 0} {order : CmpGhosts D} {filters : FilterGhosts FP}
   FailsToMakeIt = FailsToMakeRoom env cmp old from choices
 
   -- there is room
-  pub has_room : IsUnbroken old → (IsFull limit old.recent → ⊥)
+  pub has_room : IsUnbroken old → (IsFull limit old.mem → ⊥)
       → MakesRoom env cmp old from choices limit (Ok tt) old from
   has_room unbroken not_full =
       let none = step_of_none env cmp choices.format {P = FailsToMakeIt} old from unbroken in
@@ -506,10 +506,10 @@ module _ {E F C D FP : Type 0} {order : CmpGhosts D} {filters : FilterGhosts FP}
       }
 
   -- a memtable that was full has become a table
-  pub room_made : (new : OpenStoreValue C) (to : E) → IsFull limit old.recent
+  pub room_made : (new : OpenStoreValue C) (to : E) → IsFull limit old.mem
       → IsStepToRoom env cmp choices.format FailsToMakeIt old from (Ok tt) new to
-      → new.recent.entries ≡ []
-      → new.recent.places ≡ 0 → new.waiting ≡ None
+      → new.mem.entries ≡ []
+      → new.mem.places ≡ 0 → new.imm ≡ None
       → MakesRoom env cmp old from choices limit (Ok tt) new to
   room_made new to full step empty places none_waits = record {
     room = λ full. full.0 empty;
@@ -525,9 +525,9 @@ module _ {E F C D FP : Type 0} {order : CmpGhosts D} {filters : FilterGhosts FP}
 
   -- it is full still, or waits
   pub no_room_made : (status : Status) (new : OpenStoreValue C) (to : E)
-      → IsFull limit old.recent
+      → IsFull limit old.mem
       → IsStepToRoom env cmp choices.format FailsToMakeIt old from (Err status) new to
-      → (new.recent ≡ old.recent) ⊎ (new.waiting ≢ None)
+      → (new.mem ≡ old.mem) ⊎ (new.imm ≢ None)
       → MakesRoom env cmp old from choices limit (Err status) new to
   no_room_made status new to full step left = record {
     room = tt;
@@ -543,10 +543,10 @@ module _ {E F C D FP : Type 0} {order : CmpGhosts D} {filters : FilterGhosts FP}
 
   -- after the last step, by what it returns
   pub room_tried : (result : Result (Unit {0}) Status) (new : OpenStoreValue C) (to : E)
-      → IsFull limit old.recent
+      → IsFull limit old.mem
       → IsStepToRoom env cmp choices.format FailsToMakeIt old from result new to
-      → new.recent.entries ≡ [] → new.recent.places ≡ 0 → OnOk result (new.waiting ≡ None)
-      → OnErr result (new.waiting ≢ None)
+      → new.mem.entries ≡ [] → new.mem.places ≡ 0 → OnOk result (new.imm ≡ None)
+      → OnErr result (new.imm ≢ None)
       → MakesRoom env cmp old from choices limit result new to
   room_tried (Ok unit) new to full step empty places none_waits waits =
       room_made new to full step empty places none_waits

@@ -15,7 +15,7 @@ use Rattle.leveldb_store.proofs.SoundLemmas.{GoesOn, appending_bytes, call_goes_
 use Rattle.leveldb_version.specs.Format.{Meaning}
 use Rattle.leveldb_store.specs.OpenStore.{OpenStoreValue}
 use Rattle.leveldb_store.specs.SoundCall.{IsSoundCall, any_meaning}
-use Rattle.leveldb_store.specs.Write.{IsLogLost, LogsText, PreparesBatch, SyncsLog, open_log_path, with_recent}
+use Rattle.leveldb_store.specs.Write.{IsLogLost, LogsText, PreparesBatch, SyncsLog, open_log_path, with_mem}
 use Rattle.leveldb_store.specs.Written.{IsWritten}
 
 module _ {E F C : Type 0} (env : Ghosts E F) (cmp : List ℕ → List ℕ → Ordering)
@@ -63,7 +63,7 @@ module _ {E F C : Type 0} (env : Ghosts E F) (cmp : List ℕ → List ℕ → Or
     -- nothing was called
     pub prepare_sound : (status : Status) → IsSound (Err status) value from
     prepare_sound status = subst (λ v. IsSound (Err status) v from) (sym prepares.rest)
-        (sound_unbroken env cmp any_meaning old from status (with_recent old value.recent) from
+        (sound_unbroken env cmp any_meaning old from status (with_mem old value.mem) from
         (nothing_goes_on env from)
         (λ unbroken. record { manifest = unbroken.manifest; log = unbroken.log }))
 

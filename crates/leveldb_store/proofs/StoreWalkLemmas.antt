@@ -9,9 +9,9 @@ use Rattle.leveldb_base.specs.declared.types.LdbIterator.{Ghosts as IteratorGhos
 use Rattle.leveldb_env.specs.Compressor.{Codings}
 use Rattle.leveldb_env.specs.declared.env.Env.{Ghosts as EnvGhosts}
 use Rattle.leveldb_env.specs.declared.filter.FilterPolicy.{Ghosts as FilterGhosts}
-use Rattle.leveldb_iter.specs.Unlent.{IsAloneOver, IsAloneAt, FailsAlone, alone_here}
+use Rattle.leveldb_iter.specs.InMemory.{IsAloneOver, IsAloneAt, FailsAlone, alone_here}
 use Rattle.leveldb_iter.specs.Walk.{KeyOrder, MovesWalk, Resets, Way}
-use Rattle.leveldb_iter.specs.declared.unlent.Unlent.{Unlent}
+use Rattle.leveldb_iter.specs.declared.in_memory.InMemory.{InMemory}
 use Rattle.leveldb_version.specs.VersionIter.{FailsInTables, IsAtInTables, IsOverTables, KeepsReading, version_here}
 use Rattle.leveldb_version.specs.VersionIterLaws.{reading_kept}
 use Rattle.leveldb_version.specs.declared.table_cache.moves.ReadTables.{ReadTables}
@@ -27,7 +27,7 @@ module _ {E C FP K F M : Type 0} (order : CmpGhosts (InternalKeyCmp C)) (env : E
       MovesWalk (IsStoreOver order env cmp filters codings iterator) (IsStoreAt order env cmp filters codings iterator) (store_here iterator) (FailsInStore order env cmp filters codings iterator) (KeepsReading order env cmp filters codings) From to old_world old result new_world new
 
   -- of a walk over memory
-  pub memory_moves : {R : Type 0} (From : E × ReadTables E C FP K F → StoreWalk C M → KeyOrder → List Pair → Option ℕ → Type 0) (AloneFrom : E × ReadTables E C FP K F → Unlent M → KeyOrder → List Pair → Option ℕ → Type 0) (to : Way) (world : E × ReadTables E C FP K F) (old : Unlent M) (result : Result R Status) (later : E × ReadTables E C FP K F) (new : Unlent M)
+  pub memory_moves : {R : Type 0} (From : E × ReadTables E C FP K F → StoreWalk C M → KeyOrder → List Pair → Option ℕ → Type 0) (AloneFrom : E × ReadTables E C FP K F → InMemory M → KeyOrder → List Pair → Option ℕ → Type 0) (to : Way) (world : E × ReadTables E C FP K F) (old : InMemory M) (result : Result R Status) (later : E × ReadTables E C FP K F) (new : InMemory M)
       → ((keys : KeyOrder) (pairs : List Pair) (position : Option ℕ) → From world (Memory old) keys pairs position → AloneFrom world old keys pairs position)
       → MovesWalk (IsAloneOver iterator) (IsAloneAt iterator) (alone_here iterator) (FailsAlone iterator) (λ first second. second ≡ first) AloneFrom to world old result later new
       → (it : StoreWalk C M) → it ≡ Memory old → Moves From to world it result later (Memory new)

@@ -42,7 +42,7 @@ use Rattle.leveldb_store.specs.OpenStore.{OpenLogValue, OpenStoreValue}
 use Rattle.leveldb_store.proofs.GivenTablesLemmas.{given_same}
 use Rattle.leveldb_store.specs.Switch.{MayGiveNumber, SwitchesLog}
 use Rattle.leveldb_store.specs.Write.{StaysOrBreaks, SyncsLog, open_log_path, with_writer}
-use Rattle.leveldb_store.specs.Written.{HasLiveTables, IsDataPath, IsWritten, KeepsStore, KeepsTables, Shows, SparesRest, memory_of, waiting_entries}
+use Rattle.leveldb_store.specs.Written.{HasLiveTables, IsDataPath, IsWritten, KeepsStore, KeepsTables, HasView, SparesRest, memory_of, imm_entries}
 
 -- ---- names
 
@@ -81,21 +81,21 @@ same_entries : (these those : List Entry) → these ≡ those → SameEntries th
 same_entries these those e = λ entry. (subst (λ es. Contains es entry) e, subst (λ es. Contains es entry) (sym e))
 
 -- where none waited, what was recent may wait
-waits_shown : (cmp : List ℕ → List ℕ → Ordering) (before after : EngineMemory) (tables : List LiveTable) (history : History) (from : ℕ) → before.waiting ≡ [] → after.recent ≡ [] → after.waiting ≡ before.recent
+waits_shown : (cmp : List ℕ → List ℕ → Ordering) (before after : EngineMemory) (tables : List LiveTable) (history : History) (from : ℕ) → before.imm ≡ [] → after.mem ≡ [] → after.imm ≡ before.mem
     → ShowsHistory cmp before tables history from → ShowsHistory cmp after tables history from
 waits_shown cmp before after tables history from none empty waits s = record {
   same = λ t late. subst (λ es. SameView es (entries_of history) t) (sym all) (s.same t late);
   up_to = λ entry c. s.up_to entry (subst (λ es. Contains es entry) all c);
-  waiting_older = λ a b in_a in_b same_key. absurd (in_none b (subst (λ es. Contains es b) empty in_b));
+  imm_older = λ a b in_a in_b same_key. absurd (in_none b (subst (λ es. Contains es b) empty in_b));
   tables_older = subst (IsOlder (table_entries tables)) (sym memory) s.tables_older;
   levels = s.levels;
 }
   where
-    all : after.recent ++ (after.waiting ++ table_entries tables) ≡ before.recent ++ (before.waiting ++ table_entries tables)
-    all = ap (λ es. es ++ (after.waiting ++ table_entries tables)) empty ∙ ap (λ es. es ++ table_entries tables) waits ∙ ap (λ es. before.recent ++ (es ++ table_entries tables)) (sym none)
+    all : after.mem ++ (after.imm ++ table_entries tables) ≡ before.mem ++ (before.imm ++ table_entries tables)
+    all = ap (λ es. es ++ (after.imm ++ table_entries tables)) empty ∙ ap (λ es. es ++ table_entries tables) waits ∙ ap (λ es. before.mem ++ (es ++ table_entries tables)) (sym none)
 
-    memory : after.recent ++ after.waiting ≡ before.recent ++ before.waiting
-    memory = ap (λ es. es ++ after.waiting) empty ∙ waits ∙ sym (append-nil before.recent) ∙ ap (λ es. before.recent ++ es) (sym none)
+    memory : after.mem ++ after.imm ≡ before.mem ++ before.imm
+    memory = ap (λ es. es ++ after.imm) empty ∙ waits ∙ sym (append-nil before.mem) ∙ ap (λ es. before.mem ++ es) (sym none)
 
 module _ (cmp : List ℕ → List ℕ → Ordering) (meaning : Meaning) where
   abbrev IsTable : List ℕ → List Pair → Type 0
@@ -136,14 +136,14 @@ module _ {C : Type 0} (cmp : List ℕ → List ℕ → Ordering) (meaning : Mean
 
   -- what was shown is shown by the same memory where the tables stay
   pub shows_stay : (old new : OpenStoreValue C) (before after : Files) (history : History) (since : ℕ) → new.set.store ≡ old.set.store → new.set.full ≡ old.set.full
-      → new.recent.entries ≡ old.recent.entries → waiting_entries new.waiting ≡ waiting_entries old.waiting
+      → new.mem.entries ≡ old.mem.entries → imm_entries new.imm ≡ imm_entries old.imm
       → ((file : NewFile) → Contains old.set.full.added file → after (table_path old.set.store file.number) ≡ before (table_path old.set.store file.number))
-      → Shows cmp meaning old before history since → Shows cmp meaning new after history since
-  shows_stay old new before after history since same_store same_full recent waiting same s = record {
+      → HasView cmp meaning old before history since → HasView cmp meaning new after history since
+  shows_stay old new before after history since same_store same_full mem imm same s = record {
     tables = s.tables;
     has = tables_stay old new before after s.tables same_store same_full same s.has;
     shows = same_memory_shows cmp (memory_of old) (memory_of new) s.tables history since
-        (same_entries old.recent.entries new.recent.entries (sym recent)) (same_entries (waiting_entries old.waiting) (waiting_entries new.waiting) (sym waiting)) s.shows;
+        (same_entries old.mem.entries new.mem.entries (sym mem)) (same_entries (imm_entries old.imm) (imm_entries new.imm) (sym imm)) s.shows;
   }
 
   -- ---- what is written
@@ -177,8 +177,8 @@ module _ {C : Type 0} (cmp : List ℕ → List ℕ → Ordering) (meaning : Mean
       pub record IsSwitched (new : OpenStoreValue C) : Type 0 where
         pub set : new.set ≡ with_number_given old.set
         pub log : new.log ≡ record { number = old.set.next_file; writer = new_writer log_block_size 0 }
-        pub recent : new.recent.entries ≡ []
-        pub waiting : new.waiting ≡ Some old.recent
+        pub mem : new.mem.entries ≡ []
+        pub imm : new.imm ≡ Some old.mem
 
       module _ (from : Observed) (w : IsWritten cmp meaning old from.disk.files) where
         abbrev first : Files
@@ -267,7 +267,7 @@ module _ {C : Type 0} (cmp : List ℕ → List ℕ → Ordering) (meaning : Mean
             }
 
             -- the log was switched
-            pub keeps_switched : (new : OpenStoreValue C) → IsSwitched new → old.waiting ≡ None → to.disk.files ≡ emptied next_path second → KeepsStore cmp meaning allowed old from new to
+            pub keeps_switched : (new : OpenStoreValue C) → IsSwitched new → old.imm ≡ None → to.disk.files ≡ emptied next_path second → KeepsStore cmp meaning allowed old from new to
             keeps_switched new switched none made_is = record {
               moments = λ bound reached. run bound;
               written = λ unbroken. written_as new to.disk.files w.edits (subst (λ (m : EngineMemory). IsWrittenBy m.set.store cmp (IsTableOf cmp meaning) to.disk.files w.edits m) memory_is by_new) (kept_file [])
@@ -275,12 +275,12 @@ module _ {C : Type 0} (cmp : List ℕ → List ℕ → Ordering) (meaning : Mean
               shows = λ history since s. record {
                 tables = s.tables;
                 has = tables_stay old new first to.disk.files s.tables (ap (λ (v : VersionSetValue). v.store) switched.set) (ap (λ (v : VersionSetValue). v.full) switched.set) (λ file live. tables_then file) s.has;
-                shows = waits_shown cmp (memory_of old) (memory_of new) s.tables history since none_wait switched.recent (ap waiting_entries switched.waiting) s.shows;
+                shows = waits_shown cmp (memory_of old) (memory_of new) s.tables history since none_wait switched.mem (ap imm_entries switched.imm) s.shows;
               };
             }
               where
-                none_wait : waiting_entries old.waiting ≡ []
-                none_wait = ap waiting_entries none
+                none_wait : imm_entries old.imm ≡ []
+                none_wait = ap imm_entries none
 
                 new_there : to.disk.files next_path ≡ Some (kept_file [])
                 new_there = ap (λ (f : Files). f next_path) made_is ∙ at_same next_path (Some (kept_file [])) second
@@ -292,8 +292,8 @@ module _ {C : Type 0} (cmp : List ℕ → List ℕ → Ordering) (meaning : Mean
                 memory_is = λ i. record {
                   set = sym switched.set i;
                   log = sym (ap (λ (l : OpenLogValue). l.number) switched.log) i;
-                  recent = sym switched.recent i;
-                  waiting = sym (ap waiting_entries switched.waiting) i;
+                  mem = sym switched.mem i;
+                  imm = sym (ap imm_entries switched.imm) i;
                 }
 
                 path_is : open_log_path new ≡ next_path
@@ -359,7 +359,7 @@ module _ {E F C : Type 0} (env : Ghosts E F) (old : OpenStoreValue C) (from : E)
     waits = tt;
     empty = tt;
     places = tt;
-    err = stays_or_breaks env next from (λ (v : OpenStoreValue C). MayGiveNumber old.set v.set × (v.log.number ≡ old.log.number) × (v.recent ≡ old.recent) × (v.waiting ≡ old.waiting)) (λ writer. (inr refl, refl, refl, refl)) new to status sync.err;
+    err = stays_or_breaks env next from (λ (v : OpenStoreValue C). MayGiveNumber old.set v.set × (v.log.number ≡ old.log.number) × (v.mem ≡ old.mem) × (v.imm ≡ old.imm)) (λ writer. (inr refl, refl, refl, refl)) new to status sync.err;
     current = stays_or_breaks env next from (λ (v : OpenStoreValue C). v.current ≡ old.current) (λ writer. refl) new to status sync.err;
     tables = stays_or_breaks env next from (λ (v : OpenStoreValue C). KeepsTables env.models_disk old.set (env.observed from) v.set (env.observed to))
         (λ writer. record { live = λ file there. there; files = λ modelled number fits given. ap (λ (f : Files). f (table_path old.set.store number)) (sync.undone modelled) }) new to status sync.err;
@@ -424,7 +424,7 @@ module _ {E F C : Type 0} (env : Ghosts E F) (old : OpenStoreValue C) (from : E)
     }
 
     -- the log was switched
-    pub switched : (new : OpenStoreValue C) → new.cmp ≡ old.cmp → new.keeps_files ≡ old.keeps_files → new.current ≡ old.current → new.set ≡ with_number_given old.set → new.log ≡ record { number = old.set.next_file; writer = new_writer log_block_size 0 } → new.recent.entries ≡ [] → new.recent.places ≡ 0 → new.waiting ≡ Some old.recent
+    pub switched : (new : OpenStoreValue C) → new.cmp ≡ old.cmp → new.keeps_files ≡ old.keeps_files → new.current ≡ old.current → new.set ≡ with_number_given old.set → new.log ≡ record { number = old.set.next_file; writer = new_writer log_block_size 0 } → new.mem.entries ≡ [] → new.mem.places ≡ 0 → new.imm ≡ Some old.mem
         → env.failures to ≡ env.failures mid → SwitchesLog env old from (Ok tt) new to
     switched new same_cmp same_keeps same_current set log empty places waits counted = record {
       set = set;

@@ -29,11 +29,11 @@ use Rattle.leveldb_version.proofs.ManagedLemmas.{kinds_apart, numbers_apart, sam
 use Rattle.leveldb_version.proofs.OneStoreLemmas.{flat_in, in_flat, tables_in}
 use Rattle.leveldb_version.proofs.OutputLevelLemmas.{output_level_is_free}
 use Rattle.leveldb_version.proofs.SafeLemmas.{some_is}
-use Rattle.leveldb_version.proofs.ShownLemmas.{same_memory_shows, tabled_is_shown}
+use Rattle.leveldb_version.proofs.ShownLemmas.{same_memory_shows, new_table_is_shown}
 use Rattle.leveldb_version.proofs.TablesLemmas.{one_store_table, tables_bounded}
 use Rattle.leveldb_version.proofs.TrackedLemmas.{live_is_below, next_is_free, numbered_up_to}
 use Rattle.leveldb_version.proofs.ViewsLemmas.{same_sets, view_trans}
-use Rattle.leveldb_version.proofs.WaitingLemmas.{waiting_in_logs, waiting_is_tabled}
+use Rattle.leveldb_version.proofs.ImmLemmas.{imm_in_logs, imm_becomes_table}
 use Rattle.leveldb_version.proofs.WrittenLemmas.{new_table_unread, written_given, written_unread}
 use Rattle.leveldb_version.specs.Contents.{Store}
 use Rattle.leveldb_version.specs.FullEdit.{files_with}
@@ -48,11 +48,11 @@ use Rattle.leveldb_version.specs.VersionEdit.{Edit, NewFile}
 use Rattle.leveldb_version.specs.VersionSet.{is_same_file, level_file, live_after}
 use Rattle.leveldb_version.specs.VersionSetValue.{VersionSetValue, with_number_given}
 use Rattle.leveldb_version.specs.Writing.{EngineMemory, IsNumberedUpTo, IsWrittenBy, ShowsHistory, table_edit}
-use Rattle.leveldb_version.specs.WritingLaws.{HasWaiting, TablesAreInRange, WaitingIsTabled}
+use Rattle.leveldb_version.specs.WritingLaws.{HasImm, TablesAreInRange, ImmBecomesTable}
 use Rattle.leveldb_store.proofs.LevelForLemmas.{output_level_fits}
 use Rattle.leveldb_version.specs.Format.{IsTableOf, Meaning}
 use Rattle.leveldb_store.specs.OpenStore.{OpenStoreValue}
-use Rattle.leveldb_store.specs.Written.{HasLiveTables, IsWritten, KeepsShown, Shows, memory_of, waiting_entries}
+use Rattle.leveldb_store.specs.Written.{HasLiveTables, IsWritten, KeepsShown, HasView, memory_of, imm_entries}
 
 -- ---- lists
 
@@ -122,22 +122,22 @@ appending_and_syncing path bytes old now (inr done) =
 module _ (cmp : List ℕ → List ℕ → Ordering) where
   -- memory of the same entries, whatever the set and the log are, and the same tables in any order
   pub shows_again : (memory other : EngineMemory) (these those : List LiveTable)
-      (history : History) (from : ℕ) → other.recent ≡ memory.recent
-      → other.waiting ≡ memory.waiting
+      (history : History) (from : ℕ) → other.mem ≡ memory.mem
+      → other.imm ≡ memory.imm
       → ((table : LiveTable) → Contains these table → Contains those table)
       → ((table : LiveTable) → Contains those table → Contains these table)
       → ShowsHistory cmp memory these history from → ShowsHistory cmp other those history from
-  shows_again memory other these those history from recent waiting to back s =
+  shows_again memory other these those history from mem imm to back s =
       same_memory_shows cmp memory other those history from
       (λ entry.
-      subst (λ es. SameEntries memory.recent es) (sym recent) (itself memory.recent) entry)
+      subst (λ es. SameEntries memory.mem es) (sym mem) (itself memory.mem) entry)
       (λ entry.
-      subst (λ es. SameEntries memory.waiting es) (sym waiting) (itself memory.waiting) entry)
+      subst (λ es. SameEntries memory.imm es) (sym imm) (itself memory.imm) entry)
       (record {
         same = λ t late. view_trans now before (entries_of history) t
             (same_sets now before same t) (s.same t late);
         up_to = λ entry c. s.up_to entry ((same entry).0 c);
-        waiting_older = s.waiting_older;
+        imm_older = s.imm_older;
         tables_older = λ a b in_a in_b same_key. s.tables_older a b (moved those these back a in_a)
             in_b same_key;
         levels = record {
@@ -156,31 +156,31 @@ module _ (cmp : List ℕ → List ℕ → Ordering) where
           flat_in (λ (table : LiveTable). table.entries) ys t.0 entry (so t.0 t.1) t.2
 
       front : List Entry
-      front = memory.recent ++ memory.waiting
+      front = memory.mem ++ memory.imm
 
       now : List Entry
-      now = memory.recent ++ (memory.waiting ++ table_entries those)
+      now = memory.mem ++ (memory.imm ++ table_entries those)
 
       before : List Entry
-      before = memory.recent ++ (memory.waiting ++ table_entries these)
+      before = memory.mem ++ (memory.imm ++ table_entries these)
 
       over : (xs ys : List LiveTable)
           → ((table : LiveTable) → Contains xs table → Contains ys table)
           → (entry : Entry)
-          → Contains (memory.recent ++ (memory.waiting ++ table_entries xs)) entry
-          → Contains (memory.recent ++ (memory.waiting ++ table_entries ys)) entry
+          → Contains (memory.mem ++ (memory.imm ++ table_entries xs)) entry
+          → Contains (memory.mem ++ (memory.imm ++ table_entries ys)) entry
       over xs ys so entry c = ⊎_elim
-          (λ (r : Contains memory.recent entry).
-          Contains-append_left memory.recent (memory.waiting ++ table_entries ys) entry r)
-          (λ (rest : Contains (memory.waiting ++ table_entries xs) entry).
-          Contains-append_right memory.recent (memory.waiting ++ table_entries ys) entry
+          (λ (r : Contains memory.mem entry).
+          Contains-append_left memory.mem (memory.imm ++ table_entries ys) entry r)
+          (λ (rest : Contains (memory.imm ++ table_entries xs) entry).
+          Contains-append_right memory.mem (memory.imm ++ table_entries ys) entry
           (⊎_elim
-          (λ (w : Contains memory.waiting entry).
-          Contains-append_left memory.waiting (table_entries ys) entry w)
+          (λ (w : Contains memory.imm entry).
+          Contains-append_left memory.imm (table_entries ys) entry w)
           (λ (t : Contains (table_entries xs) entry).
-          Contains-append_right memory.waiting (table_entries ys) entry (moved xs ys so entry t))
-          (Contains-append_cases memory.waiting (table_entries xs) entry rest)))
-          (Contains-append_cases memory.recent (memory.waiting ++ table_entries xs) entry c)
+          Contains-append_right memory.imm (table_entries ys) entry (moved xs ys so entry t))
+          (Contains-append_cases memory.imm (table_entries xs) entry rest)))
+          (Contains-append_cases memory.mem (memory.imm ++ table_entries xs) entry c)
 
       same : SameEntries now before
       same entry = (over those these back entry, over these those to entry)
@@ -431,10 +431,10 @@ module _ {C : Type 0} (cmp : List ℕ → List ℕ → Ordering) (meaning : Mean
           (level : file.level ≡ output_level cmp (file_range file) old.set.full.added)
           (number : file.number ≡ n) (edit_fits : FitsEdit file)
           (has : HasTable store cmp T mid
-          (record { file = file; entries = waiting_entries old.waiting }))
+          (record { file = file; entries = imm_entries old.imm }))
           (kept : IsKept (mid (table_path store file.number))) where
         abbrev pub table : LiveTable
-        table = record { file = file; entries = waiting_entries old.waiting }
+        table = record { file = file; entries = imm_entries old.imm }
 
         one : OneTableReading T
         one = one_reading_of cmp meaning
@@ -459,11 +459,11 @@ module _ {C : Type 0} (cmp : List ℕ → List ℕ → Ordering) (meaning : Mean
             (λ a b in_tables in_table same_key. w_made.tracked.managed.fit.below a b
             (tables_in store cmp T one mid (live_after is.edits) tables
             w_made.tracked.managed.tables has_tables w_made.tracked.managed.has_tables a in_tables)
-            (waiting_in_logs store cmp T mid is.edits (memory_of given) w_made b in_table))
+            (imm_in_logs store cmp T mid is.edits (memory_of given) w_made b in_table))
             (λ other c other_level its_level. above other.file (has_tables.each other c).2
             (has_tables.each other c).1)
 
-        waits : HasWaiting store cmp T mid is.edits (memory_of given) table
+        waits : HasImm store cmp T mid is.edits (memory_of given) table
         waits = record {
           has = has;
           kept = kept;
@@ -473,16 +473,16 @@ module _ {C : Type 0} (cmp : List ℕ → List ℕ → Ordering) (meaning : Mean
             output_level_fits cmp (file_range file)
                 old.set.full.added,
           );
-          entries = itself (waiting_entries old.waiting);
+          entries = itself (imm_entries old.imm);
           added = addable;
         }
 
         abbrev pub edit : Edit
         edit = table_edit old.log.number file
 
-        tabled : (allowed : Store → Type 0)
-            → WaitingIsTabled store cmp T allowed mid is.edits (memory_of given) w_made edit
-        tabled allowed = waiting_is_tabled store cmp T allowed one total range mid is.edits
+        tables_made : (allowed : Store → Type 0)
+            → ImmBecomesTable store cmp T allowed mid is.edits (memory_of given) w_made edit
+        tables_made allowed = imm_becomes_table store cmp T allowed one total range mid is.edits
             (memory_of given) w_made table waits next_fits edit_fits.number edit_fits.size
             edit_fits.smallest edit_fits.largest
 
@@ -497,7 +497,7 @@ module _ {C : Type 0} (cmp : List ℕ → List ℕ → Ordering) (meaning : Mean
         pub keeps_logged : (allowed : Store → Type 0) (bound : ℕ) → old.set.last_sequence ≤ bound
             → (now : Files) → AppendingAndSyncing manifest framed mid now
             → KeepsHistory store cmp T allowed bound mid now
-        keeps_logged allowed bound late now passes = (tabled allowed).keeps bound late now passes
+        keeps_logged allowed bound late now passes = (tables_made allowed).keeps bound late now passes
 
         is_manifest : IsFilePath Descriptor store manifest
         is_manifest =
@@ -548,7 +548,7 @@ module _ {C : Type 0} (cmp : List ℕ → List ℕ → Ordering) (meaning : Mean
         abbrev pub done : OpenStoreValue C
         done = record old {
           set = set_appended w_made.manifest given.set edit;
-          waiting = None;
+          imm = None;
         }
 
         module _ (now : Files) (now_is : now ≡ with_bytes_kept manifest framed mid) where
@@ -559,7 +559,7 @@ module _ {C : Type 0} (cmp : List ℕ → List ℕ → Ordering) (meaning : Mean
               (is.edits ++ written_edit given.set edit ∷ []) (memory_of done)
           w_done = subst
               (λ f. IsWrittenBy store cmp T f (is.edits ++ written_edit given.set edit ∷ [])
-              (memory_of done)) (sym now_is) (tabled (λ any. Unit {0})).after
+              (memory_of done)) (sym now_is) (tables_made (λ any. Unit {0})).after
 
           -- the store is written on
           pub written_done : IsWritten cmp meaning done now
@@ -573,9 +573,9 @@ module _ {C : Type 0} (cmp : List ℕ → List ℕ → Ordering) (meaning : Mean
               let l = live_below cmp meaning store from is.edits (memory_of old) is.by other c in
               omega (arith, l.1, e, number))
 
-          module _ (history : History) (since : ℕ) (s : Shows cmp meaning old from history since)
+          module _ (history : History) (since : ℕ) (s : HasView cmp meaning old from history since)
             where
-              then : Shows cmp meaning given mid history since
+              then : HasView cmp meaning given mid history since
               then = shows_made history since s
 
               abbrev all : List LiveTable
@@ -591,11 +591,11 @@ module _ {C : Type 0} (cmp : List ℕ → List ℕ → Ordering) (meaning : Mean
 
               -- what was shown is shown, with one table more
               in_place : ShowsHistory cmp (memory_of done) (table ∷ then.tables) history since
-              in_place = shows_again cmp (record (memory_of given) { waiting = [] }) (memory_of done)
+              in_place = shows_again cmp (record (memory_of given) { imm = [] }) (memory_of done)
                   (table ∷ then.tables) (table ∷ then.tables) history since refl refl (λ t c. c)
                   (λ t c. c)
-                  (tabled_is_shown cmp (memory_of given) table then.tables history since total
-                  (itself (waiting_entries old.waiting)) (addable then.tables has_tables) bounded
+                  (new_table_is_shown cmp (memory_of given) table then.tables history since total
+                  (itself (imm_entries old.imm)) (addable then.tables has_tables) bounded
                   then.shows)
 
               to_end : (t : LiveTable) → Contains (table ∷ then.tables) t → Contains all t
@@ -620,7 +620,7 @@ module _ {C : Type 0} (cmp : List ℕ → List ℕ → Ordering) (meaning : Mean
               new_there = others now passes Table (table_path store file.number)
                   (is_table_path store file.number edit_fits.number) (λ e. cc)
 
-              pub shows_done : Shows cmp meaning done now history since
+              pub shows_done : HasView cmp meaning done now history since
               shows_done = record {
                 tables = all;
                 has = record {

@@ -24,7 +24,7 @@ use Rattle.leveldb_iter.proofs.LayersMergedLemmas.{layers_merged}
 use Rattle.leveldb_iter.specs.Children.{AreOver}
 use Rattle.leveldb_iter.specs.MergedEntries.{MergesEntries, internal_order}
 use Rattle.leveldb_iter.specs.Walk.{IsSortedIn, KeyOrder, key_order}
-use Rattle.leveldb_iter.specs.declared.unlent.Unlent.{Unlent}
+use Rattle.leveldb_iter.specs.declared.in_memory.InMemory.{InMemory}
 use Rattle.leveldb_iter.specs.declared.walk.Walk.{Ghosts as WalkGhosts}
 use Rattle.leveldb_version.proofs.OneStoreLemmas.{flat_in, in_flat}
 use Rattle.leveldb_version.proofs.PairwiseLemmas.{Pairwise, all_pairs, as_long, each_second, pairwise_append}
@@ -38,8 +38,8 @@ use Rattle.leveldb_version.specs.declared.version_iter.VersionIter.{VersionIter}
 use Rattle.leveldb_mem.specs.MemTable.{Kept}
 use Rattle.leveldb_store.specs.OpenStore.{OpenStoreValue}
 use Rattle.leveldb_store.specs.Read.{in_memory}
-use Rattle.leveldb_store.specs.View.{AreChildrenOf, IsMergeToView, IsOverMemory, any_in_order, waiting_layers}
-use Rattle.leveldb_store.specs.Written.{waiting_entries}
+use Rattle.leveldb_store.specs.View.{AreChildrenOf, IsMergeToView, IsOverMemory, any_in_order, imm_layers}
+use Rattle.leveldb_store.specs.Written.{imm_entries}
 use Rattle.leveldb_store.specs.StoreWalk.{IsStoreOver}
 use Rattle.leveldb_store.specs.declared.store_walk.StoreWalk.{StoreWalk}
 use Rattle.leveldb_store.specs.declared.store_walk.StoreWalk.TheVariants.{Memory, Tables}
@@ -68,35 +68,35 @@ layer_accepted entries = all_from_contains (λ pair. internal_accepts (λ key. t
 
 -- the layers in memory
 abbrev pub memory_layers : {C : Type 0} → OpenStoreValue C → List (List Entry)
-memory_layers value = value.recent.entries ∷ waiting_layers value.waiting
+memory_layers value = value.mem.entries ∷ imm_layers value.imm
 
 -- an entry of a layer that waits waits, and the other way round
-waiting_there : (waiting : Option Kept) (layer : List Entry) → Contains (waiting_layers waiting) layer → layer ≡ waiting_entries waiting
-waiting_there None layer c = absurd (in_none layer c)
-waiting_there (Some kept) layer c = ⊎_elim (λ (same : kept.entries ≡ layer). sym same) (λ (none : Contains [] layer). absurd (in_none layer none)) (in_cases kept.entries layer [] c)
+imm_there : (imm : Option Kept) (layer : List Entry) → Contains (imm_layers imm) layer → layer ≡ imm_entries imm
+imm_there None layer c = absurd (in_none layer c)
+imm_there (Some kept) layer c = ⊎_elim (λ (same : kept.entries ≡ layer). sym same) (λ (none : Contains [] layer). absurd (in_none layer none)) (in_cases kept.entries layer [] c)
 
-there_waiting : (waiting : Option Kept) (entry : Entry) → Contains (waiting_entries waiting) entry → Contains (waiting_layers waiting) (waiting_entries waiting)
-there_waiting None entry c = absurd (in_none entry c)
-there_waiting (Some kept) entry c = in_front kept.entries []
+there_imm : (imm : Option Kept) (entry : Entry) → Contains (imm_entries imm) entry → Contains (imm_layers imm) (imm_entries imm)
+there_imm None entry c = absurd (in_none entry c)
+there_imm (Some kept) entry c = in_front kept.entries []
 
 -- entries in memory, in any layer
 memory_layer : {C : Type 0} (value : OpenStoreValue C) (layer : List Entry) → Contains (memory_layers value) layer → (entry : Entry) → Contains layer entry → Contains (in_memory value) entry
 memory_layer value layer c entry there = ⊎_elim
-    (λ (same : value.recent.entries ≡ layer). Contains-append_left value.recent.entries (waiting_entries value.waiting) entry (subst (λ es. Contains es entry) (sym same) there))
-    (λ (waits : Contains (waiting_layers value.waiting) layer). Contains-append_right value.recent.entries (waiting_entries value.waiting) entry
-    (subst (λ es. Contains es entry) (waiting_there value.waiting layer waits) there))
-    (in_cases value.recent.entries layer (waiting_layers value.waiting) c)
+    (λ (same : value.mem.entries ≡ layer). Contains-append_left value.mem.entries (imm_entries value.imm) entry (subst (λ es. Contains es entry) (sym same) there))
+    (λ (waits : Contains (imm_layers value.imm) layer). Contains-append_right value.mem.entries (imm_entries value.imm) entry
+    (subst (λ es. Contains es entry) (imm_there value.imm layer waits) there))
+    (in_cases value.mem.entries layer (imm_layers value.imm) c)
 
 -- ---- of the newer and the older
 
-module _ {C : Type 0} (value : OpenStoreValue C) (older : IsOlder (waiting_entries value.waiting) value.recent.entries) where
+module _ {C : Type 0} (value : OpenStoreValue C) (older : IsOlder (imm_entries value.imm) value.mem.entries) where
   memory_pairwise : Pairwise (λ newer old. IsOlder old newer) (memory_layers value)
   memory_pairwise = (
-    λ layer c. subst (λ es. IsOlder es value.recent.entries) (sym (waiting_there value.waiting layer c)) older,
-    alone value.waiting,
+    λ layer c. subst (λ es. IsOlder es value.mem.entries) (sym (imm_there value.imm layer c)) older,
+    alone value.imm,
   )
     where
-      alone : (waiting : Option Kept) → Pairwise (λ newer old. IsOlder old newer) (waiting_layers waiting)
+      alone : (imm : Option Kept) → Pairwise (λ newer old. IsOlder old newer) (imm_layers imm)
       alone None = tt
       alone (Some kept) = ((λ layer c. absurd (in_none layer c)), tt)
 
@@ -116,7 +116,7 @@ module _ {E F C FP K M : Type 0} {keys : CmpGhosts (InternalKeyCmp C)} (env : En
     (value : OpenStoreValue C) (exact : IsExactOrder (cmp.cmp value.cmp)) (children : List (StoreWalk C M)) (are : AreChildrenOf iterator (cmp.cmp value.cmp) value children)
     (world : E × ReadTables E C FP K F) (order_is : cmp.cmp world.1.cmp ≡ cmp.cmp value.cmp)
     (tables : List LiveTable) (over : AreOverLayers keys env cmp filters codings world are.tables tables)
-    (waiting_older : IsOlder (waiting_entries value.waiting) value.recent.entries) (tables_older : IsOlder (table_entries tables) (in_memory value)) where
+    (imm_older : IsOlder (imm_entries value.imm) value.mem.entries) (tables_older : IsOlder (table_entries tables) (in_memory value)) where
   abbrev ucmp : List ℕ → List ℕ → Ordering
   ucmp = cmp.cmp value.cmp
 
@@ -130,7 +130,7 @@ module _ {E F C FP K M : Type 0} {keys : CmpGhosts (InternalKeyCmp C)} (env : En
   abbrev lists : List (List Pair)
   lists = map layer_pairs (memory_layers value) ++ over.lists
 
-  over_memory : (memory : List (Unlent M)) (layers : List (List Entry)) → Each (IsOverMemory iterator ucmp) memory layers → Each Over (map Memory memory) (map layer_pairs layers)
+  over_memory : (memory : List (InMemory M)) (layers : List (List Entry)) → Each (IsOverMemory iterator ucmp) memory layers → Each Over (map Memory memory) (map layer_pairs layers)
   over_memory [] [] each = tt
   over_memory [] (layer ∷ layers) each = absurd each
   over_memory (it ∷ memory) [] each = absurd each
@@ -175,7 +175,7 @@ module _ {E F C FP K M : Type 0} {keys : CmpGhosts (InternalKeyCmp C)} (env : En
 
   -- ---- as layers
 
-  numbered : (memory : List (Unlent M)) (layers : List (List Entry)) → Each (IsOverMemory iterator ucmp) memory layers → map entries_of_pairs (map layer_pairs layers) ≡ layers
+  numbered : (memory : List (InMemory M)) (layers : List (List Entry)) → Each (IsOverMemory iterator ucmp) memory layers → map entries_of_pairs (map layer_pairs layers) ≡ layers
   numbered [] [] each = refl
   numbered [] (layer ∷ layers) each = absurd each
   numbered (it ∷ memory) [] each = absurd each
@@ -195,7 +195,7 @@ module _ {E F C FP K M : Type 0} {keys : CmpGhosts (InternalKeyCmp C)} (env : En
   of_tables layer c entry there = (over.exactly entry).0 (flat_in (λ (batch : List Entry). batch) table_layers layer entry c there)
 
   layered : AreLayered (map entries_of_pairs lists)
-  layered = subst AreLayered (sym layers_are) (layers_pairwise value waiting_older (table_entries tables) table_layers tables_older of_tables over.layered)
+  layered = subst AreLayered (sym layers_are) (layers_pairwise value imm_older (table_entries tables) table_layers tables_older of_tables over.layered)
 
   -- all entries
   abbrev all : List Entry
@@ -216,12 +216,12 @@ module _ {E F C FP K M : Type 0} {keys : CmpGhosts (InternalKeyCmp C)} (env : En
   of_all : (entry : Entry) → Contains all entry → Contains (entries_of (map entries_of_pairs lists)) entry
   of_all entry c = ⊎_elim
       (λ (in_mem : Contains (in_memory value) entry). ⊎_elim
-      (λ (recent : Contains value.recent.entries entry). in_layers value.recent.entries entry
-      (Contains-append_left (memory_layers value) table_layers value.recent.entries (in_front value.recent.entries (waiting_layers value.waiting))) recent)
-      (λ (waits : Contains (waiting_entries value.waiting) entry). in_layers (waiting_entries value.waiting) entry
-      (Contains-append_left (memory_layers value) table_layers (waiting_entries value.waiting)
-      (in_rest value.recent.entries (waiting_entries value.waiting) (waiting_layers value.waiting) (there_waiting value.waiting entry waits))) waits)
-      (Contains-append_cases value.recent.entries (waiting_entries value.waiting) entry in_mem))
+      (λ (mem : Contains value.mem.entries entry). in_layers value.mem.entries entry
+      (Contains-append_left (memory_layers value) table_layers value.mem.entries (in_front value.mem.entries (imm_layers value.imm))) mem)
+      (λ (waits : Contains (imm_entries value.imm) entry). in_layers (imm_entries value.imm) entry
+      (Contains-append_left (memory_layers value) table_layers (imm_entries value.imm)
+      (in_rest value.mem.entries (imm_entries value.imm) (imm_layers value.imm) (there_imm value.imm entry waits))) waits)
+      (Contains-append_cases value.mem.entries (imm_entries value.imm) entry in_mem))
       (λ (in_tab : Contains (table_entries tables) entry).
       let from = in_flat (λ (batch : List Entry). batch) table_layers entry ((over.exactly entry).1 in_tab) in
       in_layers from.0 entry (Contains-append_right (memory_layers value) table_layers from.0 from.1) from.2)

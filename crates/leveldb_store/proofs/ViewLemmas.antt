@@ -33,7 +33,7 @@ use Rattle.leveldb_store.specs.OpenTables.{AreOpenTablesOf}
 use Rattle.leveldb_store.specs.Read.{HasOpenTables}
 use Rattle.leveldb_store.specs.Room.{HasFailed}
 use Rattle.leveldb_store.specs.View.{CountsErrors, FailsBetween, IsOfNoCompressor, IsReadingOf, IsWorldOf, MakesMoves, MoveFails, ReadsAlone, ShowsIn, ViewsStore, WalksStore, any_in_order, options_in}
-use Rattle.leveldb_store.specs.Written.{Shows}
+use Rattle.leveldb_store.specs.Written.{HasView}
 
 -- a move leads to the same position where only the keys that are accepted differ
 same_position : (one : Move) (order : KeyOrder) (pairs : List Pair) (position : Option ℕ)
@@ -203,7 +203,7 @@ module _ {E F C FP K W : Type 0} {keys : CmpGhosts (InternalKeyCmp C)} (env : Gh
         (made_in_view meaning history since low (record {
           is_world = world has_open;
           agrees = agrees;
-          shows = subst (λ (order : List ℕ → List ℕ → Ordering). Shows order meaning value (files_at env from) history since) order_is shows;
+          shows = subst (λ (order : List ℕ → List ℕ → Ordering). HasView order meaning value (files_at env from) history since) order_is shows;
         }));
     refused = moves_refused env counts walk rises reads.counts views.laws (from, tables) it (λ e. IsTableFault by.format e.code)
         (λ status ever. views.fault (from, tables) (from, tables) status (ever (from, tables)))

@@ -33,7 +33,7 @@ use Rattle.leveldb_version.specs.CurrentVersion.{IsCurrent}
 use Rattle.leveldb_store.specs.OpenStore.{AreInLevels, AreNumbersGiven, OpenStoreValue}
 use Rattle.leveldb_store.specs.Read.{in_memory}
 use Rattle.leveldb_store.specs.View.{AreChildrenOf, FailsBetween, IsOfNoCompressor, ShowsIn, ViewsMerge, ViewsStore, any_in_order, options_in}
-use Rattle.leveldb_store.specs.Written.{waiting_entries}
+use Rattle.leveldb_store.specs.Written.{imm_entries}
 use Rattle.leveldb_store.specs.StoreWalk.{FailsInStore, IsStoreOver}
 use Rattle.leveldb_store.specs.declared.store_walk.StoreWalk.{StoreWalk}
 use Rattle.leveldb_store.specs.declared.store_walk.StoreWalk.TheVariants.{Memory, Tables}
@@ -94,11 +94,11 @@ module _ {E F C FP K M : Type 0} {keys : CmpGhosts (InternalKeyCmp C)} (env : En
     merged : (pairs : List Pair) × IsMergedView env cmp filters codings iterator keys_are child child_over value (exact value.cmp) children are world shows.is_world.order_is shows.shows.tables
         (version_iters_are_layers keys env cmp filters codings value.current are.tables are.over_tables world (exact world.1.cmp) here meaning shows.shows.tables
         (tables_to_walk env cmp filters codings value current given levels world shows.is_world meaning shows.agrees shows.shows.tables shows.shows.has shows.shows.shows.levels))
-        shows.shows.shows.waiting_older shows.shows.shows.tables_older pairs
+        shows.shows.shows.imm_older shows.shows.shows.tables_older pairs
     merged = merged_view env cmp filters codings iterator keys_are child child_over value (exact value.cmp) children are world shows.is_world.order_is shows.shows.tables
         (version_iters_are_layers keys env cmp filters codings value.current are.tables are.over_tables world (exact world.1.cmp) here meaning shows.shows.tables
         (tables_to_walk env cmp filters codings value current given levels world shows.is_world meaning shows.agrees shows.shows.tables shows.shows.has shows.shows.shows.levels))
-        shows.shows.shows.waiting_older shows.shows.shows.tables_older
+        shows.shows.shows.imm_older shows.shows.shows.tables_older
 
     -- an error of a walk over tables
     in_tables : (one : StoreWalk C M) → Contains (map Tables are.tables) one → (to : E × ReadTables E C FP K F) (status : Status) → FailsInStore keys env cmp filters codings iterator world one to status
@@ -133,7 +133,7 @@ module _ {E F C FP K M : Type 0} {keys : CmpGhosts (InternalKeyCmp C)} (env : En
 
     same_view : since ≤ sequence → SameView (in_memory value ++ table_entries shows.shows.tables) (entries_of history) sequence
     same_view low = subst (λ (all : List Entry). SameView all (entries_of history) sequence)
-        (sym (append_assoc value.recent.entries (waiting_entries value.waiting) (table_entries shows.shows.tables))) (shows.shows.shows.same sequence low)
+        (sym (append_assoc value.mem.entries (imm_entries value.imm) (table_entries shows.shows.tables))) (shows.shows.shows.same sequence low)
 
   -- the walk is over the store's view
   pub views_store : ViewsStore keys env cmp filters codings walk value sequence it

@@ -43,22 +43,22 @@ module _ {E F C FP K : Type 0} {keys : CmpGhosts (InternalKeyCmp C)} (env : EnvG
     (meaning : Meaning) (tables : List LiveTable)
     (are : AreTablesToWalk keys env cmp filters codings version meaning world tables)
     (iters : List (VersionIter C)) (walks : AreVersionIters version iters) where
-  pub tables_there : (it : VersionIter C) → Contains iters it → (tabled : List FileTable)
-      × AreTablesThere keys env cmp filters codings meaning world it tabled
+  pub tables_there : (it : VersionIter C) → Contains iters it → (tables_made : List FileTable)
+      × AreTablesThere keys env cmp filters codings meaning world it tables_made
   tables_there it c =
       let part = it.files.now in
       let among = subst (λ (parts : List (List (ℕ × FileMetaData))). Contains parts part) walks.files (map_in (λ (one : VersionIter C). one.files.now) iters it c) in
       let has_pairs = (walk_pairs env cmp filters codings version world exact orders meaning tables are part among).1 in
       let none = All-contains (λ (one : VersionIter C). one.core ≡ None) iters it walks.not_begun c in (
-        has_pairs.tabled,
+        has_pairs.tables_made,
         record {
           matched = are.matched;
           agrees = are.agrees;
           each = each_more_of (IsTableFor env cmp filters codings version world exact orders meaning tables are)
               (λ file table. ((new_file_of file).number < 2 ^ 64) × ((new_file_of file).largest ≡ table.largest)
               × IsTableAt (cmp.cmp world.1.cmp) meaning (files_at env world.0) (table_path (store_of world.1.cache.now) (new_file_of file).number) table × ((new_file_of file).number < world.1.below))
-              part has_pairs.tabled (λ file table is. is.at) has_pairs.each;
-          indexed = subst (IsIndexedFor keys (keys.cmp (record { 0 = world.1.cmp })) (table_in has_pairs.tabled it.at).parts) (sym none) tt;
+              part has_pairs.tables_made (λ file table is. is.at) has_pairs.each;
+          indexed = subst (IsIndexedFor keys (keys.cmp (record { 0 = world.1.cmp })) (table_in has_pairs.tables_made it.at).parts) (sym none) tt;
         },
       )
 
@@ -99,6 +99,6 @@ module _ {E F C FP K : Type 0} {keys : CmpGhosts (InternalKeyCmp C)} (env : EnvG
   module _ (exact : IsExactOrder (cmp.cmp world.1.cmp)) (orders : OrdersInternalKeys keys (cmp.cmp world.1.cmp) world.1.cmp)
       (iters : List (VersionIter C)) (walks : AreVersionIters value.current iters) where
     -- each walk's files are tables, by what names and ids mean
-    pub there_for : (it : VersionIter C) → Contains iters it → (tabled : List FileTable) × AreTablesThere keys env cmp filters codings meaning world it tabled
+    pub there_for : (it : VersionIter C) → Contains iters it → (tables_made : List FileTable) × AreTablesThere keys env cmp filters codings meaning world it tables_made
     there_for = tables_there env cmp filters codings value.current world exact orders meaning tables
         tables_to_walk iters walks

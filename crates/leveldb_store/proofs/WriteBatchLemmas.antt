@@ -14,15 +14,15 @@ use Rattle.leveldb_mem.specs.WriteBatch.{Batch, BatchOf, batch_bytes, batch_of}
 use Rattle.leveldb_store.proofs.BatchHistoryLemmas.{after_batch, batch_added, pending_leaves, room_leaves}
 use Rattle.leveldb_store.proofs.TableKeepsLemmas.{appending_and_syncing}
 use Rattle.leveldb_store.specs.OpenStore.{IsUnbroken, OpenStoreValue}
-use Rattle.leveldb_store.specs.Write.{AreNumbersUsedUp, CanBeInserted, HasNumbers, InsertsBatch, IsLogLost, LogsText, PreparesBatch, open_log_path, with_recent, with_writer}
+use Rattle.leveldb_store.specs.Write.{AreNumbersUsedUp, CanBeInserted, HasNumbers, InsertsBatch, IsLogLost, LogsText, PreparesBatch, open_log_path, with_mem, with_writer}
 use Rattle.leveldb_store.specs.WriteBatch.{FailsToWrite, WritesBatch, next_batch}
 
 module _ {E F C : Type 0} (env : Ghosts E F) (cmp : List ℕ → List ℕ → Ordering)
-    (old : OpenStoreValue C) (from : E) (items : List Item) (sync : Bool) (recent : Kept)
-    (same : recent.entries ≡ old.recent.entries) where
+    (old : OpenStoreValue C) (from : E) (items : List Item) (sync : Bool) (mem : Kept)
+    (same : mem.entries ≡ old.mem.entries) where
   -- the store with room for the batch
   abbrev roomy : OpenStoreValue C
-  roomy = with_recent old recent
+  roomy = with_mem old mem
 
   abbrev Writes : Result (Unit {0}) Status → OpenStoreValue C → E → Type 0
   Writes = WritesBatch env cmp old from items sync
@@ -31,7 +31,7 @@ module _ {E F C : Type 0} (env : Ghosts E F) (cmp : List ℕ → List ℕ → Or
 
   pub writes_nothing : (status : Status)
       → ((AreNumbersUsedUp old.set.last_sequence (length items) status
-      ⊎ FailsToPrepare old.recent (length items) (bytes_in items) status)
+      ⊎ FailsToPrepare old.mem (length items) (bytes_in items) status)
       ⊎ IsLogLost env old from from status)
       → Writes (Err status) roomy from
   writes_nothing status why = record {
@@ -40,7 +40,7 @@ module _ {E F C : Type 0} (env : Ghosts E F) (cmp : List ℕ → List ℕ → Or
       None,
       inl refl,
       room_leaves cmp meaning (λ it. IsTrue (allowed it)) old (env.observed from) history durable
-          is_of recent same,
+          is_of mem same,
     );
     numbers = tt;
     gains = tt;
@@ -98,7 +98,7 @@ module _ {E F C : Type 0} (env : Ghosts E F) (cmp : List ℕ → List ℕ → Or
               inr refl,
               pending_leaves cmp meaning (λ it. IsTrue (allowed it)) old (env.observed from) history
                   durable is_of items text is_batch text_bytes numbers (env.observed to)
-                  (logs.run modelled) writer is recent same,
+                  (logs.run modelled) writer is mem same,
             );
             numbers = tt;
             gains = tt;
@@ -119,7 +119,7 @@ module _ {E F C : Type 0} (env : Ghosts E F) (cmp : List ℕ → List ℕ → Or
       -- it is there, and its entries come to the memtable
       pub writes_all : (then : OpenStoreValue C) (to : E)
           → LogsText env roomy from text sync (Ok tt) then to → IsUnbroken old → (entries : Kept)
-          → IsUnion recent.entries (next_batch old items) entries.entries
+          → IsUnion mem.entries (next_batch old items) entries.entries
           → Writes (Ok tt) (after_batch old items text entries) to
       writes_all then to logs unbroken entries union = record {
         adds = λ modelled meaning allowed history durable is_of.
@@ -143,7 +143,7 @@ module _ {E F C : Type 0} (env : Ghosts E F) (cmp : List ℕ → List ℕ → Or
         };
       }
         where
-          gains : IsUnion old.recent.entries (next_batch old items) entries.entries
+          gains : IsUnion old.mem.entries (next_batch old items) entries.entries
           gains = subst (λ es. IsUnion es (next_batch old items) entries.entries) same union
 
 -- ---- the steps of the call
@@ -154,12 +154,12 @@ module _ {E F C : Type 0} (env : Ghosts E F) (cmp : List ℕ → List ℕ → Or
   pub wrote_nothing : (answer : Result (Unit {0}) Status) (value : OpenStoreValue C)
       (prepared : Batch) → PreparesBatch old batch answer value prepared → (status : Status)
       → ((AreNumbersUsedUp old.set.last_sequence (length batch.items) status
-      ⊎ FailsToPrepare old.recent (length batch.items) (bytes_in batch.items) status)
+      ⊎ FailsToPrepare old.mem (length batch.items) (bytes_in batch.items) status)
       ⊎ IsLogLost env old from from status)
       → WritesBatch env cmp old from batch.items sync (Err status) value from
   wrote_nothing answer value prepared prepares status why = subst
       (λ v. WritesBatch env cmp old from batch.items sync (Err status) v from) (sym prepares.rest)
-      (writes_nothing env cmp old from batch.items sync value.recent prepares.entries status why)
+      (writes_nothing env cmp old from batch.items sync value.mem prepares.entries status why)
 
   module _ (value : OpenStoreValue C) (prepared : Batch)
       (prepares : PreparesBatch old batch (Ok tt) value prepared)
@@ -183,7 +183,7 @@ module _ {E F C : Type 0} (env : Ghosts E F) (cmp : List ℕ → List ℕ → Or
 
     given_logs : (result : Result (Unit {0}) Status)
         → LogsText env value from (batch_bytes prepared.first prepared.items) sync result then to
-        → LogsText env (with_recent old value.recent) from text sync result then to
+        → LogsText env (with_mem old value.mem) from text sync result then to
     given_logs result logs = subst
         (λ v. LogsText env v from text sync result then to) prepares.rest
         (subst (λ (b : Batch).
@@ -195,7 +195,7 @@ module _ {E F C : Type 0} (env : Ghosts E F) (cmp : List ℕ → List ℕ → Or
         → LogsText env value from (batch_bytes prepared.first prepared.items) sync (Err status)
         then to
         → WritesBatch env cmp old from batch.items sync (Err status) then to
-    wrote_part status logs = writes_part env cmp old from batch.items sync value.recent
+    wrote_part status logs = writes_part env cmp old from batch.items sync value.mem
         prepares.entries text given_is given_bytes prepares.numbers status then to
         (given_logs (Err status) logs)
 
@@ -203,7 +203,7 @@ module _ {E F C : Type 0} (env : Ghosts E F) (cmp : List ℕ → List ℕ → Or
     module _ (logs : LogsText env value from (batch_bytes prepared.first prepared.items) sync
         (Ok tt) then to) where
       abbrev logged_store : OpenStoreValue C
-      logged_store = with_writer (with_recent old value.recent)
+      logged_store = with_writer (with_mem old value.mem)
           (after_frame old.log.writer text)
 
       then_is : then ≡ logged_store
@@ -222,8 +222,8 @@ module _ {E F C : Type 0} (env : Ghosts E F) (cmp : List ℕ → List ℕ → Or
           → WritesBatch env cmp old from batch.items sync (Ok tt) new to
       wrote_all unbroken new inserts = subst
           (λ v. WritesBatch env cmp old from batch.items sync (Ok tt) v to) (sym here.rest)
-          (writes_all env cmp old from batch.items sync value.recent prepares.entries text given_is
-          given_bytes prepares.numbers then to (given_logs (Ok tt) logs) unbroken new.recent
+          (writes_all env cmp old from batch.items sync value.mem prepares.entries text given_is
+          given_bytes prepares.numbers then to (given_logs (Ok tt) logs) unbroken new.mem
           here.adds.gains)
         where
           here : InsertsBatch logged_store given new

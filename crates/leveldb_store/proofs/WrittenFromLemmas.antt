@@ -10,14 +10,14 @@ use Rattle.leveldb_version.specs.Format.{IsTableOf, Meaning}
 use Rattle.leveldb_version.specs.StoreSteps.{KeepsHistory}
 use Rattle.leveldb_store.proofs.TableKeepsLemmas.{KeepsHistory-trans}
 use Rattle.leveldb_store.specs.OpenStore.{IsUnbroken, OpenStoreValue}
-use Rattle.leveldb_store.specs.Written.{KeepsWritten, Shows, memory_of}
+use Rattle.leveldb_store.specs.Written.{KeepsWritten, HasView, memory_of}
 use Rattle.leveldb_store.specs.WrittenFrom.{KeepsWrittenFrom}
 
 module _ {C : Type 0} (cmp : List ℕ → List ℕ → Ordering) (meaning : Meaning) where
   -- a store shows from each later number on what it shows from a number on
   pub store_shows_later : (value : OpenStoreValue C) (files : Files) (history : History)
-      (since then : ℕ) → since ≤ then → Shows cmp meaning value files history since
-      → Shows cmp meaning value files history then
+      (since then : ℕ) → since ≤ then → HasView cmp meaning value files history since
+      → HasView cmp meaning value files history then
   store_shows_later value files history since then later shown = record {
     tables = shown.tables;
     has = shown.has;
@@ -34,8 +34,8 @@ module _ {C : Type 0} (cmp : List ℕ → List ℕ → Ordering) (meaning : Mean
         moments = it.moments;
         written = it.written;
         shows = λ history. keeps_each smallest history
-            (Shows cmp meaning old from.disk.files history)
-            (Shows cmp meaning new to.disk.files history)
+            (HasView cmp meaning old from.disk.files history)
+            (HasView cmp meaning new to.disk.files history)
             (store_shows_later new to.disk.files history) (it.shows history);
       }
 
@@ -57,7 +57,7 @@ module _ {C : Type 0} (cmp : List ℕ → List ℕ → Ordering) (meaning : Mean
             (two.moments bound (subst (λ n. n ≤ bound) (sym same_last) late)));
         written = two.written;
         shows = λ history. keeps_both smallest history
-            (Shows cmp meaning old v0.disk.files history)
-            (Shows cmp meaning mid v1.disk.files history)
-            (Shows cmp meaning new v2.disk.files history) (one.shows history) (two.shows history);
+            (HasView cmp meaning old v0.disk.files history)
+            (HasView cmp meaning mid v1.disk.files history)
+            (HasView cmp meaning new v2.disk.files history) (one.shows history) (two.shows history);
       }

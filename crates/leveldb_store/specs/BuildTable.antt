@@ -32,7 +32,7 @@ use Rattle.leveldb_version.specs.Format.{Format, format_of}
 -- ---- how a builder gets the pairs of a walk
 
 -- a builder may be given these pairs in turn: their keys are accepted and rise
-pub record CanBeTabled (accepts : List ℕ → Bool) (cmp : List ℕ → List ℕ → Ordering)
+pub record CanBeBuilt (accepts : List ℕ → Bool) (cmp : List ℕ → List ℕ → Ordering)
     (pairs : List Pair) : Type 0 where
   pub accepted : All (λ pair. accepts pair.0 ≡ true) pairs
   pub rising : AreRising cmp pairs
@@ -172,8 +172,8 @@ module _ {C FP : Type 0} {order : CmpGhosts C} {filters : FilterGhosts FP}
   -- Why no table of the pairs is built, whatever sink it is put into: out of memory; or a new
   -- builder of these choices takes some of the pairs, and fails at the next one or at the end for a
   -- cause of its own.
-  abbrev pub IsNotTabled : Status → Type 0
-  IsNotTabled status =
+  abbrev pub IsNotBuilt : Status → Type 0
+  IsNotBuilt status =
       IsOutOfMemory status
       ⊎ ((core : TableBuilt C FP)
       × IsNewBuilder order filters choices.cmp choices.policy choices.id choices.block_size
@@ -233,12 +233,12 @@ module _ {C FP : Type 0} {order : CmpGhosts C} {filters : FilterGhosts FP}
     -- Out of memory; or no table was built or the walk failed, and no failure was counted; or the
     -- device failed. Keys out of order are no cause: those of the walk rise.
     pub cause : HasCause (λ status. IsOutOfMemory status
-        ⊎ ((IsNotTabled status ⊎ Fails status) × (env.failures new ≡ env.failures old)))
+        ⊎ ((IsNotBuilt status ⊎ Fails status) × (env.failures new ≡ env.failures old)))
         (env.failures old) (env.failures new) result
 
 -- no table is built of some of these pairs
-pub record AreSomeNotTabled {C FP : Type 0} {order : CmpGhosts C} {filters : FilterGhosts FP}
+pub record AreSomeNotBuilt {C FP : Type 0} {order : CmpGhosts C} {filters : FilterGhosts FP}
     (choices : TableChoices order filters) (pairs : List Pair) (status : Status) : Type 0 where
   pub some : List Pair
   pub among : (pair : Pair) → Contains some pair → Contains pairs pair
-  pub not_tabled : IsNotTabled choices some status
+  pub not_built : IsNotBuilt choices some status

@@ -33,7 +33,7 @@ use Rattle.leveldb_version.specs.VersionEdit.{Edit, LevelFile, NewFile, new_file
 use Rattle.leveldb_version.specs.VersionSet.{level_file}
 use Rattle.leveldb_version.specs.VersionSetValue.{AreFileNumbersUsedUp, OpenManifest, VersionSetValue, broken, in_use}
 use Rattle.leveldb_version.specs.declared.table_cache.TableCache.{TableCache}
-use Rattle.leveldb_store.specs.BuildTable.{IsNotTabled, TableChoices}
+use Rattle.leveldb_store.specs.BuildTable.{IsNotBuilt, TableChoices}
 use Rattle.leveldb_store.specs.KeptBytes.{NewTablesLoseNothing}
 use Rattle.leveldb_store.specs.LoggedEdits.{LogsByScore}
 use Rattle.leveldb_store.specs.OpenStore.{AreInLevels, AreNumbersGiven, IsUnbroken, OpenStoreValue}
@@ -41,7 +41,7 @@ use Rattle.leveldb_store.specs.OpenTables.{AreOpenTablesOf}
 use Rattle.leveldb_store.specs.Opening.{GivesNumbers, TakesBackNew}
 use Rattle.leveldb_store.specs.Outputs.{ChangesNewTables}
 use Rattle.leveldb_store.specs.Read.{HasOpenTables, in_memory}
-use Rattle.leveldb_store.specs.Room.{AreEntriesNotTabled, FailsFor, RemovesAtLast}
+use Rattle.leveldb_store.specs.Room.{AreEntriesNotBuilt, FailsFor, RemovesAtLast}
 use Rattle.leveldb_store.specs.SoundCall.{BreaksForCause, IsSoundCall}
 use Rattle.leveldb_store.specs.Switch.{AreFileNumbersTooFew, IsManifestLost}
 use Rattle.leveldb_store.specs.Written.{HasLiveTables, IsWritten, SparesRest}
@@ -172,9 +172,9 @@ module _ {E F C FP : Type 0} (order : CmpGhosts (InternalKeyCmp C)) (env : Ghost
       (choices : TableChoices keys filters) where
     -- No table is built of some pairs. Of a store that is written they are entries of its tables,
     -- or in memory.
-    pub record AreInputsNotTabled (status : Status) : Type 0 where
+    pub record AreInputsNotBuilt (status : Status) : Type 0 where
       pub pairs : List Pair
-      pub not_tabled : IsNotTabled choices pairs status
+      pub not_built : IsNotBuilt choices pairs status
       pub theirs : (meaning : Meaning) (live : List LiveTable) → HasTablesWritten meaning live
           → All (λ pair. Contains (in_memory old ++ table_entries live) (entry_of_pair pair)) pairs
 
@@ -184,7 +184,7 @@ module _ {E F C FP : Type 0} (order : CmpGhosts (InternalKeyCmp C)) (env : Ghost
     abbrev pub FailsToMerge : OpenStoreValue C → Status → Type 0
     FailsToMerge new status = IsOutOfMemory status
         ⊎ AreFileNumbersUsedUp new.set.next_file status
-        ⊎ AreInputsNotTabled status ⊎ AreInputsLost status
+        ⊎ AreInputsNotBuilt status ⊎ AreInputsLost status
 
     -- What making files that take the place of those of a compaction leaves of an open store.
     -- `files` are they, of the next level; `smallest` is the smallest number at which the store is
@@ -319,15 +319,15 @@ module _ {E F C FP : Type 0} (order : CmpGhosts (InternalKeyCmp C)) (env : Ghost
     abbrev pub FailsToCompactRange : OpenStoreValue C → Status → Type 0
     FailsToCompactRange new status = FailsToMerge order env by old from tables choices new status
         ⊎ AreFileNumbersTooFew old.set.next_file 3 status
-        ⊎ AreEntriesNotTabled choices (Some old.recent) status
-        ⊎ AreEntriesNotTabled choices old.waiting status
+        ⊎ AreEntriesNotBuilt choices (Some old.mem) status
+        ⊎ AreEntriesNotBuilt choices old.imm status
 
     -- What compactions of a range leave of an open store that isn't broken.
     pub record CompactsRange (smallest : ℕ) (range : UserRange) (result : Result (Unit {0}) Status)
         (new : OpenStoreValue C) (to : E) (now : TableCache E C FP F) : Type 0 where
       pub keeps : KeepsCompacted smallest FailsToCompactRange result new to now
       -- Ok: nothing is in memory but in tables
-      pub tabled : OnOk result ((new.recent.entries ≡ []) × (new.waiting ≡ None))
+      pub tables_made : OnOk result ((new.mem.entries ≡ []) × (new.imm ≡ None))
       -- and no file overlaps the range, from level 0 to the deepest that did
       pub clear : OnOk result (AreClearOf by.format.order range
           (deepest_overlapped by.format.order range old.set.full.added) new.set.full.added)

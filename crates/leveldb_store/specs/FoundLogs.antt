@@ -13,7 +13,7 @@ use Rattle.leveldb_mem.specs.MemTable.{GrowsByAll, IsUnion, bytes_in, memory_of_
 use Rattle.leveldb_mem.specs.WriteBatch.{Batch}
 use Rattle.leveldb_version.specs.Batches.{Each, IsRecordOf, all_entries}
 use Rattle.leveldb_version.specs.Paths.{log_path}
-use Rattle.leveldb_store.specs.BuildTable.{IsNotTabled, TableChoices}
+use Rattle.leveldb_store.specs.BuildTable.{IsNotBuilt, TableChoices}
 use Rattle.leveldb_store.specs.Switch.{AreFileNumbersTooFew}
 
 -- ---- the batches of logs
@@ -79,14 +79,14 @@ pub record AreLogsTooLarge (models_disk : Bool) (store : List ℕ) (files : File
 module _ {C FP : Type 0} {order : CmpGhosts C} {filters : FilterGhosts FP}
     (choices : TableChoices order filters) where
   -- no table is built of the entries of the last of the batches
-  abbrev pub AreLastNotTabled : List Batch → Status → Type 0
-  AreLastNotTabled batches status = (entries : List Entry) × AreLastEntries batches entries
-      × IsNotTabled choices (map internal_pair entries) status
+  abbrev pub AreLastNotBuilt : List Batch → Status → Type 0
+  AreLastNotBuilt batches status = (entries : List Entry) × AreLastEntries batches entries
+      × IsNotBuilt choices (map internal_pair entries) status
 
   -- why batches of a log aren't kept in memory and in tables: the last one is too large for a
   -- memtable, or no table is built of the last ones
   abbrev pub FailsToKeep : List Batch → Status → Type 0
-  FailsToKeep batches status = IsBatchTooLarge batches status ⊎ AreLastNotTabled batches status
+  FailsToKeep batches status = IsBatchTooLarge batches status ⊎ AreLastNotBuilt batches status
 
   -- the same where tables take numbers from `next` on: these may be too few for one table a batch
   abbrev pub FailsToTable : ℕ → List Batch → Status → Type 0

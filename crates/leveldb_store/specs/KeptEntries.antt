@@ -118,13 +118,13 @@ module _ {E F C : Type 0} (env : Ghosts E F) (cmp : List ℕ → List ℕ → Or
 
 -- What is in memory after a call, and the tables that it made of what was there before, have all
 -- entries that were in memory, and no others. The tables were added before anything was compacted.
-pub record TablesMemory {E F C : Type 0} (env : Ghosts E F) (format : Format)
+pub record CompactsMemtables {E F C : Type 0} (env : Ghosts E F) (format : Format)
     (old : OpenStoreValue C) (from : E) (new : OpenStoreValue C) (to : E) : Type 0 where
   -- the store and its environment before anything was compacted
-  pub tabled : OpenStoreValue C
+  pub tables_made : OpenStoreValue C
   pub at : E
-  pub path : tabled.set.store ≡ old.set.store
-  pub tables : KeepsEntries env format old from tabled at
+  pub path : tables_made.set.store ≡ old.set.store
+  pub tables : KeepsEntries env format old from tables_made at
   -- and what was done since then
-  pub compacts : CompactsInTurn env format.order tabled at new to
-  pub memory : in_memory new ≡ in_memory tabled
+  pub compacts : CompactsInTurn env format.order tables_made at new to
+  pub memory : in_memory new ≡ in_memory tables_made

@@ -19,7 +19,7 @@ use Rattle.leveldb_env.specs.declared.filter.FilterPolicy.{Ghosts as FilterGhost
 use Rattle.leveldb_iter.specs.Walk.{KeyOrder, key_order}
 use Rattle.leveldb_iter.specs.declared.walk.Walk.{Ghosts as WalkGhosts}
 use Rattle.leveldb_version.specs.VersionSetValue.{AreFileNumbersUsedUp}
-use Rattle.leveldb_store.specs.BuildTable.{AreSomeNotTabled, TableChoices}
+use Rattle.leveldb_store.specs.BuildTable.{AreSomeNotBuilt, TableChoices}
 use Rattle.leveldb_store.specs.Outputs.{AreTables, ChangesNewTables, HaveOutputs, OutputsValue}
 use Rattle.leveldb_store.specs.Passing.{IsJustBefore}
 use Rattle.leveldb_store.specs.TableFile.{FailsToWrite}
@@ -58,20 +58,20 @@ module _ {E F T W : Type 0} (env : EnvGhosts E F) (walk : WalkGhosts W E T) (sto
     (first : ℕ) where
   -- a world that comes of another by moves of the walk, and by writing tables of numbers from the
   -- first on and below some next one
-  pub data ComesOf (start : E × T) : E × T → Type 0 where
-    itself : ComesOf start start
-    by_move : (at to : E × T) → ComesOf start at → walk.keeps at to → ComesOf start to
-    by_writing : (at to : E) (tables : T) (next : ℕ) → ComesOf start (at, tables)
-        → ChangesNewTables env store first next at to → ComesOf start (to, tables)
+  pub data IsReachedFrom (start : E × T) : E × T → Type 0 where
+    itself : IsReachedFrom start start
+    by_move : (at to : E × T) → IsReachedFrom start at → walk.keeps at to → IsReachedFrom start to
+    by_writing : (at to : E) (tables : T) (next : ℕ) → IsReachedFrom start (at, tables)
+        → ChangesNewTables env store first next at to → IsReachedFrom start (to, tables)
 
   -- A walk that new tables leave where it is, with no new error.
   pub record BearsNewTables (start : E × T) : Type 0 where
-    pub stays_at : (at to : E) (tables : T) (next : ℕ) → ComesOf start (at, tables)
+    pub stays_at : (at to : E) (tables : T) (next : ℕ) → IsReachedFrom start (at, tables)
         → ChangesNewTables env store first next at to → (it : W) (order : KeyOrder)
         (pairs : List Pair) (position : Option ℕ)
         → walk.is_at (at, tables) it order pairs position
         → walk.is_at (to, tables) it order pairs position
-    pub excuses : (at to : E) (tables : T) (next : ℕ) → ComesOf start (at, tables)
+    pub excuses : (at to : E) (tables : T) (next : ℕ) → IsReachedFrom start (at, tables)
         → ChangesNewTables env store first next at to → (it : W) (later : E × T)
         (status : Status) → walk.fails (to, tables) it later status
         → walk.fails (at, tables) it later status
@@ -81,7 +81,7 @@ module _ {E F T W : Type 0} (env : EnvGhosts E F) (walk : WalkGhosts W E T) (sto
   pub record FailsOnWay (start : E × T) (it : W) (end : E × T) (status : Status) : Type 0 where
     pub at : E × T
     pub now : W
-    pub come : ComesOf start at
+    pub come : IsReachedFrom start at
     pub kept : walk.keeps at end
     pub failed : walk.fails at now end status
     pub from_start : BearsNewTables start → walk.fails start it end status
@@ -130,7 +130,7 @@ module _ {C FP : Type 0} {order : CmpGhosts C} {filters : FilterGhosts FP}
   -- Why pairs aren't merged that are read in turn, where the numbers of files come to this one: no
   -- table is built of some of them, the numbers are used up, or they aren't in place.
   abbrev pub IsMergeFault : (later : ℕ) → List Pair → Status → Type 0
-  IsMergeFault later read status = AreSomeNotTabled merge.choices read status
+  IsMergeFault later read status = AreSomeNotBuilt merge.choices read status
       ⊎ AreFileNumbersUsedUp later status
       ⊎ ((status.code ≡ Corruption) × (AreRead read → ⊥))
 
@@ -178,7 +178,7 @@ module _ {C FP : Type 0} {order : CmpGhosts C} {filters : FilterGhosts FP}
       -- now and at each moment on the way no file changes but tables of numbers that were given
       pub changes : ChangesNewTables env merge.store first later start.0 end.0
       -- moves of the walk and new tables lead to where it ends, so that what both keep is kept
-      pub comes : ComesOf env walk merge.store first start end
+      pub comes : IsReachedFrom env walk merge.store first start end
       -- A move failed; or, after some pairs were read, at last a call that writes. Where the walk
       -- is over a list, and bears new tables, they are the first of it.
       pub cause : IfErr result (λ status.

@@ -29,8 +29,8 @@ pub record OpenStoreValue (C : Type 0) : Type 0 where
   -- the log to which batches are appended
   pub log : OpenLogValue
   -- the memtable of that log, and the one of the logs before it, which waits to be a table
-  pub recent : Kept
-  pub waiting : Option Kept
+  pub mem : Kept
+  pub imm : Option Kept
   -- whether no file of it is deleted, since one of them is damaged
   pub keeps_files : Bool
 

@@ -307,10 +307,10 @@ AreDamagedLogs store files numbers =
 
 -- Of logs and the tables that were made of them: all entries are in tables; or those of the last
 -- log are in memory, which goes on to be used, and all others are in tables.
-abbrev pub AreTabledBut : {C : Type 0} → Option (UsedLog C) → List StoreLog → List LiveTable
+abbrev pub AreInTablesBut : {C : Type 0} → Option (UsedLog C) → List StoreLog → List LiveTable
     → Type 0
-AreTabledBut None logs tables = SameEntries (table_entries tables) (log_entries logs)
-AreTabledBut (Some used) logs tables = (front : List StoreLog) × (last : StoreLog)
+AreInTablesBut None logs tables = SameEntries (table_entries tables) (log_entries logs)
+AreInTablesBut (Some used) logs tables = (front : List StoreLog) × (last : StoreLog)
     × (logs ≡ front ++ last ∷ []) × (last.number ≡ used.number) × (last.end ≡ clean)
     × (last.size ≡ used.size)
     × SameEntries used.entries.kept.entries (all_entries last.batches)
@@ -334,7 +334,7 @@ pub record HasReplayedLogs {C : Type 0} (cmp : List ℕ → List ℕ → Orderin
   pub files_are : map (λ (table : LiveTable). table.file) tables
       ≡ map (λ file. new_file_of (0, file)) replay.tables.items
   pub made_tables : AreMadeTables cmp meaning old new at tables
-  pub tabled : AreTabledBut replay.used logs tables
+  pub tables_made : AreInTablesBut replay.used logs tables
   -- where no log is left aside, there is none but the one that is used on
   pub leaves : replay.leaves_log ≡ false → tables ≡ []
       × ((log : StoreLog) → Contains logs log
@@ -519,7 +519,7 @@ module _ {E F : Type 0} (env : Ghosts E F) (format : Format) (reuse : Bool) (lim
 
   -- what recovering the set returns and leaves
   pub record RecoversSet (result : Result (RecoveredSet E F) Status) (to : E) : Type 0 where
-    pub ok : IfOk result (λ it. IsRecoveredSet it.is_anew it.versions it.logs.keys to)
+    pub ok : IfOk result (λ it. IsRecoveredSet it.needs_new_manifest it.versions it.logs.keys to)
     pub files : IsTrue env.models_disk → LeavesFiles env.models_disk format.order
         format.order_name reuse limit (new_version_set store format.order_name)
         (env.observed from) (env.observed to)
@@ -573,7 +573,7 @@ module _ {E F : Type 0} (env : Ghosts E F) (format : Format) (store : List ℕ)
     (create_if_missing error_if_exists : Bool) (from : E) where
   -- A set that was recovered, with the numbers of its logs.
   pub record IsRecoveredStore (it : RecoveredSet E F) (to : E) : Type 0 where
-    pub may : MayBeWritten env.models_disk format.order store it.is_anew it.versions
+    pub may : MayBeWritten env.models_disk format.order store it.needs_new_manifest it.versions
         (env.observed to).disk.files
     -- of sound files it is the store that they were, or a new one
     pub recovered : IsTrue env.models_disk → (meaning : Meaning) → Agrees format meaning
@@ -652,11 +652,11 @@ module _ {E F D FP : Type 0} (env : Ghosts E F) {order : CmpGhosts D} {filters :
 
   -- What opening a store that was recovered returns and leaves: what its logs have comes to memory
   -- or to tables, and batches may be appended.
-  pub record BeginsWriting {C : Type 0} (limit : ℕ) (result : Result (OpenStoreValue C) Status)
+  pub record OpensToWrite {C : Type 0} (limit : ℕ) (result : Result (OpenStoreValue C) Status)
       (to : E) : Type 0 where
     pub path : IfOk result (λ value. value.set.store ≡ store)
     pub unbroken : IfOk result IsUnbroken
-    pub room : IfOk result (λ value. IsFull limit value.recent → ⊥)
+    pub room : IfOk result (λ value. IsFull limit value.mem → ⊥)
     pub tables : IfOk result (λ value. IsTrue env.models_disk
         → AreTablesThere store (env.observed to).disk.files value.set.full.added)
     pub manifest : IfOk result (λ value. IsTrue env.models_disk

@@ -229,7 +229,7 @@ module _ {E F : Type 0} (env : Ghosts E F) (store : List ℕ) (format : Format)
     pub path : IfOk result (λ value. value.set.store ≡ store)
     pub unbroken : IfOk result IsUnbroken
     -- the log's memtable isn't full
-    pub room : IfOk result (λ value. IsFull limit value.recent → ⊥)
+    pub room : IfOk result (λ value. IsFull limit value.mem → ⊥)
     -- each live table is there, whatever the files were
     pub tables : IfOk result (λ value. IsTrue env.models_disk
         → AreTablesThere store (env.observed to).disk.files value.set.full.added)

@@ -19,7 +19,7 @@ use Rattle.leveldb_store.specs.FoundLogs.{AreLogsTooLarge}
 use Rattle.leveldb_store.specs.OpenStore.{OpenStoreValue}
 use Rattle.leveldb_store.specs.OpeningSteps.{IsUnsupported}
 use Rattle.leveldb_store.specs.OpensStore.{AreTablesThere, HasOtherComparator, IsDamaged, LacksUsableEdits}
-use Rattle.leveldb_store.specs.Written.{Shows}
+use Rattle.leveldb_store.specs.Written.{HasView}
 
 -- ---- what is open
 
@@ -36,7 +36,7 @@ pub record IsReadAs {C : Type 0} (cmp : List ℕ → List ℕ → Ordering) (mea
   pub last : value.set.last_sequence ≡ contents.last
   pub shows : (history : History)
       → MatchesHistory (λ any. Unit {0}) contents.last contents history
-      → Shows cmp meaning value files history (greatest (entries_of history))
+      → HasView cmp meaning value files history (greatest (entries_of history))
 
 -- ---- the call
 
@@ -78,7 +78,7 @@ module _ {E F : Type 0} (env : Ghosts E F) (store : List ℕ) (format : Format) 
     pub path : IfOk result (λ value. value.set.store ≡ store)
     pub alone : IfOk result IsReadAlone
     -- all that the logs have is in the log's memtable
-    pub none_waits : IfOk result (λ value. value.waiting ≡ None)
+    pub none_waits : IfOk result (λ value. value.imm ≡ None)
     -- each live table is there, whatever the files were
     pub tables : IfOk result (λ value. IsTrue env.models_disk
         → AreTablesThere store (env.observed to).disk.files value.set.full.added)

@@ -18,7 +18,7 @@ use Rattle.leveldb_version.specs.Paths.{table_path}
 use Rattle.leveldb_version.specs.Store.{IsFirstKey}
 use Rattle.leveldb_version.specs.StoreSteps.{AppendedAreBytes}
 use Rattle.leveldb_version.specs.VersionSetValue.{AreFileNumbersUsedUp}
-use Rattle.leveldb_store.specs.BuildTable.{AreSomeNotTabled, HasTaken, IsNotTabled, IsTableFile, TableChoices, puts_all}
+use Rattle.leveldb_store.specs.BuildTable.{AreSomeNotBuilt, HasTaken, IsNotBuilt, IsTableFile, TableChoices, puts_all}
 use Rattle.leveldb_store.specs.TableFile.{FailsToWrite}
 use Rattle.leveldb_store.specs.declared.table_file.TableFile.{TableFile}
 
@@ -176,13 +176,13 @@ module _ {C FP : Type 0} {order : CmpGhosts C} {filters : FilterGhosts FP}
   abbrev pub IsPutFault : {E F : Type 0} → List Pair → Option (TableFile E C FP F) → Pair
       → (later : ℕ) → Status → Type 0
   IsPutFault pairs unfinished pair later status =
-      AreSomeNotTabled choices (pairs ++ pair ∷ []) status ⊎ AreFileNumbersUsedUp later status
+      AreSomeNotBuilt choices (pairs ++ pair ∷ []) status ⊎ AreFileNumbersUsedUp later status
       ⊎ ((status.code ≡ Corruption) × IsUnfit order unfinished pair.0)
 
   -- why no table is begun with a pair: none is built of it, or the numbers of files are used up
   abbrev pub IsBeginFault : Pair → (later : ℕ) → Status → Type 0
   IsBeginFault pair later status =
-      IsNotTabled choices (pair ∷ []) status ⊎ AreFileNumbersUsedUp later status
+      IsNotBuilt choices (pair ∷ []) status ⊎ AreFileNumbersUsedUp later status
 
 -- ---- calls
 
@@ -207,7 +207,7 @@ module _ {C FP : Type 0} {order : CmpGhosts C} {filters : FilterGhosts FP}
     pub ok : OnOk result
         (HaveOutputs choices env store first next to new tables (pairs ++ pair ∷ []))
     pub changes : ChangesNewTables env store first next from to
-    pub cause : FailsToWrite (IsNotTabled choices (pairs ++ pair ∷ [])) (env.failures from)
+    pub cause : FailsToWrite (IsNotBuilt choices (pairs ++ pair ∷ [])) (env.failures from)
         (env.failures to) result
 
   -- what finishing the open table leaves of them
@@ -216,5 +216,5 @@ module _ {C FP : Type 0} {order : CmpGhosts C} {filters : FilterGhosts FP}
     pub ok : IfOk result (λ made. AreTables choices env store first next to (files made)
         (with_table tables pairs))
     pub changes : ChangesNewTables env store first next from to
-    pub cause : FailsToWrite (IsNotTabled choices pairs) (env.failures from) (env.failures to)
+    pub cause : FailsToWrite (IsNotBuilt choices pairs) (env.failures from) (env.failures to)
         result

@@ -24,20 +24,20 @@ use Rattle.leveldb_version.specs.declared.table_cache.TableCache.{TableCache}
 use Rattle.leveldb_version.specs.declared.version.GetStats.{GetStats}
 use Rattle.leveldb_store.specs.OpenStore.{OpenStoreValue}
 use Rattle.leveldb_store.specs.OpenTables.{AreOpenTablesOf}
-use Rattle.leveldb_store.specs.Written.{HasLiveTables, Shows, waiting_entries}
+use Rattle.leveldb_store.specs.Written.{HasLiveTables, HasView, imm_entries}
 
 -- ---- what is searched for
 
 -- the entries in memory
 abbrev pub in_memory : {C : Type 0} → OpenStoreValue C → List Entry
-in_memory value = value.recent.entries ++ waiting_entries value.waiting
+in_memory value = value.mem.entries ++ imm_entries value.imm
 
 -- what memory has of a key at a number, if the entries that wait are the older ones: a value, a
 -- deletion, or nothing
 abbrev pub FindsInMemory : {C : Type 0} → OpenStoreValue C → ℕ → List ℕ
     → Lookup (List ℕ) → Type 0
 FindsInMemory value sequence key found =
-    IsOlder (waiting_entries value.waiting) value.recent.entries
+    IsOlder (imm_entries value.imm) value.mem.entries
     → FindsNewest (in_memory value) sequence key found
 
 -- the internal key that is searched for in tables; no entry has a number past the greatest
@@ -120,7 +120,7 @@ module _ {E F C FP : Type 0} (order : CmpGhosts (InternalKeyCmp C)) (env : Ghost
       -- that number on, or from one before it
       pub finds : HasOpenTables → (meaning : Meaning) → Agrees by.format meaning
           → (history : History) (since : ℕ) → since ≤ sequence
-          → Shows by.format.order meaning old (files_at env from) history since
+          → HasView by.format.order meaning old (files_at env from) history since
           → IfOk result (IsValueAt (entries_of history) sequence key)
       -- No file changes, nor does a lock. An error is out of memory, a table that can't be read,
       -- which counts no failure, or a failure that was counted.

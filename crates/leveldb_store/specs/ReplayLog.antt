@@ -21,7 +21,7 @@ use Rattle.leveldb_version.specs.Paths.{log_path}
 use Rattle.leveldb_version.specs.Store.{HasLog, ReplayedLog as StoreLog, SameEntries}
 use Rattle.leveldb_version.specs.VersionEdit.{NewFile, new_file_of}
 use Rattle.leveldb_version.specs.VersionSetValue.{AreFileNumbersUsedUp, VersionSetValue, with_number_given}
-use Rattle.leveldb_store.specs.BuildTable.{IsNotTabled, TableChoices}
+use Rattle.leveldb_store.specs.BuildTable.{IsNotBuilt, TableChoices}
 use Rattle.leveldb_version.specs.Format.{Agrees, Format, Meaning}
 use Rattle.leveldb_store.specs.FoundLogs.{AreLastEntries, FailsToTable, LogBeginsWith}
 use Rattle.leveldb_store.specs.OpenStore.{AreNumbersGiven}
@@ -176,9 +176,9 @@ module _ {E F D FP : Type 0} (env : Ghosts E F) {order : CmpGhosts D} {filters :
     (choices : TableChoices order filters) where
   -- why no table is made of the entries in memory: the numbers of files are used up, or none is
   -- built of them
-  abbrev pub FailsToTableRest : {C : Type 0} → ReplayedLog C → VersionSetValue → Status → Type 0
-  FailsToTableRest log set status = AreFileNumbersUsedUp set.next_file status
-      ⊎ IsNotTabled choices (map internal_pair log.rest.kept.entries) status
+  abbrev pub FailsToBuildRest : {C : Type 0} → ReplayedLog C → VersionSetValue → Status → Type 0
+  FailsToBuildRest log set status = AreFileNumbersUsedUp set.next_file status
+      ⊎ IsNotBuilt choices (map internal_pair log.rest.kept.entries) status
 
   -- what making a table of the entries in memory returns and leaves
   pub record MakesRestTable {C : Type 0} (old : ReplayedLog C) (set : VersionSetValue) (from : E)
@@ -186,7 +186,7 @@ module _ {E F D FP : Type 0} (env : Ghosts E F) {order : CmpGhosts D} {filters :
       : Type 0 where
     pub spares : MakesTablesOnly env set from now to
     pub ok : OnOk result (TablesRest env choices.format old set new now to)
-    pub cause : HasCauseOr (FailsToTableRest old set) (env.failures from) (env.failures to) result
+    pub cause : HasCauseOr (FailsToBuildRest old set) (env.failures from) (env.failures to) result
 
   -- the log of this number begins with batches that don't come to memory and to tables
   abbrev pub FailsAtLog : VersionSetValue → ℕ → E → Status → Type 0

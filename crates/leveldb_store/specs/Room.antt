@@ -13,7 +13,7 @@ use Rattle.leveldb_env.specs.Options.{Boxed, OptionsOf}
 use Rattle.leveldb_env.specs.declared.env.Env.{Ghosts}
 use Rattle.leveldb_env.specs.declared.filter.FilterPolicy.{Ghosts as FilterGhosts}
 use Rattle.leveldb_mem.specs.MemTable.{Kept, memory_of_entries}
-use Rattle.leveldb_store.specs.BuildTable.{IsNotTabled, TableChoices}
+use Rattle.leveldb_store.specs.BuildTable.{IsNotBuilt, TableChoices}
 use Rattle.leveldb_version.specs.Format.{Agrees, Format, Meaning}
 use Rattle.leveldb_store.specs.OpenStore.{IsUnbroken, OpenStoreValue}
 use Rattle.leveldb_store.specs.Switch.{AreFileNumbersTooFew, RemovesNoOther, RemovesObsolete}
@@ -34,7 +34,8 @@ pub record FailsFor {T : Type 0} (Excused : Status → Type 0) (before after : �
   pub cause : IfErr result (λ e. Excused e ⊎ HasFailed before after)
 
 -- nothing but the sink of the options' log has changed, to which lines may have been told
-pub record TellsOnly {C FP : Type 0} {B : Boxed} (before after : OptionsOf C FP B) : Type 0 where
+pub record ChangesLoggerOnly {C FP : Type 0} {B : Boxed} (before after : OptionsOf C FP B)
+    : Type 0 where
   pub rest : after ≡ record before { log = after.log }
   -- there is one if there was one
   pub sink : is_some after.log ≡ is_some before.log
@@ -63,11 +64,11 @@ abbrev pub IsFull : ℕ → Kept → Type 0
 IsFull limit kept = AreFull limit kept.entries
 
 -- no table is built of the entries of a memtable that is there
-abbrev pub AreEntriesNotTabled : {D FP : Type 0} {order : CmpGhosts D} {filters : FilterGhosts FP}
+abbrev pub AreEntriesNotBuilt : {D FP : Type 0} {order : CmpGhosts D} {filters : FilterGhosts FP}
     → TableChoices order filters → Option Kept → Status → Type 0
-AreEntriesNotTabled choices None status = ⊥
-AreEntriesNotTabled choices (Some kept) status =
-    IsNotTabled choices (map internal_pair kept.entries) status
+AreEntriesNotBuilt choices None status = ⊥
+AreEntriesNotBuilt choices (Some kept) status =
+    IsNotBuilt choices (map internal_pair kept.entries) status
 
 module _ {E F C : Type 0} (env : Ghosts E F) (cmp : List ℕ → List ℕ → Ordering)
     (old : OpenStoreValue C) (from : E) where
@@ -85,23 +86,23 @@ module _ {E F C : Type 0} (env : Ghosts E F) (cmp : List ℕ → List ℕ → Or
       → TableChoices order filters → Status → Type 0
   FailsToMakeRoom choices status = IsOutOfMemory status
       ⊎ AreFileNumbersTooFew old.set.next_file 3 status
-      ⊎ AreEntriesNotTabled choices (Some old.recent) status
-      ⊎ AreEntriesNotTabled choices old.waiting status ⊎ IsFileLost choices.format status
+      ⊎ AreEntriesNotBuilt choices (Some old.mem) status
+      ⊎ AreEntriesNotBuilt choices old.imm status ⊎ IsFileLost choices.format status
 
   -- Room is made in the memtable of a store that isn't broken: a memtable that is full becomes a
   -- table, and a new log is begun.
   pub record MakesRoom {D FP : Type 0} {order : CmpGhosts D} {filters : FilterGhosts FP}
       (choices : TableChoices order filters) (limit : ℕ) (result : Result (Unit {0}) Status)
       (new : OpenStoreValue C) (to : E) : Type 0 where
-    pub room : OnOk result (IsFull limit new.recent → ⊥)
+    pub room : OnOk result (IsFull limit new.mem → ⊥)
     -- where it isn't full, nothing is done
-    pub not_full : (IsFull limit old.recent → ⊥) → (new ≡ old) × (to ≡ from) × OnErr result ⊥
-    pub none_waits : OnOk result (IsFull limit old.recent
-        → (new.recent.entries ≡ []) × (new.waiting ≡ None))
+    pub not_full : (IsFull limit old.mem → ⊥) → (new ≡ old) × (to ≡ from) × OnErr result ⊥
+    pub none_waits : OnOk result (IsFull limit old.mem
+        → (new.mem.entries ≡ []) × (new.imm ≡ None))
     -- and no place was taken in it yet
-    pub places : OnOk result (IsFull limit old.recent → new.recent.places ≡ 0)
+    pub places : OnOk result (IsFull limit old.mem → new.mem.places ≡ 0)
     -- after an Err it is full still, or one waits: that a file wasn't deleted is no Err
-    pub err : OnErr result (IsFull limit new.recent ⊎ (new.waiting ≢ None))
+    pub err : OnErr result (IsFull limit new.mem ⊎ (new.imm ≢ None))
     pub keeps : IsTrue env.models_disk → (meaning : Meaning) → Agrees choices.format meaning
         → KeepsWritten cmp meaning old (env.observed from) new (env.observed to)
     pub usable : OnOk result (IsUnbroken new)

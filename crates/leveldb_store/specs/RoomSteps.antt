@@ -15,7 +15,7 @@ use Rattle.leveldb_store.specs.KeptEntries.{KeepsEntries}
 use Rattle.leveldb_store.specs.LoggedEdits.{LogsTableEdits}
 use Rattle.leveldb_store.specs.OpenStore.{IsUnbroken, OpenStoreValue}
 use Rattle.leveldb_store.specs.OpenTables.{ClosesObsolete}
-use Rattle.leveldb_store.specs.Room.{AreEntriesNotTabled, FailsFor, IsFileLost}
+use Rattle.leveldb_store.specs.Room.{AreEntriesNotBuilt, FailsFor, IsFileLost}
 use Rattle.leveldb_store.specs.SoundCall.{IsSoundCall}
 use Rattle.leveldb_store.specs.Written.{IsWritten, KeepsWritten, SparesRest}
 use Rattle.leveldb_store.specs.WrittenFrom.{AddsNoEntry}
@@ -23,12 +23,12 @@ use Rattle.leveldb_store.specs.WrittenFrom.{AddsNoEntry}
 module _ {E F C : Type 0} (env : Ghosts E F) (cmp : List ℕ → List ℕ → Ordering) where
   -- Why no table is made of the entries that wait, where the device didn't fail: out of memory; the
   -- numbers of files are used up; none is built of them; or a file of the store is lost.
-  abbrev pub FailsToTableIfWaiting : {D FP : Type 0} {order : CmpGhosts D}
+  abbrev pub FailsToCompactMemtable : {D FP : Type 0} {order : CmpGhosts D}
       {filters : FilterGhosts FP} → TableChoices order filters → OpenStoreValue C → E → Status
       → Type 0
-  FailsToTableIfWaiting choices old from status = IsOutOfMemory status
+  FailsToCompactMemtable choices old from status = IsOutOfMemory status
       ⊎ AreFileNumbersUsedUp old.set.next_file status
-      ⊎ AreEntriesNotTabled choices old.waiting status
+      ⊎ AreEntriesNotBuilt choices old.imm status
       ⊎ IsFileLost env cmp old from choices.format status
 
   -- What a step on the way to room, or several in a row, keep of a store that isn't broken. An Err
@@ -64,14 +64,14 @@ module _ {E F C : Type 0} (env : Ghosts E F) (cmp : List ℕ → List ℕ → Or
     pub closes : ClosesObsolete env old.set from tables to now
 
   -- what making a table of the entries that wait leaves, if some do
-  pub record TablesIfWaiting {D FP : Type 0} {order : CmpGhosts D} {filters : FilterGhosts FP}
+  pub record CompactsMemtable {D FP : Type 0} {order : CmpGhosts D} {filters : FilterGhosts FP}
       (choices : TableChoices order filters) (old : OpenStoreValue C) (from : E)
       (result : Result (Unit {0}) Status) (new : OpenStoreValue C) (to : E) : Type 0 where
-    pub step : IsStepToRoom choices.format (FailsToTableIfWaiting choices old from) old from result
+    pub step : IsStepToRoom choices.format (FailsToCompactMemtable choices old from) old from result
         new to
     -- Ok: none wait, and one number was given at most
-    pub none_waits : OnOk result (new.waiting ≡ None)
+    pub none_waits : OnOk result (new.imm ≡ None)
     pub numbers : OnOk result (new.set.next_file ≤ old.set.next_file + 1)
     -- Err: they wait still
-    pub waits : OnErr result (new.waiting ≢ None)
-    pub recent : new.recent ≡ old.recent
+    pub waits : OnErr result (new.imm ≢ None)
+    pub mem : new.mem ≡ old.mem

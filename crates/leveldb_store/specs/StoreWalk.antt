@@ -8,7 +8,7 @@ use Rattle.leveldb_base.specs.declared.types.LdbIterator.{Ghosts as IteratorGhos
 use Rattle.leveldb_env.specs.Compressor.{Codings}
 use Rattle.leveldb_env.specs.declared.env.Env.{Ghosts as EnvGhosts}
 use Rattle.leveldb_env.specs.declared.filter.FilterPolicy.{Ghosts as FilterGhosts}
-use Rattle.leveldb_iter.specs.Unlent.{IsAloneOver, IsAloneAt, FailsAlone, alone_here}
+use Rattle.leveldb_iter.specs.InMemory.{IsAloneOver, IsAloneAt, FailsAlone, alone_here}
 use Rattle.leveldb_iter.specs.Walk.{KeyOrder}
 use Rattle.leveldb_version.specs.VersionIter.{FailsInTables, IsAtInTables, IsOverTables, version_here}
 use Rattle.leveldb_version.specs.declared.table_cache.moves.ReadTables.{ReadTables}

@@ -9,9 +9,9 @@ use Rattle.leveldb_base.specs.declared.types.LdbIterator.{Ghosts as IteratorGhos
 use Rattle.leveldb_env.specs.Compressor.{Codings}
 use Rattle.leveldb_env.specs.declared.env.Env.{Ghosts as EnvGhosts}
 use Rattle.leveldb_env.specs.declared.filter.FilterPolicy.{Ghosts as FilterGhosts}
-use Rattle.leveldb_iter.specs.Unlent.{IsAloneOver, IsAloneAt}
-use Rattle.leveldb_iter.specs.declared.unlent.Unlent.{Unlent}
-use Rattle.leveldb_iter.specs.UnlentLaws.{alone_laws}
+use Rattle.leveldb_iter.specs.InMemory.{IsAloneOver, IsAloneAt}
+use Rattle.leveldb_iter.specs.declared.in_memory.InMemory.{InMemory}
+use Rattle.leveldb_iter.specs.InMemoryLaws.{alone_laws}
 use Rattle.leveldb_iter.specs.Walk.{IsSortedIn, KeyOrder, WalkLaws}
 use Rattle.leveldb_version.specs.VersionIter.{KeepsReading}
 use Rattle.leveldb_version.specs.VersionIterLaws.{reading_kept, reading_kept_on, version_laws}
@@ -21,7 +21,7 @@ use Rattle.leveldb_store.specs.declared.store_walk.StoreWalk.{StoreWalk}
 use Rattle.leveldb_store.specs.declared.store_walk.StoreWalk.TheVariants.{Memory, Tables}
 
 -- a walk over memory reads from no world
-stays_alone : {W M : Type 0} {iterator : IteratorGhosts M} (first second : W) (it : Unlent M)
+stays_alone : {W M : Type 0} {iterator : IteratorGhosts M} (first second : W) (it : InMemory M)
     (keys : KeyOrder) (pairs : List Pair) → IsAloneOver iterator first it keys pairs
     → IsAloneOver iterator second it keys pairs
 stays_alone first second it keys pairs over =

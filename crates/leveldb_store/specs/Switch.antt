@@ -22,7 +22,7 @@ use Rattle.leveldb_version.specs.Version.{VersionValue}
 use Rattle.leveldb_version.specs.VersionEdit.{NewFile}
 use Rattle.leveldb_version.specs.VersionSetValue.{AreFileNumbersUsedUp, OpenManifest, VersionSetValue, broken, in_use, with_number_given}
 use Rattle.leveldb_version.specs.Writing.{IsObsolete, table_edit}
-use Rattle.leveldb_store.specs.BuildTable.{IsNotTabled, TableChoices}
+use Rattle.leveldb_store.specs.BuildTable.{IsNotBuilt, TableChoices}
 use Rattle.leveldb_store.specs.OpenStore.{OpenStoreValue}
 use Rattle.leveldb_store.specs.Write.{IsLogLost}
 use Rattle.leveldb_store.specs.Written.{KeepsTables, SparesRest}
@@ -69,12 +69,12 @@ module _ {E F C : Type 0} (env : Ghosts E F) (old : OpenStoreValue C) (from : E)
     pub set : OnOk result (new.set ≡ with_number_given old.set)
     pub log : OnOk result (new.log
         ≡ record { number = old.set.next_file; writer = new_writer log_block_size 0 })
-    pub waits : OnOk result (new.waiting ≡ Some old.recent)
-    pub empty : OnOk result (new.recent.entries ≡ [])
-    pub places : OnOk result (new.recent.places ≡ 0)
+    pub waits : OnOk result (new.imm ≡ Some old.mem)
+    pub empty : OnOk result (new.mem.entries ≡ [])
+    pub places : OnOk result (new.mem.places ≡ 0)
     pub err : OnErr result (MayGiveNumber old.set new.set
         × (new.log.number ≡ old.log.number)
-        × (new.recent ≡ old.recent) × (new.waiting ≡ old.waiting))
+        × (new.mem ≡ old.mem) × (new.imm ≡ old.imm))
     pub current : new.current ≡ old.current
     pub tables : KeepsTables env.models_disk old.set (env.observed from) new.set (env.observed to)
     pub rest : SparesRest env.models_disk old (env.observed from) new (env.observed to)
@@ -92,22 +92,22 @@ module _ {E F C : Type 0} (env : Ghosts E F) (old : OpenStoreValue C) (from : E)
 
   -- Why the entries aren't in a table: the numbers of files are used up; out of memory; no table
   -- was built of them, and no failure was counted; or the manifest is lost.
-  abbrev pub FailsToTableWaiting : {D FP : Type 0} {order : CmpGhosts D}
+  abbrev pub FailsToWriteLevel0Table : {D FP : Type 0} {order : CmpGhosts D}
       {filters : FilterGhosts FP} → TableChoices order filters → List Pair → E → Status → Type 0
-  FailsToTableWaiting choices pairs to status = AreFileNumbersUsedUp old.set.next_file status
+  FailsToWriteLevel0Table choices pairs to status = AreFileNumbersUsedUp old.set.next_file status
       ⊎ IsOutOfMemory status
-      ⊎ (IsNotTabled choices pairs status × (env.failures to ≡ env.failures from))
+      ⊎ (IsNotBuilt choices pairs status × (env.failures to ≡ env.failures from))
       ⊎ IsManifestLost to status
 
   -- The entries that waited are in a table, which the set has in the level that is picked for it;
   -- `pairs` are they. After an Err they wait still; a number may have been given, and the set be
   -- broken.
-  pub record TablesWaiting {D FP : Type 0} {order : CmpGhosts D} {filters : FilterGhosts FP}
+  pub record WritesLevel0Table {D FP : Type 0} {order : CmpGhosts D} {filters : FilterGhosts FP}
       (choices : TableChoices order filters) (pairs : List Pair)
       (result : Result (Unit {0}) Status) (new : OpenStoreValue C) (to : E) : Type 0 where
     pub logged : OnOk result (LogsTable choices.format.order old.set old.log.number new.set)
-    pub none_waits : OnOk result (new.waiting ≡ None)
-    pub waits : OnErr result (new.waiting ≡ old.waiting)
+    pub none_waits : OnOk result (new.imm ≡ None)
+    pub waits : OnErr result (new.imm ≡ old.imm)
     -- the version has the table, and else stays as it was
     pub current : OnOk result
         (GainsTable choices.format.order old.log.number old.current new.current)
@@ -117,10 +117,10 @@ module _ {E F C : Type 0} (env : Ghosts E F) (old : OpenStoreValue C) (from : E)
         ⊎ (new.set ≡ record (with_number_given old.set) { manifest = broken }))
     -- where the set was broken before, no call is made
     pub broken_before : old.set.manifest ≡ broken → (new ≡ old) × (to ≡ from)
-    pub recent : new.recent ≡ old.recent
+    pub mem : new.mem ≡ old.mem
     pub log : new.log ≡ old.log
     pub rest : SparesRest env.models_disk old (env.observed from) new (env.observed to)
-    pub cause : HasCause (FailsToTableWaiting choices pairs to) (env.failures from)
+    pub cause : HasCause (FailsToWriteLevel0Table choices pairs to) (env.failures from)
         (env.failures to) result
 
 -- ---- obsolete files

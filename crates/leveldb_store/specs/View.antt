@@ -27,7 +27,7 @@ use Rattle.leveldb_iter.specs.declared.db_iter.DbIterCore.{DbIterCore}
 use Rattle.leveldb_iter.specs.declared.merging_iter.MergeCore.{MergeCore}
 use Rattle.leveldb_iter.specs.declared.moves.Move.{Move}
 use Rattle.leveldb_iter.specs.declared.moves.Step.{Step}
-use Rattle.leveldb_iter.specs.declared.unlent.Unlent.{Unlent}
+use Rattle.leveldb_iter.specs.declared.in_memory.InMemory.{InMemory}
 use Rattle.leveldb_iter.specs.declared.walk.Walk.{Ghosts as WalkGhosts}
 use Rattle.leveldb_mem.specs.MemTable.{Kept}
 use Rattle.leveldb_table.specs.TableBlock.{KeepsDisk}
@@ -43,7 +43,7 @@ use Rattle.leveldb_store.specs.OpenStore.{OpenStoreValue}
 use Rattle.leveldb_store.specs.OpenTables.{AreOpenTablesOf}
 use Rattle.leveldb_store.specs.Read.{HasOpenTables}
 use Rattle.leveldb_store.specs.Room.{HasFailed}
-use Rattle.leveldb_store.specs.Written.{Shows}
+use Rattle.leveldb_store.specs.Written.{HasView}
 use Rattle.leveldb_store.specs.declared.store_walk.StoreWalk.{StoreWalk}
 use Rattle.leveldb_store.specs.declared.store_walk.StoreWalk.TheVariants.{Memory, Tables}
 
@@ -108,7 +108,7 @@ module _ {E F C FP K : Type 0} (keys : CmpGhosts (InternalKeyCmp C)) (env : Ghos
       (world : E × ReadTables E C FP K F) : Type 0 where
     pub is_world : IsWorldOf value world
     pub agrees : Agrees (options_in env cmp filters codings world).format meaning
-    pub shows : Shows (cmp.cmp value.cmp) meaning value (files_at env world.0) history since
+    pub shows : HasView (cmp.cmp value.cmp) meaning value (files_at env world.0) history since
 
   -- What any walk of this type leaves, and how failures are counted.
   pub record ReadsAlone {W : Type 0} (walk : WalkGhosts W E (ReadTables E C FP K F)) : Type 0
@@ -177,7 +177,7 @@ pub record WalksStore {E F C FP : Type 0} (keys : CmpGhosts (InternalKeyCmp C)) 
   -- lacks a compressor
   pub walks : HasOpenTables keys env by value from tables → (meaning : Meaning)
       → Agrees by.format meaning → (history : History) (since : ℕ) → since ≤ sequence
-      → Shows by.format.order meaning value (files_at env from) history since
+      → HasView by.format.order meaning value (files_at env from) history since
       → OnOk result ((pairs : List Pair)
       × IsView by.format.order (entries_of history) sequence pairs
       × MakesMoves by.format.order (IsOfNoCompressor by.format meaning) pairs None
@@ -231,25 +231,25 @@ pub record ViewsMerge {E T I C : Type 0} (child : WalkGhosts I E T) (cmp : CmpGh
 
 -- a walk over the entries of a memtable, in the order of internal keys
 pub record IsOverMemory {M : Type 0} (iterator : IteratorGhosts M)
-    (cmp : List ℕ → List ℕ → Ordering) (it : Unlent M) (entries : List Entry) : Type 0 where
+    (cmp : List ℕ → List ℕ → Ordering) (it : InMemory M) (entries : List Entry) : Type 0 where
   pub pairs_are : iterator.pairs it.0 ≡ map internal_pair entries
   pub order_is : iterator.order it.0 ≡ internal_cmp cmp
   pub sorted : AreRising (internal_cmp cmp) (map internal_pair entries)
   pub numbered : AreUpTo greatest_sequence entries
 
 -- the entries of a memtable that waits as a layer, if one does
-abbrev pub waiting_layers : Option Kept → List (List Entry)
-waiting_layers None = []
-waiting_layers (Some waiting) = waiting.entries ∷ []
+abbrev pub imm_layers : Option Kept → List (List Entry)
+imm_layers None = []
+imm_layers (Some imm) = imm.entries ∷ []
 
 -- walks over what is in memory of a store, and then over the tables of its version
 pub record AreChildrenOf {C M : Type 0} (iterator : IteratorGhosts M)
     (cmp : List ℕ → List ℕ → Ordering) (value : OpenStoreValue C) (children : List (StoreWalk C M))
     : Type 0 where
   -- over the log's memtable, and over the one that waits
-  pub memory : List (Unlent M)
+  pub memory : List (InMemory M)
   pub over_memory : Each (IsOverMemory iterator cmp) memory
-      (value.recent.entries ∷ waiting_layers value.waiting)
+      (value.mem.entries ∷ imm_layers value.imm)
   -- over the tables
   pub tables : List (VersionIter C)
   pub over_tables : AreVersionIters value.current tables

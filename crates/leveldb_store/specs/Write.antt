@@ -92,8 +92,8 @@ module _ {E F C : Type 0} (env : Ghosts E F) (old : OpenStoreValue C) (from : E)
 -- ---- numbers and memory
 
 -- the same store with another state of its memtable
-abbrev pub with_recent : {C : Type 0} → OpenStoreValue C → Kept → OpenStoreValue C
-with_recent value recent = record value { recent = recent }
+abbrev pub with_mem : {C : Type 0} → OpenStoreValue C → Kept → OpenStoreValue C
+with_mem value mem = record value { mem = mem }
 
 -- after the last number there are so many, and the first of them
 abbrev pub HasNumbers : ℕ → ℕ → Type 0
@@ -111,27 +111,27 @@ pub record PreparesBatch {C : Type 0} (old : OpenStoreValue C) (batch : Batch)
     : Type 0 where
   pub ok : OnOk result (prepared ≡ batch_of (old.set.last_sequence + 1) batch.items)
   pub numbers : OnOk result (HasNumbers old.set.last_sequence (length batch.items))
-  pub room : OnOk result (HasRoom new.recent batch.items)
-  pub made : OnOk result (new.recent.places ≡ max old.recent.places (length batch.items))
+  pub room : OnOk result (HasRoom new.mem batch.items)
+  pub made : OnOk result (new.mem.places ≡ max old.mem.places (length batch.items))
   pub err : OnErr result (prepared ≡ batch)
-  pub entries : new.recent.entries ≡ old.recent.entries
-  pub rest : new ≡ with_recent old new.recent
+  pub entries : new.mem.entries ≡ old.mem.entries
+  pub rest : new ≡ with_mem old new.mem
   pub cause : IfErr result (λ status.
       AreNumbersUsedUp old.set.last_sequence (length batch.items) status
-      ⊎ FailsToPrepare old.recent (length batch.items) (bytes_in batch.items) status)
+      ⊎ FailsToPrepare old.mem (length batch.items) (bytes_in batch.items) status)
 
 -- a batch may be inserted: there is room for it, and it has the next numbers, which entries can
 -- have
 pub record CanBeInserted {C : Type 0} (value : OpenStoreValue C) (batch : Batch) : Type 0 where
-  pub room : HasRoom value.recent batch.items
+  pub room : HasRoom value.mem batch.items
   pub first : batch.first ≡ value.set.last_sequence + 1
   pub numbers : HasNumbers value.set.last_sequence (length batch.items)
 
 -- a batch's entries are in the memtable, and the last number is that of the last of them
 pub record InsertsBatch {C : Type 0} (old : OpenStoreValue C) (batch : Batch)
     (new : OpenStoreValue C) : Type 0 where
-  pub adds : AddsAll old.recent (placed batch.first batch.items) new.recent
+  pub adds : AddsAll old.mem (placed batch.first batch.items) new.mem
   pub rest : new ≡ record old {
     set = record old.set { last_sequence = old.set.last_sequence + length batch.items };
-    recent = new.recent;
+    mem = new.mem;
   }

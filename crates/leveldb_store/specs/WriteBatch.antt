@@ -102,7 +102,7 @@ module _ {E F C : Type 0} (env : Ghosts E F) (cmp : List ℕ → List ℕ → Or
     abbrev pub FailsToWrite : E → Status → Type 0
     FailsToWrite to status =
         ((AreNumbersUsedUp old.set.last_sequence (length items) status
-        ⊎ FailsToPrepare old.recent (length items) (bytes_in items) status) × (to ≡ from))
+        ⊎ FailsToPrepare old.mem (length items) (bytes_in items) status) × (to ≡ from))
         ⊎ IsLogLost env old from to status
 
     -- A batch of these items is written to a store that isn't broken, and made durable if that is
@@ -122,14 +122,14 @@ module _ {E F C : Type 0} (env : Ghosts E F) (cmp : List ℕ → List ℕ → Or
       pub numbers : OnOk result (HasNumbers old.set.last_sequence (length items)
           × (new.set.last_sequence ≡ old.set.last_sequence + length items))
       pub gains : OnOk result
-          (IsUnion old.recent.entries (next_batch old items) new.recent.entries)
-      pub err : OnErr result ((new.recent.entries ≡ old.recent.entries)
+          (IsUnion old.mem.entries (next_batch old items) new.mem.entries)
+      pub err : OnErr result ((new.mem.entries ≡ old.mem.entries)
           × (new.set.last_sequence ≡ old.set.last_sequence))
       -- nothing else changes but the log
       pub rest : new ≡ record old {
         set = record old.set { last_sequence = new.set.last_sequence };
         log = record old.log { writer = new.log.writer };
-        recent = new.recent;
+        mem = new.mem;
       }
       pub others : IsTrue env.models_disk → SameBut (open_log_path old)
           (env.observed from).disk.files (env.observed to).disk.files

@@ -23,17 +23,17 @@ use Rattle.leveldb_store.specs.OpenStore.{IsUnbroken, OpenStoreValue}
 -- ---- memory
 
 -- the entries of a memtable that waits, if one does
-abbrev pub waiting_entries : Option Kept → List Entry
-waiting_entries None = []
-waiting_entries (Some waiting) = waiting.entries
+abbrev pub imm_entries : Option Kept → List Entry
+imm_entries None = []
+imm_entries (Some imm) = imm.entries
 
 -- an open store as the laws of a store's files know it
 abbrev pub memory_of : {C : Type 0} → OpenStoreValue C → EngineMemory
 memory_of value = record {
   set = value.set;
   log = value.log.number;
-  recent = value.recent.entries;
-  waiting = waiting_entries value.waiting;
+  mem = value.mem.entries;
+  imm = imm_entries value.imm;
 }
 
 -- ---- files
@@ -67,7 +67,7 @@ module _ {C : Type 0} (cmp : List ℕ → List ℕ → Ordering) (meaning : Mean
     pub each : All (HasTable value.set.store cmp (IsTableOf cmp meaning) files) tables
 
   -- the entries in memory and in the live tables show the history, from this number on
-  pub record Shows (value : OpenStoreValue C) (files : Files) (history : History) (since : ℕ)
+  pub record HasView (value : OpenStoreValue C) (files : Files) (history : History) (since : ℕ)
       : Type 0 where
     pub tables : List LiveTable
     pub has : HasLiveTables value files tables
@@ -77,7 +77,7 @@ module _ {C : Type 0} (cmp : List ℕ → List ℕ → Ordering) (meaning : Mean
   abbrev pub KeepsShown : OpenStoreValue C → Files → History → OpenStoreValue C → Files → History
       → Type 0
   KeepsShown old before shown new after history =
-      (since : ℕ) → Shows old before shown since → Shows new after history since
+      (since : ℕ) → HasView old before shown since → HasView new after history since
 
   -- ---- calls
 

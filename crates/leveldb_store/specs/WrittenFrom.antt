@@ -11,7 +11,7 @@ use Rattle.leveldb_version.specs.ShownFrom.{KeepsFrom}
 use Rattle.leveldb_version.specs.StoreSteps.{KeepsHistory}
 use Rattle.leveldb_store.specs.OpenStore.{IsUnbroken, OpenStoreValue}
 use Rattle.leveldb_store.specs.Read.{in_memory}
-use Rattle.leveldb_store.specs.Written.{HasLiveTables, IsWritten, KeepsStore, KeepsWritten, Shows}
+use Rattle.leveldb_store.specs.Written.{HasLiveTables, IsWritten, KeepsStore, KeepsWritten, HasView}
 
 -- `cmp` is the order of user keys, and `meaning` what names and ids in the files mean.
 module _ {C : Type 0} (cmp : List ℕ → List ℕ → Ordering) (meaning : Meaning) where
@@ -26,8 +26,8 @@ module _ {C : Type 0} (cmp : List ℕ → List ℕ → Ordering) (meaning : Mean
     pub written : IsUnbroken new → IsWritten cmp meaning new to.disk.files
     -- what it showed it shows, from the smallest held number on
     pub shows : (history : History) → KeepsFrom smallest history
-        (Shows cmp meaning old from.disk.files history)
-        (Shows cmp meaning new to.disk.files history)
+        (HasView cmp meaning old from.disk.files history)
+        (HasView cmp meaning new to.disk.files history)
 
   -- the same, if the store was written before the call, whichever stores may be there: those that
   -- pass a test

@@ -21,7 +21,7 @@ use leveldb_env::compressor::{CompressorList, Compressors};
 use leveldb_env::env::Env;
 use leveldb_env::filter::{FilterPolicy, InternalFilterPolicy};
 use leveldb_env::options::Options;
-use leveldb_iter::unlent::Unlent;
+use leveldb_iter::in_memory::InMemory;
 use leveldb_iter::walk::Walk;
 use leveldb_mem::memtable::MemTable;
 use std::alloc::Global;
@@ -91,7 +91,7 @@ pub fn build_memtable<E: Env, C: UserCmp + Copy + Drop, FP: FilterPolicy + Copy 
     ensures rising { AreRising (internal_cmp (C.cmp options.now.cmp))
         (map internal_pair memtable.now.kept.entries) }
 {
-    let mut walk = Unlent(memtable.iter());
+    let mut walk = InMemory(memtable.iter());
     build_table(alloc, env, &mut (), store, options, &mut walk, number)
 }
 

@@ -42,9 +42,9 @@ pub struct OpenStore<E: Env, C: Cmp> {
     pub(crate) versions: VersionSet<E, C>,
     pub(crate) log: OpenLog<E>,
     // The entries of the log's batches.
-    pub(crate) recent: MemTable<C>,
+    pub(crate) mem: MemTable<C>,
     // Those of the logs before it, until they are in a table.
-    pub(crate) waiting: Option<MemTable<C>>,
+    pub(crate) imm: Option<MemTable<C>>,
     // Whether no file is deleted, since a log or a manifest that was left aside is damaged.
     pub(crate) keeps_files: bool,
 }
@@ -58,16 +58,16 @@ impl<E: Env, C: Cmp + Drop> Drop for OpenStore<E, C> {
             cmp,
             versions,
             log,
-            recent,
-            waiting,
+            mem,
+            imm,
             keeps_files: _,
         } = self;
         drop(name);
         drop(cmp);
         drop(versions);
         drop(log);
-        drop(recent);
-        drop(waiting);
+        drop(mem);
+        drop(imm);
     }
 }
 
@@ -86,8 +86,8 @@ impl<E: Env, C: Cmp> Model for OpenStore<E, C> {
       set = it.versions.set;
       current = it.versions.current;
       log = record { number = it.log.number; writer = it.log.file.writer };
-      recent = it.recent.kept;
-      waiting = option_map (λ memtable. memtable.kept) it.waiting;
+      mem = it.mem.kept;
+      imm = option_map (λ memtable. memtable.kept) it.imm;
       keeps_files = it.keeps_files;
     } };
 
@@ -99,12 +99,12 @@ impl<E: Env, C: Cmp> Model for OpenStore<E, C> {
     ghost invariant = { λ it. (it.versions.set.store ≡ string_bytes it.name)
         × ((it.log.file.path ≡ log_path (string_bytes it.name) it.log.number)
         × (it.log.number < 2 ^ 64))
-        × (it.recent.cmp ≡ it.cmp)
-        × IfSome it.waiting (λ memtable. memtable.cmp ≡ it.cmp)
+        × (it.mem.cmp ≡ it.cmp)
+        × IfSome it.imm (λ memtable. memtable.cmp ≡ it.cmp)
         × (IsTrue E.models_disk → HasOwnManifest it.versions.set)
         × (it.versions.set.manifest ≢ unmade)
-        × AreUpTo it.versions.set.last_sequence it.recent.kept.entries
-        × IfSome it.waiting (λ memtable. memtable.kept.entries ≢ [])
+        × AreUpTo it.versions.set.last_sequence it.mem.kept.entries
+        × IfSome it.imm (λ memtable. memtable.kept.entries ≢ [])
         × (it.versions.current.cmp ≡ it.cmp)
         × AreNumbersGiven it.versions.set it.versions.set.full.added
         × AreInLevels E.models_disk (C.cmp it.cmp) it.versions.set.full.added };

@@ -21,7 +21,7 @@ mod sync;
 mod to_read;
 
 use crate::open_store::OpenStore;
-use begin::begin_writing;
+use begin::open_to_write;
 use leveldb_base::cmp::{Cmp, InternalKeyCmp, UserCmp};
 use leveldb_base::error::Result;
 use leveldb_env::compressor::{CompressorList, Compressors};
@@ -53,9 +53,9 @@ impl<E: Env, C: UserCmp + Copy + Drop> OpenStore<E, C> {
             result }
         ensures bytes { BytesAreAppended E.Env env.old env.new }
         ensures cmp { IfOk result (λ value. value.cmp ≡ options.now.cmp) }
-        ensures none_waits { IfOk result (λ value. value.waiting ≡ None) }
+        ensures none_waits { IfOk result (λ value. value.imm ≡ None) }
     {
         let set = recover(alloc, env, name, options)?;
-        begin_writing(alloc, env, name, options, set)
+        open_to_write(alloc, env, name, options, set)
     }
 }

@@ -6,7 +6,7 @@ use leveldb_base::error::Result;
 use leveldb_base::types::LdbIterator;
 use leveldb_env::env::Env;
 use leveldb_env::filter::FilterPolicy;
-use leveldb_iter::unlent::Unlent;
+use leveldb_iter::in_memory::InMemory;
 use leveldb_iter::walk::Walk;
 use leveldb_version::table_cache::{ReadTables, ReadsTables};
 use leveldb_version::version_iter::VersionIter;
@@ -18,7 +18,7 @@ where
     InternalKeyCmp<C>: Cmp,
 {
     /// Over a memtable.
-    Memory(Unlent<M>),
+    Memory(InMemory<M>),
     /// Over tables.
     Tables(VersionIter<'a, C>),
 }

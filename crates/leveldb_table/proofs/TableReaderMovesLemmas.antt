@@ -31,13 +31,13 @@ use Rattle.leveldb_table.proofs.TableReaderWalkLemmas.{ok_refused, err_holds, so
 use Rattle.leveldb_table.proofs.TableLemmas.{OnOk-with}
 
 -- for a block that the index names, and where it names none
-let_named : (cmp : List ℕ → List ℕ → Ordering) (lets : ℕ → List ℕ → Bool) (key : List ℕ) (parts : List Part) (part : Part) (b : Bool) → named_part cmp key parts ≡ Some part → lets part.handle.offset key ≡ b
-    → let_position cmp lets key parts ≡ (if b then seek_position cmp (pairs_in parts) key else None)
-let_named cmp lets key parts part b named is =
-    ap (λ o. elim o [ None ↦ None | Some part ↦ if lets part.handle.offset key then seek_position cmp (pairs_in parts) key else None ]) named ∙ ap (λ z. if z then seek_position cmp (pairs_in parts) key else None) is
+let_named : (cmp : List ℕ → List ℕ → Ordering) (may_contain : ℕ → List ℕ → Bool) (key : List ℕ) (parts : List Part) (part : Part) (b : Bool) → named_part cmp key parts ≡ Some part → may_contain part.handle.offset key ≡ b
+    → let_position cmp may_contain key parts ≡ (if b then seek_position cmp (pairs_in parts) key else None)
+let_named cmp may_contain key parts part b named is =
+    ap (λ o. elim o [ None ↦ None | Some part ↦ if may_contain part.handle.offset key then seek_position cmp (pairs_in parts) key else None ]) named ∙ ap (λ z. if z then seek_position cmp (pairs_in parts) key else None) is
 
-pub let_none : (cmp : List ℕ → List ℕ → Ordering) (lets : ℕ → List ℕ → Bool) (key : List ℕ) (parts : List Part) → seek_position cmp (map index_pair parts) key ≡ None → let_position cmp lets key parts ≡ None
-let_none cmp lets key parts none = ap (λ o. elim o [ None ↦ None | Some part ↦ if lets part.handle.offset key then seek_position cmp (pairs_in parts) key else None ]) (named_none cmp key parts none)
+pub let_none : (cmp : List ℕ → List ℕ → Ordering) (may_contain : ℕ → List ℕ → Bool) (key : List ℕ) (parts : List Part) → seek_position cmp (map index_pair parts) key ≡ None → let_position cmp may_contain key parts ≡ None
+let_none cmp may_contain key parts none = ap (λ o. elim o [ None ↦ None | Some part ↦ if may_contain part.handle.offset key then seek_position cmp (pairs_in parts) key else None ]) (named_none cmp key parts none)
 
 -- ---- lines
 
@@ -301,13 +301,13 @@ module _ {C : Type 0} {order : CmpGhosts C} where
 
 module _ {C : Type 0} where
   -- where the filters let the key pass or not at the handle of the line
-  pub let_by : {codings : Codings} {accepts : List ℕ → Bool} {cmp : List ℕ → List ℕ → Ordering} {bytes : List ℕ} {parts : List Part} (index : BlockPosition C) (key line_key value : List ℕ) (handle : Handle) (lets : ℕ → List ℕ → Bool) (b : Bool)
+  pub let_by : {codings : Codings} {accepts : List ℕ → Bool} {cmp : List ℕ → List ℕ → Ordering} {bytes : List ℕ} {parts : List Part} (index : BlockPosition C) (key line_key value : List ℕ) (handle : Handle) (may_contain : ℕ → List ℕ → Bool) (b : Bool)
       → HasParts codings accepts cmp bytes parts → pairs_over index ≡ map index_pair parts → seek_position cmp (map index_pair parts) key ≡ position_over index → pair_at (pairs_over index) (position_over index) ≡ Some (line_key, value)
-      → value ≡ handle_bytes handle → lets handle.offset key ≡ b → let_position cmp lets key parts ≡ (if b then seek_position cmp (pairs_in parts) key else None)
-  let_by {cmp = cmp} {parts = parts} index key line_key value handle lets b has lines sought is names passes =
+      → value ≡ handle_bytes handle → may_contain handle.offset key ≡ b → let_position cmp may_contain key parts ≡ (if b then seek_position cmp (pairs_in parts) key else None)
+  let_by {cmp = cmp} {parts = parts} index key line_key value handle may_contain b has lines sought is names passes =
       let at = line_is_of index has lines (position_there (pairs_over index) (position_over index) is) in
       let same : at.part.handle ≡ handle = same_handle at.part.handle handle (same_value (index_pair at.part) (line_key, value) (sym at.line ∙ is) ∙ names) in
-      let_named cmp lets key parts at.part b (named_at cmp key parts at.i at.part (sought ∙ at.at_line) at.there) (ap (λ h. lets h.offset key) same ∙ passes)
+      let_named cmp may_contain key parts at.part b (named_at cmp key parts at.i at.part (sought ∙ at.at_line) at.there) (ap (λ h. may_contain h.offset key) same ∙ passes)
 
 module _ {C : Type 0} {order : CmpGhosts C} where
   -- ---- back
@@ -431,9 +431,9 @@ module _ (codings : Codings) (cmp : List ℕ → List ℕ → Ordering) (bytes :
   seeks_none key None new none at inner = (at, inner)
   seeks_none key (Some i) new none at inner = absurd (some_none none)
 
-  pub looks_none : (lets : ℕ → List ℕ → Bool) (key : List ℕ) (line : Option ℕ) (new : TablePosition) → line ≡ None → new.line ≡ line → new.inner ≡ None → LookUpFromLine codings cmp bytes lines lets key line (Ok new)
-  looks_none lets key None new none at inner = (at, inner)
-  looks_none lets key (Some i) new none at inner = absurd (some_none none)
+  pub looks_none : (may_contain : ℕ → List ℕ → Bool) (key : List ℕ) (line : Option ℕ) (new : TablePosition) → line ≡ None → new.line ≡ line → new.inner ≡ None → LookUpFromLine codings cmp bytes lines may_contain key line (Ok new)
+  looks_none may_contain key None new none at inner = (at, inner)
+  looks_none may_contain key (Some i) new none at inner = absurd (some_none none)
 
   -- a line's block that is lacking shuts the way
   shut_lacking : (to : List Pair → Option ℕ) (line : Option ℕ) {status : Status} → LacksLine codings cmp bytes (pair_at lines line) status → ToBlock codings cmp bytes lines to line (Err status)
@@ -445,30 +445,30 @@ module _ (codings : Codings) (cmp : List ℕ → List ℕ → Ordering) (bytes :
   seeks_lacking key (Some i) lacks = inl lacks
 
   -- and so does a line that names no handle
-  pub looks_unnamed : (lets : ℕ → List ℕ → Bool) (key : List ℕ) (line : Option ℕ) (status : Status) → NamesNone (pair_at lines line) → status.code ≡ Corruption → LookUpFromLine codings cmp bytes lines lets key line (Err status)
-  looks_unnamed lets key None status none code = absurd none
-  looks_unnamed lets key (Some i) status none code = inl (none, code)
+  pub looks_unnamed : (may_contain : ℕ → List ℕ → Bool) (key : List ℕ) (line : Option ℕ) (status : Status) → NamesNone (pair_at lines line) → status.code ≡ Corruption → LookUpFromLine codings cmp bytes lines may_contain key line (Err status)
+  looks_unnamed may_contain key None status none code = absurd none
+  looks_unnamed may_contain key (Some i) status none code = inl (none, code)
 
   -- in the line's block, whatever comes of it
   seeks_in : (key : List ℕ) (i : ℕ) (out : Outcome) → ToKeyInBlock codings cmp bytes lines key i out → ToKeyByLine codings cmp bytes lines key (Some i) out
   seeks_in key i (Ok new) seeks = seeks
   seeks_in key i (Err status) seeks = inr seeks
 
-  looks_in : (lets : ℕ → List ℕ → Bool) (key : List ℕ) (i : ℕ) (out : Outcome) → LookUpByLine codings cmp bytes lines lets key i out → LookUpFromLine codings cmp bytes lines lets key (Some i) out
-  looks_in lets key i (Ok new) kept_disk = kept_disk
-  looks_in lets key i (Err status) kept_disk = inr kept_disk
+  looks_in : (may_contain : ℕ → List ℕ → Bool) (key : List ℕ) (i : ℕ) (out : Outcome) → LookUpByLine codings cmp bytes lines may_contain key i out → LookUpFromLine codings cmp bytes lines may_contain key (Some i) out
+  looks_in may_contain key i (Ok new) kept_disk = kept_disk
+  looks_in may_contain key i (Err status) kept_disk = inr kept_disk
 
   -- where the filters let the key pass, and where they don't
-  looks_passed : (lets : ℕ → List ℕ → Bool) (key : List ℕ) (line : Option ℕ) (out : Outcome) (handle : Handle) → HandleFits handle → IsNamedBy (pair_at lines line) handle → lets handle.offset key ≡ true → ToKeyByLine codings cmp bytes lines key line out
-      → LookUpFromLine codings cmp bytes lines lets key line out
-  looks_passed lets key None out handle fits names passes seeks = absurd names
-  looks_passed lets key (Some i) out handle fits names passes seeks =
-      looks_in lets key i out (record { handle = handle; fits = fits; names = names; outcome = subst (λ b. ToKeyByLineIfLet codings cmp bytes lines b key i out) (sym passes) seeks })
+  looks_passed : (may_contain : ℕ → List ℕ → Bool) (key : List ℕ) (line : Option ℕ) (out : Outcome) (handle : Handle) → HandleFits handle → IsNamedBy (pair_at lines line) handle → may_contain handle.offset key ≡ true → ToKeyByLine codings cmp bytes lines key line out
+      → LookUpFromLine codings cmp bytes lines may_contain key line out
+  looks_passed may_contain key None out handle fits names passes seeks = absurd names
+  looks_passed may_contain key (Some i) out handle fits names passes seeks =
+      looks_in may_contain key i out (record { handle = handle; fits = fits; names = names; outcome = subst (λ b. ToKeyByLineIfLet codings cmp bytes lines b key i out) (sym passes) seeks })
 
-  pub looks_refused : (lets : ℕ → List ℕ → Bool) (key : List ℕ) (line : Option ℕ) (new : TablePosition) (handle : Handle) → HandleFits handle → IsNamedBy (pair_at lines line) handle → lets handle.offset key ≡ false → new.inner ≡ None
-      → LookUpFromLine codings cmp bytes lines lets key line (Ok new)
-  looks_refused lets key None new handle fits names refuses none = absurd names
-  looks_refused lets key (Some i) new handle fits names refuses none =
+  pub looks_refused : (may_contain : ℕ → List ℕ → Bool) (key : List ℕ) (line : Option ℕ) (new : TablePosition) (handle : Handle) → HandleFits handle → IsNamedBy (pair_at lines line) handle → may_contain handle.offset key ≡ false → new.inner ≡ None
+      → LookUpFromLine codings cmp bytes lines may_contain key line (Ok new)
+  looks_refused may_contain key None new handle fits names refuses none = absurd names
+  looks_refused may_contain key (Some i) new handle fits names refuses none =
       record { handle = handle; fits = fits; names = names; outcome = subst (λ b. ToKeyByLineIfLet codings cmp bytes lines b key i (Ok new)) (sym refuses) none }
 
   -- the next line's block, by another list of the same lines
@@ -614,17 +614,17 @@ module _ {C : Type 0} (order : CmpGhosts C) (codings : Codings) (cmp : List ℕ 
   -- ---- a look-up
 
   -- where the filters let the key pass
-  pub looked_up : (lets : ℕ → List ℕ → Bool) (key : List ℕ) (handle : Handle) (old mid : TablePlace C) (out : Outcome) → pairs_over mid.index ≡ pairs_over old.index → mid.index.block.cmp ≡ old.index.block.cmp
-      → HandleFits handle → IsNamedBy (pair_at (pairs_over old.index) (line_for order key old)) handle → lets handle.offset key ≡ true → ToKey order key codings cmp bytes mid out → ToKeyIfLet order lets key codings cmp bytes old out
-  looked_up lets key handle old mid out lines same fits names passes sought =
-      looks_passed codings cmp bytes (pairs_over old.index) lets key (line_for order key old) out handle fits names passes (sought_along key old mid out lines same sought)
+  pub looked_up : (may_contain : ℕ → List ℕ → Bool) (key : List ℕ) (handle : Handle) (old mid : TablePlace C) (out : Outcome) → pairs_over mid.index ≡ pairs_over old.index → mid.index.block.cmp ≡ old.index.block.cmp
+      → HandleFits handle → IsNamedBy (pair_at (pairs_over old.index) (line_for order key old)) handle → may_contain handle.offset key ≡ true → ToKey order key codings cmp bytes mid out → ToKeyIfLet order may_contain key codings cmp bytes old out
+  looked_up may_contain key handle old mid out lines same fits names passes sought =
+      looks_passed codings cmp bytes (pairs_over old.index) may_contain key (line_for order key old) out handle fits names passes (sought_along key old mid out lines same sought)
 
   -- by other lines and another order that are the same
-  pub looked_along : (lets : ℕ → List ℕ → Bool) (key : List ℕ) {lines : List Pair} {index_cmp : List ℕ → List ℕ → Ordering} (old : TablePlace C) (out : Outcome) → pairs_over old.index ≡ lines → order.cmp old.index.block.cmp ≡ index_cmp
-      → ToKeyIfLet order lets key codings cmp bytes old out → LookUpFromLine codings cmp bytes lines lets key (seek_position index_cmp lines key) out
-  looked_along lets key {lines} {index_cmp} old out same ordered looked =
-      subst (λ (o : List ℕ → List ℕ → Ordering). LookUpFromLine codings cmp bytes lines lets key (seek_position o lines key) out) ordered
-      (subst (λ z. LookUpFromLine codings cmp bytes z lets key (seek_position (order.cmp old.index.block.cmp) z key) out) same looked)
+  pub looked_along : (may_contain : ℕ → List ℕ → Bool) (key : List ℕ) {lines : List Pair} {index_cmp : List ℕ → List ℕ → Ordering} (old : TablePlace C) (out : Outcome) → pairs_over old.index ≡ lines → order.cmp old.index.block.cmp ≡ index_cmp
+      → ToKeyIfLet order may_contain key codings cmp bytes old out → LookUpFromLine codings cmp bytes lines may_contain key (seek_position index_cmp lines key) out
+  looked_along may_contain key {lines} {index_cmp} old out same ordered looked =
+      subst (λ (o : List ℕ → List ℕ → Ordering). LookUpFromLine codings cmp bytes lines may_contain key (seek_position o lines key) out) ordered
+      (subst (λ z. LookUpFromLine codings cmp bytes z may_contain key (seek_position (order.cmp old.index.block.cmp) z key) out) same looked)
 
 module _ {E C FP F : Type 0} {order : CmpGhosts C} {env : EnvGhosts E F} {codings : Codings} {matches : FP → List ℕ → List ℕ → Bool} {table : OpenTable C FP F} {key : List ℕ} {old_env new_env : E} {old_cache new_cache : Cached (CachedBlock C)} where
   -- a look-up that fails

@@ -765,22 +765,22 @@ pub ok_says : {T E : Type 0} {P Q : T → Type 0} (result : Result T E) → ((an
 ok_says (Ok answer) says h = says answer h
 ok_says (Err error) says h = tt
 
-module _ (cmp : List ℕ → List ℕ → Ordering) (lets : ℕ → List ℕ → Bool) (key : List ℕ) (parts : List Part) where
+module _ (cmp : List ℕ → List ℕ → Ordering) (may_contain : ℕ → List ℕ → Bool) (key : List ℕ) (parts : List Part) where
   at_passed : (b : Bool) → pair_at (pairs_in parts) (if b then seek_position cmp (pairs_in parts) key else None) ≡ (if b then first_from cmp key (pairs_in parts) else None)
   at_passed true = sym (first_is cmp key (pairs_in parts))
   at_passed false = refl
 
-  at_named : (named : Option Part) → pair_at (pairs_in parts) (elim named [ None ↦ None | Some part ↦ if lets part.handle.offset key then seek_position cmp (pairs_in parts) key else None ])
-      ≡ elim named [ None ↦ None | Some part ↦ if lets part.handle.offset key then first_from cmp key (pairs_in parts) else None ]
+  at_named : (named : Option Part) → pair_at (pairs_in parts) (elim named [ None ↦ None | Some part ↦ if may_contain part.handle.offset key then seek_position cmp (pairs_in parts) key else None ])
+      ≡ elim named [ None ↦ None | Some part ↦ if may_contain part.handle.offset key then first_from cmp key (pairs_in parts) else None ]
   at_named None = refl
-  at_named (Some part) = at_passed (lets part.handle.offset key)
+  at_named (Some part) = at_passed (may_contain part.handle.offset key)
 
   -- the pair at a look-up's position is what it finds
-  pub found_at : pair_at (pairs_in parts) (let_position cmp lets key parts) ≡ found_in cmp lets key parts
+  pub found_at : pair_at (pairs_in parts) (let_position cmp may_contain key parts) ≡ found_in cmp may_contain key parts
   found_at = at_named (named_part cmp key parts)
 
 module _ {C : Type 0} {order : CmpGhosts C} where
   -- so a walk that is there has found it
-  pub found_by : {cmp : List ℕ → List ℕ → Ordering} {parts : List Part} (lets : ℕ → List ℕ → Bool) (key : List ℕ) (core : TablePlace C) → IsAtPosition order cmp parts core (let_position cmp lets key parts) → current_of core ≡ found_in cmp lets key parts
-  found_by {cmp} {parts} lets key core is_there =
-      current_at parts (position_over core.index) (inner_pairs core.inner) (inner_position core.inner) (let_position cmp lets key parts) is_there.at ∙ found_at cmp lets key parts
+  pub found_by : {cmp : List ℕ → List ℕ → Ordering} {parts : List Part} (may_contain : ℕ → List ℕ → Bool) (key : List ℕ) (core : TablePlace C) → IsAtPosition order cmp parts core (let_position cmp may_contain key parts) → current_of core ≡ found_in cmp may_contain key parts
+  found_by {cmp} {parts} may_contain key core is_there =
+      current_at parts (position_over core.index) (inner_pairs core.inner) (inner_position core.inner) (let_position cmp may_contain key parts) is_there.at ∙ found_at cmp may_contain key parts

@@ -147,10 +147,10 @@ HandlesFit parts = AllByRecursion (λ part. HandleFits part.handle) parts
 -- the key pass at the block that the index names for it.
 abbrev pub found_in : (List ℕ → List ℕ → Ordering) → (ℕ → List ℕ → Bool) → List ℕ → List Part
     → Option Pair
-found_in cmp lets key parts =
+found_in cmp may_contain key parts =
     elim (named_part cmp key parts) [
       | None ↦ None
-      | Some part ↦ if lets part.handle.offset key then
+      | Some part ↦ if may_contain part.handle.offset key then
           first_from cmp key (pairs_in parts) else None
     ]
 
@@ -227,8 +227,8 @@ module _ {C FP F : Type 0} where
   meta_of table = table.footer.meta_index
 
   -- whether the filters let a key pass at an offset; without filters each key passes
-  abbrev pub lets : (FP → List ℕ → List ℕ → Bool) → OpenTable C FP F → ℕ → List ℕ → Bool
-  lets matches table offset key = elim table.filters [
+  abbrev pub may_contain : (FP → List ℕ → List ℕ → Bool) → OpenTable C FP F → ℕ → List ℕ → Bool
+  may_contain matches table offset key = elim table.filters [
     | None ↦ true
     | Some reader ↦ passes (matches reader.policy) reader.filters offset key
   ]

@@ -47,10 +47,10 @@ pub record IsBeforeBlock (parts : List Part) (line position : Option ℕ) : Type
 -- filters don't let the key pass at the block that the index names for it
 abbrev pub let_position : (List ℕ → List ℕ → Ordering) → (ℕ → List ℕ → Bool) → List ℕ → List Part
     → Option ℕ
-let_position cmp lets key parts =
+let_position cmp may_contain key parts =
     elim (named_part cmp key parts) [
       | None ↦ None
-      | Some part ↦ if lets part.handle.offset key then
+      | Some part ↦ if may_contain part.handle.offset key then
           seek_position cmp (pairs_in parts) key else None
     ]
 
@@ -63,8 +63,8 @@ IsKeyPosition accepts cmp key parts position =
 -- as IsKeyPosition, where the filters let the key pass; else it leads to no position
 abbrev pub IsLetPosition : (List ℕ → Bool) → (List ℕ → List ℕ → Ordering) → (ℕ → List ℕ → Bool)
     → List ℕ → List Part → Option ℕ → Type 0
-IsLetPosition accepts cmp lets key parts position =
-    (accepts key ≡ true) × (position ≡ let_position cmp lets key parts)
+IsLetPosition accepts cmp may_contain key parts position =
+    (accepts key ≡ true) × (position ≡ let_position cmp may_contain key parts)
 
 module _ {C : Type 0} (order : CmpGhosts C) where
   -- the block that a file has at a handle, in this order of keys

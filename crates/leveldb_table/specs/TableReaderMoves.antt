@@ -16,7 +16,7 @@ use Rattle.leveldb_table.specs.BlockWalk.{pair_with, pairs_over, position_over}
 use Rattle.leveldb_table.specs.Cache.{Cached}
 use Rattle.leveldb_table.specs.BlockCache.{HoldsOnlyOf}
 use Rattle.leveldb_table.specs.Table.{Part, index_pair}
-use Rattle.leveldb_table.specs.TableReader.{OpenTable, lines_of, lets, HasParts, found_in, GainsBlocksOf}
+use Rattle.leveldb_table.specs.TableReader.{OpenTable, lines_of, may_contain, HasParts, found_in, GainsBlocksOf}
 use Rattle.leveldb_table.specs.TableBlock.{IsNamedBy, NamesNone, LacksLine, ForBytesOf, IsLackError, ReadsFile}
 use Rattle.leveldb_table.specs.TableReaderWalk.{TablePlace, MovesInTable, TablePosition, Outcome, IsNamed, inner_position, table_position}
 use Rattle.leveldb_table.specs.declared.block_cache.CachedBlock.{CachedBlock}
@@ -105,29 +105,29 @@ module _ (codings : Codings) (cmp : List ℕ → List ℕ → Ordering) (bytes :
   ToKeyByLineIfLet false key line out = IsOkAnd out (λ new. new.inner ≡ None)
 
   -- The line names a handle, and it goes as the filters let the key pass there.
-  pub record LookUpByLine (lets : ℕ → List ℕ → Bool) (key : List ℕ) (line : ℕ)
+  pub record LookUpByLine (may_contain : ℕ → List ℕ → Bool) (key : List ℕ) (line : ℕ)
       (out : Outcome) : Type 0 where
     pub handle : Handle
     pub fits : HandleFits handle
     pub names : IsNamedBy (pair_at lines (Some line)) handle
-    pub outcome : ToKeyByLineIfLet (lets handle.offset key) key line out
+    pub outcome : ToKeyByLineIfLet (may_contain handle.offset key) key line out
 
   -- Without a line it comes nowhere. Else it goes as the filters let it, or fails since the line
   -- names no handle.
   abbrev pub LookUpFromLine : (ℕ → List ℕ → Bool) → List ℕ → Option ℕ → Outcome → Type 0
-  LookUpFromLine lets key None out = IsNowhere out
-  LookUpFromLine lets key (Some line) (Ok new) = LookUpByLine lets key line (Ok new)
-  LookUpFromLine lets key (Some line) (Err status) =
+  LookUpFromLine may_contain key None out = IsNowhere out
+  LookUpFromLine may_contain key (Some line) (Ok new) = LookUpByLine may_contain key line (Ok new)
+  LookUpFromLine may_contain key (Some line) (Err status) =
       (NamesNone (pair_at lines (Some line)) × (status.code ≡ Corruption))
-      ⊎ LookUpByLine lets key line (Err status)
+      ⊎ LookUpByLine may_contain key line (Err status)
 
 module _ {C FP F : Type 0} (order : CmpGhosts C) where
   -- what a look-up of a key in an open table comes to
   abbrev pub LookUpInTable : Codings → (FP → List ℕ → List ℕ → Bool) → OpenTable C FP F
       → List ℕ → List ℕ → Outcome → Type 0
   LookUpInTable codings matches table key bytes out =
-      LookUpFromLine codings (order.cmp table.cmp) bytes (lines_of table) (lets matches table) key
-      (seek_position (order.cmp table.index.cmp) (lines_of table) key) out
+      LookUpFromLine codings (order.cmp table.cmp) bytes (lines_of table)
+      (may_contain matches table) key (seek_position (order.cmp table.index.cmp) (lines_of table) key) out
 
   -- What it finds: the pair at the position to which it comes, if that is one.
   pub record FindsPair (codings : Codings) (matches : FP → List ℕ → List ℕ → Bool)
@@ -167,8 +167,8 @@ module _ {E C FP F : Type 0} (order : CmpGhosts C) where
         → HasParts codings (order.accepts table.cmp) (order.cmp table.cmp) bytes parts
         → order.accepts table.cmp key ≡ true
         → HoldsOnlyOf order codings (order.cmp table.cmp) table.id bytes old_cache
-        → IfOk result (λ found. found ≡ found_in (order.cmp table.cmp) (lets matches table) key
-        parts))
+        → IfOk result (λ found. found ≡ found_in (order.cmp table.cmp)
+        (may_contain matches table) key parts))
     -- in each file it finds what the block of the key's line says, or that of the next line
     pub finds : ForBytesOf env old_env table.file (λ bytes.
         HoldsOnlyOf order codings (order.cmp table.cmp) table.id bytes old_cache
@@ -235,8 +235,8 @@ module _ {C : Type 0} (order : CmpGhosts C) where
   -- as ToKey, where the filters let the key pass
   abbrev pub ToKeyIfLet : (ℕ → List ℕ → Bool) → List ℕ → Codings → (List ℕ → List ℕ → Ordering)
       → List ℕ → TablePlace C → Outcome → Type 0
-  ToKeyIfLet lets key codings cmp bytes old out =
-      LookUpFromLine codings cmp bytes (pairs_over old.index) lets key (line_for key old) out
+  ToKeyIfLet may_contain key codings cmp bytes old out =
+      LookUpFromLine codings cmp bytes (pairs_over old.index) may_contain key (line_for key old) out
 
 -- ---- the moves of a walk over an open table
 

@@ -32,13 +32,13 @@ use open::{read_filters, read_index};
 use std::alloc::Global;
 use std::marker::Model;
 
-mod finder;
 mod iter;
+mod key_buffers;
 mod open;
 mod walk;
 
-pub use finder::Finder;
 pub use iter::TableIterator;
+pub use key_buffers::KeyBuffers;
 pub use walk::{TableCore, TableStep};
 
 /// An open table: its file, its index, and its filters where it has some under the policy's name.
@@ -209,7 +209,7 @@ impl<E: Env, C: Cmp + Copy + Drop, FP: FilterPolicy + Drop> Table<E, C, FP> {
 }
 
 impl<E: Env, C: Cmp + Copy + Drop, FP: FilterPolicy> Table<E, C, FP> {
-    ghost use Rattle.leveldb_table.specs.TableReader.{HandlesFit, IsOffsetBy, lines_of, line_in, meta_of, offset_in, lets, GainsBlocksOf};
+    ghost use Rattle.leveldb_table.specs.TableReader.{HandlesFit, IsOffsetBy, lines_of, line_in, meta_of, offset_in, may_contain, GainsBlocksOf};
     ghost use Rattle.leveldb_table.specs.TableReaderMoves.{LooksUp, found_with};
 
     /// The offset of the block that would hold the key, and past the last that of the metaindex.
@@ -248,11 +248,11 @@ impl<E: Env, C: Cmp + Copy + Drop, FP: FilterPolicy> Table<E, C, FP> {
             LooksUp C.Cmp E.Env codings FP.matches self.now key.now env.old cache.old result env.new
             cache.new }
     {
-        let mut finder = Finder::new(alloc);
-        let Some(value) = self.find(alloc, env, cache, compressors, key, &mut finder)? else {
+        let mut key_buffers = KeyBuffers::new(alloc);
+        let Some(value) = self.find(alloc, env, cache, compressors, key, &mut key_buffers)? else {
             return Ok(None);
         };
-        Ok(Some((Bytes::from_vec(finder.into_key())?, value)))
+        Ok(Some((Bytes::from_vec(key_buffers.into_key())?, value)))
     }
 
     /// `get`, but it returns the value alone, and the finder has the pair's key. Where the finder
@@ -265,15 +265,15 @@ impl<E: Env, C: Cmp + Copy + Drop, FP: FilterPolicy> Table<E, C, FP> {
         cache: &mut BlockCache<C>,
         compressors: &CompressorList,
         key: &[u8],
-        finder: &mut Finder,
+        key_buffers: &mut KeyBuffers,
     ) -> Result<Option<Bytes>>
         ensures { let codings = ⟦<CompressorList as Compressors>⟧.codings compressors.now in
             LooksUp C.Cmp E.Env codings FP.matches self.now key.now env.old cache.old
-            (found_with finder.new result) env.new cache.new }
+            (found_with key_buffers.new result) env.new cache.new }
     {
-        let mut core = TableCore::with_finder(alloc, self, finder)?;
-        core.seek_let(self, env, cache, compressors, key)?;
-        core.into_value(finder)
+        let mut core = TableCore::with_key_buffers(alloc, self, key_buffers)?;
+        core.seek_filtered(self, env, cache, compressors, key)?;
+        core.into_value(key_buffers)
     }
 
     // The handle that a line of the index has as its value.
@@ -287,8 +287,8 @@ impl<E: Env, C: Cmp + Copy + Drop, FP: FilterPolicy> Table<E, C, FP> {
     }
 
     // Whether the filters let a key pass at an offset; without filters each key passes.
-    fn lets(&self, offset: usize, key: &[u8]) -> bool
-        ensures { result ≡ lets FP.matches self.now offset key.now }
+    fn may_contain(&self, offset: usize, key: &[u8]) -> bool
+        ensures { result ≡ may_contain FP.matches self.now offset key.now }
     {
         match &self.filters {
             Some(filters) => filters.key_may_match(offset, key),

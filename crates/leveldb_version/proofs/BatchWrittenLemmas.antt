@@ -180,13 +180,13 @@ module _ (store : List ℕ) (cmp : List ℕ → List ℕ → Ordering)
       entries_then = all_append log.batches (batch ∷ [])
           ∙ ap (λ es. all_entries log.batches ++ es) (append-nil (placed (last + 1) items))
 
-      recent_then : (recent : List Entry)
-          → SameEntries recent (memory.recent ++ placed (last + 1) items)
-          → SameEntries recent (all_entries writable.log.batches)
-      recent_then recent is = subst (SameEntries recent) (sym entries_then)
+      mem_then : (mem : List Entry)
+          → SameEntries mem (memory.mem ++ placed (last + 1) items)
+          → SameEntries mem (all_entries writable.log.batches)
+      mem_then mem is = subst (SameEntries mem) (sym entries_then)
           (λ entry.
-          let more = same_with_more memory.recent (all_entries log.batches)
-          (placed (last + 1) items) w.recent_is entry in
+          let more = same_with_more memory.mem (all_entries log.batches)
+          (placed (last + 1) items) w.mem_is entry in
           (λ c. more.0 ((is entry).0 c), λ c. (is entry).1 (more.1 c)))
 
       reached_then : tracked.contents.last ≤ last + length items
@@ -194,29 +194,29 @@ module _ (store : List ℕ) (cmp : List ℕ → List ℕ → Ordering)
           let g = ap greatest (append-nil (placed (last + 1) items)) in
           omega (arith, w.reached, placed_greatest last items, g)
 
-      written_then : (recent : List Entry)
-          → SameEntries recent (memory.recent ++ placed (last + 1) items)
+      written_then : (mem : List Entry)
+          → SameEntries mem (memory.mem ++ placed (last + 1) items)
           → IsWrittenBy store cmp IsTableOf now edits
           (record memory {
             set = record memory.set { last_sequence = last + length items };
-            recent = recent;
+            mem = mem;
           })
-      written_then recent is = record {
+      written_then mem is = record {
         tracked = tracked;
         manifest = w.manifest;
         is_in_use = w.is_in_use;
         writable = writable;
         log_is = w.log_is;
         from_log = w.from_log;
-        recent_is = recent_then recent is;
-        waiting_is = waiting_on store cmp IsTableOf files now (live_after edits)
+        mem_is = mem_then mem is;
+        imm_is = waiting_on store cmp IsTableOf files now (live_after edits)
             w.tracked.managed.logs tracked.managed.logs memory.log w.tracked.managed.has_logs
             tracked.managed.has_logs
             (λ k less small. same_bytes (files (log_path store k)) (now (log_path store k))
             (others_same (log_path store k)
             (numbers_apart store (file_name Log log.number) (file_name Log k) log.number k Log Log
             named (made_name Log k small) (λ e. omega (arith, e, less, w.log_is)))))
-            memory.waiting w.waiting_is;
+            memory.imm w.imm_is;
         reached = reached_then;
         last_fits = all_fit;
       }
@@ -239,13 +239,13 @@ module _ (store : List ℕ) (cmp : List ℕ → List ℕ → Ordering)
                   (extended (log_path store k) frame files)
                   (history ++ placed (last + 1) items ∷ []) (last + length items) durable None)
                   w.log_is appends.after;
-              written = λ are recent is. subst
+              written = λ are mem is. subst
                   (λ k. IsWrittenBy store cmp IsTableOf (extended (log_path store k) frame files)
                   edits
                   (record memory {
                     set = record memory.set { last_sequence = last + length items };
-                    recent = recent;
-                  })) w.log_is (written_then are recent is);
+                    mem = mem;
+                  })) w.log_is (written_then are mem is);
             }
 
   -- ---- a sync of the log

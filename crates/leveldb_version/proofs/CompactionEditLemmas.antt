@@ -25,7 +25,7 @@ use Rattle.leveldb_version.proofs.SafeLemmas.{some_is}
 use Rattle.leveldb_version.proofs.TracksLemmas.{NumbersAre, numbers_are}
 use Rattle.leveldb_version.proofs.VersionSetLemmas.{applies_in_order, is_same_file-refl}
 use Rattle.leveldb_version.proofs.ViewsLemmas.{greatest_most, same_sets, view_trans}
-use Rattle.leveldb_version.proofs.WaitingLemmas.{front_is_in, in_front_of, only_one, same_number}
+use Rattle.leveldb_version.proofs.ImmLemmas.{front_is_in, in_front_of, only_one, same_number}
 use Rattle.leveldb_version.specs.Compaction.{AreKnownByNumber, Compacts, IsTight, ReplacesInputs, moved}
 use Rattle.leveldb_version.specs.CompactionEdit.{CompactionsAreLogged, EditIsLogged, HasMadeOutputs, IsCompactionEdit, LiveTablesAreKnown, MadeOutputsCompact, MovesCompact}
 use Rattle.leveldb_version.specs.CompactionLaws.{KeepsLevelsAndViews}
@@ -139,7 +139,7 @@ module _ (store : List ℕ) (cmp : List ℕ → List ℕ → Ordering)
   module _ (one : OneTableReading IsTableOf) (total : IsTotalOrder cmp)
       (ranges : TablesAreInRange store cmp IsTableOf) (files : Files) (edits : List Edit)
       (memory : EngineMemory) (w : IsWrittenBy store cmp IsTableOf files edits memory)
-      (none : memory.waiting ≡ []) (smallest level : ℕ)
+      (none : memory.imm ≡ []) (smallest level : ℕ)
       (before inputs outputs after_it : List LiveTable)
       (has : HasTables store cmp IsTableOf files (live_after edits) before)
       (h : HasMadeOutputs store cmp IsTableOf files smallest level before inputs outputs)
@@ -314,7 +314,7 @@ module _ (store : List ℕ) (cmp : List ℕ → List ℕ → Ordering)
     nothing : (entry : Entry) → Contains (log_entries p.front) entry → ⊥
     nothing entry c =
         let l = log_of p.front entry c in
-        in_none entry (subst (λ es. Contains es entry) none ((w.waiting_is entry).1
+        in_none entry (subst (λ es. Contains es entry) none ((w.imm_is entry).1
         (l.0, front_is_in memory.log m.logs p l.0 l.1, p.before l.0 l.1, l.2)))
 
     -- ---- it changes nothing that is shown
@@ -399,7 +399,7 @@ module _ (store : List ℕ) (cmp : List ℕ → List ℕ → Ordering)
             (with_bytes_kept w.manifest.path
             (frame w.manifest.writer (edit_record memory.set plain)) files)
             (edits ++ written_edit memory.set plain ∷ [])
-            (record memory { set = set_appended w.manifest memory.set plain; waiting = es }))
+            (record memory { set = set_appended w.manifest memory.set plain; imm = es }))
             (sym none) it.written;
       }
     where

@@ -161,7 +161,7 @@ module _ (store : List ℕ) (cmp : List ℕ → List ℕ → Ordering)
         }
 
         written_after : IsWrittenBy store cmp IsTableOf now then
-            (record memory { set = set_after; waiting = [] })
+            (record memory { set = set_after; imm = [] })
         written_after = record {
           tracked = tracked_after;
           manifest = manifest_after;
@@ -170,8 +170,8 @@ module _ (store : List ℕ) (cmp : List ℕ → List ℕ → Ordering)
           log_is = w.log_is;
           from_log = subst (λ k. k ≤ memory.log)
               (ap (λ o. unwrap_or o memory.set.log_number) (sym names)) (omega arith);
-          recent_is = w.recent_is;
-          waiting_is = λ entry. (
+          mem_is = w.mem_is;
+          imm_is = λ entry. (
             λ c. absurd (in_none entry c),
             λ l. let up = from_log l.0.number (tracked_after.managed.has_logs.each l.0 l.1).1 in
                 absurd (omega (arith, l.2, up)),

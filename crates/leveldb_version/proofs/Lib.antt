@@ -70,7 +70,7 @@ pub mod BatchWrittenLemmas
 pub mod EditRecordLemmas
 pub mod LogTablesLemmas
 pub mod EditTrackedLemmas
-pub mod WaitingLemmas
+pub mod ImmLemmas
 pub mod ShownLemmas
 pub mod RecoveringLemmas
 pub mod OpeningEndLemmas

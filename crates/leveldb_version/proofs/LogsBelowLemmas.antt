@@ -101,10 +101,10 @@ pub waiting_on : (store : List ℕ) (cmp : List ℕ → List ℕ → Ordering)
     → HasLogs store new set others
     → ((k : ℕ) → k < n → k < 2 ^ 64
     → SameBytes (old (log_path store k)) (new (log_path store k)))
-    → (waiting : List Entry)
-    → ((entry : Entry) → Contains waiting entry ↔ IsInLogBelow logs n entry)
-    → (entry : Entry) → Contains waiting entry ↔ IsInLogBelow others n entry
-waiting_on store cmp IsTableOf old new set logs others n has has_others same waiting is entry = (
+    → (imm : List Entry)
+    → ((entry : Entry) → Contains imm entry ↔ IsInLogBelow logs n entry)
+    → (entry : Entry) → Contains imm entry ↔ IsInLogBelow others n entry
+waiting_on store cmp IsTableOf old new set logs others n has has_others same imm is entry = (
   λ c. below_on store cmp IsTableOf old new set logs others n has has_others same entry
       ((is entry).0 c),
   λ i. (is entry).1 (below_on store cmp IsTableOf new old set others logs n has_others has

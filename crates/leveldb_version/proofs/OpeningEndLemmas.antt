@@ -82,7 +82,7 @@ module _ (store : List ℕ) (cmp : List ℕ → List ℕ → Ordering)
       (r : IsRecoveredBy store cmp IsTableOf files edits set) (found : Contents)
       (m : IsManagedBy store cmp IsTableOf files edits found)
       (last_is : found.last ≡ set.last_sequence) (last_fits : set.last_sequence ≤ greatest_sequence)
-      (log : ℕ) (recent : List Entry) (w : IsLogToWrite store files set log recent)
+      (log : ℕ) (mem : List Entry) (w : IsLogToWrite store files set log mem)
       (none_below : (name : List ℕ) (k : ℕ) → IsFileName name k Log
       → LogIsReplayed (live_after edits) k → files (in_folder store name) ≢ None → log ≤ k)
       (manifest : OpenManifest) (is : set.manifest ≡ in_use manifest) where
@@ -130,7 +130,7 @@ module _ (store : List ℕ) (cmp : List ℕ → List ℕ → Ordering)
       bytes = r.tracked.bytes (log_path store log) w.file w.there;
     }
 
-    written : IsWrittenBy store cmp IsTableOf files edits (opened_memory set log recent)
+    written : IsWrittenBy store cmp IsTableOf files edits (opened_memory set log mem)
     written = record {
       tracked = record {
         tracks = r.tracked.tracks;
@@ -148,8 +148,8 @@ module _ (store : List ℕ) (cmp : List ℕ → List ℕ → Ordering)
       writable = writable;
       log_is = refl;
       from_log = w.from_log;
-      recent_is = w.recent_is;
-      waiting_is = λ entry. (
+      mem_is = w.mem_is;
+      imm_is = λ entry. (
         λ c. absurd (in_none entry c),
         λ i. let h = m.has_logs.each i.0 i.1 in
             let least = none_below (file_name Log i.0.number) i.0.number
@@ -173,7 +173,7 @@ module _ (store : List ℕ) (cmp : List ℕ → List ℕ → Ordering)
     pub opened : (allowed : Store → Type 0) (before : Contents)
         → ((history : History) → MatchesHistory allowed set.last_sequence before history
         → MatchesHistory allowed set.last_sequence found history)
-        → IsOpened store cmp IsTableOf allowed before files edits (opened_memory set log recent)
+        → IsOpened store cmp IsTableOf allowed before files edits (opened_memory set log mem)
     opened allowed before matches = record {
       written = written;
       holds = λ history t. subst
@@ -184,9 +184,9 @@ module _ (store : List ℕ) (cmp : List ℕ → List ℕ → Ordering)
     }
 
   pub openings_go_on : (allowed : Store → Type 0) → OpeningsGoOn store cmp IsTableOf allowed
-  openings_go_on allowed files edits set r found m last_is last_fits log recent w below manifest
+  openings_go_on allowed files edits set r found m last_is last_fits log mem w below manifest
       is =
-      opened files edits set r found m last_is last_fits log recent w none_below manifest is allowed
+      opened files edits set r found m last_is last_fits log mem w none_below manifest is allowed
       found (λ history t. t)
     where
       none_below : (name : List ℕ) (k : ℕ) → IsFileName name k Log
@@ -206,7 +206,7 @@ module _ (store : List ℕ) (cmp : List ℕ → List ℕ → Ordering)
       (set : VersionSetValue) (r : IsRecoveredBy store cmp IsTableOf files edits set)
       (found : Contents) (m : IsManagedBy store cmp IsTableOf files edits found)
       (last_is : found.last ≡ set.last_sequence) (last_fits : set.last_sequence ≤ greatest_sequence)
-      (log : ℕ) (recent : List Entry) (w : IsLogToWrite store files set log recent)
+      (log : ℕ) (mem : List Entry) (w : IsLogToWrite store files set log mem)
       (tables : List LiveTable) (a : AreLogTables store cmp IsTableOf files edits log tables)
       (next_fits : set.next_file < 2 ^ 64)
       (fit : (table : LiveTable) → Contains tables table → FitsEdit table.file) where
@@ -377,7 +377,7 @@ module _ (store : List ℕ) (cmp : List ℕ → List ℕ → Ordering)
         };
       }
 
-      to_write : IsLogToWrite store now set_then log recent
+      to_write : IsLogToWrite store now set_then log mem
       to_write = record {
         fits = w.fits;
         from_log = omega (arith, log_is_then);
@@ -389,17 +389,17 @@ module _ (store : List ℕ) (cmp : List ℕ → List ℕ → Ordering)
         clean_end = w.clean_end;
         batches = w.batches;
         each = w.each;
-        recent_is = w.recent_is;
+        mem_is = w.mem_is;
       }
 
       pub opened_then : (allowed : Store → Type 0)
           → IsOpened store cmp IsTableOf allowed found now those
-          (opened_memory set_then log recent)
+          (opened_memory set_then log mem)
       opened_then allowed =
           opened now those set_then recovered t.contents t.managed
           (let more = refined.later in let most = refined.bounded in
           omega (arith, more, most, last_is, last_is_then))
-          (omega (arith, last_fits, last_is_then)) log recent to_write
+          (omega (arith, last_fits, last_is_then)) log mem to_write
           (λ name k its replayed some. from_log k replayed) manifest is allowed found
           (λ history matches. subst (λ last. MatchesHistory allowed last t.contents history)
           (sym last_is_then)
@@ -427,7 +427,7 @@ module _ (store : List ℕ) (cmp : List ℕ → List ℕ → Ordering)
     appended_opens : (allowed : Store → Type 0) (manifest : OpenManifest)
         → set.manifest ≡ in_use manifest → IsOpened store cmp IsTableOf allowed found
         (with_bytes_kept manifest.path (frame manifest.writer (edit_record set plain)) files) then
-        (opened_memory (set_appended manifest set plain) log recent)
+        (opened_memory (set_appended manifest set plain) log mem)
     appended_opens allowed manifest is = opened_then
         (with_bytes_kept manifest.path (frame manifest.writer (edit_record set plain)) files) then
         (set_appended manifest set plain)
@@ -449,7 +449,7 @@ module _ (store : List ℕ) (cmp : List ℕ → List ℕ → Ordering)
     begun_opens : (allowed : Store → Type 0) (is : set.manifest ≡ unmade)
         → IsOpened store cmp IsTableOf allowed found
         (with_manifest store set.manifest_number (manifest_bytes (new_records set plain)) files)
-        (set.full ∷ edit ∷ []) (opened_memory (set_begun set plain) log recent)
+        (set.full ∷ edit ∷ []) (opened_memory (set_begun set plain) log mem)
     begun_opens allowed is = opened_then
         (with_manifest store set.manifest_number (manifest_bytes (new_records set plain)) files)
         (set.full ∷ edit ∷ []) (set_begun set plain)
@@ -470,7 +470,7 @@ module _ (store : List ℕ) (cmp : List ℕ → List ℕ → Ordering)
             is
 
     ends : (allowed : Store → Type 0)
-        → EndsOpening store cmp IsTableOf allowed found files edits set plain log recent
+        → EndsOpening store cmp IsTableOf allowed found files edits set plain log mem
     ends allowed = record {
       appending = λ manifest is bound most moment passes.
           appended_edits_keep store cmp IsTableOf allowed files edits set plain r.tracked.tracks
@@ -484,7 +484,7 @@ module _ (store : List ℕ) (cmp : List ℕ → List ℕ → Ordering)
     }
 
   pub openings_end : (allowed : Store → Type 0) → OpeningsEnd store cmp IsTableOf allowed
-  openings_end allowed one files edits set r found m last_is last_fits log recent w tables a
+  openings_end allowed one files edits set r found m last_is last_fits log mem w tables a
       next_fits fit =
-      ends one files edits set r found m last_is last_fits log recent w tables a next_fits fit
+      ends one files edits set r found m last_is last_fits log mem w tables a next_fits fit
       allowed

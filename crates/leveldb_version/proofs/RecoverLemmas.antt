@@ -16,13 +16,13 @@ use Rattle.leveldb_version.specs.Current.{IsCurrentText}
 use Rattle.leveldb_version.specs.CurrentFile.{IsCurrentUnread}
 use Rattle.leveldb_version.specs.Paths.{current_path}
 use Rattle.leveldb_version.specs.Recover.{HasRecordOfNoEdit, IsNamed, IsRead, IsUsable, ReadManifest, WhyUnrecovered, WhyUnusable, lost, no_edit, too_long, unread, unusable, used_up}
-use Rattle.leveldb_version.specs.RecoverSteps.{IsFileUnread, IsManifestAt, IsManifestRead, IsManifestUnread, IsPlan, IsSizedLog, IsSizedReplay}
+use Rattle.leveldb_version.specs.RecoverSteps.{IsFileUnread, IsManifestAt, IsManifestRead, IsManifestUnread, IsRecoveryPlan, IsSizedLog, IsSizedReplay}
 use Rattle.leveldb_version.specs.Replay.{AreReplayed, IsNoLogOfEdits, HasReplayCause, IsNoManifest, IsReplayOf, IsReplayOfFile}
 use Rattle.leveldb_version.specs.Usable.{next_number_of}
 use Rattle.leveldb_version.specs.VersionEdit.{Edit}
 use Rattle.leveldb_version.specs.VersionSet.{live_after}
 use Rattle.leveldb_version.specs.VersionSetValue.{VersionSetValue}
-use Rattle.leveldb_version.specs.declared.version_set.recover.Plan.{Plan}
+use Rattle.leveldb_version.specs.declared.version_set.recover.RecoveryPlan.{RecoveryPlan}
 use Rattle.leveldb_version.specs.declared.version_set.replay.Replayed.{Replayed}
 
 -- ---- causes
@@ -272,11 +272,11 @@ module _ (models_disk : Bool) (cmp : List ℕ → List ℕ → Ordering) (compar
           (is_read models_disk old before.disk.files path number records end size read left replayed)
           (subst (λ n. 2 ^ 64 ≤ n + 1) (next_same old.next_file number replayed.edits left replayed.left) why.1))
 
-  pub plan_made : (plan : Plan) (records : List (List ℕ)) (is_clean : Bool) → IsManifestRead models_disk old.store before.disk.files (string_bytes plan.path) plan.number records (if is_clean then clean else bad) plan.size
+  pub plan_made : (plan : RecoveryPlan) (records : List (List ℕ)) (is_clean : Bool) → IsManifestRead models_disk old.store before.disk.files (string_bytes plan.path) plan.number records (if is_clean then clean else bad) plan.size
       → AreReplayed records plan.left → ((edits : List Edit) → IsReplayOf edits plan.left → IsUsable cmp comparator edits)
       → plan.next_file ≡ next_number_of old.next_file plan.number plan.left → plan.next_file + 1 < 2 ^ 64
       → IsTrue plan.reuses ↔ (IsTrue reuse × IsTrue is_clean × (plan.size < limit))
-      → IsPlan models_disk cmp comparator reuse limit old before.disk.files plan
+      → IsRecoveryPlan models_disk cmp comparator reuse limit old before.disk.files plan
   plan_made plan records is_clean read replayed usable next fits reuses =
       let end : End = if is_clean then clean else bad in
       record {

@@ -12,9 +12,9 @@ use Rattle.leveldb_mem.specs.Log.Writer.{new_writer}
 use Rattle.leveldb_version.specs.Current.{IsCurrentText}
 use Rattle.leveldb_version.specs.Paths.{current_path}
 use Rattle.leveldb_version.specs.Recover.{IsNamed, IsRead, LeavesFiles, ReadManifest, ReadSetResult, RecoverResult, WhyUnrecovered, lost, no_edit, set_going_on, set_starting_anew, too_long, unread, unusable, used_up}
-use Rattle.leveldb_version.specs.RecoverSteps.{IsPlan, set_settled}
+use Rattle.leveldb_version.specs.RecoverSteps.{IsRecoveryPlan, set_installed}
 use Rattle.leveldb_version.specs.VersionSetValue.{VersionSetValue, broken, in_use, unmade}
-use Rattle.leveldb_version.specs.declared.version_set.recover.Plan.{Plan}
+use Rattle.leveldb_version.specs.declared.version_set.recover.RecoveryPlan.{RecoveryPlan}
 use Rattle.leveldb_version.proofs.RecoverLemmas.{and_some, why_memory, cause_of_error}
 
 is_named : (store : List ℕ) (files : Files) (manifest : ReadManifest) → IsRead store files manifest → IsNamed store files manifest.name manifest.number
@@ -43,8 +43,8 @@ module _ (models_disk : Bool) (cmp : List ℕ → List ℕ → Ordering) (compar
   planned_then_out_of_memory {after} {f0} {f1} {status} new_is still locks same memory = nothing_recovered after f0 f1 status still locks new_is
       (record { later = omega (arith, same); ok = tt; uncounted = λ why. same; cause = inl (unread (inl (inl memory))) })
 
-  module _ (plan : Plan) (is : IsPlan models_disk cmp comparator reuse limit old before.disk.files plan) where
-    pub starting_anew : set_settled old plan false ≡ set_starting_anew old is.manifest
+  module _ (plan : RecoveryPlan) (is : IsRecoveryPlan models_disk cmp comparator reuse limit old before.disk.files plan) where
+    pub starting_anew : set_installed old plan false ≡ set_starting_anew old is.manifest
     starting_anew = λ i. record old {
       full = is.left.full i;
       next_file = is.next_file i + 1;
@@ -56,7 +56,7 @@ module _ (models_disk : Bool) (cmp : List ℕ → List ℕ → Ordering) (compar
       manifest = unmade;
     }
 
-    going_on : set_settled old plan true ≡ set_going_on old is.manifest
+    going_on : set_installed old plan true ≡ set_going_on old is.manifest
     going_on = λ i. record old {
       full = is.left.full i;
       next_file = is.next_file i;
@@ -69,7 +69,7 @@ module _ (models_disk : Bool) (cmp : List ℕ → List ℕ → Ordering) (compar
     }
 
     pub recovered_anew : (after : Observed) (f0 f1 : ℕ) → (IsTrue models_disk → Run (FilesUnchanged before.disk.files) before after) → SameLocks models_disk before after → f1 ≡ f0
-        → plan.reuses ≡ false → new ≡ set_settled old plan false
+        → plan.reuses ≡ false → new ≡ set_installed old plan false
         → RecoverResult models_disk cmp comparator reuse limit old before f0 (Ok true) new after f1
     recovered_anew after f0 f1 still locks same anew is_new = record {
       ok = record {
@@ -106,7 +106,7 @@ module _ (models_disk : Bool) (cmp : List ℕ → List ℕ → Ordering) (compar
 
       pub recovered_going_on : {T : Type 0} (value : T)
           → (IsTrue models_disk → ChangesFiles models_disk (synced (string_bytes plan.path)) (BeforeOrAfter (synced (string_bytes plan.path))) mid after (Ok value))
-          → f2 ≡ f1 → new ≡ set_settled old plan true
+          → f2 ≡ f1 → new ≡ set_installed old plan true
           → RecoverResult models_disk cmp comparator reuse limit old before f0 (Ok false) new after f2
       recovered_going_on value does last is_new = record {
         ok = record {
@@ -166,8 +166,8 @@ module _ (models_disk : Bool) (cmp : List ℕ → List ℕ → Ordering) (compar
   }
 
   -- what was planned is read
-  pub set_read : (reuse : Bool) (limit : ℕ) (plan : Plan) → IsPlan models_disk cmp comparator reuse limit old before.disk.files plan → f1 ≡ f0
-      → (set new : VersionSetValue) → set ≡ set_settled old plan false → new ≡ record set { manifest = broken }
+  pub set_read : (reuse : Bool) (limit : ℕ) (plan : RecoveryPlan) → IsRecoveryPlan models_disk cmp comparator reuse limit old before.disk.files plan → f1 ≡ f0
+      → (set new : VersionSetValue) → set ≡ set_installed old plan false → new ≡ record set { manifest = broken }
       → ReadSetResult models_disk cmp comparator old before f0 (Ok tt) new after f1
   set_read reuse limit plan is same set new set_is new_is = record {
     ok = record {

@@ -27,7 +27,7 @@ use Rattle.leveldb_version.specs.Format.{IsTableOf, Meaning}
 use Rattle.leveldb_version.specs.Found.{AreFound, IsAnyTable, IsFound, IsFoundLog, IsNumberedBatch, IsReadable, LogHas, TableHas}
 use Rattle.leveldb_version.specs.Levels.{LiveTable, table_entries}
 use Rattle.leveldb_version.specs.Paths.{current_path, log_path, table_path}
-use Rattle.leveldb_version.specs.Repairing.{FiltersAreIgnored, FoundShowsTheSame, HasNoOtherFile, IsRepairing, MeantHaveFound, NoCutTableIsReadable, SameFound, StoresAreFound, TablesAreReadable}
+use Rattle.leveldb_version.specs.Repairing.{FiltersAreIgnored, FoundShowsTheSame, HasNoOtherFile, IsAmidRepair, MeantHaveFound, NoCutTableIsReadable, SameFound, StoresAreFound, TablesAreReadable}
 use Rattle.leveldb_version.specs.Store.{IsInternalPair, IsLog, IsManaged, IsManagedBy, OneTableReading, ReplayedLog, log_batches, log_entries}
 use Rattle.leveldb_version.specs.StoreSteps.{IsKept}
 use Rattle.leveldb_version.specs.VersionEdit.{NewFile}
@@ -95,7 +95,7 @@ module _ (store : List ℕ) (first next : ℕ) where
 -- ---- while a repair is made
 
 module _ (store : List ℕ) (IsTableOf : List ℕ → List Pair → Type 0) (taken next : ℕ)
-    (old now : Files) (r : IsRepairing store taken next old now) where
+    (old now : Files) (r : IsAmidRepair store taken next old now) where
   abbrev manifest : ℕ
   manifest = taken + 1
 
@@ -243,7 +243,7 @@ module _ (cmp : List ℕ → List ℕ → Ordering) (meaning : Meaning) where
       metas = table.metas;
       meta = table.meta;
       index = table.index;
-      tabled = table.tabled;
+      tables_made = table.tables_made;
       accepted = table.accepted;
       sorted = table.sorted;
       pairs_are = table.pairs_are;

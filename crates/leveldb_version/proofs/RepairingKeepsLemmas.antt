@@ -14,7 +14,7 @@ use Rattle.leveldb_version.specs.Current.{current_text}
 use Rattle.leveldb_version.specs.Found.{HasNoTableNorLog}
 use Rattle.leveldb_version.specs.Holds.{IsHonest}
 use Rattle.leveldb_version.specs.Paths.{current_path, lock_path, manifest_path, table_path}
-use Rattle.leveldb_version.specs.Repairing.{IsRepairing, ManifestsGoOn}
+use Rattle.leveldb_version.specs.Repairing.{IsAmidRepair, ManifestsGoOn}
 use Rattle.leveldb_version.specs.Store.{HasNoStore, IsManaged, IsStore}
 use Rattle.leveldb_version.specs.StoreSteps.{IsAboveLogs, KeepsHistory}
 use Rattle.leveldb_version.specs.VersionEdit.{NewFile}
@@ -30,7 +30,7 @@ where_there (Some file) left = left
 -- ---- what a repair leaves alone
 
 module _ (store : List ℕ) (taken next : ℕ) (old now : Files)
-    (r : IsRepairing store taken next old now) where
+    (r : IsAmidRepair store taken next old now) where
   -- the manifest's number has 64 bits, and so do those of tables
   pub manifest_fits : taken + 1 < 2 ^ 64
   manifest_fits = let begun = r.begun in let fits = r.fits in omega (arith, begun, fits)
@@ -176,7 +176,7 @@ module _ (store : List ℕ) (cmp : List ℕ → List ℕ → Ordering)
       }
 
   module _ (allowed : Store → Type 0) (taken next : ℕ) (old now : Files)
-      (r : IsRepairing store taken next old now)
+      (r : IsAmidRepair store taken next old now)
       (still : now (current_path store) ≡ old (current_path store))
       (some : HasNoTableNorLog store old → ⊥) where
     -- what was there is there

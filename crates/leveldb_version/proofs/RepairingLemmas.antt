@@ -35,7 +35,7 @@ use Rattle.leveldb_version.specs.Holds.{Holds}
 use Rattle.leveldb_version.specs.Levels.{LevelOrder, LiveTable, table_entries}
 use Rattle.leveldb_version.specs.NewManifest.{MakingManifest}
 use Rattle.leveldb_version.specs.Paths.{current_path, manifest_path, table_path}
-use Rattle.leveldb_version.specs.Repairing.{AreLevelOne, HasRepairedTables, HoldOldOrFound, IsRepaired, IsRepairing, ManifestRepairs, repaired_contents, repaired_edit, repaired_manifest}
+use Rattle.leveldb_version.specs.Repairing.{AreLevelOne, HasRepairedTables, HoldOldOrFound, IsRepairedStore, IsAmidRepair, ManifestRepairs, repaired_contents, repaired_edit, repaired_manifest}
 use Rattle.leveldb_version.specs.Store.{FitTogether, HasTables, IsInternalPair, IsManagedBy, IsManifest, IsStore, LastNumbersFit, LogIsReplayed, SameEntries, contents_of}
 use Rattle.leveldb_version.specs.StoreSteps.{AddsOnce, AreKept, HasAddedTables, IsAllKept, IsKept, LeavesAlone}
 use Rattle.leveldb_version.specs.VersionEdit.{Edit, IsEncodable, NewFile, edit_bytes}
@@ -259,7 +259,7 @@ module _ (store : List ℕ) (cmp : List ℕ → List ℕ → Ordering)
               absurd (never (λ e. let wrong : Some file ≡ None = e in cc))
 
     pub repaired_is_kept : (files : Files)
-        → IsRepaired store cmp IsTableOf comparator manifest next last tables files
+        → IsRepairedStore store cmp IsTableOf comparator manifest next last tables files
         → IsAllKept store cmp IsTableOf files contents
     repaired_is_kept files r = record {
       managed = record {
@@ -273,7 +273,7 @@ module _ (store : List ℕ) (cmp : List ℕ → List ℕ → Ordering)
     }
 
     pub repaired_holds : (allowed : Store → Type 0) (files : Files)
-        → IsRepaired store cmp IsTableOf comparator manifest next last tables files
+        → IsRepairedStore store cmp IsTableOf comparator manifest next last tables files
         → allowed (made (Some comparator)) → (found : List Entry)
         → SameEntries (table_entries tables) found
         → Holds store (IsStore store cmp IsTableOf) allowed files (found ∷ []) (greatest found) 1
@@ -291,16 +291,16 @@ module _ (store : List ℕ) (cmp : List ℕ → List ℕ → Ordering)
 
     -- until then each history is kept
     pub repairs_hold : (allowed : Store → Type 0) (taken : ℕ) (old now : Files)
-        → IsRepairing store taken next old now → (HasNoTableNorLog store old → ⊥)
+        → IsAmidRepair store taken next old now → (HasNoTableNorLog store old → ⊥)
         → (now (current_path store) ≡ old (current_path store))
-        ⊎ IsRepaired store cmp IsTableOf comparator manifest next last tables now
+        ⊎ IsRepairedStore store cmp IsTableOf comparator manifest next last tables now
         → allowed (made (Some comparator)) → (found : List Entry)
         → SameEntries (table_entries tables) found
         → HoldOldOrFound store cmp IsTableOf allowed found old now
     repairs_hold allowed taken old now r some either may found same = ⊎_elim
         (λ (still : now (current_path store) ≡ old (current_path store)).
         inl (repair_keeps store cmp IsTableOf allowed taken next old now r still some))
-        (λ (done : IsRepaired store cmp IsTableOf comparator manifest next last tables now).
+        (λ (done : IsRepairedStore store cmp IsTableOf comparator manifest next last tables now).
         inr (repaired_holds allowed now done may found same))
         either
 
@@ -335,7 +335,7 @@ module _ (store : List ℕ) (cmp : List ℕ → List ℕ → Ordering)
       Making = MakingManifest store manifest bytes files
 
       abbrev Repaired : Files → Type 0
-      Repaired = IsRepaired store cmp IsTableOf comparator manifest next last tables
+      Repaired = IsRepairedStore store cmp IsTableOf comparator manifest next last tables
 
       -- `CURRENT` names the manifest, which is there
       repaired_then : (now : Files) → Making now → now to ≡ text

@@ -40,25 +40,25 @@ module _ (cmp : List ℕ → List ℕ → Ordering) where
             (v.1, v.0))))
             (s.same t (omega (arith, later, late)));
         up_to = λ entry c. s.up_to entry (regroup entry c);
-        waiting_older = s.waiting_older;
+        imm_older = s.imm_older;
         tables_older = compacted.older;
         levels = compacted.order;
       }
     where
       held : List Entry
-      held = memory.recent ++ memory.waiting
+      held = memory.mem ++ memory.imm
 
       now : List Entry
-      now = memory.recent ++ (memory.waiting ++ table_entries after)
+      now = memory.mem ++ (memory.imm ++ table_entries after)
 
       was : List Entry
-      was = memory.recent ++ (memory.waiting ++ table_entries before)
+      was = memory.mem ++ (memory.imm ++ table_entries before)
 
       grouped_now : held ++ table_entries after ≡ now
-      grouped_now = append_assoc memory.recent memory.waiting (table_entries after)
+      grouped_now = append_assoc memory.mem memory.imm (table_entries after)
 
       grouped_was : held ++ table_entries before ≡ was
-      grouped_was = append_assoc memory.recent memory.waiting (table_entries before)
+      grouped_was = append_assoc memory.mem memory.imm (table_entries before)
 
       compacted : KeepsLevelsAndViews cmp smallest before after held
       compacted = keeps cmp total smallest level before inputs outputs after held s.levels bounded
@@ -84,7 +84,7 @@ module _ (cmp : List ℕ → List ℕ → Ordering) where
   shown_later memory tables history since then later s = record {
     same = λ t late. s.same t (omega (arith, later, late));
     up_to = s.up_to;
-    waiting_older = s.waiting_older;
+    imm_older = s.imm_older;
     tables_older = s.tables_older;
     levels = s.levels;
   }

@@ -17,7 +17,7 @@ use Rattle.leveldb_version.proofs.OneStoreLemmas.{one_store, one_table, tables_i
 use Rattle.leveldb_version.proofs.SafeLemmas.{some_is}
 use Rattle.leveldb_version.proofs.ViewsLemmas.{same_sets, turned, view_trans}
 use Rattle.leveldb_version.proofs.LogsBelowLemmas.{in_logs, log_of}
-use Rattle.leveldb_version.proofs.WaitingLemmas.{in_back_of, in_front_of, waiting_in_logs}
+use Rattle.leveldb_version.proofs.ImmLemmas.{in_back_of, in_front_of, imm_in_logs}
 use Rattle.leveldb_version.specs.Batches.{AreInOrder, Each, IsRecordOf, all_entries}
 use Rattle.leveldb_version.specs.Contents.{Contents, Store}
 use Rattle.leveldb_version.specs.Holds.{Carries}
@@ -27,7 +27,7 @@ use Rattle.leveldb_version.specs.Store.{HasTables, IsManagedBy, IsStore, OneTabl
 use Rattle.leveldb_version.specs.VersionEdit.{Edit}
 use Rattle.leveldb_version.specs.VersionSet.{live_after}
 use Rattle.leveldb_version.specs.Writing.{EngineMemory, IsWrittenBy}
-use Rattle.leveldb_version.specs.WritingLaws.{SameMemoryShows, TabledIsShown, WrittenIsShown}
+use Rattle.leveldb_version.specs.WritingLaws.{SameMemoryShows, NewTableIsShown, WrittenIsShown}
 use Rattle.std.proofs.Common.{◌++◌, ◌+◌, ◌<◌, ◌∙◌, ◌≡◌, ◌≤◌, ◌⊎◌, List, None, Some, [], ap, append-nil, arith, inl, inr, refl, subst, sym, ℕ, ⊎_elim}
 use Rattle.std.proofs.lemmas.Bool.{cases_lt}
 use Rattle.std.proofs.lemmas.List.Elements.{Contains-append_cases, Contains-append_left, Contains-append_right}
@@ -79,14 +79,14 @@ module _ (store : List ℕ) (cmp : List ℕ → List ℕ → Ordering)
         (subst (λ rs. Each IsRecordOf rs log.batches) records h.0.2.each) tt
 
     -- the entries of logs are those in memory
-    recent_in_logs : (entry : Entry) → Contains memory.recent entry
+    mem_in_logs : (entry : Entry) → Contains memory.mem entry
         → Contains (log_entries m.logs) entry
-    recent_in_logs entry c = in_logs m.logs last_log.0 entry last_log.1
+    mem_in_logs entry c = in_logs m.logs last_log.0 entry last_log.1
         (subst (λ bs. Contains (all_entries bs) entry)
-        (sym (one_last last_log.0 last_log.1 last_log.2)) ((w.recent_is entry).0 c))
+        (sym (one_last last_log.0 last_log.1 last_log.2)) ((w.mem_is entry).0 c))
 
     logs_in_memory : (entry : Entry) → Contains (log_entries m.logs) entry
-        → Contains (memory.recent ++ memory.waiting) entry
+        → Contains (memory.mem ++ memory.imm) entry
     logs_in_memory entry c = by (cases_lt l.0.number memory.log) (cases_lt memory.log l.0.number)
       where
         l : (log : ReplayedLog) × Contains m.logs log × Contains (all_entries log.batches) entry
@@ -94,26 +94,26 @@ module _ (store : List ℕ) (cmp : List ℕ → List ℕ → Ordering)
 
         by : (l.0.number < memory.log) ⊎ (memory.log ≤ l.0.number)
             → (memory.log < l.0.number) ⊎ (l.0.number ≤ memory.log)
-            → Contains (memory.recent ++ memory.waiting) entry
-        by (inl less) other = Contains-append_right memory.recent memory.waiting entry
-            ((w.waiting_is entry).1 (l.0, l.1, less, l.2))
+            → Contains (memory.mem ++ memory.imm) entry
+        by (inl less) other = Contains-append_right memory.mem memory.imm entry
+            ((w.imm_is entry).1 (l.0, l.1, less, l.2))
         by (inr most) (inl more) = absurd (in_none entry
             (subst (λ bs. Contains (all_entries bs) entry) (none_after l.0 l.1 more) l.2))
-        by (inr most) (inr least) = Contains-append_left memory.recent memory.waiting entry
-            ((w.recent_is entry).1 (subst (λ bs. Contains (all_entries bs) entry)
+        by (inr most) (inr least) = Contains-append_left memory.mem memory.imm entry
+            ((w.mem_is entry).1 (subst (λ bs. Contains (all_entries bs) entry)
             (one_last l.0 l.1 (omega (arith, most, least))) l.2))
 
-    memory_in_logs : (entry : Entry) → Contains (memory.recent ++ memory.waiting) entry
+    memory_in_logs : (entry : Entry) → Contains (memory.mem ++ memory.imm) entry
         → Contains (log_entries m.logs) entry
     memory_in_logs entry c = ⊎_elim
-        (λ (r : Contains memory.recent entry). recent_in_logs entry r)
-        (λ (waits : Contains memory.waiting entry).
-        waiting_in_logs store cmp IsTableOf files edits memory w entry waits)
-        (Contains-append_cases memory.recent memory.waiting entry c)
+        (λ (r : Contains memory.mem entry). mem_in_logs entry r)
+        (λ (waits : Contains memory.imm entry).
+        imm_in_logs store cmp IsTableOf files edits memory w entry waits)
+        (Contains-append_cases memory.mem memory.imm entry c)
 
     -- those that wait are below the recent ones
-    waiting_older : IsOlder memory.waiting memory.recent
-    waiting_older a b in_a in_b same_key =
+    imm_older : IsOlder memory.imm memory.mem
+    imm_older a b in_a in_b same_key =
         let low = up_to_greatest (log_entries p.front) a in_front in
         let up = order_above (max 0 (greatest (all_entries (log_batches p.front))))
         (log_batches p.back) order b in_back in
@@ -129,7 +129,7 @@ module _ (store : List ℕ) (cmp : List ℕ → List ℕ → Ordering)
             m.fit.rise)
 
         in_front : Contains (log_entries p.front) a
-        in_front = let l = (w.waiting_is a).0 in_a in
+        in_front = let l = (w.imm_is a).0 in_a in
             in_logs p.front l.0 a (in_front_of memory.log m.logs p l.0 l.1 l.2) l.3
 
         in_back : Contains (log_entries p.back) b
@@ -137,14 +137,14 @@ module _ (store : List ℕ) (cmp : List ℕ → List ℕ → Ordering)
             (in_back_of memory.log m.logs p last_log.0 last_log.1
             (omega (arith, last_log.2)))
             (subst (λ bs. Contains (all_entries bs) b)
-            (sym (one_last last_log.0 last_log.1 last_log.2)) ((w.recent_is b).0 in_b))
+            (sym (one_last last_log.0 last_log.1 last_log.2)) ((w.mem_is b).0 in_b))
 
     -- ---- its tables
 
     module _ (one : OneTableReading IsTableOf) (tables : List LiveTable)
         (has : HasTables store cmp IsTableOf files (live_after edits) tables) where
       abbrev shown : List Entry
-      shown = memory.recent ++ (memory.waiting ++ table_entries tables)
+      shown = memory.mem ++ (memory.imm ++ table_entries tables)
 
       -- a live table is one of them
       live_in : (table : LiveTable) → Contains tables table → Contains m.tables table
@@ -174,29 +174,29 @@ module _ (store : List ℕ) (cmp : List ℕ → List ℕ → Ordering)
       from = tables_in store cmp IsTableOf one files (live_after edits) m.tables tables
           m.has_tables has
 
-      tables_older : IsOlder (table_entries tables) (memory.recent ++ memory.waiting)
+      tables_older : IsOlder (table_entries tables) (memory.mem ++ memory.imm)
       tables_older a b in_a in_b same_key =
           m.fit.below a b (to a in_a) (memory_in_logs b in_b)
 
       -- ---- what they have
 
       regrouped : (entry : Entry) → Contains shown entry
-          → Contains (memory.recent ++ memory.waiting) entry
+          → Contains (memory.mem ++ memory.imm) entry
           ⊎ Contains (table_entries tables) entry
       regrouped entry c = ⊎_elim
-          (λ (r : Contains memory.recent entry).
-          inl (Contains-append_left memory.recent memory.waiting entry r))
-          (λ (rest : Contains (memory.waiting ++ table_entries tables) entry). ⊎_elim
-          (λ (waits : Contains memory.waiting entry).
-          inl (Contains-append_right memory.recent memory.waiting entry waits))
+          (λ (r : Contains memory.mem entry).
+          inl (Contains-append_left memory.mem memory.imm entry r))
+          (λ (rest : Contains (memory.imm ++ table_entries tables) entry). ⊎_elim
+          (λ (waits : Contains memory.imm entry).
+          inl (Contains-append_right memory.mem memory.imm entry waits))
           (λ (t : Contains (table_entries tables) entry). inr t)
-          (Contains-append_cases memory.waiting (table_entries tables) entry rest))
-          (Contains-append_cases memory.recent (memory.waiting ++ table_entries tables) entry c)
+          (Contains-append_cases memory.imm (table_entries tables) entry rest))
+          (Contains-append_cases memory.mem (memory.imm ++ table_entries tables) entry c)
 
       shown_is : SameEntries shown w.tracked.contents.entries
       shown_is entry = (
         λ c. subst (λ (x : Contents). Contains x.entries entry) (sym m.is) (⊎_elim
-            (λ (l : Contains (memory.recent ++ memory.waiting) entry).
+            (λ (l : Contains (memory.mem ++ memory.imm) entry).
             Contains-append_right (table_entries m.tables) (log_entries m.logs) entry
             (memory_in_logs entry l))
             (λ (t : Contains (table_entries tables) entry).
@@ -204,15 +204,15 @@ module _ (store : List ℕ) (cmp : List ℕ → List ℕ → Ordering)
             (to entry t)) (regrouped entry c)),
         λ c. ⊎_elim
             (λ (t : Contains (table_entries m.tables) entry).
-            Contains-append_right memory.recent (memory.waiting ++ table_entries tables) entry
-            (Contains-append_right memory.waiting (table_entries tables) entry (from entry t)))
+            Contains-append_right memory.mem (memory.imm ++ table_entries tables) entry
+            (Contains-append_right memory.imm (table_entries tables) entry (from entry t)))
             (λ (l : Contains (log_entries m.logs) entry). ⊎_elim
-            (λ (r : Contains memory.recent entry).
-            Contains-append_left memory.recent (memory.waiting ++ table_entries tables) entry r)
-            (λ (waits : Contains memory.waiting entry).
-            Contains-append_right memory.recent (memory.waiting ++ table_entries tables) entry
-            (Contains-append_left memory.waiting (table_entries tables) entry waits))
-            (Contains-append_cases memory.recent memory.waiting entry (logs_in_memory entry l)))
+            (λ (r : Contains memory.mem entry).
+            Contains-append_left memory.mem (memory.imm ++ table_entries tables) entry r)
+            (λ (waits : Contains memory.imm entry).
+            Contains-append_right memory.mem (memory.imm ++ table_entries tables) entry
+            (Contains-append_left memory.imm (table_entries tables) entry waits))
+            (Contains-append_cases memory.mem memory.imm entry (logs_in_memory entry l)))
             (Contains-append_cases (table_entries m.tables) (log_entries m.logs) entry
             (subst (λ (x : Contents). Contains x.entries entry) m.is c)),
       )
@@ -227,7 +227,7 @@ module _ (store : List ℕ) (cmp : List ℕ → List ℕ → Ordering)
         (same_sets (shown files edits memory w one tables has) found.contents.entries same t)
         (found.matches.same t late);
     up_to = λ entry c. found.matches.up_to entry ((same entry).0 c);
-    waiting_older = waiting_older files edits memory w;
+    imm_older = imm_older files edits memory w;
     tables_older = tables_older files edits memory w one tables has;
     levels = levels files edits memory w one tables has;
   }
@@ -270,63 +270,63 @@ itself entries entry = (λ c. c, λ c. c)
 
 module _ (cmp : List ℕ → List ℕ → Ordering) where
   -- a table in place of the entries that wait
-  pub tabled_is_shown : TabledIsShown cmp
-  tabled_is_shown memory table tables history from total entries can bounded s = record {
+  pub new_table_is_shown : NewTableIsShown cmp
+  new_table_is_shown memory table tables history from total entries can bounded s = record {
     same = λ t late. view_trans now before (entries_of history) t (same_sets now before same t)
         (s.same t late);
     up_to = λ entry c. s.up_to entry ((same entry).0 c);
-    waiting_older = λ a b none in_b same_key. absurd (in_none a none);
+    imm_older = λ a b none in_b same_key. absurd (in_none a none);
     tables_older = older;
     levels = adding_keeps_order cmp total tables table s.levels bounded can;
   }
     where
       now : List Entry
-      now = memory.recent ++ (table.entries ++ table_entries tables)
+      now = memory.mem ++ (table.entries ++ table_entries tables)
 
       before : List Entry
-      before = memory.recent ++ (memory.waiting ++ table_entries tables)
+      before = memory.mem ++ (memory.imm ++ table_entries tables)
 
       same : SameEntries now before
-      same = both_same memory.recent memory.recent (table.entries ++ table_entries tables)
-          (memory.waiting ++ table_entries tables) (itself memory.recent)
-          (both_same table.entries memory.waiting (table_entries tables) (table_entries tables)
+      same = both_same memory.mem memory.mem (table.entries ++ table_entries tables)
+          (memory.imm ++ table_entries tables) (itself memory.mem)
+          (both_same table.entries memory.imm (table_entries tables) (table_entries tables)
           entries (itself (table_entries tables)))
 
-      older : IsOlder (table.entries ++ table_entries tables) (memory.recent ++ [])
+      older : IsOlder (table.entries ++ table_entries tables) (memory.mem ++ [])
       older a b in_a in_b same_key = ⊎_elim
           (λ (new : Contains table.entries a).
-          s.waiting_older a b ((entries a).0 new) recent same_key)
+          s.imm_older a b ((entries a).0 new) mem same_key)
           (λ (old : Contains (table_entries tables) a).
-          s.tables_older a b old (Contains-append_left memory.recent memory.waiting b recent)
+          s.tables_older a b old (Contains-append_left memory.mem memory.imm b mem)
           same_key)
           (Contains-append_cases table.entries (table_entries tables) a in_a)
         where
-          recent : Contains memory.recent b
-          recent = subst (λ es. Contains es b) (append-nil memory.recent) in_b
+          mem : Contains memory.mem b
+          mem = subst (λ es. Contains es b) (append-nil memory.mem) in_b
 
   -- memory of the same entries
   pub same_memory_shows : SameMemoryShows cmp
-  same_memory_shows memory other tables history from recent waiting s = record {
+  same_memory_shows memory other tables history from mem imm s = record {
     same = λ t late. view_trans now before (entries_of history) t
         (same_sets now before (turned before now same) t) (s.same t late);
     up_to = λ entry c. s.up_to entry ((same entry).1 c);
-    waiting_older = λ a b in_a in_b same_key.
-        s.waiting_older a b ((waiting a).1 in_a) ((recent b).1 in_b) same_key;
+    imm_older = λ a b in_a in_b same_key.
+        s.imm_older a b ((imm a).1 in_a) ((mem b).1 in_b) same_key;
     tables_older = λ a b in_a in_b same_key.
         s.tables_older a b in_a
-        ((both_same memory.recent other.recent memory.waiting other.waiting recent waiting b).1
+        ((both_same memory.mem other.mem memory.imm other.imm mem imm b).1
         in_b) same_key;
     levels = s.levels;
   }
     where
       now : List Entry
-      now = other.recent ++ (other.waiting ++ table_entries tables)
+      now = other.mem ++ (other.imm ++ table_entries tables)
 
       before : List Entry
-      before = memory.recent ++ (memory.waiting ++ table_entries tables)
+      before = memory.mem ++ (memory.imm ++ table_entries tables)
 
       same : SameEntries before now
-      same = both_same memory.recent other.recent (memory.waiting ++ table_entries tables)
-          (other.waiting ++ table_entries tables) recent
-          (both_same memory.waiting other.waiting (table_entries tables) (table_entries tables)
-          waiting (itself (table_entries tables)))
+      same = both_same memory.mem other.mem (memory.imm ++ table_entries tables)
+          (other.imm ++ table_entries tables) mem
+          (both_same memory.imm other.imm (table_entries tables) (table_entries tables)
+          imm (itself (table_entries tables)))

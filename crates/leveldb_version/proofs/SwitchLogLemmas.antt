@@ -269,12 +269,12 @@ module _ (store : List ℕ) (cmp : List ℕ → List ℕ → Ordering)
       writable = writable_then;
       log_is = w.log_is;
       from_log = w.from_log;
-      recent_is = w.recent_is;
-      waiting_is = waiting_on store cmp IsTableOf files now (live_after edits)
+      mem_is = w.mem_is;
+      imm_is = waiting_on store cmp IsTableOf files now (live_after edits)
           w.tracked.managed.logs tracked.managed.logs memory.log w.tracked.managed.has_logs
           tracked.managed.has_logs
           (λ k less small. same_bytes (files (log_path store k)) (now (log_path store k))
-          (log_same k (omega (arith, less, log_less, w.log_is)))) memory.waiting w.waiting_is;
+          (log_same k (omega (arith, less, log_less, w.log_is)))) memory.imm w.imm_is;
       reached = w.reached;
       last_fits = w.last_fits;
     }
@@ -282,7 +282,7 @@ module _ (store : List ℕ) (cmp : List ℕ → List ℕ → Ordering)
     -- ---- with the new log
 
     module _ (there : now new_path ≡ Some (kept_file []))
-        (kept : IsKept (files (log_path store memory.log))) (none : memory.waiting ≡ []) where
+        (kept : IsKept (files (log_path store memory.log))) (none : memory.imm ≡ []) where
       new_replayed : LogIsReplayed (live_after edits) n
       new_replayed = inl (
         memory.set.log_number,
@@ -384,21 +384,21 @@ module _ (store : List ℕ) (cmp : List ℕ → List ℕ → Ordering)
       has_now : HasLog store now read_log
       has_now = (has_read.0, log_same log.number log_less ∙ has_read.1, has_read.2)
 
-      recent_wait : (entry : Entry) → Contains memory.recent entry
+      mem_wait : (entry : Entry) → Contains memory.mem entry
           → IsInLogBelow tracked.managed.logs n entry
-      recent_wait entry c = below_in_logs store now (live_after edits) tracked.managed.logs n
+      mem_wait entry c = below_in_logs store now (live_after edits) tracked.managed.logs n
           entry tracked.managed.has_logs (record {
             log = read_log;
             has = has_now;
             replayed = log.last.replayed;
             less = log_less;
             fits = log.fits;
-            is_entry = (w.recent_is entry).0 c;
+            is_entry = (w.mem_is entry).0 c;
           })
 
-      are_recent : (entry : Entry) → IsInLogBelow tracked.managed.logs n entry
-          → Contains memory.recent entry
-      are_recent entry i = by_number (cases_lt f.log.number log.number)
+      are_mem : (entry : Entry) → IsInLogBelow tracked.managed.logs n entry
+          → Contains memory.mem entry
+      are_mem entry i = by_number (cases_lt f.log.number log.number)
           (cases_lt log.number f.log.number)
         where
           f : IsInFileBelow store now (live_after edits) n entry
@@ -410,9 +410,9 @@ module _ (store : List ℕ) (cmp : List ℕ → List ℕ → Ordering)
 
           by_number : (f.log.number < log.number) ⊎ (log.number ≤ f.log.number)
               → (log.number < f.log.number) ⊎ (f.log.number ≤ log.number)
-              → Contains memory.recent entry
+              → Contains memory.mem entry
           by_number (inl less) up = absurd (in_none entry (subst (λ es. Contains es entry) none
-              ((w.waiting_is entry).1 (below_in_logs store files (live_after edits)
+              ((w.imm_is entry).1 (below_in_logs store files (live_after edits)
               w.tracked.managed.logs memory.log entry w.tracked.managed.has_logs (record {
                 log = f.log;
                 has = was;
@@ -435,7 +435,7 @@ module _ (store : List ℕ) (cmp : List ℕ → List ℕ → Ordering)
               f.is_entry))
           by_number (inr from) (inr to) =
               let number : f.log.number ≡ log.number = omega (arith, from, to) in
-              (w.recent_is entry).1
+              (w.mem_is entry).1
               (subst (λ (l : ReplayedLog). Contains (all_entries l.batches) entry)
               (one_there store files f.log read_log number was has_read) f.is_entry)
 
@@ -447,8 +447,8 @@ module _ (store : List ℕ) (cmp : List ℕ → List ℕ → Ordering)
         writable = writable_new;
         log_is = refl;
         from_log = omega (arith, w.from_log, log_less, w.log_is);
-        recent_is = λ entry. (λ c. c, λ c. c);
-        waiting_is = λ entry. (recent_wait entry, are_recent entry);
+        mem_is = λ entry. (λ c. c, λ c. c);
+        imm_is = λ entry. (mem_wait entry, are_mem entry);
         reached = w.reached;
         last_fits = w.last_fits;
       }

@@ -243,7 +243,7 @@ module _ {E C FP F : Type 0} (order : CmpGhosts (InternalKeyCmp C)) (env : EnvGh
       -- a key is looked up in it
       module _ (matches : FP → List ℕ → List ℕ → Bool) (matches_is : matches by.policy ≡ key_matches by.format by.policy) (key : List ℕ) (result : Result (Option Pair) Status) (found : List ℕ) {to : E} {blocks : Cached (CachedBlock (InternalKeyCmp C))}
           (looks : LooksUp order env by.format.codings matches table key state (blocks_of old) result to blocks) where
-        pub uses_open : UsesTable env (MayFail env by state old number) number state old result to (record old { tables = tables; blocks = blocks; finder = found })
+        pub uses_open : UsesTable env (MayFail env by state old number) number state old result to (record old { tables = tables; blocks = blocks; key_buffers = found })
         uses_open = record {
           there = on_ok result (inl (some_is there));
           reads = reads_weaker env result (λ status lack. inr (inl (some_is there), lack.0)) looks.reads;
@@ -280,7 +280,7 @@ module _ {E C FP F : Type 0} (order : CmpGhosts (InternalKeyCmp C)) (env : EnvGh
                   (λ apart. HoldsOnlyOf-other (omega (arith, own_given, ids)) (omega (arith, given, ids)) (λ same. apart.1 (sym same)) looks.gathers (it.blocks bytes has))
                   (eqb_tells (id_of other) (id_of table))
 
-          pub gets_open : GetsPair order env by number key state old result to (record old { tables = tables; blocks = blocks; finder = found })
+          pub gets_open : GetsPair order env by number key state old result to (record old { tables = tables; blocks = blocks; key_buffers = found })
           gets_open = record {
             finds = λ bytes has.
                 (let opened = open_now.opened bytes has in
@@ -288,7 +288,7 @@ module _ {E C FP F : Type 0} (order : CmpGhosts (InternalKeyCmp C)) (env : EnvGh
                 (some_finds matches matches_is table opened) (looks.finds bytes (has_open has) (held_by table (blocks_of old) opened (open_now.blocks bytes has))));
             cause = fails_weaker env result (λ status lack. inr (λ bytes has.
                 (let opened = open_now.opened bytes has in some_lacks matches matches_is table key (Err status) opened ((lack.1 bytes (has_open has)).1 (held_by table (blocks_of old) opened (open_now.blocks bytes has)))))) looks.reads.cause;
-            matches = matches_later env by (record old { tables = tables; blocks = blocks; finder = found }) modelled looks.reads.kept_disk
+            matches = matches_later env by (record old { tables = tables; blocks = blocks; key_buffers = found }) modelled looks.reads.kept_disk
                 (matches_found env by (record old { tables = tables; blocks = blocks }) found (files_at env state)
                 (matches_looked env by (record old { blocks = blocks }) tables (files_at env state) number tables_are gained_open));
           }
@@ -388,7 +388,7 @@ module _ {E C FP F : Type 0} (order : CmpGhosts (InternalKeyCmp C)) (env : EnvGh
             uses_opened : {T : Type 0} {Why : Status → Type 0} {to : E} (result : Result T Status) → ReadsFile env Why state to result
                 → OnOk result (put ≡ record (tables_of now) { pairs = put_first (tables_of now).capacity (table_key number) table (tables_of now).pairs })
                 → IfErr result (λ status. (IsOutOfMemory status × (put ≡ tables_of now)) ⊎ (put ≡ record (tables_of now) { pairs = put_first (tables_of now).capacity (table_key number) table (tables_of now).pairs }))
-                → UsesTable env Why number state old result to (record now { tables = put; blocks = after; finder = found })
+                → UsesTable env Why number state old result to (record now { tables = put; blocks = after; key_buffers = found })
             uses_opened result reads used left = record {
               there = on_ok result (inr opens.there);
               reads = reads;
@@ -439,8 +439,8 @@ module _ {E C FP F : Type 0} (order : CmpGhosts (InternalKeyCmp C)) (env : EnvGh
                 given = omega (arith, given_after);
               }
 
-              pub matches_opened : {to : E} → KeepsDisk env state to → MatchesFiles order env by (files_at env to) (record now { tables = put; blocks = after; finder = found })
-              matches_opened kept_disk = matches_later env by (record now { tables = put; blocks = after; finder = found }) modelled kept_disk
+              pub matches_opened : {to : E} → KeepsDisk env state to → MatchesFiles order env by (files_at env to) (record now { tables = put; blocks = after; key_buffers = found })
+              matches_opened kept_disk = matches_later env by (record now { tables = put; blocks = after; key_buffers = found }) modelled kept_disk
                   (matches_found env by (record now { tables = put; blocks = after }) found (files_at env state)
                   (subst (λ c. MatchesFiles order env by (files_at env state) (record c { tables = put; blocks = after })) (sym opens.cache) (⊎_elim
                   (λ unkept. subst (λ t. MatchesFiles order env by (files_at env state) (record (renewed old) { tables = t; blocks = after })) (sym (unkept ∙ tables_now)) gained_new)
@@ -455,11 +455,11 @@ module _ {E C FP F : Type 0} (order : CmpGhosts (InternalKeyCmp C)) (env : EnvGh
         pub opened_new : (put : Cached (StoreTable C FP F)) (result : Result Unit Status) → OnOk result (put ≡ record (tables_of now) { pairs = put_first (tables_of now).capacity (table_key number) table (tables_of now).pairs })
             → OnErr result (put ≡ tables_of now) → IfErr result IsOutOfMemory → OpensTableAt order env by number state old result mid (record now { tables = put })
         opened_new put result is unput memory = record {
-          uses = uses_opened none_gained now.finder put put_is result (reads result memory) is (left result unput memory);
+          uses = uses_opened none_gained now.key_buffers put put_is result (reads result memory) is (left result unput memory);
           is_open = on_ok_weaker result (λ there room. some_is (ap (λ (c : Cached (StoreTable C FP F)). value_of (table_key number) c.pairs) (put_old there)
               ∙ put_there (tables_of (renewed old)).capacity (table_key number) table (tables_of (renewed old)).pairs (let same = renewed_room old in omega (arith, same, room)))) is;
           stays = λ now_open. absurd (not_open now_open);
-          matches = λ modelled was. matches_opened none_gained now.finder put put_is modelled was (λ bytes opened has. own_blocks table opened has) opens.reads.kept_disk;
+          matches = λ modelled was. matches_opened none_gained now.key_buffers put put_is modelled was (λ bytes opened has. own_blocks table opened has) opens.reads.kept_disk;
         }
           where
             put_is : (put ≡ tables_of now) ⊎ (put ≡ record (tables_of now) { pairs = put_first (tables_of now).capacity (table_key number) table (tables_of now).pairs })
@@ -484,14 +484,14 @@ module _ {E C FP F : Type 0} (order : CmpGhosts (InternalKeyCmp C)) (env : EnvGh
           reads_unkept Why = reads_own env {P = λ other. other ≡ status} result opens.reads.kept_disk opens.reads.cause.ok refused (λ other is. inl (subst IsOutOfMemory (sym is) out))
 
           pub uses_unkept : UsesTable env (MayFail env by state old number) number state old result mid (record now { tables = put })
-          uses_unkept = uses_opened none_gained now.finder put (inl unkept) result (reads_unkept (MayFail env by state old number)) (refused_ok (λ other. other ≡ status) _ result refused)
+          uses_unkept = uses_opened none_gained now.key_buffers put (inl unkept) result (reads_unkept (MayFail env by state old number)) (refused_ok (λ other. other ≡ status) _ result refused)
               (refused_if_err (λ status. (IsOutOfMemory status × (put ≡ tables_of now)) ⊎ (put ≡ record (tables_of now) { pairs = put_first (tables_of now).capacity (table_key number) table (tables_of now).pairs })) result refused (inl (out, unkept)))
 
           pub gets_unkept : {key : List ℕ} → IsTrue env.models_disk → MatchesFiles order env by (files_at env state) old → GetsPair order env by number key state old result mid (record now { tables = put })
           gets_unkept {key} modelled was = record {
             finds = λ bytes has. refused_if_ok (λ other. other ≡ status) _ result refused;
             cause = (reads_unkept (λ other. IsNotOpened env by state old number other ⊎ LacksBlockFor order env by key (files_at env state) old number other)).cause;
-            matches = matches_opened none_gained now.finder put (inl unkept) modelled was (λ bytes opened has. own_blocks table opened has) opens.reads.kept_disk;
+            matches = matches_opened none_gained now.key_buffers put (inl unkept) modelled was (λ bytes opened has. own_blocks table opened has) opens.reads.kept_disk;
           }
 
         -- ---- it is opened and kept, and a key is looked up in it
@@ -505,7 +505,7 @@ module _ {E C FP F : Type 0} (order : CmpGhosts (InternalKeyCmp C)) (env : EnvGh
           kept_to : KeepsDisk env state to
           kept_to = KeepsDisk-trans env opens.reads.kept_disk looks.reads.kept_disk
 
-          pub uses_looked : UsesTable env (MayFail env by state old number) number state old result to (record now { tables = put; blocks = after; finder = found })
+          pub uses_looked : UsesTable env (MayFail env by state old number) number state old result to (record now { tables = put; blocks = after; key_buffers = found })
           uses_looked = uses_opened looks.gathers found put (inr put_is) result
               (reads_then env result opens.reads.kept_disk opens.reads.cause.ok (λ other lack. inr (inr opens.there, lack.0)) looks.reads)
               (on_ok result put_is) (if_err result (λ status. inr put_is))
@@ -520,7 +520,7 @@ module _ {E C FP F : Type 0} (order : CmpGhosts (InternalKeyCmp C)) (env : EnvGh
                 held_by table (blocks_of now) (opens.opened modelled bytes has) (subst (λ b. HoldsOnlyOf order by.format.codings (key_order by.format) (id_of table) bytes b) (sym blocks_now)
                 (let own = opens.id.0 in HoldsOnlyOf-new (blocks_of (renewed old)) opens.id.1 (omega (arith, own)) (matches_renewed env by old (files_at env state) was).numbered))
 
-            pub gets_looked : GetsPair order env by number key state old result to (record now { tables = put; blocks = after; finder = found })
+            pub gets_looked : GetsPair order env by number key state old result to (record now { tables = put; blocks = after; key_buffers = found })
             gets_looked = record {
               finds = λ bytes has.
                   IfOk-weaker result (FindsPair order by.format.codings matches table key bytes) (λ pair. SomeTable by bytes (λ (t : StoreTable C FP F). FindsPair order by.format.codings (key_matches by.format) t key bytes pair))

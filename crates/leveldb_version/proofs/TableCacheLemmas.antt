@@ -313,7 +313,7 @@ module _ {E C FP F : Type 0} {order : CmpGhosts (InternalKeyCmp C)} (env : EnvGh
   })
 
   -- which key was found last says nothing of the tables
-  pub matches_found : (cache : TableCache E C FP F) (found : List ℕ) (files : Files) → MatchesFiles order env by files cache → MatchesFiles order env by files (record cache { finder = found })
+  pub matches_found : (cache : TableCache E C FP F) (found : List ℕ) (files : Files) → MatchesFiles order env by files cache → MatchesFiles order env by files (record cache { key_buffers = found })
   matches_found cache found files was = record {
     each = λ number table fits there.
         (let is = was.each number table fits there in record { path = is.path; opened = is.opened; blocks = is.blocks; given = is.given });

@@ -35,7 +35,7 @@ use Rattle.leveldb_version.specs.Store.{IsLastKey}
 use Rattle.leveldb_version.specs.TableCache.{IsSameOrClosed, files_at, path_at, table_at}
 use Rattle.leveldb_version.specs.TableMoves.{FileTable, IsAtInTable, IsIndexedFor, IsLedTo, IsTableAt, IsToEnd, LeavesPairs, MovesInNumbered, StepsInBlock, core_here, core_position, table_pairs}
 use Rattle.leveldb_version.specs.VersionEdit.{new_file_of}
-use Rattle.leveldb_version.specs.VersionIter.{AreOpenGiven, AreTablesThere, FailsInTables, FailsOr, IsAtInTables, IsOverTables, KeepsReading, MovesThere, MovesToFile, StaysThere, StepsInFile, TurnsTo, reading, table_in, table_part, table_parts, version_here}
+use Rattle.leveldb_version.specs.VersionIter.{AreOpenGiven, AreTablesThere, FailsInTables, FailsOr, IsAtInTables, IsOverTables, KeepsReading, MovesThere, MovesToFile, StaysThere, StepsInFile, KeepsTableOrNone, reading, table_in, table_part, table_parts, version_here}
 use Rattle.leveldb_version.specs.VersionIterLaws.{fails_before, reading_kept, there_stays}
 use Rattle.leveldb_version.specs.declared.table_cache.moves.ReadTables.{ReadTables}
 use Rattle.leveldb_version.specs.declared.version_iter.VersionIter.{VersionIter}
@@ -354,7 +354,7 @@ module _ {E C FP K F : Type 0} (order : CmpGhosts (InternalKeyCmp C)) (env : Env
 
   -- ---- a move to the end of a file's table
 
-  module _ (world : E × ReadTables E C FP K F) (old turned : VersionIter C) (turns : TurnsTo old.at old.core turned.at turned.core) (files : turned.files.now ≡ old.files.now) where
+  module _ (world : E × ReadTables E C FP K F) (old turned : VersionIter C) (turns : KeepsTableOrNone old.at old.core turned.at turned.core) (files : turned.files.now ≡ old.files.now) where
     pub there_turned : (meaning : Meaning) (tables : List FileTable) → AreTablesThere order env cmp filters codings meaning world old tables → AreTablesThere order env cmp filters codings meaning world turned tables
     there_turned meaning tables there = record {
       matched = there.matched;

@@ -33,7 +33,7 @@ use Rattle.leveldb_version.specs.Store.{any_user_key}
 use Rattle.leveldb_version.specs.TableCache.{files_at, path_at}
 use Rattle.leveldb_version.specs.TableMoves.{FileTable, IsAtInTable, IsTableAt, LeavesPairs, core_position, table_pairs}
 use Rattle.leveldb_version.specs.VersionEdit.{new_file_of}
-use Rattle.leveldb_version.specs.VersionIter.{FailsInTables, IsAtInTables, IsOverTables, KeepsReading, MovesThere, MovesToFile, StaysThere, StepsInFile, TurnsTo, ends_before_key, table_in, table_part, table_parts, version_here}
+use Rattle.leveldb_version.specs.VersionIter.{FailsInTables, IsAtInTables, IsOverTables, KeepsReading, MovesThere, MovesToFile, StaysThere, StepsInFile, KeepsTableOrNone, ends_before_key, table_in, table_part, table_parts, version_here}
 use Rattle.leveldb_version.specs.VersionIterLaws.{fails_before, reading_kept, reading_kept_on}
 use Rattle.leveldb_version.specs.declared.table_cache.moves.ReadTables.{ReadTables}
 use Rattle.leveldb_version.specs.declared.version_iter.VersionIter.{VersionIter}
@@ -107,7 +107,7 @@ module _ {E C FP K F : Type 0} (order : CmpGhosts (InternalKeyCmp C)) (env : Env
   -- ---- moves that follow each other
 
   -- after a turn to a file
-  pub moves_turned : {R : Type 0} (world : E × ReadTables E C FP K F) (old turned : VersionIter C) → TurnsTo old.at old.core turned.at turned.core → turned.files.now ≡ old.files.now
+  pub moves_turned : {R : Type 0} (world : E × ReadTables E C FP K F) (old turned : VersionIter C) → KeepsTableOrNone old.at old.core turned.at turned.core → turned.files.now ≡ old.files.now
       → (result : Result R Status) (later : E × ReadTables E C FP K F) (new : VersionIter C) → MovesThere order env cmp filters codings world turned result later new → MovesThere order env cmp filters codings world old result later new
   moves_turned {R} world old turned turns files result later new moves = let stays = moves.stays in record {
     stays = record {
@@ -209,7 +209,7 @@ module _ {E C FP K F : Type 0} (order : CmpGhosts (InternalKeyCmp C)) (env : Env
           ap (λ ps. seek_position keys.cmp ps sought.now) over.pairs_are
           ∙ seek_none pre over.parted over.accepted sought.now fit (line_at ∙ position_out Lines i (let same = long in let lines = lines_long in omega (arith, same, lines, past)))
 
-      module _ (inside : i < length old.files.now) (turned : VersionIter C) (turns : TurnsTo old.at old.core turned.at turned.core) (turned_at : turned.at ≡ i) (files : turned.files.now ≡ old.files.now)
+      module _ (inside : i < length old.files.now) (turned : VersionIter C) (turns : KeepsTableOrNone old.at old.core turned.at turned.core) (turned_at : turned.at ≡ i) (files : turned.files.now ≡ old.files.now)
           (there : Bool) (later : E × ReadTables E C FP K F) (new : VersionIter C) (step : StepsInFile order env cmp filters codings (Seek sought) world turned (Ok there) later new) where
         within : i < length over.tables
         within = let same = long in omega (arith, inside, same)
@@ -276,7 +276,7 @@ module _ {E C FP K F : Type 0} (order : CmpGhosts (InternalKeyCmp C)) (env : Env
           stays_left : StaysThere order env cmp filters codings world old world new
           stays_left = record { kept = reading_kept world; files = files; there = λ meaning tables there. there_left order env cmp filters codings world old new left same files meaning tables there }
 
-      module _ (inside : i < length old.files.now) (turned : VersionIter C) (turns : TurnsTo old.at old.core turned.at turned.core) (turned_at : turned.at ≡ i) (files : turned.files.now ≡ old.files.now)
+      module _ (inside : i < length old.files.now) (turned : VersionIter C) (turns : KeepsTableOrNone old.at old.core turned.at turned.core) (turned_at : turned.at ≡ i) (files : turned.files.now ≡ old.files.now)
           (there : Bool) (later : E × ReadTables E C FP K F) (new : VersionIter C) (step : StepsInFile order env cmp filters codings (Seek sought) world turned (Ok there) later new) where
         pub seeks_in : there ≡ true → Sought later new
         seeks_in is =

@@ -106,66 +106,66 @@ module _ {E C FP K F : Type 0} {order : CmpGhosts (InternalKeyCmp C)} (env : Env
 
   -- a walk's files are tables with these pairs, one after the other
   pub record HasPairs (part : List (ℕ × FileMetaData)) (pairs : List Pair) : Type 0 where
-    pub tabled : List FileTable
-    pub each : Each IsTableFor part tabled
+    pub tables_made : List FileTable
+    pub each : Each IsTableFor part tables_made
     pub turns : AreInTurn ucmp (map new_file_of part)
-    pub is : pairs ≡ pairs_in (table_parts tabled)
+    pub is : pairs ≡ pairs_in (table_parts tables_made)
 
   pub walk_pairs : (part : List (ℕ × FileMetaData)) → Contains (files_of_walks version.files) part → (pairs : List Pair) × HasPairs part pairs
   walk_pairs part c =
-      let tabled = choose IsTableFor part (λ file d. table_for file (walk_within version.files part c file d)) in (
-        pairs_in (table_parts tabled.0),
+      let tables_made = choose IsTableFor part (λ file d. table_for file (walk_within version.files part c file d)) in (
+        pairs_in (table_parts tables_made.0),
         record {
-          tabled = tabled.0;
-          each = tabled.1;
+          tables_made = tables_made.0;
+          each = tables_made.1;
           turns = walk_turns version.files ucmp (keys_apart exact meaning store disk tables are.each (new_files_of version) are.files_are are.once in_order are.levels) part c;
           is = refl;
         },
       )
 
   module _ (part : List (ℕ × FileMetaData)) (pairs : List Pair) (has : HasPairs part pairs) where
-    runs : Each (IsRun ucmp) (map new_file_of part) has.tabled
-    runs = each_of_map (IsRun ucmp) new_file_of part has.tabled (each_more_of IsTableFor (λ f t. IsRun ucmp (new_file_of f) t) part has.tabled (λ f t is. is.run) has.each)
+    runs : Each (IsRun ucmp) (map new_file_of part) has.tables_made
+    runs = each_of_map (IsRun ucmp) new_file_of part has.tables_made (each_more_of IsTableFor (λ f t. IsRun ucmp (new_file_of f) t) part has.tables_made (λ f t is. is.run) has.each)
 
-    indexed : (it : VersionIter C) → it.core ≡ None → IsIndexedFor order (order.cmp (record { 0 = world.1.cmp })) (table_in has.tabled it.at).parts it.core
-    indexed it none = subst (IsIndexedFor order (order.cmp (record { 0 = world.1.cmp })) (table_in has.tabled it.at).parts) (sym none) tt
+    indexed : (it : VersionIter C) → it.core ≡ None → IsIndexedFor order (order.cmp (record { 0 = world.1.cmp })) (table_in has.tables_made it.at).parts it.core
+    indexed it none = subst (IsIndexedFor order (order.cmp (record { 0 = world.1.cmp })) (table_in has.tables_made it.at).parts) (sym none) tt
 
     -- a walk over the files that has not begun is over the pairs
     pub walk_over : (it : VersionIter C) → it.files.now ≡ part → it.core ≡ None → IsOverTables order env cmp filters codings world it (key_order order (record { 0 = world.1.cmp })) pairs
     walk_over it files none =
         let total = exact_total exact in
-        let accepted = turns_accepted ucmp (order.accepts (record { 0 = world.1.cmp })) orders.accepts (map new_file_of part) has.tabled runs in
+        let accepted = turns_accepted ucmp (order.accepts (record { 0 = world.1.cmp })) orders.accepts (map new_file_of part) has.tables_made runs in
         record {
           meaning = meaning;
-          tables = has.tabled;
+          tables = has.tables_made;
           there = record {
             matched = are.matched;
             agrees = are.agrees;
             each = subst (λ fs. Each (λ file table. ((new_file_of file).number < 2 ^ 64) × ((new_file_of file).largest ≡ table.largest)
-                × IsTableAt ucmp meaning disk (table_path store (new_file_of file).number) table × ((new_file_of file).number < world.1.below)) fs has.tabled) (sym files)
+                × IsTableAt ucmp meaning disk (table_path store (new_file_of file).number) table × ((new_file_of file).number < world.1.below)) fs has.tables_made) (sym files)
                 (each_more_of IsTableFor (λ file table. ((new_file_of file).number < 2 ^ 64) × ((new_file_of file).largest ≡ table.largest)
-                × IsTableAt ucmp meaning disk (table_path store (new_file_of file).number) table × ((new_file_of file).number < world.1.below)) part has.tabled (λ f t is. is.at) has.each);
+                × IsTableAt ucmp meaning disk (table_path store (new_file_of file).number) table × ((new_file_of file).number < world.1.below)) part has.tables_made (λ f t is. is.at) has.each);
             indexed = indexed it none;
           };
           keys_are = refl;
           pairs_are = has.is;
           sorted = record {
             rising = subst (λ (o : List ℕ → List ℕ → Ordering). AreRising o pairs) (sym orders.cmp_is)
-                (subst (AreRising (internal_cmp ucmp)) (sym has.is) (turns_rise total (internal_total total) (map new_file_of part) has.tabled runs has.turns));
+                (subst (AreRising (internal_cmp ucmp)) (sym has.is) (turns_rise total (internal_total total) (map new_file_of part) has.tables_made runs has.turns));
             accepted = all_from_contains (λ (pair : Pair). order.accepts (record { 0 = world.1.cmp }) pair.0 ≡ true) pairs
-                (λ pair c. of_all (λ (p : Pair). order.accepts (record { 0 = world.1.cmp }) p.0 ≡ true) (pairs_in (table_parts has.tabled)) accepted.pairs pair (subst (λ ps. Contains ps pair) has.is c));
+                (λ pair c. of_all (λ (p : Pair). order.accepts (record { 0 = world.1.cmp }) p.0 ≡ true) (pairs_in (table_parts has.tables_made)) accepted.pairs pair (subst (λ ps. Contains ps pair) has.is c));
           };
-          parted = subst (λ (o : List ℕ → List ℕ → Ordering). AreParted o (table_parts has.tabled)) (sym orders.cmp_is)
-              (turns_parted total (internal_total total) (map new_file_of part) has.tabled runs has.turns);
+          parted = subst (λ (o : List ℕ → List ℕ → Ordering). AreParted o (table_parts has.tables_made)) (sym orders.cmp_is)
+              (turns_parted total (internal_total total) (map new_file_of part) has.tables_made runs has.turns);
           accepted = accepted;
         }
 
     -- each pair is that of its entry
     pub pairs_internal : Each IsInternalPair pairs (entries_of_pairs pairs)
     pairs_internal = to_each IsInternalPair entry_of_pair pairs (λ pair c.
-        let block = in_flat (λ (p : Part). p.pairs) (table_parts has.tabled) pair (subst (λ ps. Contains ps pair) has.is c) in
-        let table = in_map table_part has.tabled block.0 block.1 in
-        let file = each_second IsTableFor part has.tabled table.0 has.each table.1 in
+        let block = in_flat (λ (p : Part). p.pairs) (table_parts has.tables_made) pair (subst (λ ps. Contains ps pair) has.is c) in
+        let table = in_map table_part has.tables_made block.0 block.1 in
+        let file = each_second IsTableFor part has.tables_made table.0 has.each table.1 in
         from_each IsInternalPair entry_of_pair (table_pairs table.0) (subst (Each IsInternalPair (table_pairs table.0)) (sym file.2.entries) file.2.internal) pair
         (subst (λ (p : Part). Contains p.pairs pair) (sym table.2) block.2))
 
@@ -174,9 +174,9 @@ module _ {E C FP K F : Type 0} {order : CmpGhosts (InternalKeyCmp C)} (env : Env
         → (file : ℕ × FileMetaData) × (live : LiveTable) × Contains part file × Contains tables live × (live.file ≡ new_file_of file) × Contains live.entries entry
     entry_from entry c =
         let pair = in_map entry_of_pair pairs entry c in
-        let block = in_flat (λ (p : Part). p.pairs) (table_parts has.tabled) pair.0 (subst (λ ps. Contains ps pair.0) has.is pair.1) in
-        let table = in_map table_part has.tabled block.0 block.1 in
-        let file = each_second IsTableFor part has.tabled table.0 has.each table.1 in
+        let block = in_flat (λ (p : Part). p.pairs) (table_parts has.tables_made) pair.0 (subst (λ ps. Contains ps pair.0) has.is pair.1) in
+        let table = in_map table_part has.tables_made block.0 block.1 in
+        let file = each_second IsTableFor part has.tables_made table.0 has.each table.1 in
         let there = subst (λ (p : Part). Contains p.pairs pair.0) (sym table.2) block.2 in (
           file.0,
           file.2.live,
@@ -190,9 +190,9 @@ module _ {E C FP K F : Type 0} {order : CmpGhosts (InternalKeyCmp C)} (env : Env
     pub entry_to : (file : ℕ × FileMetaData) → Contains part file → (live : LiveTable) → Contains tables live → live.file ≡ new_file_of file
         → (entry : Entry) → Contains live.entries entry → Contains (entries_of_pairs pairs) entry
     entry_to file c live d is entry e =
-        let table = each_first IsTableFor part has.tabled file has.each c in
+        let table = each_first IsTableFor part has.tables_made file has.each c in
         let one = one_number exact meaning store disk live table.2.live (there exact meaning store disk tables are.each live d) (there exact meaning store disk tables are.each table.2.live table.2.is_live)
         (ap (λ (f : NewFile). f.number) (is ∙ sym table.2.file_is)) in
         let pair = in_map entry_of_pair (table_pairs table.0) entry (subst (λ es. Contains es entry) (one ∙ sym table.2.entries) e) in
         subst (Contains (entries_of_pairs pairs)) pair.2 (map_in entry_of_pair pairs pair.0 (subst (λ ps. Contains ps pair.0) (sym has.is)
-        (flat_in (λ (p : Part). p.pairs) (table_parts has.tabled) (table_part table.0) pair.0 (map_in table_part has.tabled table.0 table.1) pair.1)))
+        (flat_in (λ (p : Part). p.pairs) (table_parts has.tables_made) (table_part table.0) pair.0 (map_in table_part has.tables_made table.0 table.1) pair.1)))

@@ -43,8 +43,8 @@ module _ (store : List ℕ) (cmp : List ℕ → List ℕ → Ordering)
     writable = w.writable;
     log_is = w.log_is;
     from_log = w.from_log;
-    recent_is = w.recent_is;
-    waiting_is = w.waiting_is;
+    mem_is = w.mem_is;
+    imm_is = w.imm_is;
     reached = w.reached;
     last_fits = w.last_fits;
   }
@@ -62,8 +62,8 @@ module _ (store : List ℕ) (cmp : List ℕ → List ℕ → Ordering)
     writable = sync_stays_writable store cmp IsTableOf files edits w.writable;
     log_is = w.log_is;
     from_log = w.from_log;
-    recent_is = w.recent_is;
-    waiting_is = w.waiting_is;
+    mem_is = w.mem_is;
+    imm_is = w.imm_is;
     reached = w.reached;
     last_fits = w.last_fits;
   }
@@ -144,8 +144,8 @@ module _ (store : List ℕ) (cmp : List ℕ → List ℕ → Ordering)
     writable = writable_unread path files now edits same un w.tracked.bytes w.writable;
     log_is = w.log_is;
     from_log = w.from_log;
-    recent_is = w.recent_is;
-    waiting_is = w.waiting_is;
+    mem_is = w.mem_is;
+    imm_is = w.imm_is;
     reached = w.reached;
     last_fits = w.last_fits;
   }

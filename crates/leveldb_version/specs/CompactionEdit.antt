@@ -128,7 +128,7 @@ module _ (store : List ℕ) (cmp : List ℕ → List ℕ → Ordering)
           (with_bytes_kept w.manifest.path (frame w.manifest.writer (edit_record memory.set edit))
           files)
           (edits ++ written_edit memory.set edit ∷ [])
-          (record memory { set = set_appended w.manifest memory.set edit; waiting = [] })
+          (record memory { set = set_appended w.manifest memory.set edit; imm = [] })
 
     -- an edit may be logged that names the log which is written, changes nothing that is shown,
     -- and leaves kept tables alone
@@ -165,7 +165,7 @@ module _ (store : List ℕ) (cmp : List ℕ → List ℕ → Ordering)
     CompactionsAreLogged = OneTableReading IsTableOf → IsTotalOrder cmp
         → TablesAreInRange store cmp IsTableOf → (files : Files) (edits : List Edit)
         (memory : EngineMemory) (w : IsWrittenBy store cmp IsTableOf files edits memory)
-        → memory.waiting ≡ [] → (smallest level : ℕ)
+        → memory.imm ≡ [] → (smallest level : ℕ)
         (before inputs outputs after : List LiveTable)
         → HasTables store cmp IsTableOf files (live_after edits) before
         → HasMadeOutputs files smallest level before inputs outputs

@@ -28,17 +28,17 @@ tables_edit log files = record empty_edit { log_number = Some log; added = files
 
 -- the memory with which an engine begins to write: no entries wait
 abbrev pub opened_memory : VersionSetValue → ℕ → List Entry → EngineMemory
-opened_memory set log recent = record {
+opened_memory set log mem = record {
   set = set;
   log = log;
-  recent = recent;
-  waiting = [];
+  mem = mem;
+  imm = [];
 }
 
 -- The log to which batches are to be appended: it is the last one, ends cleanly, and has these
 -- entries.
 pub record IsLogToWrite (store : List ℕ) (files : Files) (set : VersionSetValue) (log : ℕ)
-    (recent : List Entry) : Type 0 where
+    (mem : List Entry) : Type 0 where
   pub fits : log < 2 ^ 64
   -- it isn't below the set's log number, so that it is replayed
   pub from_log : set.log_number ≤ log
@@ -51,7 +51,7 @@ pub record IsLogToWrite (store : List ℕ) (files : Files) (set : VersionSetValu
   pub clean_end : IsLogFile (bytes_of file) records clean
   pub batches : List Batch
   pub each : Each IsRecordOf records batches
-  pub recent_is : SameEntries recent (all_entries batches)
+  pub mem_is : SameEntries mem (all_entries batches)
 
 -- the file may be written into an edit: its numbers fit, and its keys are bytes
 pub record FitsEdit (file : NewFile) : Type 0 where

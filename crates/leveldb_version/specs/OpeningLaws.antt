@@ -130,7 +130,7 @@ module _ (store : List ℕ) (cmp : List ℕ → List ℕ → Ordering)
     -- What logging an edit at the end of an opening leaves: each history is kept at each moment,
     -- and after it the store is open.
     pub record EndsOpening (found : Contents) (files : Files) (edits : List Edit)
-        (set : VersionSetValue) (edit : Edit) (log : ℕ) (recent : List Entry) : Type 0 where
+        (set : VersionSetValue) (edit : Edit) (log : ℕ) (mem : List Entry) : Type 0 where
       -- where a manifest is in use, the edit is appended to it
       pub appending : (manifest : OpenManifest) → set.manifest ≡ in_use manifest → (bound : ℕ)
           → set.last_sequence ≤ bound → (now : Files)
@@ -140,7 +140,7 @@ module _ (store : List ℕ) (cmp : List ℕ → List ℕ → Ordering)
           → IsOpened found
           (with_bytes_kept manifest.path (frame manifest.writer (edit_record set edit)) files)
           (edits ++ written_edit set edit ∷ [])
-          (opened_memory (set_appended manifest set edit) log recent)
+          (opened_memory (set_appended manifest set edit) log mem)
       -- where none is made yet, the edit begins one
       pub making : set.manifest ≡ unmade → (bound : ℕ) → set.last_sequence ≤ bound
           → (now : Files)
@@ -150,7 +150,7 @@ module _ (store : List ℕ) (cmp : List ℕ → List ℕ → Ordering)
           → IsOpened found
           (with_manifest store set.manifest_number (manifest_bytes (new_records set edit)) files)
           (set.full ∷ written_edit set edit ∷ [])
-          (opened_memory (set_begun set edit) log recent)
+          (opened_memory (set_begun set edit) log mem)
 
     -- an opening may end with the edit that has tables in place of the logs below the one to write
     abbrev pub OpeningsEnd : Type 0
@@ -158,12 +158,12 @@ module _ (store : List ℕ) (cmp : List ℕ → List ℕ → Ordering)
         (set : VersionSetValue) → IsRecoveredBy store cmp IsTableOf files edits set
         → (found : Contents) → IsManagedBy store cmp IsTableOf files edits found
         → found.last ≡ set.last_sequence → set.last_sequence ≤ greatest_sequence
-        → (log : ℕ) (recent : List Entry) → IsLogToWrite store files set log recent
+        → (log : ℕ) (mem : List Entry) → IsLogToWrite store files set log mem
         → (tables : List LiveTable) → AreLogTables store cmp IsTableOf files edits log tables
         → set.next_file < 2 ^ 64
         → ((table : LiveTable) → Contains tables table → FitsEdit table.file)
         → EndsOpening found files edits set
-        (tables_edit log (map (λ table. table.file) tables)) log recent
+        (tables_edit log (map (λ table. table.file) tables)) log mem
 
     -- or without an edit, where a manifest is in use and no log is below the one to write
     abbrev pub OpeningsGoOn : Type 0
@@ -171,7 +171,7 @@ module _ (store : List ℕ) (cmp : List ℕ → List ℕ → Ordering)
         → IsRecoveredBy store cmp IsTableOf files edits set
         → (found : Contents) → IsManagedBy store cmp IsTableOf files edits found
         → found.last ≡ set.last_sequence → set.last_sequence ≤ greatest_sequence
-        → (log : ℕ) (recent : List Entry) → IsLogToWrite store files set log recent
+        → (log : ℕ) (mem : List Entry) → IsLogToWrite store files set log mem
         → AreLogsBelow store files (live_after edits) log []
         → (manifest : OpenManifest) → set.manifest ≡ in_use manifest
-        → IsOpened found files edits (opened_memory set log recent)
+        → IsOpened found files edits (opened_memory set log mem)

@@ -14,7 +14,7 @@ use Rattle.leveldb_version.specs.Recover.{IsNamed, IsRead, IsReusable, IsUsable,
 use Rattle.leveldb_version.specs.Replay.{AreReplayed, IsNoManifest, IsReplayOf}
 use Rattle.leveldb_version.specs.VersionEdit.{edit_of}
 use Rattle.leveldb_version.specs.VersionSetValue.{VersionSetValue, in_use, unmade}
-use Rattle.leveldb_version.specs.declared.version_set.recover.Plan.{Plan}
+use Rattle.leveldb_version.specs.declared.version_set.recover.RecoveryPlan.{RecoveryPlan}
 use Rattle.leveldb_version.specs.declared.version_set.replay.Replayed.{Replayed}
 
 -- ---- reading the manifest
@@ -64,8 +64,8 @@ IsManifestUnread models_disk store before failed now_failed status =
 
 -- The plan has what was read of a manifest that a store may begin with: where it is and its size,
 -- whether it goes on to be used, what its edits leave, and the number of the next file.
-pub record IsPlan (models_disk : Bool) (cmp : List ℕ → List ℕ → Ordering) (comparator : List ℕ)
-    (reuse : Bool) (limit : ℕ) (old : VersionSetValue) (files : Files) (plan : Plan)
+pub record IsRecoveryPlan (models_disk : Bool) (cmp : List ℕ → List ℕ → Ordering)
+    (comparator : List ℕ) (reuse : Bool) (limit : ℕ) (old : VersionSetValue) (files : Files) (plan : RecoveryPlan)
     : Type 0 where
   pub manifest : ReadManifest
   pub read : IsTrue models_disk → IsRead old.store files manifest
@@ -80,8 +80,8 @@ pub record IsPlan (models_disk : Bool) (cmp : List ℕ → List ℕ → Ordering
 
 -- the set that was planned, with the manifest that was read where it goes on to be used, else with
 -- a new one to be made, which takes a number
-abbrev pub set_settled : VersionSetValue → Plan → Bool → VersionSetValue
-set_settled old plan goes_on = record old {
+abbrev pub set_installed : VersionSetValue → RecoveryPlan → Bool → VersionSetValue
+set_installed old plan goes_on = record old {
   full = edit_of plan.left.full;
   next_file = if goes_on then plan.next_file else plan.next_file + 1;
   given = None;
@@ -97,12 +97,13 @@ set_settled old plan goes_on = record old {
 
 -- Whatever reading led to the plan, so that the files stayed as they were, carrying it out does the
 -- rest of recovering.
-abbrev pub CarriesOut : {E F : Type 0} → Ghosts E F → Plan → VersionSetValue → E
+abbrev pub AppliesPlan : {E F : Type 0} → Ghosts E F → RecoveryPlan → VersionSetValue → E
     → Result Bool Status → VersionSetValue → E → Type 0
-CarriesOut {E} env plan old read result new after =
+AppliesPlan {E} env plan old read result new after =
     (cmp : List ℕ → List ℕ → Ordering) (comparator : List ℕ) (reuse : Bool) (limit : ℕ)
     (start : E)
-    → IsPlan env.models_disk cmp comparator reuse limit old (env.observed start).disk.files plan
+    → IsRecoveryPlan env.models_disk cmp comparator reuse limit old
+    (env.observed start).disk.files plan
     → (IsTrue env.models_disk → Run (FilesUnchanged (env.observed start).disk.files)
     (env.observed start) (env.observed read))
     → SameLocks env.models_disk (env.observed start) (env.observed read)

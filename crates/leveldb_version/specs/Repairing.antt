@@ -67,7 +67,7 @@ pub record IsGreatestInFolder (store : List ℕ) (files : Files) (number : ℕ) 
 -- A repair of the old files is being made, in whose names `taken` is the greatest number. No file
 -- has changed but the manifest of the number after it, with its temporary file, the tables of the
 -- numbers after that and below the next, `CURRENT` and the lock's file.
-pub record IsRepairing (store : List ℕ) (taken next : ℕ) (old now : Files) : Type 0 where
+pub record IsAmidRepair (store : List ℕ) (taken next : ℕ) (old now : Files) : Type 0 where
   pub taken_is : IsGreatestInFolder store old taken
   pub others : (path : List ℕ)
       → ((n : ℕ) → taken + 2 ≤ n → n < next → bytes_eq (table_path store n) path ≡ false)
@@ -88,9 +88,9 @@ pub record IsRepairing (store : List ℕ) (taken next : ℕ) (old now : Files) :
 -- making the manifest is a part of the repair
 abbrev pub ManifestsGoOn : List ℕ → Type 0
 ManifestsGoOn store = (taken next : ℕ) (bytes : List ℕ) (old files now : Files)
-    → IsRepairing store taken next old files
+    → IsAmidRepair store taken next old files
     → MakingManifest store (taken + 1) bytes files now
-    → IsRepairing store taken next old now
+    → IsAmidRepair store taken next old now
 
 module _ (store : List ℕ) (cmp : List ℕ → List ℕ → Ordering)
     (IsTableOf : List ℕ → List Pair → Type 0) where
@@ -123,8 +123,8 @@ module _ (store : List ℕ) (cmp : List ℕ → List ℕ → Ordering)
 
   -- The files are what a repair left: these tables, and a kept manifest of this number, which
   -- `CURRENT` names and whose one edit adds them.
-  pub record IsRepaired (comparator : List ℕ) (manifest next last : ℕ) (tables : List LiveTable)
-      (files : Files) : Type 0 where
+  pub record IsRepairedStore (comparator : List ℕ) (manifest next last : ℕ)
+      (tables : List LiveTable) (files : Files) : Type 0 where
     pub edits : HasKeptEdits store files
         (repaired_edit comparator next last (files_of_tables tables) ∷ [])
     pub manifest_is : edits.has_edits.number ≡ manifest
@@ -135,7 +135,7 @@ module _ (store : List ℕ) (cmp : List ℕ → List ℕ → Ordering)
   -- all that is read of what a repair left is kept, and its contents are the tables' entries
   abbrev pub RepairedIsKept : Type 0
   RepairedIsKept = (comparator : List ℕ) (manifest next last : ℕ) (tables : List LiveTable)
-      (files : Files) → IsRepaired comparator manifest next last tables files
+      (files : Files) → IsRepairedStore comparator manifest next last tables files
       → IsAllKept store cmp IsTableOf files (repaired_contents comparator tables last)
 
   -- Once the tables are there a manifest of this edit makes them a repaired store: at each moment
@@ -146,8 +146,8 @@ module _ (store : List ℕ) (cmp : List ℕ → List ℕ → Ordering)
         → MakingManifest store manifest
         (repaired_manifest comparator next last (files_of_tables tables)) files now
         → (now (current_path store) ≡ files (current_path store))
-        ⊎ IsRepaired comparator manifest next last tables now
-    pub after : IsRepaired comparator manifest next last tables
+        ⊎ IsRepairedStore comparator manifest next last tables now
+    pub after : IsRepairedStore comparator manifest next last tables
         (with_manifest store manifest
         (repaired_manifest comparator next last (files_of_tables tables)) files)
 
@@ -163,14 +163,14 @@ module _ (store : List ℕ) (cmp : List ℕ → List ℕ → Ordering)
     -- is durable, and no number past theirs
     abbrev pub RepairedHolds : Type 0
     RepairedHolds = (comparator : List ℕ) (manifest next last : ℕ) (tables : List LiveTable)
-        (files : Files) → IsRepaired comparator manifest next last tables files
+        (files : Files) → IsRepairedStore comparator manifest next last tables files
         → allowed (made (Some comparator)) → (found : List Entry)
         → SameEntries (table_entries tables) found
         → StoreHolds store cmp IsTableOf allowed files (found ∷ []) (greatest found) 1 None
 
     -- while `CURRENT` is as it was each history is kept, where a table or a log was there
     abbrev pub RepairsKeep : Type 0
-    RepairsKeep = (taken next : ℕ) (old now : Files) → IsRepairing store taken next old now
+    RepairsKeep = (taken next : ℕ) (old now : Files) → IsAmidRepair store taken next old now
         → now (current_path store) ≡ old (current_path store)
         → (HasNoTableNorLog store old → ⊥) → (bound : ℕ)
         → KeepsHistory store cmp IsTableOf allowed bound old now
@@ -185,10 +185,10 @@ module _ (store : List ℕ) (cmp : List ℕ → List ℕ → Ordering)
     -- so they do at each moment of a repair whose tables have this set
     abbrev pub RepairsHold : Type 0
     RepairsHold = (comparator : List ℕ) (taken next last : ℕ) (tables : List LiveTable)
-        (old now : Files) → IsRepairing store taken next old now
+        (old now : Files) → IsAmidRepair store taken next old now
         → (HasNoTableNorLog store old → ⊥)
         → (now (current_path store) ≡ old (current_path store))
-        ⊎ IsRepaired comparator (taken + 1) next last tables now
+        ⊎ IsRepairedStore comparator (taken + 1) next last tables now
         → allowed (made (Some comparator)) → (found : List Entry)
         → SameEntries (table_entries tables) found → HoldOldOrFound found old now
 
@@ -235,13 +235,13 @@ module _ (store : List ℕ) (IsTableOf : List ℕ → List Pair → Type 0) wher
   -- while a repair is made the same is found, if no cut table is readable
   abbrev pub FoundStays : Type 0
   FoundStays = (taken next : ℕ) (meant : ℕ → List ℕ) (old now : Files)
-      → IsRepairing store taken next old now → MeantHaveFound (taken + 2) next meant old
+      → IsAmidRepair store taken next old now → MeantHaveFound (taken + 2) next meant old
       → NoCutTableIsReadable (taken + 2) next meant now → SameFound old now
 
   -- so it is of what a crash leaves, where all bytes of the old files were kept
   abbrev pub CrashesLeaveFound : Type 0
   CrashesLeaveFound = (taken next : ℕ) (meant : ℕ → List ℕ) (old now left : Files)
-      → IsRepairing store taken next old now → MeantHaveFound (taken + 2) next meant old
+      → IsAmidRepair store taken next old now → MeantHaveFound (taken + 2) next meant old
       → ((path : List ℕ) → IsKept (old path)) → FilesCrashTo now left
       → NoCutTableIsReadable (taken + 2) next meant left → SameFound old left
 

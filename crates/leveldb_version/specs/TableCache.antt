@@ -95,7 +95,7 @@ module _ {E C FP F : Type 0} where
 
   -- the key of the pair that was found last
   abbrev pub found_key : TableCache E C FP F → List ℕ
-  found_key cache = cache.finder
+  found_key cache = cache.key_buffers
 
   -- the open table of a number
   abbrev pub table_at : TableCache E C FP F → ℕ → Option (StoreTable C FP F)

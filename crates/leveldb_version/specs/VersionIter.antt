@@ -181,9 +181,9 @@ abbrev pub ends_before_key : (List ℕ → List ℕ → Ordering) → List ℕ �
 ends_before_key cmp key file = is_lt (internal_cmp cmp (new_file_of file).largest key)
 
 -- a turn to a file: the walk in it is the one that had begun, or none if that was in another
-abbrev pub TurnsTo : {C : Type 0} → ℕ → Option (TablePlace C) → ℕ
+abbrev pub KeepsTableOrNone : {C : Type 0} → ℕ → Option (TablePlace C) → ℕ
     → Option (TablePlace C) → Type 0
-TurnsTo old_at old at new = (new ≡ None) ⊎ ((old_at ≡ at) × (new ≡ old))
+KeepsTableOrNone old_at old at new = (new ≡ None) ⊎ ((old_at ≡ at) × (new ≡ old))
 
 -- the pair that it is at
 abbrev pub version_here : {C : Type 0} → VersionIter C → Option Pair

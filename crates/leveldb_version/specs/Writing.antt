@@ -51,9 +51,9 @@ pub record EngineMemory : Type 0 where
   -- the number of the log to which batches are appended
   pub log : ℕ
   -- the entries of that log
-  pub recent : List Entry
+  pub mem : List Entry
   -- those of the logs before it, which wait to be in a table
-  pub waiting : List Entry
+  pub imm : List Entry
 
 -- the memory after a switch: batches go to a log of the next number, and the entries of the one
 -- before wait
@@ -61,8 +61,8 @@ abbrev pub switched_memory : EngineMemory → EngineMemory
 switched_memory memory = record {
   set = with_number_given memory.set;
   log = memory.set.next_file;
-  recent = [];
-  waiting = memory.recent;
+  mem = [];
+  imm = memory.mem;
 }
 
 -- the edit by which a table takes the place of the logs below a number
@@ -79,13 +79,13 @@ IsInLogBelow logs n entry = (log : ReplayedLog) × Contains logs log × (log.num
 pub record ShowsHistory (cmp : List ℕ → List ℕ → Ordering) (memory : EngineMemory)
     (tables : List LiveTable) (history : History) (from : ℕ) : Type 0 where
   pub same : (t : ℕ) → from ≤ t
-      → SameView (memory.recent ++ (memory.waiting ++ table_entries tables))
+      → SameView (memory.mem ++ (memory.imm ++ table_entries tables))
       (entries_of history) t
   pub up_to : (entry : Entry)
-      → Contains (memory.recent ++ (memory.waiting ++ table_entries tables)) entry
+      → Contains (memory.mem ++ (memory.imm ++ table_entries tables)) entry
       → entry.sequence ≤ greatest (entries_of history)
-  pub waiting_older : IsOlder memory.waiting memory.recent
-  pub tables_older : IsOlder (table_entries tables) (memory.recent ++ memory.waiting)
+  pub imm_older : IsOlder memory.imm memory.mem
+  pub tables_older : IsOlder (table_entries tables) (memory.mem ++ memory.imm)
   pub levels : LevelOrder cmp tables
 
 -- ---- the files
@@ -124,8 +124,8 @@ module _ (store : List ℕ) (cmp : List ℕ → List ℕ → Ordering)
     -- it isn't below the set's log number, so that each log above it is replayed too
     pub from_log : memory.set.log_number ≤ memory.log
     -- it has the recent entries, and the logs before it have those that wait
-    pub recent_is : SameEntries memory.recent (all_entries writable.log.batches)
-    pub waiting_is : (entry : Entry) → Contains memory.waiting entry
+    pub mem_is : SameEntries memory.mem (all_entries writable.log.batches)
+    pub imm_is : (entry : Entry) → Contains memory.imm entry
         ↔ IsInLogBelow tracked.managed.logs memory.log entry
     -- no number of an entry is past the last one
     pub reached : tracked.contents.last ≤ memory.set.last_sequence

@@ -115,12 +115,12 @@ module _ (store : List ℕ) (cmp : List ℕ → List ℕ → Ordering)
   -- ---- the table of the entries that wait
 
   -- A table that is kept has exactly the entries that wait, and it may be added to the live ones.
-  pub record HasWaiting (files : Files) (edits : List Edit) (memory : EngineMemory)
+  pub record HasImm (files : Files) (edits : List Edit) (memory : EngineMemory)
       (table : LiveTable) : Type 0 where
     pub has : HasTable store cmp IsTableOf files table
     pub kept : IsKept (files (table_path store table.file.number))
     pub level_fits : table.file.level < 7
-    pub entries : SameEntries table.entries memory.waiting
+    pub entries : SameEntries table.entries memory.imm
     pub added : (tables : List LiveTable)
         → HasTables store cmp IsTableOf files (live_after edits) tables
         → CanBeAdded cmp tables table
@@ -132,11 +132,11 @@ module _ (store : List ℕ) (cmp : List ℕ → List ℕ → Ordering)
 
   -- a table of the entries that wait may be added to level 0, if its number is above those of all
   -- live tables
-  abbrev pub WaitingMayGoToLevelZero : Type 0
-  WaitingMayGoToLevelZero = TablesAreInRange → (files : Files) (edits : List Edit)
+  abbrev pub ImmMayGoToLevelZero : Type 0
+  ImmMayGoToLevelZero = TablesAreInRange → (files : Files) (edits : List Edit)
       (memory : EngineMemory) → IsWrittenBy store cmp IsTableOf files edits memory
       → (table : LiveTable) → HasTable store cmp IsTableOf files table → table.file.level ≡ 0
-      → SameEntries table.entries memory.waiting
+      → SameEntries table.entries memory.imm
       → ((file : NewFile) → file.number < 2 ^ 64
       → (live_after edits).file (level_file file) ≡ Some file
       → file.number < table.file.number)
@@ -160,7 +160,7 @@ module _ (store : List ℕ) (cmp : List ℕ → List ℕ → Ordering)
           (record memory { set = with_number_given memory.set })
       -- or with the new one, if that is there, the log before is kept, and no entries wait yet
       pub switches : now (log_path store memory.set.next_file) ≡ Some (kept_file [])
-          → IsKept (files (log_path store memory.log)) → memory.waiting ≡ []
+          → IsKept (files (log_path store memory.log)) → memory.imm ≡ []
           → IsWrittenBy store cmp IsTableOf now edits (switched_memory memory)
 
     -- a log of the next number may be made
@@ -174,7 +174,7 @@ module _ (store : List ℕ) (cmp : List ℕ → List ℕ → Ordering)
 
     -- What logging the table's edit leaves: each history is kept at each moment, and after it no
     -- entry waits any more.
-    pub record WaitingIsTabled (files : Files) (edits : List Edit) (memory : EngineMemory)
+    pub record ImmBecomesTable (files : Files) (edits : List Edit) (memory : EngineMemory)
         (w : IsWrittenBy store cmp IsTableOf files edits memory) (edit : Edit) : Type 0 where
       pub keeps : (bound : ℕ) → memory.set.last_sequence ≤ bound → (now : Files)
           → AppendingAndSyncing w.manifest.path
@@ -184,17 +184,17 @@ module _ (store : List ℕ) (cmp : List ℕ → List ℕ → Ordering)
           (with_bytes_kept w.manifest.path (frame w.manifest.writer (edit_record memory.set edit))
           files)
           (edits ++ written_edit memory.set edit ∷ [])
-          (record memory { set = set_appended w.manifest memory.set edit; waiting = [] })
+          (record memory { set = set_appended w.manifest memory.set edit; imm = [] })
 
     -- the table's edit may be logged
-    abbrev pub WaitingIsTabledByEdits : Type 0
-    WaitingIsTabledByEdits = OneTableReading IsTableOf → IsTotalOrder cmp → TablesAreInRange
+    abbrev pub ImmBecomesTableByEdits : Type 0
+    ImmBecomesTableByEdits = OneTableReading IsTableOf → IsTotalOrder cmp → TablesAreInRange
         → (files : Files) (edits : List Edit) (memory : EngineMemory)
         (w : IsWrittenBy store cmp IsTableOf files edits memory) (table : LiveTable)
-        → HasWaiting files edits memory table
+        → HasImm files edits memory table
         → memory.set.next_file < 2 ^ 64 → table.file.number < 2 ^ 64 → table.file.size < 2 ^ 64
         → AreBytes table.file.smallest → AreBytes table.file.largest
-        → WaitingIsTabled files edits memory w (table_edit memory.log table.file)
+        → ImmBecomesTable files edits memory w (table_edit memory.log table.file)
 
     -- ---- batches
 
@@ -217,8 +217,8 @@ module _ (store : List ℕ) (cmp : List ℕ → List ℕ → Ordering)
           (history ++ placed (memory.set.last_sequence + 1) items ∷ [])
           (memory.set.last_sequence + length items) durable None
       pub written : AreBytes (frame_at (length (bytes_of w.writable.log.file)) text)
-          → (recent : List Entry)
-          → SameEntries recent (memory.recent ++ placed (memory.set.last_sequence + 1) items)
+          → (mem : List Entry)
+          → SameEntries mem (memory.mem ++ placed (memory.set.last_sequence + 1) items)
           → IsWrittenBy store cmp IsTableOf
           (extended (log_path store memory.log)
           (frame_at (length (bytes_of w.writable.log.file)) text) files) edits
@@ -226,7 +226,7 @@ module _ (store : List ℕ) (cmp : List ℕ → List ℕ → Ordering)
             set = record memory.set {
               last_sequence = memory.set.last_sequence + length items;
             };
-            recent = recent;
+            mem = mem;
           })
 
     -- a batch that takes the next numbers may be appended to the log
@@ -263,18 +263,18 @@ module _ (store : List ℕ) (cmp : List ℕ → List ℕ → Ordering)
 
 module _ (cmp : List ℕ → List ℕ → Ordering) where
   -- what was shown is shown with the table in place of the entries that wait
-  abbrev pub TabledIsShown : Type 0
-  TabledIsShown = (memory : EngineMemory) (table : LiveTable) (tables : List LiveTable)
+  abbrev pub NewTableIsShown : Type 0
+  NewTableIsShown = (memory : EngineMemory) (table : LiveTable) (tables : List LiveTable)
       (history : History) (from : ℕ) → IsTotalOrder cmp
-      → SameEntries table.entries memory.waiting → CanBeAdded cmp tables table
+      → SameEntries table.entries memory.imm → CanBeAdded cmp tables table
       → ((one : LiveTable) → Contains tables one → IsBounded cmp one)
       → ShowsHistory cmp memory tables history from
-      → ShowsHistory cmp (record memory { waiting = [] }) (table ∷ tables) history from
+      → ShowsHistory cmp (record memory { imm = [] }) (table ∷ tables) history from
 
   -- memory may have the same entries in another order
   abbrev pub SameMemoryShows : Type 0
   SameMemoryShows = (memory other : EngineMemory) (tables : List LiveTable) (history : History)
-      (from : ℕ) → SameEntries memory.recent other.recent
-      → SameEntries memory.waiting other.waiting
+      (from : ℕ) → SameEntries memory.mem other.mem
+      → SameEntries memory.imm other.imm
       → ShowsHistory cmp memory tables history from
       → ShowsHistory cmp other tables history from

@@ -18,7 +18,7 @@ use leveldb_env::filter::{FilterPolicy, InternalFilterPolicy};
 use leveldb_env::options::Options;
 use leveldb_table::block_cache::{BlockCache, cache_key};
 use leveldb_table::cache::{Cache, CacheKey};
-use leveldb_table::table_reader::{Finder, Table};
+use leveldb_table::table_reader::{KeyBuffers, Table};
 use std::alloc::Global;
 
 mod moves;
@@ -41,7 +41,7 @@ where
     store: String,
     tables: Cache<Table<E, InternalKeyCmp<C>, InternalFilterPolicy<FP>>>,
     blocks: BlockCache<InternalKeyCmp<C>>,
-    finder: Finder,
+    key_buffers: KeyBuffers,
 }
 
 impl<E: Env, C: UserCmp + Copy + Drop, FP: FilterPolicy + Copy + Drop> Drop for TableCache<E, C, FP>
@@ -55,12 +55,12 @@ where
             store,
             tables,
             blocks,
-            finder,
+            key_buffers,
         } = self;
         drop(store);
         drop(tables);
         drop(blocks);
-        drop(finder);
+        drop(key_buffers);
     }
 }
 
@@ -84,7 +84,7 @@ impl<E: Env, C: UserCmp + Copy + Drop, FP: FilterPolicy + Copy + Drop> TableCach
             store: String::from_str(alloc, store)?,
             tables: Cache::new(alloc, options.max_open_files.saturating_sub(OTHER_FILES))?,
             blocks: Cache::new(alloc, blocks)?,
-            finder: Finder::new(alloc),
+            key_buffers: KeyBuffers::new(alloc),
         })
     }
 
@@ -119,7 +119,7 @@ impl<E: Env, C: UserCmp + Copy + Drop, FP: FilterPolicy + Copy + Drop> TableCach
         let Some(value) = self.find(env, options, number, key)? else {
             return Ok(None);
         };
-        let key = Bytes::copy_from_slice(self.alloc, self.finder.key())?;
+        let key = Bytes::copy_from_slice(self.alloc, self.key_buffers.key())?;
         Ok(Some((key, value)))
     }
 
@@ -157,7 +157,7 @@ impl<E: Env, C: UserCmp + Copy + Drop, FP: FilterPolicy + Copy + Drop> TableCach
                 &mut self.blocks,
                 compressors,
                 key,
-                &mut self.finder,
+                &mut self.key_buffers,
             );
         }
         let table = self.open(env, options, number)?;
@@ -168,7 +168,7 @@ impl<E: Env, C: UserCmp + Copy + Drop, FP: FilterPolicy + Copy + Drop> TableCach
                 &mut self.blocks,
                 compressors,
                 key,
-                &mut self.finder,
+                &mut self.key_buffers,
             );
         }
         self.tables.insert(&name, table)?;
@@ -179,7 +179,7 @@ impl<E: Env, C: UserCmp + Copy + Drop, FP: FilterPolicy + Copy + Drop> TableCach
             &mut self.blocks,
             compressors,
             key,
-            &mut self.finder,
+            &mut self.key_buffers,
         )
     }
 
@@ -188,7 +188,7 @@ impl<E: Env, C: UserCmp + Copy + Drop, FP: FilterPolicy + Copy + Drop> TableCach
     pub fn found_key(&self) -> &[u8]
         ensures { result.now ≡ found_key self.now }
     {
-        self.finder.key()
+        self.key_buffers.key()
     }
 
     /// Makes sure that the table of this number is open, unless there is room for none: then it is

@@ -53,7 +53,7 @@ pub fn new_version_iter<'a, C: UserCmp + Copy + Drop>(
 }
 
 impl<'a, C: UserCmp + Copy + Drop> VersionIter<'a, C> {
-    ghost use Rattle.leveldb_version.specs.VersionIter.{MovesToFile, StepsInFile, TurnsTo};
+    ghost use Rattle.leveldb_version.specs.VersionIter.{MovesToFile, StepsInFile, KeepsTableOrNone};
 
     // Moves to no position.
     fn leave(&mut self)
@@ -66,7 +66,7 @@ impl<'a, C: UserCmp + Copy + Drop> VersionIter<'a, C> {
 
     // Turns to the file of this index, where the walk begins anew if it was at another.
     fn turn_to(&mut self, at: usize)
-        ensures turns { TurnsTo self.old.at self.old.core at self.new.core }
+        ensures turns { KeepsTableOrNone self.old.at self.old.core at self.new.core }
         ensures at { self.new.at ≡ at }
         ensures files { self.new.files ≡ self.old.files }
     {

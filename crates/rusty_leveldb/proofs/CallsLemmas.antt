@@ -18,7 +18,7 @@ use Rattle.leveldb_version.specs.TableCache.{table_options}
 use Rattle.leveldb_version.specs.declared.table_cache.TableCache.{TableCache}
 use Rattle.leveldb_store.specs.OpenStore.{IsUnbroken, OpenStoreValue}
 use Rattle.leveldb_store.specs.Read.{LooksUpKey}
-use Rattle.leveldb_store.specs.Room.{FailsFor, HasFailed, TellsOnly}
+use Rattle.leveldb_store.specs.Room.{FailsFor, HasFailed, ChangesLoggerOnly}
 use Rattle.leveldb_store.specs.SoundCall.{IsSoundCall, any_meaning}
 use Rattle.leveldb_store.specs.Write.{IsLogLost, SyncsLog, with_writer}
 use Rattle.leveldb_store.specs.WriteBatch.{SyncsBatches}
@@ -144,7 +144,7 @@ module _ {E C FP F P : Type 0} {B : Boxed} {keys : InternalOrder C} {key_filters
           ok = row.0;
           err = row.1;
           step = step;
-          halted = λ halted. by_mode;
+          refused_by_mode = λ refused_by_mode. by_mode;
           misfit = λ opened long. absurd (not_refused before.mode status opened why);
           written = tt;
           waits = tt;
@@ -167,7 +167,7 @@ module _ {E C FP F P : Type 0} {B : Boxed} {keys : InternalOrder C} {key_filters
           ok = row.0;
           err = row.1;
           step = step;
-          halted = λ halted. by_mode;
+          refused_by_mode = λ refused_by_mode. by_mode;
           mode = tt;
           failed = (inr refl, inl (halted_by before.mode status why));
           memory = refl;
@@ -191,7 +191,7 @@ module _ {E C FP F P : Type 0} {B : Boxed} {keys : InternalOrder C} {key_filters
           ok = row.0;
           err = row.1;
           step = step;
-          halted = λ halted. by_mode;
+          refused_by_mode = λ refused_by_mode. by_mode;
           mode = tt;
           failed = ⊎_elim (λ (out : before.mode ≡ machine.closed). inr (out, out))
               (λ (broke : before.mode ≡ machine.broken). inl broke)
@@ -225,7 +225,7 @@ module _ {E C FP F P : Type 0} {B : Boxed} {keys : InternalOrder C} {key_filters
 
     sync_tells : (result : Result (Unit {0}) Status) (m : machine.Mode)
         → SyncsLog env before.store from result value mid
-        → TellsOnly (options_in before) (options_in {E = E} {C = C} {FP = FP} {F = F} {B = B}
+        → ChangesLoggerOnly (options_in before) (options_in {E = E} {C = C} {FP = FP} {F = F} {B = B}
         (record before { store = value; mode = m }))
     sync_tells result m syncs = record {
       rest = ap (λ (c : C). record before.options { cmp = c }) (sync_cmp result syncs);
@@ -294,7 +294,7 @@ module _ {E C FP F P : Type 0} {B : Boxed} {keys : InternalOrder C} {key_filters
           ok = row.0;
           err = row.1;
           step = step;
-          halted = λ halted. absurd (not_halted before.mode opened halted);
+          refused_by_mode = λ refused_by_mode. absurd (not_halted before.mode opened refused_by_mode);
           mode = flush_mode m follows unbroken result syncs;
           failed = flush_failed m follows result syncs;
           memory = sync_only env before from opened value mid result syncs;
@@ -321,7 +321,7 @@ module _ {E C FP F P : Type 0} {B : Boxed} {keys : InternalOrder C} {key_filters
           ok = row.0;
           err = row.1;
           step = step;
-          halted = λ halted. absurd (not_halted before.mode opened halted);
+          refused_by_mode = λ refused_by_mode. absurd (not_halted before.mode opened refused_by_mode);
           mode = tt;
           failed = inl refl;
           memory = sync_only env before from opened value mid (Err status) syncs;
@@ -363,7 +363,7 @@ module _ {E C FP F P : Type 0} {B : Boxed} {keys : InternalOrder C} {key_filters
             ok = row.0;
             err = row.1;
             step = step;
-            halted = λ halted. absurd (not_halted before.mode opened halted);
+            refused_by_mode = λ refused_by_mode. absurd (not_halted before.mode opened refused_by_mode);
             mode = tt;
             failed = inl refl;
             memory = sync_only env before from opened value mid (Ok tt) syncs;
@@ -395,7 +395,7 @@ module _ {E C FP F P : Type 0} {B : Boxed} {keys : InternalOrder C} {key_filters
             ok = row.0;
             err = row.1;
             step = step;
-            halted = λ halted. absurd (not_halted before.mode opened halted);
+            refused_by_mode = λ refused_by_mode. absurd (not_halted before.mode opened refused_by_mode);
             mode = refl;
             failed = tt;
             memory = sync_only env before from opened value mid (Ok tt) syncs;
@@ -448,7 +448,7 @@ module _ {E C FP F P : Type 0} {B : Boxed} {keys : InternalOrder C} {key_filters
           ok = row.0;
           err = row.1;
           step = step;
-          halted = λ halted. (refl, refl, inl why);
+          refused_by_mode = λ refused_by_mode. (refl, refl, inl why);
           way = inl (refl, refl, inl why);
           reads = (refl, refl);
           snapshots = refl;
@@ -469,7 +469,7 @@ module _ {E C FP F P : Type 0} {B : Boxed} {keys : InternalOrder C} {key_filters
             ok = row.0;
             err = row.1;
             step = step;
-            halted = λ halted. absurd (usable halted);
+            refused_by_mode = λ refused_by_mode. absurd (usable refused_by_mode);
             way = inl (refl, refl, inr (inl (code, misfits)));
             reads = (refl, refl);
             snapshots = refl;
@@ -498,7 +498,7 @@ module _ {E C FP F P : Type 0} {B : Boxed} {keys : InternalOrder C} {key_filters
             ok = row.0;
             err = row.1;
             step = step;
-            halted = λ halted. absurd (usable halted);
+            refused_by_mode = λ refused_by_mode. absurd (usable refused_by_mode);
             way = inr (sequence, reads, looks.way);
             reads = (refl, same);
             snapshots = refl;

@@ -1,13 +1,13 @@
 -- Each refusal has a cause.
 use Rattle.std.proofs.Common.{◌≡◌, ◌⊎◌, inl, inr, refl}
 use Rattle.rusty_leveldb.specs.State.{State, Mode, broken, closed, Request, open_store, write, flush, compact_range, close, abandon, Refusal, refused}
-use Rattle.rusty_leveldb.specs.Causes.{Setting, Cause, Comes, IsClosedRefusal, IsBrokenRefusal}
+use Rattle.rusty_leveldb.specs.Causes.{Setting, Cause, IsCausedBy, IsClosedRefusal, IsBrokenRefusal}
 use Rattle.rusty_leveldb.specs.Machine.{Step}
 use Rattle.rusty_leveldb.specs.Laws.{RefusalHasCause}
 
 module _ (setting : Setting) (old new : State) (refusal : Refusal) where
   abbrev HasReason : Mode → Request → Type 0
-  HasReason mode request = ((cause : Cause) × Comes setting old request refusal cause) ⊎ ((mode ≡ closed) × IsClosedRefusal refusal) ⊎ ((mode ≡ broken) × IsBrokenRefusal refusal)
+  HasReason mode request = ((cause : Cause) × IsCausedBy setting old request refusal cause) ⊎ ((mode ≡ closed) × IsClosedRefusal refusal) ⊎ ((mode ≡ broken) × IsBrokenRefusal refusal)
 
   reason : (mode : Mode) (request : Request) → Step mode setting old request (refused refusal) new → HasReason mode request
   reason closed (open_store opening) step = inl (step.cause, step.comes)

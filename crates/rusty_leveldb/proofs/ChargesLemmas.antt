@@ -106,7 +106,7 @@ module _ {E F C FP : Type 0} (order : CmpGhosts (InternalKeyCmp C)) (env : Ghost
           → CompactsRange order env by old from tables choices smallest range result new to now
       range_of_charged range it = record {
         keeps = compacted_then charged_keeps result new to now fails_charged it.keeps;
-        tabled = it.tabled;
+        tables_made = it.tables_made;
         clear = it.clear;
       }
 

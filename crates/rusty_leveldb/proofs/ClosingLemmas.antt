@@ -18,11 +18,11 @@ use Rattle.leveldb_store.specs.Write.{SyncsLog, open_log_path, with_writer}
 use Rattle.leveldb_store.specs.WriteBatch.{MakesDurable, SyncsBatches}
 use Rattle.rusty_leveldb.specs.Boxes.{EngineOf, InternalOrder}
 use Rattle.rusty_leveldb.specs.EngineValue.{FollowsStore}
-use Rattle.rusty_leveldb.specs.Causes.{Cause, Comes, ReachesDevice, Setting, device_failed, out_of_memory}
+use Rattle.rusty_leveldb.specs.Causes.{Cause, IsCausedBy, ReachesDevice, Setting, device_failed, out_of_memory}
 use Rattle.rusty_leveldb.specs.Engine.{Answers, Recalls, options_in, scene}
 use Rattle.rusty_leveldb.specs.Frame.{MayTouch, SameBytes}
 use Rattle.rusty_leveldb.specs.Machine.{Breaks, LeavesRefused, MayBreak, Responds, Step, closed_state}
-use Rattle.rusty_leveldb.specs.Serves.{Goes, IsSpared, Reads, Represents, done_or, refusal_of, setting_between}
+use Rattle.rusty_leveldb.specs.Serves.{TakesStep, IsSpared, Reads, Represents, done_or, refusal_of, setting_between}
 use Rattle.rusty_leveldb.specs.State as machine
 use Rattle.rusty_leveldb.specs.State.{Answer, Request, State, abandon, close, done, flush, open_mode, refused}
 use Rattle.rusty_leveldb.proofs.EngineLemmas.{Stays, follows_broken, follows_open, goes, none, state_open}
@@ -45,7 +45,7 @@ freed_other lock name locked differs =
 unlock_cause : (meaning : Meaning) (before mid now : ℕ) (old : State) (request : Request)
     (status : Status) → ReachesDevice request → mid ≡ before
     → HasCause {T = Unit {0}} (λ _. ⊥) mid now (Err status)
-    → Comes (setting_between meaning before now) old request (refusal_of status) device_failed
+    → IsCausedBy (setting_between meaning before now) old request (refusal_of status) device_failed
 unlock_cause meaning before mid now old request status reaches same_count cause = ⊎_elim
     (λ (never : ⊥). absurd never)
     (λ counted. (
@@ -93,7 +93,7 @@ module _ {E C FP F : Type 0} {B : Boxed} {keys : InternalOrder C} (env : Ghosts 
             → SyncsBatches env (formats (options_in before)).order before.store from (Ok tt) value mid
             → IsSoundCall {T = Unit {0}} env (formats (options_in before)).order any_meaning before.store from
             (Ok tt) value mid
-            → Goes store meaning (Recalls keys env formats store meaning) (scene env (Some before) from)
+            → TakesStep store meaning (Recalls keys env formats store meaning) (scene env (Some before) from)
             flush
             done (scene env (Some (record before { store = value; mode = m })) mid) old
         flushed syncs batches sound =
@@ -128,7 +128,7 @@ module _ {E C FP F : Type 0} {B : Boxed} {keys : InternalOrder C} (env : Ghosts 
 
         -- memory was out before the device was called
         starved : (status : Status) → IsOutOfMemory status
-            → Goes store meaning (Recalls keys env formats store meaning) (scene env (Some before) from)
+            → TakesStep store meaning (Recalls keys env formats store meaning) (scene env (Some before) from)
             flush (refused (refusal_of status)) (scene env (Some before) from) old
         starved status memory = record {
           new = old;
@@ -159,21 +159,21 @@ module _ {E C FP F : Type 0} {B : Boxed} {keys : InternalOrder C} (env : Ghosts 
             mid
             → IsSoundCall {T = Unit {0}} env (formats (options_in before)).order any_meaning before.store from
             (Err status) value mid
-            → Goes store meaning (Recalls keys env formats store meaning) (scene env (Some before) from)
+            → TakesStep store meaning (Recalls keys env formats store meaning) (scene env (Some before) from)
             flush
             (refused (refusal_of status))
             (scene env (Some (record before { store = value; mode = m })) mid) old
         unflushed status syncs batches sound = ⊎_elim
             (λ (still : IsOutOfMemory status × (value ≡ before.store) × (mid ≡ from)).
-            subst (λ (x : machine.Mode). Goes store meaning (Recalls keys env formats store meaning)
+            subst (λ (x : machine.Mode). TakesStep store meaning (Recalls keys env formats store meaning)
             (scene env (Some before) from) flush (refused (refusal_of status))
             (scene env (Some (record before { store = value; mode = x })) mid) old)
             (opened ∙ sym (follows_open m value follows
             (subst (λ (v : OpenStoreValue C). IsUnbroken v) (sym still.1) unbroken)))
-            (subst (λ (v : OpenStoreValue C). Goes store meaning (Recalls keys env formats store meaning)
+            (subst (λ (v : OpenStoreValue C). TakesStep store meaning (Recalls keys env formats store meaning)
             (scene env (Some before) from) flush (refused (refusal_of status))
             (scene env (Some (record before { store = v })) mid) old) (sym still.1)
-            (subst (λ (at : E). Goes store meaning (Recalls keys env formats store meaning)
+            (subst (λ (at : E). TakesStep store meaning (Recalls keys env formats store meaning)
             (scene env (Some before) from) flush (refused (refusal_of status))
             (scene env (Some before) at) old) (sym still.2) (starved status still.0))))
             (λ (broke : value ≡ with_writer before.store (broken_writer before.store.log.writer)).
@@ -369,7 +369,7 @@ module _ {E C FP F : Type 0} {B : Boxed} {keys : InternalOrder C} (env : Ghosts 
           → (env.observed now).disk.locked path ≡ (env.observed at).disk.locked path)
           → Responds (setting_between meaning (env.failures at) (env.failures now)) old abandon answer
           (record (closed_state old) { locked = locked })
-          → Goes store meaning (Recalls keys env formats store meaning) (scene env (Some before) at)
+          → TakesStep store meaning (Recalls keys env formats store meaning) (scene env (Some before) at)
           abandon answer (scene env None now) old
       let_go locked answer locked_is others responds =
           let new : State = record (closed_state old) { locked = locked } in

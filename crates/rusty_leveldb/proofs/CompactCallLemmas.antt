@@ -11,7 +11,7 @@ use Rattle.leveldb_env.specs.declared.filter.FilterPolicy.{Ghosts as FilterGhost
 use Rattle.leveldb_store.specs.BuildTable.{TableChoices}
 use Rattle.leveldb_store.proofs.KeptEntriesLemmas.{memory_same}
 use Rattle.leveldb_store.specs.OpenStore.{IsUnbroken}
-use Rattle.leveldb_store.specs.Room.{FailsFor, TellsOnly}
+use Rattle.leveldb_store.specs.Room.{FailsFor, ChangesLoggerOnly}
 use Rattle.leveldb_version.specs.Format.{Format, Meaning}
 use Rattle.rusty_leveldb.specs.Boxes.{EngineOf, InternalOrder}
 use Rattle.rusty_leveldb.specs.Calls.{EngineCompacts, KeepsModeOrBreaks}
@@ -52,13 +52,13 @@ module _ {E C FP F P : Type 0} {B : Boxed} {keys : InternalOrder C} {key_filters
         ok = row.0;
         err = row.1;
         step = step;
-        halted = λ halted. (refl, refl, why);
+        refused_by_mode = λ refused_by_mode. (refl, refl, why);
         misfit = λ opened long. absurd (not_refused before.mode status opened why);
         mode = tt;
         failed = inr refl;
         last = refl;
         entries = memory_same env (formats (options_in before)) before.store from;
-        tabled = tt;
+        tables_made = tt;
         by_tables = tt;
         clear = tt;
         snapshots = refl;
@@ -107,13 +107,13 @@ module _ {E C FP F P : Type 0} {B : Boxed} {keys : InternalOrder C} {key_filters
           ok = row.0;
           err = row.1;
           step = step;
-          halted = λ halted. absurd (not_halted before.mode opened halted);
+          refused_by_mode = λ refused_by_mode. absurd (not_halted before.mode opened refused_by_mode);
           misfit = λ is too_long. (refl, refl, code);
           mode = tt;
           failed = inr refl;
           last = refl;
           entries = memory_same env (formats (options_in before)) before.store from;
-          tabled = tt;
+          tables_made = tt;
           by_tables = tt;
           clear = tt;
           snapshots = refl;
@@ -155,7 +155,7 @@ module _ {E C FP F P : Type 0} {B : Boxed} {keys : InternalOrder C} {key_filters
           is.disk_is.is_state
           (is.memory_is.shows (λ closed.
           let never : machine.open_mode ≡ machine.closed = sym opens ∙ is.memory_is.mode ∙ closed in
-          cc)) it.compacts.tabled.0 it.compacts.tabled.1
+          cc)) it.compacts.tables_made.0 it.compacts.tables_made.1
       by_tables_then (Err status) it = tt
 
       cause_then : (result : Result (Unit {0}) Status)
@@ -169,7 +169,7 @@ module _ {E C FP F P : Type 0} {B : Boxed} {keys : InternalOrder C} {key_filters
             it.compacts.keeps.cause.cause;
       }
 
-      pub compact_serves : ((a b : OptionsOf C FP B) → TellsOnly a b → formats b ≡ formats a)
+      pub compact_serves : ((a b : OptionsOf C FP B) → ChangesLoggerOnly a b → formats b ≡ formats a)
           → (IsLongKey low → ⊥) → (IsLongKey high → ⊥) → (result : Result (Unit {0}) Status)
           → EngineCompactsStore env choices before from low high result after to
           → is_some after.options.log ≡ is_some before.options.log
@@ -182,13 +182,13 @@ module _ {E C FP F P : Type 0} {B : Boxed} {keys : InternalOrder C} {key_filters
             ok = row.0;
             err = row.1;
             step = step;
-            halted = λ halted. absurd (not_halted before.mode opened halted);
+            refused_by_mode = λ refused_by_mode. absurd (not_halted before.mode opened refused_by_mode);
             misfit = λ is long. absurd (⊎_elim low_fits high_fits long);
             mode = mode_then result it;
             failed = failed_then result it;
             last = it.compacts.keeps.rest.last;
             entries = it.entries;
-            tabled = it.compacts.tabled;
+            tables_made = it.compacts.tables_made;
             by_tables = by_tables_then result it;
             clear = it.compacts.clear;
             snapshots = ap (λ (e : EngineOf E C FP F B). e.snapshots) it.rest;

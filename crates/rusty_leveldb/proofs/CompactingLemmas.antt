@@ -18,16 +18,16 @@ use Rattle.leveldb_store.specs.Compact.{FailsToCompactRange}
 use Rattle.leveldb_store.specs.OpenStore.{IsUnbroken}
 use Rattle.leveldb_store.specs.OpenTables.{AreOpenTablesOf}
 use Rattle.leveldb_store.specs.Read.{HasOpenTables}
-use Rattle.leveldb_store.specs.Room.{HasFailed, TellsOnly}
+use Rattle.leveldb_store.specs.Room.{HasFailed, ChangesLoggerOnly}
 use Rattle.leveldb_store.specs.WriteBatch.{HoldsBatches}
 use Rattle.leveldb_store.specs.Written.{IsWritten}
 use Rattle.leveldb_store.specs.WrittenFrom.{KeepsStoreFrom, KeepsWrittenFrom}
 use Rattle.rusty_leveldb.specs.Boxes.{EngineOf, InternalOrder}
 use Rattle.rusty_leveldb.specs.Compact.{EngineCompactsStore}
-use Rattle.rusty_leveldb.specs.Causes.{Cause, Comes, Fits, Setting, device_failed, out_of_memory}
+use Rattle.rusty_leveldb.specs.Causes.{Cause, IsCausedBy, Fits, Setting, device_failed, out_of_memory}
 use Rattle.rusty_leveldb.specs.Engine.{Answers, Recalls, ShowsViews, formats_of, options_in, scene, tables_by}
 use Rattle.rusty_leveldb.specs.Machine.{Breaks, Refuses, Risk, Step, risk_between}
-use Rattle.rusty_leveldb.specs.Serves.{Goes, IsSpared, Represents, done_or, refusal_of, setting_between}
+use Rattle.rusty_leveldb.specs.Serves.{TakesStep, IsSpared, Represents, done_or, refusal_of, setting_between}
 use Rattle.rusty_leveldb.specs.State as machine
 use Rattle.rusty_leveldb.specs.State.{Answer, State, compact_range, done, open_mode, refused}
 use Rattle.rusty_leveldb.proofs.EngineLemmas.{SameSnapshots, Stays, follows_open, goes, is_of, none, not_closed, same_format, state_open, views_still}
@@ -46,7 +46,7 @@ pub compact_tells : {E C FP F P : Type 0} {B : Boxed} {keys : InternalOrder C}
     (after : EngineOf E C FP F B) (to : E)
     → EngineCompactsStore env choices before from low high result after to
     → is_some after.options.log ≡ is_some before.options.log
-    → TellsOnly (options_in before) (options_in after)
+    → ChangesLoggerOnly (options_in before) (options_in after)
 compact_tells env choices before from low high result after to it sink =
     store_tells before after it.rest it.compacts.keeps.rest.cmp sink
 
@@ -57,7 +57,7 @@ module _ {E C FP F P : Type 0} {B : Boxed} {keys : InternalOrder C} {key_filters
     (was : Represents store meaning (Recalls keys env (formats_of choices) store meaning) (Some before)
     (env.observed from).disk old) (opened : before.mode ≡ machine.open_mode)
     (modelled : IsTrue env.models_disk)
-    (ignores : (a b : OptionsOf C FP B) → TellsOnly a b
+    (ignores : (a b : OptionsOf C FP B) → ChangesLoggerOnly a b
     → formats_of choices b ≡ formats_of choices a)
     (low high : List ℕ) (result : Result (Unit {0}) Status) (after : EngineOf E C FP F B) (to : E)
     (it : EngineCompactsStore env choices before from low high result after to)
@@ -115,7 +115,7 @@ module _ {E C FP F P : Type 0} {B : Boxed} {keys : InternalOrder C} {key_filters
 
   module _ (status : Status) where
     abbrev HasCause : Type 0
-    HasCause = (cause : Cause) × Comes setting old (compact_range low high) (refusal_of status) cause
+    HasCause = (cause : Cause) × IsCausedBy setting old (compact_range low high) (refusal_of status) cause
 
     makes_tables : MakesTables old (compact_range low high)
     makes_tables = record { memory = tt; device = tt; writes = tt; reads = tt; format = refl }
@@ -165,7 +165,7 @@ module _ {E C FP F P : Type 0} {B : Boxed} {keys : InternalOrder C} {key_filters
       → new.durable ≡ old.durable → new.pending ≡ None → new.locked ≡ old.locked
       → (new.mode ≡ open_mode → IsUnbroken after.store)
       → Step open_mode setting old (compact_range low high) answer new
-      → Goes store meaning (Recalls keys env formats store meaning) (scene env (Some before) from)
+      → TakesStep store meaning (Recalls keys env formats store meaning) (scene env (Some before) from)
       (compact_range low high) answer (scene env (Some after) to) old
   went answer new snapshots mode_is store_is format_is history_is last_is durable_is pending_is
       locked_is unbroken step =
@@ -225,7 +225,7 @@ module _ {E C FP F P : Type 0} {B : Boxed} {keys : InternalOrder C} {key_filters
 
   -- it is compacted
   went_done : IsUnbroken after.store → (IsLongKey low → ⊥) → (IsLongKey high → ⊥)
-      → Goes store meaning (Recalls keys env formats store meaning) (scene env (Some before) from)
+      → TakesStep store meaning (Recalls keys env formats store meaning) (scene env (Some before) from)
       (compact_range low high) done (scene env (Some after) to) old
   went_done unbroken low_fits high_fits =
       went done old (λ in_use. (refl, refl))
@@ -242,7 +242,7 @@ module _ {E C FP F P : Type 0} {B : Boxed} {keys : InternalOrder C} {key_filters
 
   -- or it isn't
   went_failed : (status : Status) → result ≡ Err status
-      → Goes store meaning (Recalls keys env formats store meaning) (scene env (Some before) from)
+      → TakesStep store meaning (Recalls keys env formats store meaning) (scene env (Some before) from)
       (compact_range low high) (refused (refusal_of status)) (scene env (Some after) to) old
   went_failed status fails = ⊎_elim
       (λ (sound : (after.mode ≡ machine.open_mode) × IsUnbroken after.store).
@@ -273,7 +273,7 @@ pub compact_goes : {E C FP F P : Type 0} {B : Boxed} {keys : InternalOrder C}
     {key_filters : FilterGhosts P} (env : Ghosts E F)
     (choices : OptionsOf C FP B → TableChoices keys key_filters)
     (before : EngineOf E C FP F B) (from : E) → before.mode ≡ machine.open_mode
-    → ((a b : OptionsOf C FP B) → TellsOnly a b → formats_of choices b ≡ formats_of choices a)
+    → ((a b : OptionsOf C FP B) → ChangesLoggerOnly a b → formats_of choices b ≡ formats_of choices a)
     → (low high : List ℕ) (result : Result (Unit {0}) Status) (after : EngineOf E C FP F B) (to : E)
     → EngineCompactsStore env choices before from low high result after to
     → is_some after.options.log ≡ is_some before.options.log

@@ -5,7 +5,7 @@ use Rattle.leveldb_env.specs.Env.{Files}
 use Rattle.leveldb_version.specs.Format.{Meaning}
 use Rattle.leveldb_version.specs.Levels.{table_entries}
 use Rattle.leveldb_store.specs.OpenStore.{OpenStoreValue}
-use Rattle.leveldb_store.specs.Written.{waiting_entries}
+use Rattle.leveldb_store.specs.Written.{imm_entries}
 use Rattle.rusty_leveldb.specs.CompactionLaws.{AreViewsInTables}
 use Rattle.rusty_leveldb.specs.Engine.{ShowsViews}
 use Rattle.rusty_leveldb.specs.Machine.{IsSequenceOf}
@@ -33,10 +33,10 @@ views_in_tables C meaning value files state is shows empty none =
       live = shows.shows.has;
       levels = shown.levels;
       same = λ at sequence e.
-          let P : List Entry → Type 0 = λ recent.
-          SameView (recent ++ (waiting_entries value.waiting ++ tables)) (entries_of state.history) sequence in
-          let Q : List Entry → Type 0 = λ waiting.
-          SameView (waiting ++ tables) (entries_of state.history) sequence in
-          subst Q (ap waiting_entries none)
+          let P : List Entry → Type 0 = λ mem.
+          SameView (mem ++ (imm_entries value.imm ++ tables)) (entries_of state.history) sequence in
+          let Q : List Entry → Type 0 = λ imm.
+          SameView (imm ++ tables) (entries_of state.history) sequence in
+          subst Q (ap imm_entries none)
           (subst P empty (shown.same sequence (reads_from meaning value files state is shows at sequence e)));
     }

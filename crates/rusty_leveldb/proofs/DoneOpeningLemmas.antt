@@ -22,7 +22,7 @@ use Rattle.leveldb_store.specs.OpenStore.{OpenStoreValue}
 use Rattle.leveldb_store.specs.OpenTables.{AreOpenTablesOf}
 use Rattle.leveldb_store.specs.OpensStore.{IsForbidden, LacksUsableEdits, OpensStore}
 use Rattle.leveldb_store.specs.Read.{HasOpenTables}
-use Rattle.leveldb_store.specs.Room.{TellsOnly}
+use Rattle.leveldb_store.specs.Room.{ChangesLoggerOnly}
 use Rattle.leveldb_store.specs.SoundCall.{BytesAreAppended}
 use Rattle.leveldb_store.specs.Written.{IsDataPath}
 use Rattle.leveldb_store.specs.WrittenFrom.{KeepsWrittenFrom}
@@ -31,7 +31,7 @@ use Rattle.rusty_leveldb.specs.Calls.{EngineOpens}
 use Rattle.rusty_leveldb.specs.Engine.{AnswersAs, formats_of, HasOwnTables, IsOpening, IsStoreName, Recalls, no_engine, options_in, scene, tables_by}
 use Rattle.rusty_leveldb.specs.Frame.{IsOwn, Spares}
 use Rattle.rusty_leveldb.specs.Machine.{Opens}
-use Rattle.rusty_leveldb.specs.Serves.{AreReadAs, Goes, IsSpared, Represents}
+use Rattle.rusty_leveldb.specs.Serves.{AreReadAs, TakesStep, IsSpared, Represents}
 use Rattle.rusty_leveldb.specs.State.{Opening, State, done, open_mode, open_store}
 use Rattle.rusty_leveldb.proofs.LateOpeningLemmas.{made_bytes}
 use Rattle.rusty_leveldb.proofs.MachineLemmas.{risk_opening}
@@ -77,8 +77,8 @@ module _ {E C FP F P : Type 0} {B : Boxed} {keys : InternalOrder C} {key_filters
     (mode : engine.mode ≡ open_mode)
     (unheld : engine.snapshots ≡ record { held = []; given = 0 })
     (lock : engine.lock ≡ lock_path store)
-    (tells : TellsOnly options engine.options) (cmp : first.cmp ≡ options.cmp)
-    (ignores : (a b : OptionsOf C FP B) → TellsOnly a b → formats_of choices b ≡ formats_of choices a)
+    (tells : ChangesLoggerOnly options engine.options) (cmp : first.cmp ≡ options.cmp)
+    (ignores : (a b : OptionsOf C FP B) → ChangesLoggerOnly a b → formats_of choices b ≡ formats_of choices a)
     (asked_is : formats_of choices options ≡ asked.format)
     (counted : env.failures taken ≡ env.failures from) (is_limit : limit ≡ options.write_buffer_size)
     (well : IsStoreName store × IsTrue asked.fits × IsTrue asked.compresses) where
@@ -108,7 +108,7 @@ module _ {E C FP F P : Type 0} {B : Boxed} {keys : InternalOrder C} {key_filters
   same_cmp : engine.store.cmp ≡ options.cmp
   same_cmp = kept.rest.cmp ∙ cmp
 
-  tells_in : TellsOnly options (options_in engine)
+  tells_in : ChangesLoggerOnly options (options_in engine)
   tells_in = record {
     rest = ap (λ (o : OptionsOf C FP B). record o { cmp = engine.store.cmp }) tells.rest
         ∙ ap (λ (c : C). record options { log = engine.options.log; cmp = c }) same_cmp;
@@ -200,7 +200,7 @@ module _ {E C FP F P : Type 0} {B : Boxed} {keys : InternalOrder C} {key_filters
         IsForbidden store o.create_if_missing o.error_if_exists here) is.same forbidden))
 
     goes : IsNamed opening.format.order_name old.store
-        → Goes store meaning (Recalls keys env formats store meaning)
+        → TakesStep store meaning (Recalls keys env formats store meaning)
         (scene env (no_engine {E = E} {C = C} {FP = FP} {F = F} {B = B}
         engine.options) from)
         (open_store opening) done (scene env (Some engine) to) old
@@ -254,7 +254,7 @@ module _ {E C FP F P : Type 0} {B : Boxed} {keys : InternalOrder C} {key_filters
         × (name ≢ opening.format.order_name)). absurd (other_never differs))
         (fits_or_not store meaning opening agrees (env.observed from) old was.disk_is)
 
-    pub done_goes : Goes store meaning (Recalls keys env formats store meaning)
+    pub done_goes : TakesStep store meaning (Recalls keys env formats store meaning)
         (scene env (no_engine {E = E} {C = C} {FP = FP} {F = F} {B = B}
         engine.options) from)
         (open_store opening) done (scene env (Some engine) to) old

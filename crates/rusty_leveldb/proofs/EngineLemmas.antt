@@ -17,13 +17,13 @@ use Rattle.leveldb_version.specs.StoreSteps.{AppendedAreBytes}
 use Rattle.leveldb_version.specs.Format.{Agrees, Format, IsTableOf, Meaning}
 use Rattle.leveldb_store.specs.OpenStore.{IsUnbroken, OpenStoreValue}
 use Rattle.leveldb_store.specs.WriteBatch.{HoldsBatches, IsOf, SparesBatches}
-use Rattle.leveldb_store.specs.Written.{IsWritten, KeepsShown, Shows}
+use Rattle.leveldb_store.specs.Written.{IsWritten, KeepsShown, HasView}
 use Rattle.rusty_leveldb.specs.Boxes.{EngineOf, InternalOrder}
 use Rattle.rusty_leveldb.specs.EngineValue.{FollowsStore, IsUnbrokenIfOpen}
 use Rattle.rusty_leveldb.specs.Engine.{HasOwnTables, HasSnapshots, Recalls, ShowsViews, options_in, scene}
 use Rattle.rusty_leveldb.specs.Frame.{IsSyncing, MayTouch, SameBytes, Spares}
 use Rattle.rusty_leveldb.specs.Machine.{Step, risk_of}
-use Rattle.rusty_leveldb.specs.Serves.{Goes, IsSpared, Reads, Represents, StandsFor, setting_between}
+use Rattle.rusty_leveldb.specs.Serves.{TakesStep, IsSpared, Reads, Represents, StandsFor, setting_between}
 use Rattle.rusty_leveldb.specs.State as machine
 use Rattle.rusty_leveldb.specs.State.{Answer, IsState, Request, State, SuitsMode, open_mode}
 use Rattle.rusty_leveldb.proofs.Bounds.{carries_allow, safe_allow}
@@ -220,7 +220,7 @@ module _ {E C FP F : Type 0} {B : Boxed} {keys : InternalOrder C} (env : Ghosts 
       → (new.mode ≡ machine.closed → ⊥) → ShowsViews meaning value files new
   views_then mid here views value files new snapshots format_is grows shows used = record {
     since = views.since;
-    shows = subst (λ (f : Format). Shows f.order meaning value files new.history views.since)
+    shows = subst (λ (f : Format). HasView f.order meaning value files new.history views.since)
         (sym format_is) (shows views.since views.shows);
     now = let least = views.now in omega (arith, least, grows);
     held = λ one there. views.held one
@@ -322,7 +322,7 @@ module _ {E C FP F : Type 0} {B : Boxed} {keys : InternalOrder C} (env : Ghosts 
         → Spares store (MayTouch store old.mode request) (env.observed from).disk
         (env.observed to).disk
         → (IsSyncing request → SameBytes (env.observed from).disk.files (env.observed to).disk.files)
-        → Goes store meaning (Recalls keys env formats store meaning) (scene env (Some before) from)
+        → TakesStep store meaning (Recalls keys env formats store meaning) (scene env (Some before) from)
         request answer (scene env (Some after) to) old
     goes request answer later step moments spares bytes = record {
       new = new;

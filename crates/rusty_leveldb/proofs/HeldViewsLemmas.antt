@@ -21,15 +21,15 @@ use Rattle.leveldb_mem.specs.MemTable.{Kept}
 use Rattle.leveldb_version.specs.Format.{Agrees, Format, HasCompressorError, LacksCompressor, Meaning}
 use Rattle.leveldb_version.specs.ShownFrom.{IsFrom, KeepsFrom}
 use Rattle.leveldb_version.specs.TableCache.{TableOptions}
-use Rattle.leveldb_store.proofs.NotTabledLemmas.{not_tabled_causes}
-use Rattle.leveldb_store.specs.BuildTable.{IsNotTabled, TableChoices}
+use Rattle.leveldb_store.proofs.NotBuiltLemmas.{not_built_causes}
+use Rattle.leveldb_store.specs.BuildTable.{IsNotBuilt, TableChoices}
 use Rattle.leveldb_store.specs.Compact.{FailsToCompactRange, HasTablesWritten}
 use Rattle.leveldb_store.specs.OpenStore.{OpenStoreValue}
 use Rattle.leveldb_store.specs.Read.{HasOpenTables}
-use Rattle.leveldb_store.specs.Room.{AreEntriesNotTabled, HasFailed}
-use Rattle.leveldb_store.specs.Written.{HasLiveTables, IsWritten, Shows}
+use Rattle.leveldb_store.specs.Room.{AreEntriesNotBuilt, HasFailed}
+use Rattle.leveldb_store.specs.Written.{HasLiveTables, IsWritten, HasView}
 use Rattle.rusty_leveldb.specs.Boxes.{EngineOf, InternalOrder}
-use Rattle.rusty_leveldb.specs.Causes.{Cause, Comes, CompressorFails, ReachesDevice, ReadsTables, Setting, TakesMemory, WritesTables, block_format, compressor_failed, device_failed, lacks_compressor, out_of_memory, too_large}
+use Rattle.rusty_leveldb.specs.Causes.{Cause, IsCausedBy, CompressorFails, ReachesDevice, ReadsTables, Setting, TakesMemory, WritesTables, block_format, compressor_failed, device_failed, lacks_compressor, out_of_memory, too_large}
 use Rattle.rusty_leveldb.specs.Engine.{Recalls, ShowsViews, formats_of, options_in, tables_by}
 use Rattle.rusty_leveldb.specs.Serves.{Represents, refusal_of, setting_between, snapshot_of}
 use Rattle.rusty_leveldb.specs.State as machine
@@ -149,7 +149,7 @@ module _ {E C FP F P : Type 0} {B : Boxed} {keys : InternalOrder C} {key_filters
     -- number on, or from the newest entry's if that is the smaller one.
     pub views_held : (value : OpenStoreValue C) (then : Files)
         → ((history : History) → KeepsFrom smallest history
-        (Shows order meaning before.store files history) (Shows order meaning value then history))
+        (HasView order meaning before.store files history) (HasView order meaning value then history))
         → ShowsViews meaning value then old
     views_held value then keeps = ⊎_elim
         (λ (less : newest < smallest).
@@ -176,32 +176,32 @@ module _ {E C FP F P : Type 0} {B : Boxed} {keys : InternalOrder C} {key_filters
     setting = setting_between meaning (env.failures from) (env.failures to)
 
     abbrev HasCause : Type 0
-    HasCause = (cause : Cause) × Comes setting old request (refusal_of status) cause
+    HasCause = (cause : Cause) × IsCausedBy setting old request (refusal_of status) cause
 
     pub by_memory : IsOutOfMemory status
-        → Comes setting old request (refusal_of status) out_of_memory
+        → IsCausedBy setting old request (refusal_of status) out_of_memory
     by_memory memory = (is.memory, memory.0, ap text_of memory.1)
 
     pub by_device : HasFailed (env.failures from) (env.failures to)
-        → Comes setting old request (refusal_of status) device_failed
+        → IsCausedBy setting old request (refusal_of status) device_failed
     by_device failed = (is.device, failed)
 
     -- no table is built of some pairs
-    untabled : (pairs : List Pair) → IsNotTabled (choices (options_in before)) pairs status → HasCause
-    untabled pairs not = ⊎_elim (λ memory. (out_of_memory, by_memory memory))
+    not_in_tables : (pairs : List Pair) → IsNotBuilt (choices (options_in before)) pairs status → HasCause
+    not_in_tables pairs not = ⊎_elim (λ memory. (out_of_memory, by_memory memory))
         (λ other. ⊎_elim (λ code. (too_large, (is.writes, code)))
         (λ fails. (
           compressor_failed,
           subst (λ (f : Option Format). CompressorFails f status.code) (sym is.format)
               (subst (λ (f : Format). HasCompressorError f status.code) same fails),
         )) other)
-        (not_tabled_causes (choices (options_in before)) pairs status not)
+        (not_built_causes (choices (options_in before)) pairs status not)
 
     -- or of entries in memory
-    entries_untabled : (kept : Option Kept)
-        → AreEntriesNotTabled (choices (options_in before)) kept status → HasCause
-    entries_untabled None never = absurd never
-    entries_untabled (Some kept) not = untabled (map internal_pair kept.entries) not
+    entries_not_in_tables : (kept : Option Kept)
+        → AreEntriesNotBuilt (choices (options_in before)) kept status → HasCause
+    entries_not_in_tables None never = absurd never
+    entries_not_in_tables (Some kept) not = not_in_tables (map internal_pair kept.entries) not
 
     has_written : HasTablesWritten keys env by before.store from before.tables meaning
         views.shows.tables
@@ -218,14 +218,14 @@ module _ {E C FP F P : Type 0} {B : Boxed} {keys : InternalOrder C} {key_filters
         ⊎ HasFailed (env.failures from) (env.failures to) → HasCause
     tables_cause left (inl (inl (inl memory))) = (out_of_memory, by_memory memory)
     tables_cause left (inl (inl (inr (inl used)))) = (too_large, (is.writes, used.code))
-    tables_cause left (inl (inl (inr (inr (inl not))))) = untabled not.pairs not.not_tabled
+    tables_cause left (inl (inl (inr (inr (inl not))))) = not_in_tables not.pairs not.not_built
     tables_cause left (inl (inl (inr (inr (inr lost))))) =
         let why = lost.lacks meaning views.shows.tables has_written in (
           lacks_compressor,
           (is.reads, why.0, subst (λ (f : Format). LacksCompressor f meaning) same why.1),
         )
     tables_cause left (inl (inr (inl few))) = (too_large, (is.writes, few.code))
-    tables_cause left (inl (inr (inr (inl recent)))) =
-        entries_untabled (Some before.store.recent) recent
-    tables_cause left (inl (inr (inr (inr waiting)))) = entries_untabled before.store.waiting waiting
+    tables_cause left (inl (inr (inr (inl mem)))) =
+        entries_not_in_tables (Some before.store.mem) mem
+    tables_cause left (inl (inr (inr (inr imm)))) = entries_not_in_tables before.store.imm imm
     tables_cause left (inr failed) = (device_failed, by_device failed)

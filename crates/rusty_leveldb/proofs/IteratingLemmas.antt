@@ -21,7 +21,7 @@ use Rattle.leveldb_version.specs.declared.table_cache.moves.ReadTables.{ReadTabl
 use Rattle.leveldb_store.specs.OpenStore.{OpenStoreValue}
 use Rattle.leveldb_store.specs.Read.{HasOpenTables}
 use Rattle.leveldb_store.specs.View.{FailsBetween, IsOfNoCompressor, IsWorldOf, ShowsIn, options_in}
-use Rattle.leveldb_store.specs.Written.{Shows}
+use Rattle.leveldb_store.specs.Written.{HasView}
 use Rattle.rusty_leveldb.specs.Boxes.{EngineOf, InternalOrder}
 use Rattle.rusty_leveldb.specs.Causes.{IsNotHeld}
 use Rattle.rusty_leveldb.specs.Engine.{IsClosed, ReadsAt, Recalls, ShowsViews, WalkExcused, held_in, options_in as engine_options, tables_by}
@@ -123,8 +123,8 @@ module _ {E C FP F V : Type 0} {B : Boxed} (keys : InternalOrder C) (env : Ghost
       shown : ShowsViews meaning before.store (env.observed from).disk.files state
       shown = was.memory_is.shows not_closed
 
-      shows : Shows format.order meaning before.store (env.observed from).disk.files state.history shown.since
-      shows = subst (λ (f : Format). Shows f.order meaning before.store (env.observed from).disk.files state.history shown.since) (sym same_format) shown.shows
+      shows : HasView format.order meaning before.store (env.observed from).disk.files state.history shown.since
+      shows = subst (λ (f : Format). HasView f.order meaning before.store (env.observed from).disk.files state.history shown.since) (sym same_format) shown.shows
 
       last_is : before.store.set.last_sequence ≡ state.last
       last_is = was.memory_is.last not_closed
@@ -146,8 +146,8 @@ module _ {E C FP F V : Type 0} {B : Boxed} (keys : InternalOrder C) (env : Ghost
       is_world : IsWorldOf keys env cmp filters codings before.store (world_in it)
       is_world = record { order_is = ap (λ (c : C). cmp.cmp c) made.reading.order_is; below_is = made.reading.below_is; has_open = has_open }
 
-      abbrev shows_now : Shows format.order meaning before.store (files_at env it.env.now) state.history shown.since
-      shows_now = subst (λ (e : E). Shows format.order meaning before.store (files_at env e) state.history shown.since) (sym now) shows
+      abbrev shows_now : HasView format.order meaning before.store (files_at env it.env.now) state.history shown.since
+      shows_now = subst (λ (e : E). HasView format.order meaning before.store (files_at env e) state.history shown.since) (sym now) shows
 
       abbrev shows_in : ShowsIn keys env cmp filters codings before.store meaning state.history shown.since (world_in it)
       shows_in = record {

@@ -19,7 +19,7 @@ use Rattle.leveldb_version.specs.declared.table_cache.moves.ReadTables.{ReadTabl
 use Rattle.leveldb_store.specs.Room.{HasFailed}
 use Rattle.leveldb_store.specs.View.{FailsBetween, ReadsAlone, any_in_order, options_in}
 use Rattle.rusty_leveldb.specs.Boxes.{InternalOrder}
-use Rattle.rusty_leveldb.specs.Iterator.{FailsMove, IsIterator, IsUnsupportedIn, IteratesAt, Leads, MovesIterator, ShownStore, no_cause, world_in}
+use Rattle.rusty_leveldb.specs.Iterator.{FailsMove, IsIterator, IsUnsupportedIn, IteratesAt, MoveRule, MovesIterator, ShownStore, no_cause, world_in}
 use Rattle.rusty_leveldb.specs.declared.db_iter.StoreIterator.{StoreIterator}
 
 -- a count that has reached its bound stays there
@@ -102,7 +102,7 @@ module _ {E F C FP K V : Type 0} (keys : InternalOrder C) (env : Ghosts E F) (fi
         fails
 
   -- a move, by where it leads
-  module _ {R : Type 0} (Own : Status → Type 0) (way : Leads)
+  module _ {R : Type 0} (Own : Status → Type 0) (way : MoveRule)
       (old new : StoreIterator E C FP K V F) (leaves : LeavesIterator old new) where
     abbrev Ok_leads : Result R Status → Type 0
     Ok_leads r = WalkLaws walk.over walk.is_at walk.here walk.fails walk.keeps → (order : List ℕ → List ℕ → Ordering) (pairs : List Pair) (position : Option ℕ)
@@ -146,7 +146,7 @@ module _ {E F C FP K V : Type 0} (keys : InternalOrder C) (env : Ghosts E F) (fi
     }
 
   -- a move of the view below, from where it leads
-  module _ {R : Type 0} (Own : Status → Type 0) (way : Leads)
+  module _ {R : Type 0} (Own : Status → Type 0) (way : MoveRule)
       (old new : StoreIterator E C FP K V F) (reference : new.env.ghost_name ≡ old.env.ghost_name)
       (From : E × ReadTables E C FP K F → V → KeyOrder → List Pair → Option ℕ → Type 0)
       (from_position : WalkLaws walk.over walk.is_at walk.here walk.fails walk.keeps → (order : List ℕ → List ℕ → Ordering) (pairs : List Pair) (position : Option ℕ)
@@ -174,7 +174,7 @@ module _ {E F C FP K V : Type 0} (keys : InternalOrder C) (env : Ghosts E F) (fi
       (λ laws order pairs position at. resets.at_none (world_in old) (any_in_order order) pairs (laws.over_list (world_in old) old.view (any_in_order order) pairs position at))
       (λ laws order pairs position at. tt) tt tt
 
-  module _ {Q R : Type 0} (Own : Status → Type 0) (way : Leads) where
+  module _ {Q R : Type 0} (Own : Status → Type 0) (way : MoveRule) where
     -- a move whose result is another one's
     pub moves_ok : (old new : StoreIterator E C FP K V F) (q : Q) (r : R)
         → MovesIterator keys env cmp filters codings walk Own way old (Ok q) new → MovesIterator keys env cmp filters codings walk Own way old (Ok r) new

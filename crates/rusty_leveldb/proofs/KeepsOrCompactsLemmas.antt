@@ -21,7 +21,7 @@ use Rattle.leveldb_store.specs.KeptEntries.{CompactsOnceAtMost, KeepsEntries, fi
 use Rattle.leveldb_store.specs.OpenStore.{OpenStoreValue}
 use Rattle.leveldb_store.specs.Read.{in_memory}
 use Rattle.leveldb_store.specs.WriteBatch.{WritesBatch, next_batch}
-use Rattle.leveldb_store.specs.Written.{waiting_entries}
+use Rattle.leveldb_store.specs.Written.{imm_entries}
 use Rattle.rusty_leveldb.specs.Room.{KeepsOrCompacts, entries_added, with_last}
 
 -- ---- lists
@@ -50,32 +50,32 @@ same_then a b c first second = λ entry. (
 )
 
 -- a batch comes in among the first entries
-union_beside : (recent batch now waited : List Entry) → IsUnion recent batch now
-    → SameEntries ((recent ++ waited) ++ batch) (now ++ waited)
-union_beside recent batch now waited gains = λ entry. (forth entry, back entry)
+union_beside : (mem batch now waited : List Entry) → IsUnion mem batch now
+    → SameEntries ((mem ++ waited) ++ batch) (now ++ waited)
+union_beside mem batch now waited gains = λ entry. (forth entry, back entry)
   where
-    forth : (entry : Entry) → Contains ((recent ++ waited) ++ batch) entry
+    forth : (entry : Entry) → Contains ((mem ++ waited) ++ batch) entry
         → Contains (now ++ waited) entry
     forth entry there = ⊎_elim
         (λ was. ⊎_elim
         (λ first. Contains-append_left now waited entry
-        ((gains entry).1 (Contains-append_left recent batch entry first)))
+        ((gains entry).1 (Contains-append_left mem batch entry first)))
         (λ waits. Contains-append_right now waited entry waits)
-        (Contains-append_cases recent waited entry was))
+        (Contains-append_cases mem waited entry was))
         (λ its. Contains-append_left now waited entry
-        ((gains entry).1 (Contains-append_right recent batch entry its)))
-        (Contains-append_cases (recent ++ waited) batch entry there)
+        ((gains entry).1 (Contains-append_right mem batch entry its)))
+        (Contains-append_cases (mem ++ waited) batch entry there)
 
     back : (entry : Entry) → Contains (now ++ waited) entry
-        → Contains ((recent ++ waited) ++ batch) entry
+        → Contains ((mem ++ waited) ++ batch) entry
     back entry there = ⊎_elim
         (λ first. ⊎_elim
-        (λ was. Contains-append_left (recent ++ waited) batch entry
-        (Contains-append_left recent waited entry was))
-        (λ its. Contains-append_right (recent ++ waited) batch entry its)
-        (Contains-append_cases recent batch entry ((gains entry).0 first)))
-        (λ waits. Contains-append_left (recent ++ waited) batch entry
-        (Contains-append_right recent waited entry waits))
+        (λ was. Contains-append_left (mem ++ waited) batch entry
+        (Contains-append_left mem waited entry was))
+        (λ its. Contains-append_right (mem ++ waited) batch entry its)
+        (Contains-append_cases mem batch entry ((gains entry).0 first)))
+        (λ waits. Contains-append_left (mem ++ waited) batch entry
+        (Contains-append_right mem waited entry waits))
         (Contains-append_cases now waited entry there)
 
 module _ {E F C : Type 0} (env : Ghosts E F) (format : Format) where
@@ -91,7 +91,7 @@ module _ {E F C : Type 0} (env : Ghosts E F) (format : Format) where
       → new.set.store ≡ old.set.store → KeepsEntries env format old from new to
       → KeepsOrCompacts env format [] old from new to
   kept_in_tables old from new to path kept = record {
-    tabled = new;
+    tables_made = new;
     at = to;
     path = path;
     tables = kept;
@@ -116,7 +116,7 @@ module _ {E F C : Type 0} (env : Ghosts E F) (format : Format) where
       (env.observed to)
       → KeepsOrCompacts env format [] old from new to
   kept_or_compacted old from mid at path kept charged only new to rest last once = record {
-    tabled = charged;
+    tables_made = charged;
     at = at;
     path = ap (λ (v : OpenStoreValue C). v.set.store) only ∙ path;
     tables = entries_charged env format old from mid charged at only kept;
@@ -157,30 +157,30 @@ module _ {E F C : Type 0} (env : Ghosts E F) (format : Format) where
       (new : OpenStoreValue C) (to : E)
       (writes : WritesBatch env cmp mid at items sync result new to) where
     abbrev n : ℕ
-    n = room.tabled.set.last_sequence
+    n = room.tables_made.set.last_sequence
 
     tables_still : (number : ℕ) → IsTrue env.models_disk
-        → (env.observed to).disk.files (table_path room.tabled.set.store number)
-        ≡ (env.observed at).disk.files (table_path room.tabled.set.store number)
+        → (env.observed to).disk.files (table_path room.tables_made.set.store number)
+        ≡ (env.observed at).disk.files (table_path room.tables_made.set.store number)
     tables_still number modelled =
         subst (λ store. (env.observed to).disk.files (table_path store number)
         ≡ (env.observed at).disk.files (table_path store number)) (same_path ∙ sym room.path)
         (tables_same mid.set.store mid.log.number (env.observed at).disk.files
         (env.observed to).disk.files (writes.others modelled) number)
 
-    compacts_still : CompactsOnceAtMost format.order env.models_disk room.tabled
+    compacts_still : CompactsOnceAtMost format.order env.models_disk room.tables_made
         (env.observed room.at) (with_last n new) (env.observed to)
     compacts_still = record {
       picked = room.compacts.picked;
       none = λ is.
           let before = room.compacts.none is in
           record {
-            set = subst (GivesNumbersOrBreaks room.tabled.set) (sym set) before.set;
+            set = subst (GivesNumbersOrBreaks room.tables_made.set) (sym set) before.set;
             current = ap (λ (v : OpenStoreValue C). v.current) writes.rest ∙ before.current;
             tables = λ number modelled fits given.
                 tables_still number modelled ∙ before.tables number modelled fits given;
           };
-      logged = logged_still format.order room.compacts.picked room.tabled (with_last n mid)
+      logged = logged_still format.order room.compacts.picked room.tables_made (with_last n mid)
           (with_last n new) set (ap (λ (v : OpenStoreValue C). v.current) writes.rest)
           room.compacts.logged;
       live = λ number there. ⊎_elim (λ taken. inl taken)
@@ -199,16 +199,16 @@ module _ {E F C : Type 0} (env : Ghosts E F) (format : Format) where
     pub kept_beside_batch : KeepsOrCompacts env format
         (entries_added result (next_batch mid items)) old from new to
     kept_beside_batch = record {
-      tabled = room.tabled;
+      tables_made = room.tables_made;
       at = room.at;
       path = room.path;
       tables = room.tables;
       compacts = compacts_still;
-      memory = same_then (in_memory room.tabled ++ entries_added result (next_batch mid items))
+      memory = same_then (in_memory room.tables_made ++ entries_added result (next_batch mid items))
           (in_memory mid ++ entries_added result (next_batch mid items)) (in_memory new)
-          (beside_same (in_memory room.tabled) (in_memory mid)
+          (beside_same (in_memory room.tables_made) (in_memory mid)
           (entries_added result (next_batch mid items))
-          (subst (λ es. SameEntries es (in_memory mid)) (append-nil (in_memory room.tabled))
+          (subst (λ es. SameEntries es (in_memory mid)) (append-nil (in_memory room.tables_made))
           room.memory))
           (in_end result new writes);
     }
@@ -219,12 +219,12 @@ module _ {E F C : Type 0} (env : Ghosts E F) (format : Format) where
             (in_memory new)
         in_end (Ok nothing) new writes = subst (λ w.
             SameEntries (in_memory mid ++ next_batch mid items)
-            (new.recent.entries ++ waiting_entries w))
-            (sym (ap (λ (v : OpenStoreValue C). v.waiting) writes.rest))
-            (union_beside mid.recent.entries (next_batch mid items) new.recent.entries
-            (waiting_entries mid.waiting) writes.gains)
+            (new.mem.entries ++ imm_entries w))
+            (sym (ap (λ (v : OpenStoreValue C). v.imm) writes.rest))
+            (union_beside mid.mem.entries (next_batch mid items) new.mem.entries
+            (imm_entries mid.imm) writes.gains)
         in_end (Err status) new writes = equal_entries (in_memory mid ++ []) (in_memory new)
             (append-nil (in_memory mid)
-            ∙ sym (ap (λ es. es ++ waiting_entries new.waiting) writes.err.0
-            ∙ ap (λ w. mid.recent.entries ++ waiting_entries w)
-            (ap (λ (v : OpenStoreValue C). v.waiting) writes.rest)))
+            ∙ sym (ap (λ es. es ++ imm_entries new.imm) writes.err.0
+            ∙ ap (λ w. mid.mem.entries ++ imm_entries w)
+            (ap (λ (v : OpenStoreValue C). v.imm) writes.rest)))

@@ -15,7 +15,7 @@ use Rattle.leveldb_version.specs.Paths.{IsFilePath}
 use Rattle.leveldb_version.specs.Store.{IsStore}
 use Rattle.leveldb_version.specs.StoreSteps.{KeepsHistory}
 use Rattle.leveldb_store.specs.OpenStore.{OpenStoreValue}
-use Rattle.leveldb_store.specs.Room.{TellsOnly}
+use Rattle.leveldb_store.specs.Room.{ChangesLoggerOnly}
 use Rattle.leveldb_store.specs.WriteBatch.{HoldsBatches}
 use Rattle.leveldb_store.specs.Written.{IsData, SparesRest}
 use Rattle.rusty_leveldb.specs.Boxes.{EngineOf, InternalOrder}
@@ -36,7 +36,7 @@ use Rattle.rusty_leveldb.proofs.SyncLemmas.{risk_now, spares_data}
 pub store_tells : {E C FP F : Type 0} {B : Boxed} (before after : EngineOf E C FP F B)
     → ChangesStore before after → after.store.cmp ≡ before.store.cmp
     → is_some after.options.log ≡ is_some before.options.log
-    → TellsOnly (options_in before) (options_in after)
+    → ChangesLoggerOnly (options_in before) (options_in after)
 store_tells {E} {C} {FP} {F} {B = B} before after rest cmp sink = record {
   rest = ap (λ (e : EngineOf E C FP F B). options_in e) rest
       ∙ ap (λ (c : C). record (options_in before) { cmp = c; log = after.options.log }) cmp;
@@ -45,8 +45,8 @@ store_tells {E} {C} {FP} {F} {B = B} before after rest cmp sink = record {
 
 -- and what tables are opened with stays
 pub told_by : {E C FP F : Type 0} {B : Boxed} (formats : OptionsOf C FP B → Format)
-    → ((a b : OptionsOf C FP B) → TellsOnly a b → formats b ≡ formats a)
-    → (before after : EngineOf E C FP F B) → TellsOnly (options_in before) (options_in after)
+    → ((a b : OptionsOf C FP B) → ChangesLoggerOnly a b → formats b ≡ formats a)
+    → (before after : EngineOf E C FP F B) → ChangesLoggerOnly (options_in before) (options_in after)
     → tables_by formats after ≡ tables_by formats before
 told_by formats ignores before after tells = λ i. record {
   format = ignores (options_in before) (options_in after) tells i;

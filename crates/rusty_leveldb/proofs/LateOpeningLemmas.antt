@@ -28,11 +28,11 @@ use Rattle.leveldb_store.specs.Room.{FailsFor, HasFailed}
 use Rattle.leveldb_store.specs.SoundCall.{BytesAreAppended}
 use Rattle.rusty_leveldb.specs.Boxes.{InternalOrder}
 use Rattle.rusty_leveldb.specs.Calls.{EngineOpens}
-use Rattle.rusty_leveldb.specs.Causes.{Cause, Comes, Setting, bad_operand, compressor_failed, device_failed, out_of_memory, store_exists, too_large}
+use Rattle.rusty_leveldb.specs.Causes.{Cause, IsCausedBy, Setting, bad_operand, compressor_failed, device_failed, out_of_memory, store_exists, too_large}
 use Rattle.rusty_leveldb.specs.Engine.{AnswersAs, formats_of, IsOpening, IsStoreName, Recalls, scene}
 use Rattle.rusty_leveldb.specs.Frame.{IsOwn, Spares}
 use Rattle.rusty_leveldb.specs.Machine.{IsEarly}
-use Rattle.rusty_leveldb.specs.Serves.{Goes, IsSpared, Reads, Represents, refusal_of, setting_between}
+use Rattle.rusty_leveldb.specs.Serves.{TakesStep, IsSpared, Reads, Represents, refusal_of, setting_between}
 use Rattle.rusty_leveldb.specs.State.{Opening, State, open_store, refused}
 use Rattle.rusty_leveldb.specs.Unopened.{MakesLockAlone, OpenExcused}
 use Rattle.rusty_leveldb.proofs.LeftOpeningLemmas.{LeavesUnopened}
@@ -218,7 +218,7 @@ module _ {E C FP F P : Type 0} {B : Boxed} {keys : InternalOrder C} {key_filters
 
       -- with the causes that come early all files stay
       abbrev Late : Type 0
-      Late = (cause : Cause) × Comes (setting_between meaning (env.failures from) mid) old
+      Late = (cause : Cause) × IsCausedBy (setting_between meaning (env.failures from) mid) old
           (open_store opening) (refusal_of e) cause
           × ((IsEarly cause → ⊥) ⊎ LooksNoFurther store asked here)
 
@@ -308,12 +308,12 @@ module _ {E C FP F P : Type 0} {B : Boxed} {keys : InternalOrder C} {key_filters
           (device_failed, (tt, inr (sym counted ∙ full)), inl (λ never. never))
 
       abbrev Refused : Type 0
-      Refused = Goes store meaning (Recalls keys env formats store meaning)
+      Refused = TakesStep store meaning (Recalls keys env formats store meaning)
           (scene env None from) (open_store opening) (refused (refusal_of e))
           (scene env None to) old
 
       -- all files have stayed
-      stays_goes : LooksNoFurther store asked here → (cause : Cause) → Comes setting old (open_store opening)
+      stays_goes : LooksNoFurther store asked here → (cause : Cause) → IsCausedBy setting old (open_store opening)
           (refusal_of e) cause → Refused
       stays_goes barred cause comes =
           unopened_goes env formats store meaning opening from old was to e old.store (inl refl)
@@ -327,7 +327,7 @@ module _ {E C FP F P : Type 0} {B : Boxed} {keys : InternalOrder C} {key_filters
 
       -- some may have changed
       settles_goes : IsNamed opening.format.order_name old.store → (cause : Cause)
-          → Comes setting old (open_store opening) (refusal_of e) cause → (IsEarly cause → ⊥)
+          → IsCausedBy setting old (open_store opening) (refusal_of e) cause → (IsEarly cause → ⊥)
           → Refused
       settles_goes fits cause comes late =
           let same_but = but env store asked from taken took modelled in

@@ -19,7 +19,7 @@ use Rattle.leveldb_version.specs.Format.{Agrees, Format, Meaning}
 use Rattle.leveldb_store.specs.Room.{HasFailed}
 use Rattle.rusty_leveldb.specs.Boxes.{InternalOrder}
 use Rattle.rusty_leveldb.specs.Calls.{EngineOpens}
-use Rattle.rusty_leveldb.specs.Causes.{Cause, Comes, device_failed}
+use Rattle.rusty_leveldb.specs.Causes.{Cause, IsCausedBy, device_failed}
 use Rattle.rusty_leveldb.specs.Engine.{AnswersAs, formats_of, IsOpening, IsStoreName, Recalls}
 use Rattle.rusty_leveldb.specs.Frame.{IsOwn, Spares}
 use Rattle.rusty_leveldb.specs.Serves.{Represents, refusal_of, setting_between}
@@ -110,7 +110,7 @@ module _ {E C FP F P : Type 0} {B : Boxed} {keys : InternalOrder C} {key_filters
       → Represents store meaning (Recalls keys env formats store meaning) None
       (env.observed from).disk old → (mid : ℕ)
       → OpenExcused env store (choices options) asked from e ⊎ HasFailed (env.failures from) mid
-      → (cause : Cause) × Comes (setting_between meaning (env.failures from) mid) old
+      → (cause : Cause) × IsCausedBy (setting_between meaning (env.failures from) mid) old
       (open_store opening) (refusal_of e) cause
   cause_of opening is meaning agrees modelled old was mid (inl why) =
       open_cause env store meaning asked opening is agrees from modelled old was.disk_is

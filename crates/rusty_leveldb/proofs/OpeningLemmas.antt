@@ -22,14 +22,14 @@ use Rattle.leveldb_version.specs.Format.{Agrees, Format, IsTableOf, Meaning}
 use Rattle.leveldb_store.specs.OpenStore.{IsUnbroken, OpenStoreValue}
 use Rattle.leveldb_store.specs.OpensStore.{IsForbidden, IsOpenedAs, IsSound, KeepsFound, LacksUsableEdits}
 use Rattle.leveldb_store.specs.WriteBatch.{IsOf}
-use Rattle.leveldb_store.specs.Written.{Shows}
+use Rattle.leveldb_store.specs.Written.{HasView}
 use Rattle.leveldb_store.specs.WrittenFrom.{KeepsStoreFrom, KeepsWrittenFrom}
 use Rattle.rusty_leveldb.specs.Boxes.{EngineOf, InternalOrder}
 use Rattle.rusty_leveldb.specs.Causes.{Disagrees, Misfits, Setting}
 use Rattle.rusty_leveldb.specs.Engine.{HasOwnTables, Recalls, no_engine, options_in, scene}
 use Rattle.rusty_leveldb.specs.Frame.{IsOwn, Spares}
 use Rattle.rusty_leveldb.specs.Machine.{MayOpen, Opens, StaysOr, Step}
-use Rattle.rusty_leveldb.specs.Serves.{AreReadAs, Goes, IsSpared, Reads, Represents, StandsFor, order_of, setting_between, snapshot_of}
+use Rattle.rusty_leveldb.specs.Serves.{AreReadAs, TakesStep, IsSpared, Reads, Represents, StandsFor, order_of, setting_between, snapshot_of}
 use Rattle.rusty_leveldb.specs.State as machine
 use Rattle.rusty_leveldb.specs.State.{IsState, Opening, State, done, open_mode, open_store}
 use Rattle.rusty_leveldb.proofs.Bounds.{safe_allow}
@@ -318,7 +318,7 @@ module _ (store : List ℕ) (meaning : Meaning) (opening : Opening)
             to.disk.files part contents.last (length part) None) (sym (same_path ∙ path)) end_holds);
       }
 
-      pub end_shows : Shows order meaning final to.disk.files part (greatest (entries_of part))
+      pub end_shows : HasView order meaning final to.disk.files part (greatest (entries_of part))
       end_shows = written_shows order meaning (Stays now) final to.disk.files part (length part)
           end_of.written end_of.holds
 
@@ -566,7 +566,7 @@ module _ {E C FP F : Type 0} {B : Boxed} {keys : InternalOrder C} (env : Ghosts 
       → AppendedAreBytes (env.observed to).disk.files
       → (env.observed to).disk.locked (lock_path store) ≡ true
       → Spares store (IsOwn store) (env.observed from).disk (env.observed to).disk
-      → Goes store meaning (Recalls keys env formats store meaning)
+      → TakesStep store meaning (Recalls keys env formats store meaning)
       (scene env (no_engine {E = E} {C = C} {FP = FP} {F = F} {B = B}
       engine.options) from)
       (open_store opening) done (scene env (Some engine) to) old

@@ -15,7 +15,7 @@ use Rattle.rusty_leveldb.specs.State.{State, Snapshot, Opening, Request, open_st
 use Rattle.leveldb_version.specs.Holds.{IsHonest}
 use Rattle.rusty_leveldb.specs.Machine.{Step, Crashes, risk_between}
 use Rattle.rusty_leveldb.specs.Runs.{Event, Run, CrashesIn, CrashBefore, last_moment, StopsAt, setting_of}
-use Rattle.rusty_leveldb.specs.Serves.{StandsFor, Represents, Goes, Runs, recalls_nothing, IsHonestlyLeft, IsBetweenCalls, IsConversation, done_or, refusal_of}
+use Rattle.rusty_leveldb.specs.Serves.{StandsFor, Represents, TakesStep, Runs, recalls_nothing, IsHonestlyLeft, IsBetweenCalls, IsConversation, done_or, refusal_of}
 use Rattle.rusty_leveldb.specs.Engine.{scene, Recalls, Answers, AnswersAs, IsOpening, no_engine}
 use Rattle.leveldb_store.specs.Room.{FailsFor}
 use Rattle.rusty_leveldb.proofs.WritingLemmas.{failed_later}
@@ -23,7 +23,7 @@ use Rattle.rusty_leveldb.proofs.Crashes.{crash_between, crash_inside}
 use Rattle.rusty_leveldb.proofs.Others.{spares_still, spares_own, others_then}
 use Rattle.rusty_leveldb.specs.Frame.{IsOwn}
 use Rattle.leveldb_base.specs.Error.{IsOutOfMemory}
-use Rattle.rusty_leveldb.specs.Shell.{Plays, HasRun, Turn}
+use Rattle.rusty_leveldb.specs.Shell.{RunsCommands, HasRun, Turn}
 use Rattle.rusty_leveldb.proofs.Turns.{AnswersCommand, AreTurnsOf, requests_in, answers_in, turn_of, turns_of_none, turns_of_more, turns_asked, requests_more, answers_more}
 use Rattle.leveldb_env.specs.Options.{Boxed, OptionsOf}
 use Rattle.rusty_leveldb.specs.Boxes.{EngineOf, InternalOrder}
@@ -49,8 +49,8 @@ module _ {E F : Type 0} (C FP : Type 0) {B : Boxed} (keys : InternalOrder C) (en
       (scene env None from) requests answers moments (scene env engine to) old
 
   -- the same, at some moments
-  abbrev pub Leads : E → List Request → List Answer → Option (EngineOf E C FP F B) → E → State → Type 0
-  Leads from requests answers engine to old = (moments : List ℕ) × LeadsAt from requests answers moments engine to old
+  abbrev pub MoveRule : E → List Request → List Answer → Option (EngineOf E C FP F B) → E → State → Type 0
+  MoveRule from requests answers engine to old = (moments : List ℕ) × LeadsAt from requests answers moments engine to old
 
 -- the same where no engine is left
 abbrev pub LeadsToNone : {E F : Type 0} → Ghosts E F → List ℕ → Meaning → E → List Request → List Answer → List ℕ → E → State → Type 0
@@ -59,11 +59,11 @@ LeadsToNone env store meaning from requests answers moments to old = Runs store 
 
 module _ {E F : Type 0} (env : Ghosts E F) (store : List ℕ) where
   -- a run of commands, from every state that the disk represents, where the disk is observed
-  abbrev pub PlaysAlways : E → Opening → List Command → List Reply → Result (Unit {0}) Status → E → Type 0
-  PlaysAlways from asked commands given result to = IsTrue env.models_disk
+  abbrev pub RunsCommandsAlways : E → Opening → List Command → List Reply → Result (Unit {0}) Status → E → Type 0
+  RunsCommandsAlways from asked commands given result to = IsTrue env.models_disk
       → (opening : Opening) → IsOpening store asked opening → (meaning : Meaning) → Agrees opening.format meaning → (old : State)
       → Represents store meaning (recalls_nothing) None (env.observed from).disk old
-      → Plays env store meaning from opening commands given result to old
+      → RunsCommands env store meaning from opening commands given result to old
 
 -- ---- runs
 
@@ -216,7 +216,7 @@ module _ {E F C FP : Type 0} {B : Boxed} (keys : InternalOrder C) (env : Ghosts 
   -- one request more
   module _ (before : Option (EngineOf E C FP F B)) (from mid to : E) (requests : List Request) (answers : List Answer) (moments : List ℕ) (engine after : Option (EngineOf E C FP F B)) (request : Request) (answer : Answer) (old : State)
       (led : Runs store meaning (Recalls keys env formats store meaning) env.models_moments (scene env before from) requests answers moments (scene env engine mid) old) (answers_so : AnswersAs keys env formats store meaning engine mid request answer after to) where
-    goes : Goes store meaning (Recalls keys env formats store meaning) (scene env engine mid) request answer (scene env after to) led.new
+    goes : TakesStep store meaning (Recalls keys env formats store meaning) (scene env engine mid) request answer (scene env after to) led.new
     goes = answers_so modelled led.new led.represents
 
     abbrev now : Event
@@ -348,8 +348,8 @@ module _ {E F C FP : Type 0} {B : Boxed} (keys : InternalOrder C) (env : Ghosts 
     }
 
   pub one_more : (from mid to : E) (requests : List Request) (answers : List Answer) (engine after : Option (EngineOf E C FP F B)) (request : Request) (answer : Answer) (old : State)
-      → Leads C FP keys env formats store meaning from requests answers engine mid old → Answers keys env formats engine mid request answer after to
-      → Leads C FP keys env formats store meaning from (requests ++ request ∷ []) (answers ++ answer ∷ []) after to old
+      → MoveRule C FP keys env formats store meaning from requests answers engine mid old → Answers keys env formats engine mid request answer after to
+      → MoveRule C FP keys env formats store meaning from (requests ++ request ∷ []) (answers ++ answer ∷ []) after to old
   one_more from mid to requests answers engine after request answer old led answers_so = (led.0 ++ (env.observed to).moment ∷ [], next_one None from mid to requests answers led.0 engine after request answer old led.1 (answers_so store meaning))
 
   pub first_at : (from to : E) (after : Option (EngineOf E C FP F B)) (request : Request) (answer : Answer) (old : State)
@@ -359,7 +359,7 @@ module _ {E F C FP : Type 0} {B : Boxed} (keys : InternalOrder C) (env : Ghosts 
 
   pub first_one : (from to : E) (after : Option (EngineOf E C FP F B)) (request : Request) (answer : Answer) (old : State)
       → Represents store meaning (Recalls keys env formats store meaning) None (env.observed from).disk old → AnswersAs keys env formats store meaning None from request answer after to
-      → Leads C FP keys env formats store meaning from (request ∷ []) (answer ∷ []) after to old
+      → MoveRule C FP keys env formats store meaning from (request ∷ []) (answer ∷ []) after to old
   first_one from to after request answer old is answers_so = ((env.observed to).moment ∷ [], first_at from to after request answer old is answers_so)
 
 -- ---- commands
@@ -372,11 +372,11 @@ no_other disk state represents = record { disk_is = represents.disk_is; memory_i
 module _ {E F : Type 0} {B : Boxed} (C FP : Type 0) (keys : InternalOrder C) (env : Ghosts E F) (formats : OptionsOf C FP B → Format) (store : List ℕ) where
   -- so far the store was opened and these commands were given these replies and snapshots, from
   -- every state that the disk stood for
-  abbrev pub PlaysSoFar : E → Opening → List Command → List Reply → List Snapshot → EngineOf E C FP F B → E → Type 0
-  PlaysSoFar from wanted commands given taken engine to = IsTrue env.models_disk → (opening : Opening) → IsOpening store wanted opening
+  abbrev pub RunsCommandsSoFar : E → Opening → List Command → List Reply → List Snapshot → EngineOf E C FP F B → E → Type 0
+  RunsCommandsSoFar from wanted commands given taken engine to = IsTrue env.models_disk → (opening : Opening) → IsOpening store wanted opening
       → (meaning : Meaning) → Agrees opening.format meaning → (old : State) → Represents store meaning (Recalls keys env formats store meaning) None (env.observed from).disk old
       → (turns : List Turn) × AreTurnsOf turns commands given taken
-      × Leads C FP keys env formats store meaning from (open_store opening ∷ requests_in turns) (done ∷ answers_in turns) (Some engine) to old
+      × MoveRule C FP keys env formats store meaning from (open_store opening ∷ requests_in turns) (done ∷ answers_in turns) (Some engine) to old
 
   -- what an opening of the store answers
   abbrev pub OpensAs : E → Opening → Answer → Option (EngineOf E C FP F B) → E → Type 0
@@ -400,16 +400,16 @@ module _ {E F : Type 0} {B : Boxed} (C FP : Type 0) (keys : InternalOrder C) (en
   }
 
   leads_to_none : (meaning : Meaning) (from : E) (requests : List Request) (answers : List Answer) (to : E) (old : State)
-      → Leads C FP {B = B} keys env formats store meaning from requests answers None to old → (moments : List ℕ) × LeadsToNone env store meaning from requests answers moments to old
+      → MoveRule C FP {B = B} keys env formats store meaning from requests answers None to old → (moments : List ℕ) × LeadsToNone env store meaning from requests answers moments to old
   leads_to_none meaning from requests answers to old led = (led.0, at_none meaning from requests answers led.0 to old led.1)
 
-  pub play_first : (from to : E) (wanted : Opening) (engine : EngineOf E C FP F B) → OpensAs C FP keys env formats store from wanted done (Some engine) to → PlaysSoFar C FP keys env formats store from wanted [] [] [] engine to
+  pub play_first : (from to : E) (wanted : Opening) (engine : EngineOf E C FP F B) → OpensAs C FP keys env formats store from wanted done (Some engine) to → RunsCommandsSoFar C FP keys env formats store from wanted [] [] [] engine to
   play_first from to wanted engine opens modelled opening is meaning agrees old represents =
       ([], turns_of_none, first_one keys env formats only_now store meaning modelled from to (Some engine) (open_store opening) done old represents (opens opening is meaning agrees))
 
   pub play_more : (from mid to : E) (wanted : Opening) (commands : List Command) (given : List Reply) (taken left : List Snapshot) (engine after : EngineOf E C FP F B) (command : Command) (reply : Reply)
-      → PlaysSoFar C FP keys env formats store from wanted commands given taken engine mid → AnswersCommand keys env formats engine mid taken command reply after to left
-      → PlaysSoFar C FP keys env formats store from wanted (commands ++ command ∷ []) (given ++ reply ∷ []) left after to
+      → RunsCommandsSoFar C FP keys env formats store from wanted commands given taken engine mid → AnswersCommand keys env formats engine mid taken command reply after to left
+      → RunsCommandsSoFar C FP keys env formats store from wanted (commands ++ command ∷ []) (given ++ reply ∷ []) left after to
   play_more from mid to wanted commands given taken left engine after command reply plays answered modelled opening is meaning agrees old represents =
       let so_far = plays modelled opening is meaning agrees old represents in
       let turns = so_far.0 in
@@ -417,13 +417,13 @@ module _ {E F : Type 0} {B : Boxed} (C FP : Type 0) (keys : InternalOrder C) (en
       let led = one_more keys env formats only_now store meaning modelled from mid to (open_store opening ∷ requests_in turns) (done ∷ answers_in turns) (Some engine) (Some after) turn.request turn.answer old so_far.2 answered.step in (
         turns ++ turn ∷ [],
         turns_of_more turns commands given taken left command answered.answer reply so_far.1 answered.tells answered.left_is,
-        subst (λ as'. Leads C FP keys env formats store meaning from (open_store opening ∷ requests_in (turns ++ turn ∷ [])) (done ∷ as') (Some after) to old) (answers_more turns turn)
-            (subst (λ rs. Leads C FP keys env formats store meaning from (open_store opening ∷ rs) (done ∷ (answers_in turns ++ turn.answer ∷ [])) (Some after) to old) (requests_more turns turn) led),
+        subst (λ as'. MoveRule C FP keys env formats store meaning from (open_store opening ∷ requests_in (turns ++ turn ∷ [])) (done ∷ as') (Some after) to old) (answers_more turns turn)
+            (subst (λ rs. MoveRule C FP keys env formats store meaning from (open_store opening ∷ rs) (done ∷ (answers_in turns ++ turn.answer ∷ [])) (Some after) to old) (requests_more turns turn) led),
       )
 
   pub play_end : (from mid to : E) (wanted : Opening) (commands : List Command) (given : List Reply) (taken : List Snapshot) (engine : EngineOf E C FP F B) (result : Result (Unit {0}) Status)
-      → PlaysSoFar C FP keys env formats store from wanted commands given taken engine mid → Answers keys env formats (Some engine) mid abandon (done_or result) None to
-      → PlaysAlways env store from wanted commands given result to
+      → RunsCommandsSoFar C FP keys env formats store from wanted commands given taken engine mid → Answers keys env formats (Some engine) mid abandon (done_or result) None to
+      → RunsCommandsAlways env store from wanted commands given result to
   play_end from mid to wanted commands given taken engine result plays answers_so modelled opening is meaning agrees old represents =
       let so_far = plays modelled opening is meaning agrees old (no_other (env.observed from).disk old represents) in
       let requests = requests_in so_far.0 in
@@ -437,7 +437,7 @@ module _ {E F : Type 0} {B : Boxed} (C FP : Type 0) (keys : InternalOrder C) (en
       )
 
   pub not_opened : (options : OptionsOf C FP B) (from to : E) (wanted : Opening) (commands : List Command) (given : List Reply) (status : Status) → given ≡ []
-      → OpensAs C FP keys env formats store from wanted (refused (refusal_of status)) (no_engine options) to → PlaysAlways env store from wanted commands given (Err status) to
+      → OpensAs C FP keys env formats store from wanted (refused (refusal_of status)) (no_engine options) to → RunsCommandsAlways env store from wanted commands given (Err status) to
   not_opened options from to wanted commands given status none opens modelled opening is meaning agrees old represents =
       inr (
         none,

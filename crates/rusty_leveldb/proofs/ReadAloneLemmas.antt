@@ -18,13 +18,13 @@ use Rattle.leveldb_store.specs.OpenTables.{AreOpenTablesOf}
 use Rattle.leveldb_store.specs.Read.{HasOpenTables, LooksUpKey}
 use Rattle.leveldb_store.specs.Room.{FailsFor, HasFailed}
 use Rattle.leveldb_store.specs.View.{IsOfNoCompressor, MakesMoves, WalksStore}
-use Rattle.leveldb_store.specs.Written.{Shows}
+use Rattle.leveldb_store.specs.Written.{HasView}
 use Rattle.leveldb_table.specs.TableBlock.{FailsFor as FailsForWhy, KeepsDisk}
 use Rattle.leveldb_version.specs.Format.{Agrees, Format, IsTableFault, LacksCompressor, Meaning}
 use Rattle.leveldb_version.specs.TableCache.{TableOptions, files_at, table_options}
 use Rattle.leveldb_version.specs.declared.table_cache.TableCache.{TableCache}
 use Rattle.rusty_leveldb.specs.Boxes.{InternalOrder, ReaderOf}
-use Rattle.rusty_leveldb.specs.Causes.{Cause, Comes, Setting, bad_operand, device_failed, lacks_compressor, out_of_memory}
+use Rattle.rusty_leveldb.specs.Causes.{Cause, IsCausedBy, Setting, bad_operand, device_failed, lacks_compressor, out_of_memory}
 use Rattle.rusty_leveldb.specs.Machine.{Responds}
 use Rattle.rusty_leveldb.specs.ReadAlone.{AnswersAlone, LookUpExcused, ReaderGets, ReaderWalks, ReadsHistory, ReadsOnly, read_state, reader_options, reader_tables_by}
 use Rattle.rusty_leveldb.specs.Serves.{found_or, refusal_of, setting_between}
@@ -59,13 +59,13 @@ module _ {E C FP F : Type 0} {B : Boxed} {keys : InternalOrder C} (env : Ghosts 
       abbrev least : ℕ
       least = greatest (entries_of history)
 
-      shows_still : Shows (formats (reader_options before)).order meaning before.store files history least
-          → Shows (formats (reader_options after)).order meaning after.store now history least
+      shows_still : HasView (formats (reader_options before)).order meaning before.store files history least
+          → HasView (formats (reader_options after)).order meaning after.store now history least
       shows_still shown = subst (λ (o : OptionsOf C FP B).
-          Shows (formats o).order meaning after.store now history least) (sym options_are)
+          HasView (formats o).order meaning after.store now history least) (sym options_are)
           (subst (λ (v : OpenStoreValue C).
-          Shows (formats (reader_options before)).order meaning v now history least) (sym store_is)
-          (subst (λ (f : Files). Shows (formats (reader_options before)).order meaning
+          HasView (formats (reader_options before)).order meaning v now history least) (sym store_is)
+          (subst (λ (f : Files). HasView (formats (reader_options before)).order meaning
           (record before.store { current = after.store.current }) f history least) (sym same)
           (shows_read (formats (reader_options before)).order meaning before.store
           after.store.current files history least shown)))
@@ -158,7 +158,7 @@ module _ {E C FP F : Type 0} {B : Boxed} {keys : InternalOrder C} (env : Ghosts 
               × LacksCompressor (formats (reader_options before)) meaning)))
               ⊎ ((env.failures to ≡ env.failures from + 1)
               ⊎ ((env.failures from ≡ 2 ^ 64 - 1) × (env.failures to ≡ env.failures from)))
-              → (cause : Cause) × Comes setting state (get None key) (refusal_of status) cause
+              → (cause : Cause) × IsCausedBy setting state (get None key) (refusal_of status) cause
           cause_of status (inl (inl memory)) = (out_of_memory, (tt, memory.0, ap text_of memory.1))
           cause_of status (inl (inr table)) = (lacks_compressor, (tt, table.1.0, table.1.1))
           cause_of status (inr (inl more)) = (device_failed, (tt, inl (omega (arith, more))))

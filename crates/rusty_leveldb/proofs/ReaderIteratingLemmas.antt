@@ -20,7 +20,7 @@ use Rattle.leveldb_version.specs.declared.table_cache.moves.ReadTables.{ReadTabl
 use Rattle.leveldb_store.specs.OpenStore.{OpenStoreValue}
 use Rattle.leveldb_store.specs.Read.{HasOpenTables}
 use Rattle.leveldb_store.specs.View.{FailsBetween, IsOfNoCompressor, IsWorldOf, ShowsIn, options_in}
-use Rattle.leveldb_store.specs.Written.{Shows}
+use Rattle.leveldb_store.specs.Written.{HasView}
 use Rattle.rusty_leveldb.specs.Boxes.{InternalOrder, ReaderOf}
 use Rattle.rusty_leveldb.specs.Iterator.{IsIterator, IsMadeOver, IteratesAt, shown_store, world_in}
 use Rattle.rusty_leveldb.specs.ReadAlone.{ReaderIterates, ReadsHistory, reader_options, reader_tables_by}
@@ -100,7 +100,7 @@ module _ {E C FP F V : Type 0} {B : Boxed} (keys : InternalOrder C) (env : Ghost
       shows_in = record {
         is_world = is_world;
         agrees = subst (λ (f : Format). Agrees f meaning) (sym format_is) reads.agrees;
-        shows = subst (λ (e : E). Shows format.order meaning before.store (files_at env e) history
+        shows = subst (λ (e : E). HasView format.order meaning before.store (files_at env e) history
             least) (sym now) reads.shows;
       }
 

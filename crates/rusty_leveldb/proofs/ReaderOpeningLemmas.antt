@@ -21,9 +21,9 @@ use Rattle.leveldb_store.specs.OpenTables.{AreOpenTablesOf}
 use Rattle.leveldb_store.specs.OpensStore.{IsOrderFor, LacksUsableEdits}
 use Rattle.leveldb_store.specs.OpensToRead.{FailsToOpenToRead, IsReadAs, IsUnreadable, OpensToRead, WhyNotReadable}
 use Rattle.leveldb_store.specs.Room.{HasFailed}
-use Rattle.leveldb_store.specs.Written.{Shows}
+use Rattle.leveldb_store.specs.Written.{HasView}
 use Rattle.rusty_leveldb.specs.Boxes.{InternalOrder, ReaderOf}
-use Rattle.rusty_leveldb.specs.Causes.{Cause, Comes, Setting, bad_operand, device_failed, out_of_memory, too_large}
+use Rattle.rusty_leveldb.specs.Causes.{Cause, IsCausedBy, Setting, bad_operand, device_failed, out_of_memory, too_large}
 use Rattle.rusty_leveldb.specs.Engine.{IsOpening, IsStoreName}
 use Rattle.rusty_leveldb.specs.ReadAlone.{FindsHistory, ReadOpenExcused, ReaderOpens, ReadsHistory, of_present, reader_options, reader_tables_by}
 use Rattle.rusty_leveldb.specs.Serves.{AreReadAs, Reads, StandsFor, refusal_of, setting_between}
@@ -85,7 +85,7 @@ module _ {E F : Type 0} (env : Ghosts E F) (store : List ℕ) (asked : Opening) 
       agrees.order
 
   abbrev HasCauseHere : Type 0
-  HasCauseHere = (cause : Cause) × Comes setting old (open_store opening) (refusal_of e) cause
+  HasCauseHere = (cause : Cause) × IsCausedBy setting old (open_store opening) (refusal_of e) cause
 
   unreadable : IsUnreadable env store asked.format from e → HasCauseHere
   unreadable (inl others) = (
@@ -244,9 +244,9 @@ module _ {E C FP F : Type 0} {B : Boxed} {keys : InternalOrder C} (env : Ghosts 
                 shown.last ∙ found.1,
                 record {
                   agrees = subst (λ (f : Format). Agrees f meaning) (sym same_format) agrees;
-                  shows = subst (λ (f : Format). Shows f.order meaning value (files_at env to) history
+                  shows = subst (λ (f : Format). HasView f.order meaning value (files_at env to) history
                       (greatest (entries_of history))) (sym same_format)
-                      (subst (λ (files : Files). Shows asked.format.order meaning value files history
+                      (subst (λ (files : Files). HasView asked.format.order meaning value files history
                       (greatest (entries_of history))) (sym same_files) (shown.shows history match));
                   reached = subst (λ (n : ℕ). greatest (entries_of history) ≤ n) (sym shown.last)
                       c.matches.reached;

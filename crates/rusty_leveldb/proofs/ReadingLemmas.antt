@@ -22,14 +22,14 @@ use Rattle.leveldb_store.specs.OpenStore.{IsUnbroken, OpenStoreValue}
 use Rattle.leveldb_store.specs.OpenTables.{AreOpenTablesOf}
 use Rattle.leveldb_store.specs.Read.{GetsFromMemory, GetsFromTables, HasOpenTables, LooksUpKey, charge_of}
 use Rattle.leveldb_store.specs.Room.{FailsFor, HasFailed}
-use Rattle.leveldb_store.specs.Written.{IsWritten, Shows}
+use Rattle.leveldb_store.specs.Written.{IsWritten, HasView}
 use Rattle.rusty_leveldb.specs.Boxes.{EngineOf, InternalOrder}
 use Rattle.leveldb_base.specs.KeyTypes.{IsLongKey}
-use Rattle.rusty_leveldb.specs.Causes.{Cause, Comes, IsNotHeld, Misfits, Setting, bad_operand, device_failed, lacks_compressor, out_of_memory}
+use Rattle.rusty_leveldb.specs.Causes.{Cause, IsCausedBy, IsNotHeld, Misfits, Setting, bad_operand, device_failed, lacks_compressor, out_of_memory}
 use Rattle.rusty_leveldb.specs.Engine.{Answers, AnswersStill, GetExcused, GetFails, ReadsAt, Recalls, RefusedAsClosed, ShowsViews, held_in, options_in, scene, tables_by}
 use Rattle.rusty_leveldb.specs.Frame.{MayTouch}
 use Rattle.rusty_leveldb.specs.Machine.{IsSequenceOf, Responds, Step, risk_between}
-use Rattle.rusty_leveldb.specs.Serves.{Goes, IsSpared, Reads, Represents, found_or, refusal_of, setting_between}
+use Rattle.rusty_leveldb.specs.Serves.{TakesStep, IsSpared, Reads, Represents, found_or, refusal_of, setting_between}
 use Rattle.rusty_leveldb.specs.State as machine
 use Rattle.rusty_leveldb.specs.State.{Answer, Snapshot, State, get, refused}
 use Rattle.rusty_leveldb.proofs.Moments.{moments_none}
@@ -47,8 +47,8 @@ responds_in machine.closed setting old snapshot key answer usable responds = abs
 -- a store of which the seeks of its files have changed shows what it showed, and is written on
 module _ {C : Type 0} (cmp : List ℕ → List ℕ → Ordering) (meaning : Meaning)
     (value : OpenStoreValue C) (current : VersionValue C) (files : Files) where
-  pub shows_read : (history : History) (since : ℕ) → Shows cmp meaning value files history since
-      → Shows cmp meaning (record value { current = current }) files history since
+  pub shows_read : (history : History) (since : ℕ) → HasView cmp meaning value files history since
+      → HasView cmp meaning (record value { current = current }) files history since
   shows_read history since shown = record {
     tables = shown.tables;
     has = record { files_are = shown.has.files_are; each = shown.has.each };
@@ -170,9 +170,9 @@ module _ {E C FP F : Type 0} {B : Boxed} {keys : InternalOrder C} (env : Ghosts 
         views : ShowsViews meaning before.store (env.observed from).disk.files old
         views = was.memory_is.shows not_closed
 
-        shows : Shows (formats (options_in before)).order meaning before.store
+        shows : HasView (formats (options_in before)).order meaning before.store
             (env.observed from).disk.files old.history views.since
-        shows = subst (λ (f : Format). Shows f.order meaning before.store
+        shows = subst (λ (f : Format). HasView f.order meaning before.store
             (env.observed from).disk.files old.history views.since) (sym same_format) views.shows
 
         has_open : HasOpenTables keys env (tables_by formats before) before.store from before.tables
@@ -245,7 +245,7 @@ module _ {E C FP F : Type 0} {B : Boxed} {keys : InternalOrder C} (env : Ghosts 
             × LacksCompressor (formats (options_in before)) meaning)))
             ⊎ ((env.failures to ≡ env.failures from + 1)
             ⊎ ((env.failures from ≡ 2 ^ 64 - 1) × (env.failures to ≡ env.failures from)))
-            → (cause : Cause) × Comes setting old (get snapshot key) (refusal_of status) cause
+            → (cause : Cause) × IsCausedBy setting old (get snapshot key) (refusal_of status) cause
         cause_of status (inl (inl memory)) = (out_of_memory, (tt, memory.0, ap text_of memory.1))
         cause_of status (inl (inr table)) = (
           lacks_compressor,
@@ -260,7 +260,7 @@ module _ {E C FP F : Type 0} {B : Boxed} {keys : InternalOrder C} (env : Ghosts 
 
         -- the machine stays in its state
         went : (answer : Answer) → Responds setting old (get snapshot key) answer old
-            → Goes store meaning (Recalls keys env formats store meaning) (scene env (Some before) from)
+            → TakesStep store meaning (Recalls keys env formats store meaning) (scene env (Some before) from)
             (get snapshot key) answer (scene env (Some after) to) old
         went answer responds = record {
           new = old;
@@ -287,9 +287,9 @@ module _ {E C FP F : Type 0} {B : Boxed} {keys : InternalOrder C} (env : Ghosts 
               shows = λ in_use. record {
                 since = views.since;
                 shows = subst (λ (v : OpenStoreValue C).
-                    Shows old.format.order meaning v (env.observed to).disk.files old.history
+                    HasView old.format.order meaning v (env.observed to).disk.files old.history
                     views.since) (sym read_store) (subst (λ (files : Files).
-                    Shows old.format.order meaning (record before.store { current = value.current })
+                    HasView old.format.order meaning (record before.store { current = value.current })
                     files old.history views.since) (sym same_files)
                     (shows_read old.format.order meaning before.store value.current
                     (env.observed from).disk.files old.history views.since views.shows));
@@ -323,7 +323,7 @@ module _ {E C FP F : Type 0} {B : Boxed} {keys : InternalOrder C} (env : Ghosts 
       get_goes store meaning modelled old was = by result refl
         where
           by : (r : Result (Option (List ℕ)) Status) → result ≡ r
-              → Goes store meaning (Recalls keys env formats store meaning)
+              → TakesStep store meaning (Recalls keys env formats store meaning)
               (scene env (Some before) from) (get snapshot key) (found_or r)
               (scene env (Some after) to) old
           by (Ok value) e = went store meaning modelled old was (machine.found value)

@@ -23,7 +23,7 @@ use Rattle.leveldb_version.proofs.SafeLemmas.{by_name}
 use Rattle.leveldb_version.specs.Format.{Agrees, Format, Meaning}
 use Rattle.leveldb_version.specs.Found.{HasNoTableNorLog, IsAnyTable}
 use Rattle.leveldb_version.specs.Paths.{lock_path}
-use Rattle.leveldb_version.specs.Repairing.{IsRepairing}
+use Rattle.leveldb_version.specs.Repairing.{IsAmidRepair}
 use Rattle.leveldb_version.specs.StoreSteps.{AppendedAreBytes}
 use Rattle.leveldb_store.proofs.TableKeepsLemmas.{types_apart}
 use Rattle.leveldb_store.specs.BuildTable.{TableChoices}
@@ -492,7 +492,7 @@ module _ {E F C FP : Type 0} {order : CmpGhosts C} {filters : FilterGhosts FP} (
           let done = subst (λ (r : Result (Unit {0}) Status). OnOk r (IsTrue env.models_disk
           → (meaning : Meaning) → Agrees choices.format meaning
           → (it : HoldsAllFound store choices.format meaning here (env.observed mid).disk.files)
-          × Run (IsRepairing store it.taken it.next here) (env.observed taken) (env.observed mid)))
+          × Run (IsAmidRepair store it.taken it.next here) (env.observed taken) (env.observed mid)))
           is repairs.ok modelled meaning
           (subst (λ (f : Format). Agrees f meaning) (sym asked_is) agrees) in
           subst (HoldsAllFound store asked.format meaning old) (sym (end_is modelled))

@@ -16,7 +16,7 @@ use Rattle.leveldb_version.proofs.ManagedLemmas.{numbers_apart}
 use Rattle.leveldb_version.specs.Format.{Format, Meaning}
 use Rattle.leveldb_version.specs.Found.{AreFound, HasNoTableNorLog, IsAnyTable, IsFound}
 use Rattle.leveldb_version.specs.Paths.{IsFilePath, current_path, lock_path}
-use Rattle.leveldb_version.specs.Repairing.{IsGreatestInFolder, IsRepairing, SameTablesAndLogs}
+use Rattle.leveldb_version.specs.Repairing.{IsGreatestInFolder, IsAmidRepair, SameTablesAndLogs}
 use Rattle.leveldb_store.proofs.TableKeepsLemmas.{types_apart}
 use Rattle.leveldb_store.specs.NextFound.{BeginsAt}
 use Rattle.leveldb_repair.specs.RepairStore.{ArePairsFound, HasClash, HasLargeBatchInLog, HasTooFewNumbers, HasUndecodedTable, HasUnlikeDeletions, IsFoundPair, HoldsOldOrAllFound, HoldsAllFound}
@@ -172,8 +172,8 @@ module _ (store : List ℕ) (old mid : Files) (but : SameBut (lock_path store) o
 
   -- ---- the repair
 
-  pub repairing_back : (taken next : ℕ) (now : Files) → IsRepairing store taken next mid now
-      → IsRepairing store taken next old now
+  pub repairing_back : (taken next : ℕ) (now : Files) → IsAmidRepair store taken next mid now
+      → IsAmidRepair store taken next old now
   repairing_back taken next now r = record {
     taken_is = greatest_back taken r.taken_is;
     others = λ path tables away apart far free.

@@ -37,7 +37,7 @@ module _ {E F C FP D P : Type 0} (order : CmpGhosts (InternalKeyCmp C)) (env : G
       (FailsToCompactRange order env by old from tables choices)
 
   -- there is room
-  pub room_there : (IsFull limit old.recent → ⊥) → IsUnbroken old → Makes (Ok tt) old from tables
+  pub room_there : (IsFull limit old.mem → ⊥) → IsUnbroken old → Makes (Ok tt) old from tables
   room_there room unbroken = record {
     keeps = nothing_compacted order env by old from tables smallest
         (FailsToCompactRange order env by old from tables choices) unbroken;
@@ -84,7 +84,7 @@ module _ {E F C FP D P : Type 0} (order : CmpGhosts (InternalKeyCmp C)) (env : G
 
   -- it was, and then what the store asks for was compacted, or not
   pub room_compacted : {cmp : List ℕ → List ℕ → Ordering} → cmp ≡ by.format.order
-      → IsFull limit old.recent → (mid : OpenStoreValue C) (at : E)
+      → IsFull limit old.mem → (mid : OpenStoreValue C) (at : E)
       (between : TableCache E C FP F) → MakesRoom env cmp old from choices limit (Ok tt) mid at
       → IsSoundCall {T = Unit {0}} env cmp (Agrees choices.format) old from (Ok tt) mid at
       → ClosesObsolete env old.set from tables at between
@@ -115,20 +115,20 @@ module _ {E F C FP D P : Type 0} (order : CmpGhosts (InternalKeyCmp C)) (env : G
       }
     where
       logs : (result : Result (Unit {0}) Status) → OnOk result (LogsByScore other mid.set new.set)
-          → OnOk result (IsFull limit old.recent → LogsRoom by.format.order old.set new.set)
+          → OnOk result (IsFull limit old.mem → LogsRoom by.format.order old.set new.set)
       logs (Ok unit) by_score = λ also. record {
-        tabled = mid.set;
+        tables_made = mid.set;
         tables = tables;
         by_score = subst (λ c. LogsByScore c mid.set new.set) also_same by_score;
       }
       logs (Err status) by_score = tt
 
       empties : (result : Result (Unit {0}) Status)
-          → OnOk result (IsFull limit old.recent → (new.recent.entries ≡ [])
-          × (new.recent.places ≡ 0) × (new.waiting ≡ None))
+          → OnOk result (IsFull limit old.mem → (new.mem.entries ≡ [])
+          × (new.mem.places ≡ 0) × (new.imm ≡ None))
       empties (Ok unit) = λ also. (
-        ap (λ (v : OpenStoreValue C). v.recent.entries) compacts.memory ∙ (made.none_waits full).0,
-        ap (λ (v : OpenStoreValue C). v.recent.places) compacts.memory ∙ made.places full,
-        ap (λ (v : OpenStoreValue C). v.waiting) compacts.memory ∙ (made.none_waits full).1,
+        ap (λ (v : OpenStoreValue C). v.mem.entries) compacts.memory ∙ (made.none_waits full).0,
+        ap (λ (v : OpenStoreValue C). v.mem.places) compacts.memory ∙ made.places full,
+        ap (λ (v : OpenStoreValue C). v.imm) compacts.memory ∙ (made.none_waits full).1,
       )
       empties (Err status) = tt

@@ -11,7 +11,7 @@ use Rattle.leveldb_iter.specs.declared.moves.Step.{Step as WalkStep}
 use Rattle.leveldb_iter.specs.declared.snapshot.Snapshot.{Snapshot as HeldSnapshot}
 use Rattle.leveldb_version.specs.Format.{Format, Meaning}
 use Rattle.rusty_leveldb.specs.Boxes.{EngineOf, InternalOrder}
-use Rattle.rusty_leveldb.specs.Causes.{Cause, out_of_memory, device_failed, lock_is_held, bad_operand, store_exists, used_up, too_large, compressor_failed, lacks_compressor, Comes, IsBrokenRefusal, IsClosedRefusal, Setting}
+use Rattle.rusty_leveldb.specs.Causes.{Cause, out_of_memory, device_failed, lock_is_held, bad_operand, store_exists, used_up, too_large, compressor_failed, lacks_compressor, IsCausedBy, IsBrokenRefusal, IsClosedRefusal, Setting}
 use Rattle.rusty_leveldb.specs.Engine.{Answers, AnswersAs}
 use Rattle.rusty_leveldb.specs.Machine.{AllDurable, Breaks, Closes, Gives, Keeps, KeepsOrBreaks, LeavesRefused, Opens, Rejects, Releases, Risk, Step, Writes, added_batch, risk_between, risk_of}
 use Rattle.rusty_leveldb.specs.Rows.{FindsValue, FromEachState, FromStatesOf, IsAbandoned, IsMemoryOrDevice, NotClosed, NotCompacted, NotFlushed, NotOpened, NotUnlocked, NotWritten, RejectsByMode, Row, StaysAsItWas, WalksView}
@@ -37,7 +37,7 @@ writes items sync setting old new broken step = absurd step
 writes items sync setting old new open_mode step = step.1
 
 module _ (items : List Item) (sync : Bool) (e : Status) (setting : Setting) (old new : State) where
-  left : (cause : Cause) → Comes setting old (write items sync) (refusal_of e) cause
+  left : (cause : Cause) → IsCausedBy setting old (write items sync) (refusal_of e) cause
       → KeepsOrBreaks old cause (added_batch old items) new → NotWritten items e setting old new
   left out_of_memory comes (inl keeps) = inl keeps
   left out_of_memory comes (inr breaks) = inr (inl comes.1, breaks.1)
@@ -74,7 +74,7 @@ rejects_broken : (e : Status) (old new : State) → old.mode ≡ broken
 rejects_broken e old new is rejects = inr (is, rejects)
 
 module _ (e : Status) (setting : Setting) (old new : State) where
-  left_unsynced : (cause : Cause) → Comes setting old flush (refusal_of e) cause
+  left_unsynced : (cause : Cause) → IsCausedBy setting old flush (refusal_of e) cause
       → LeavesRefused setting old flush (refusal_of e) cause new → NotFlushed e setting old new
   left_unsynced out_of_memory comes (inl keeps) = inr (inl (comes.1, inl keeps))
   left_unsynced out_of_memory comes (inr breaks) = inr (inl (comes.1, inr breaks.1))
@@ -87,7 +87,7 @@ module _ (e : Status) (setting : Setting) (old new : State) where
   left_unsynced compressor_failed comes leaves = absurd comes
   left_unsynced lacks_compressor comes leaves = absurd comes.0
 
-  left_unclosed : (cause : Cause) → Comes setting old close (refusal_of e) cause
+  left_unclosed : (cause : Cause) → IsCausedBy setting old close (refusal_of e) cause
       → LeavesRefused setting old close (refusal_of e) cause new → NotClosed e setting old new
   left_unclosed out_of_memory comes breaks = inr (inl comes.1, breaks)
   left_unclosed device_failed comes breaks = inr (inr comes.1, breaks)
@@ -112,7 +112,7 @@ module _ (e : Status) (setting : Setting) (old new : State) where
   not_closed open_mode is step = left_unclosed step.cause step.comes step.leaves
 
 module _ (low high : List ℕ) (e : Status) (setting : Setting) (old new : State) where
-  left_uncompacted : (cause : Cause) → Comes setting old (compact_range low high) (refusal_of e) cause
+  left_uncompacted : (cause : Cause) → IsCausedBy setting old (compact_range low high) (refusal_of e) cause
       → LeavesRefused setting old (compact_range low high) (refusal_of e) cause new
       → Keeps old new ⊎ (IsMemoryOrDevice setting e × Breaks old None new)
   left_uncompacted out_of_memory comes (inl keeps) = inl keeps

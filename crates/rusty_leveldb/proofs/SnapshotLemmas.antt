@@ -24,7 +24,7 @@ use Rattle.rusty_leveldb.specs.Causes.{IsNotHeld, Setting, bad_operand, out_of_m
 use Rattle.rusty_leveldb.specs.Engine.{Answers, AnswersStill, HasSnapshots, Recalls, RefusedAsClosed, formats_of, held_in, scene}
 use Rattle.rusty_leveldb.specs.Frame.{IsSyncing, MayTouch}
 use Rattle.rusty_leveldb.specs.Machine.{Responds, Step, risk_between, risk_of}
-use Rattle.rusty_leveldb.specs.Serves.{Goes, IsSpared, Represents, done_or, refusal_of, setting_between, snapshot_of, snapshot_or}
+use Rattle.rusty_leveldb.specs.Serves.{TakesStep, IsSpared, Represents, done_or, refusal_of, setting_between, snapshot_of, snapshot_or}
 use Rattle.rusty_leveldb.specs.State as machine
 use Rattle.rusty_leveldb.specs.State.{Answer, Request, Snapshot, State, done, get_snapshot, refused, release_snapshot}
 use Rattle.rusty_leveldb.proofs.MachineLemmas.{step_fits}
@@ -160,7 +160,7 @@ module _ {E C FP F P : Type 0} {B : Boxed} {keys : InternalOrder C} {key_filters
         → ((one : Snapshot) → Contains held one
         → (was.memory_is.shows in_use).since ≤ one.sequence)
         → Responds setting old request answer (record old { held = held; given = given })
-        → Goes store meaning (Recalls keys env formats store meaning) (scene env (Some before) at)
+        → TakesStep store meaning (Recalls keys env formats store meaning) (scene env (Some before) at)
         request answer (scene env (Some (record before { snapshots = snapshots })) at) old
     goes_with held given has within responds =
         let new : State = record old { held = held; given = given } in
@@ -302,7 +302,7 @@ module _ {E C FP F P : Type 0} {B : Boxed} {keys : InternalOrder C} {key_filters
           err = row.1;
           step = given_step at;
           still = refl;
-          halted = λ halted. absurd (usable halted);
+          refused_by_mode = λ refused_by_mode. absurd (usable refused_by_mode);
           reads = (refl, refl);
           snapshots = gives;
           options = record { rest = refl; sink = refl };
@@ -323,7 +323,7 @@ module _ {E C FP F P : Type 0} {B : Boxed} {keys : InternalOrder C} {key_filters
         err = row.1;
         step = step;
         still = refl;
-        halted = λ halted. (refl, refl, inl out);
+        refused_by_mode = λ refused_by_mode. (refl, refl, inl out);
         reads = (refl, refl);
         snapshots = refl;
         options = record { rest = refl; sink = refl };
@@ -354,7 +354,7 @@ module _ {E C FP F P : Type 0} {B : Boxed} {keys : InternalOrder C} {key_filters
         err = row.1;
         step = step;
         still = refl;
-        halted = λ halted. absurd (usable halted);
+        refused_by_mode = λ refused_by_mode. absurd (usable refused_by_mode);
         reads = (refl, refl);
         snapshots = refl;
         options = record { rest = refl; sink = refl };
@@ -377,7 +377,7 @@ module _ {E C FP F P : Type 0} {B : Boxed} {keys : InternalOrder C} {key_filters
         err = row.1;
         step = step;
         still = refl;
-        halted = λ halted. (refl, refl, inl out);
+        refused_by_mode = λ refused_by_mode. (refl, refl, inl out);
         reads = (refl, refl);
         snapshots = refl;
         options = record { rest = refl; sink = refl };
@@ -406,7 +406,7 @@ module _ {E C FP F P : Type 0} {B : Boxed} {keys : InternalOrder C} {key_filters
         err = row.1;
         step = step;
         still = refl;
-        halted = λ halted. absurd (usable halted);
+        refused_by_mode = λ refused_by_mode. absurd (usable refused_by_mode);
         reads = (refl, refl);
         snapshots = refl;
         options = record { rest = refl; sink = refl };
@@ -487,7 +487,7 @@ module _ {E C FP F P : Type 0} {B : Boxed} {keys : InternalOrder C} {key_filters
           err = row.1;
           step = left_step at;
           still = refl;
-          halted = λ halted. absurd (usable halted);
+          refused_by_mode = λ refused_by_mode. absurd (usable refused_by_mode);
           reads = (refl, refl);
           snapshots = releases;
           options = record { rest = refl; sink = refl };

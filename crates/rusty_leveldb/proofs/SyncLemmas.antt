@@ -28,13 +28,13 @@ use Rattle.leveldb_store.specs.OpenTables.{AreOpenTablesOf}
 use Rattle.leveldb_store.specs.SoundCall.{IsSoundCall, any_meaning}
 use Rattle.leveldb_store.specs.Write.{IsLogLost, SyncsLog, open_log_path, with_writer}
 use Rattle.leveldb_store.specs.WriteBatch.{HoldsBatches, IsOf, LeavesHistory, MakesDurable, SyncsBatches}
-use Rattle.leveldb_store.specs.Written.{IsData, IsWritten, Shows}
+use Rattle.leveldb_store.specs.Written.{IsData, IsWritten, HasView}
 use Rattle.rusty_leveldb.specs.Boxes.{EngineOf, InternalOrder}
-use Rattle.rusty_leveldb.specs.Causes.{Cause, Comes, ReachesDevice, Setting, TakesMemory, device_failed, out_of_memory}
+use Rattle.rusty_leveldb.specs.Causes.{Cause, IsCausedBy, ReachesDevice, Setting, TakesMemory, device_failed, out_of_memory}
 use Rattle.rusty_leveldb.specs.Engine.{HasOwnTables, Recalls, options_in, scene, tables_by}
 use Rattle.rusty_leveldb.specs.Frame.{IsLogType, MayTouch, SameBytes, Spares, Touches}
 use Rattle.rusty_leveldb.specs.Machine.{Breaks, LeavesRefused, MayBreak, Refuses, Responds, Risk, Step, risk_of}
-use Rattle.rusty_leveldb.specs.Serves.{Goes, IsSpared, Represents, refusal_of, setting_between}
+use Rattle.rusty_leveldb.specs.Serves.{TakesStep, IsSpared, Represents, refusal_of, setting_between}
 use Rattle.rusty_leveldb.specs.State as machine
 use Rattle.rusty_leveldb.specs.State.{Answer, Request, State, open_mode, refused}
 use Rattle.rusty_leveldb.proofs.EngineLemmas.{Ends, SameSnapshots, Stays, goes, is_of, machine_spares, none, not_closed, same_format, state_open, views_kept}
@@ -250,9 +250,9 @@ module _ {E C FP F : Type 0} {B : Boxed} {keys : InternalOrder C} (env : Ghosts 
             (env.observed to).disk.files new snapshots format_is
             (let same_end = ap (λ (h : History). greatest (entries_of h)) history_is in
             omega (arith, same_end))
-            (λ since s. subst (λ h. Shows old.format.order meaning value
+            (λ since s. subst (λ h. HasView old.format.order meaning value
             (env.observed to).disk.files h since) (sym history_is)
-            (subst (λ (files : Files). Shows old.format.order meaning value files old.history since)
+            (subst (λ (files : Files). HasView old.format.order meaning value files old.history since)
             (sym same) (durable.shows since s)));
         snapshots = refl;
         same_snapshots = snapshots;
@@ -282,9 +282,9 @@ module _ {E C FP F : Type 0} {B : Boxed} {keys : InternalOrder C} (env : Ghosts 
       → IsTrue env.models_disk → SyncsLog env before.store from (Err status) value mid
       → TakesMemory request → ReachesDevice request
       → (later : ℕ) → env.failures mid ≤ later
-      → (IsOutOfMemory status × Comes (setting_between meaning (env.failures from) later) old request
+      → (IsOutOfMemory status × IsCausedBy (setting_between meaning (env.failures from) later) old request
       (refusal_of status) out_of_memory)
-      ⊎ Comes (setting_between meaning (env.failures from) later) old request (refusal_of status)
+      ⊎ IsCausedBy (setting_between meaning (env.failures from) later) old request (refusal_of status)
       device_failed
   sync_cause request value mid status modelled syncs takes reaches later most =
       ⊎_elim excused (λ counted. inr (
@@ -299,8 +299,8 @@ module _ {E C FP F : Type 0} {B : Boxed} {keys : InternalOrder C} (env : Ghosts 
       setting = setting_between meaning (env.failures from) later
 
       excused : IsLogLost env before.store from mid status
-          → (IsOutOfMemory status × Comes setting old request (refusal_of status) out_of_memory)
-          ⊎ Comes setting old request (refusal_of status) device_failed
+          → (IsOutOfMemory status × IsCausedBy setting old request (refusal_of status) out_of_memory)
+          ⊎ IsCausedBy setting old request (refusal_of status) device_failed
       excused (inl (inl memory)) = inl (memory, (takes, memory.0, ap text_of memory.1))
       excused (inl (inr missing)) = absurd (log_is_there old.format.order meaning before.store
           (env.observed from).disk.files (was.memory_is.writes
@@ -394,7 +394,7 @@ module _ {E C FP F : Type 0} {B : Boxed} {keys : InternalOrder C} (env : Ghosts 
         → Step open_mode (setting_between meaning (env.failures from) (env.failures mid)) old request
         answer broke_now)
         → risk_of request old broke_now ≡ risk_now
-        → Goes store meaning (Recalls keys env formats store meaning) (scene env (Some before) from)
+        → TakesStep store meaning (Recalls keys env formats store meaning) (scene env (Some before) from)
         request
         (refused (refusal_of status)) (scene env (Some (record before { store = value; mode = m })) mid)
         old
@@ -421,12 +421,12 @@ module _ {E C FP F : Type 0} {B : Boxed} {keys : InternalOrder C} (env : Ghosts 
         refuses : Refuses setting old request (refusal_of status) broke_now
         refuses = ⊎_elim
             (λ (memory : IsOutOfMemory status
-            × Comes setting old request (refusal_of status) out_of_memory). record {
+            × IsCausedBy setting old request (refusal_of status) out_of_memory). record {
               cause = out_of_memory;
               comes = memory.1;
               leaves = leaves out_of_memory tt breaks;
             })
-            (λ (device : Comes setting old request (refusal_of status) device_failed). record {
+            (λ (device : IsCausedBy setting old request (refusal_of status) device_failed). record {
               cause = device_failed;
               comes = device;
               leaves = leaves device_failed tt breaks;

@@ -23,12 +23,12 @@ use Rattle.leveldb_version.specs.Paths.{current_path}
 use Rattle.leveldb_version.specs.Store.{HasEdits, IsStore}
 use Rattle.leveldb_version.specs.VersionEdit.{Edit}
 use Rattle.leveldb_version.specs.VersionSet.{live_after}
-use Rattle.leveldb_store.proofs.NotTabledLemmas.{not_tabled_causes}
+use Rattle.leveldb_store.proofs.NotBuiltLemmas.{not_built_causes}
 use Rattle.leveldb_store.specs.BuildTable.{TableChoices}
 use Rattle.leveldb_store.specs.FoundLogs.{FailsToKeep, HasLogNotKept}
 use Rattle.leveldb_version.specs.Format.{Agrees, Format, HasCompressorError, IsTableOf, Meaning}
 use Rattle.leveldb_store.specs.OpensStore.{HasOtherComparator, IsOrderFor}
-use Rattle.rusty_leveldb.specs.Causes.{Cause, Comes, Disagrees, Exists, Setting, bad_operand, compressor_failed, lock_is_held, out_of_memory, store_exists, too_large}
+use Rattle.rusty_leveldb.specs.Causes.{Cause, IsCausedBy, Disagrees, Exists, Setting, bad_operand, compressor_failed, lock_is_held, out_of_memory, store_exists, too_large}
 use Rattle.rusty_leveldb.specs.Engine.{IsOpening}
 use Rattle.rusty_leveldb.specs.Serves.{Reads, StandsFor, order_of, refusal_of}
 use Rattle.rusty_leveldb.specs.State.{Opening, State, open_store}
@@ -132,7 +132,7 @@ pub not_kept_causes : {D P : Type 0} {keys : CmpGhosts D} {key_filters : FilterG
     ⊎ HasCompressorError choices.format status.code
 not_kept_causes choices batches status (inl large) = inr (inl large.code)
 not_kept_causes choices batches status (inr (entries, are, not)) =
-    not_tabled_causes choices (map internal_pair entries) status not
+    not_built_causes choices (map internal_pair entries) status not
 
 -- so an opening is excused, and its lock given back, where only the format is known
 module _ {E F D P : Type 0} (env : Ghosts E F) (store : List ℕ) {keys : CmpGhosts D}
@@ -169,7 +169,7 @@ module _ {E F : Type 0} (env : Ghosts E F) (store : List ℕ) (meaning : Meaning
     (old : State) (stands : StandsFor store meaning (env.observed from).disk old)
     (setting : Setting) (e : Status) where
   abbrev HasCause : Type 0
-  HasCause = (cause : Cause) × Comes setting old (open_store opening) (refusal_of e) cause
+  HasCause = (cause : Cause) × IsCausedBy setting old (open_store opening) (refusal_of e) cause
 
   same_format : opening.format ≡ asked.format
   same_format = ap (λ (o : Opening). o.format) is.same

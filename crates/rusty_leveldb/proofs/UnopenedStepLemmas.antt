@@ -13,11 +13,11 @@ use Rattle.leveldb_version.specs.StoreSteps.{AppendedAreBytes}
 use Rattle.leveldb_version.specs.Format.{Format, Meaning}
 use Rattle.leveldb_store.specs.Room.{HasFailed}
 use Rattle.rusty_leveldb.specs.Boxes.{InternalOrder}
-use Rattle.rusty_leveldb.specs.Causes.{Cause, Comes, device_failed}
+use Rattle.rusty_leveldb.specs.Causes.{Cause, IsCausedBy, device_failed}
 use Rattle.rusty_leveldb.specs.Engine.{Recalls, scene}
 use Rattle.rusty_leveldb.specs.Frame.{IsOwn, Spares}
 use Rattle.rusty_leveldb.specs.Machine.{IsEarly, IsStoreOf, StaysOr, Step}
-use Rattle.rusty_leveldb.specs.Serves.{Goes, IsSpared, Reads, Represents, refusal_of, setting_between}
+use Rattle.rusty_leveldb.specs.Serves.{TakesStep, IsSpared, Reads, Represents, refusal_of, setting_between}
 use Rattle.rusty_leveldb.specs.State.{Opening, Refusal, Request, State, open_store, refused}
 use Rattle.rusty_leveldb.proofs.MachineLemmas.{risk_opening, step_fits}
 use Rattle.rusty_leveldb.proofs.Others.{opening_spares}
@@ -159,8 +159,8 @@ module _ (store : List ℕ) (meaning : Meaning) (opening : Opening) (old : Store
 -- a cause that had come by a count of failures has come by a greater one
 comes_later : (meaning : Meaning) (before mid after : ℕ) (old : State) (request : Request)
     (refusal : Refusal) (cause : Cause) → mid ≤ after
-    → Comes (setting_between meaning before mid) old request refusal cause
-    → Comes (setting_between meaning before after) old request refusal cause
+    → IsCausedBy (setting_between meaning before mid) old request refusal cause
+    → IsCausedBy (setting_between meaning before after) old request refusal cause
 comes_later meaning before mid after old request refusal device_failed more comes = (
   comes.0,
   ⊎_elim (λ (less : before < mid). inl (omega (arith, less, more))) (λ full. inr full) comes.1,
@@ -191,10 +191,10 @@ module _ {E C FP F : Type 0} {B : Boxed} {keys : InternalOrder C} (env : Ghosts 
       ≡ (env.observed from).disk.locked (lock_path store))
       ⊎ (((env.observed to).disk.locked (lock_path store) ≡ true) × HasFailed mid (env.failures to))
       → (cause : Cause)
-      → Comes (setting_between meaning (env.failures from) mid) old (open_store opening)
+      → IsCausedBy (setting_between meaning (env.failures from) mid) old (open_store opening)
       (refusal_of e) cause
       → (IsEarly cause → there ≡ old.store)
-      → Goes store meaning (Recalls keys env formats store meaning)
+      → TakesStep store meaning (Recalls keys env formats store meaning)
       (scene env None from) (open_store opening) (refused (refusal_of e)) (scene env None to) old
   unopened_goes there stays holds bytes run spares mid later ends lock cause comes early =
       let setting = setting_between meaning (env.failures from) (env.failures to) in

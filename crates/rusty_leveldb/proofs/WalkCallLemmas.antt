@@ -36,7 +36,7 @@ module _ {E C FP F P : Type 0} {B : Boxed} {keys : InternalOrder C} {key_filters
       → IsRefusedByMode {T = Unit {0}} before from (Err status) before from)
       → WalkExcused before at status
       → EngineWalks env choices before from at moves [] (Err status) before from
-  unmade status still halted why =
+  unmade status still refused_by_mode why =
       let step = still from in
       let row = walk_row keys env (formats_of choices) before from before from at moves [] (Err status)
       step in
@@ -44,7 +44,7 @@ module _ {E C FP F P : Type 0} {B : Boxed} {keys : InternalOrder C} {key_filters
         ok = row.0;
         err = row.1;
         step = step;
-        halted = halted;
+        refused_by_mode = refused_by_mode;
         reads = (refl, refl);
         snapshots = refl;
         options = record { rest = refl; sink = refl };
@@ -61,7 +61,7 @@ module _ {E C FP F P : Type 0} {B : Boxed} {keys : InternalOrder C} {key_filters
       → EngineWalks env choices before from at moves [] (Err status) before from
   walk_closed_serves status why = unmade status
       (walk_closed keys env (formats_of choices) before at moves status why)
-      (λ halted. (refl, refl, inl why)) (inl why)
+      (λ refused_by_mode. (refl, refl, inl why)) (inl why)
 
   module _ (usable : before.mode ≡ machine.closed → ⊥) where
     pub walk_unheld_serves : (status : Status) → status.code ≡ InvalidArgument
@@ -69,13 +69,13 @@ module _ {E C FP F P : Type 0} {B : Boxed} {keys : InternalOrder C} {key_filters
         → EngineWalks env choices before from at moves [] (Err status) before from
     walk_unheld_serves status code unheld = unmade status
         (walk_unheld keys env (formats_of choices) before at moves usable status code unheld)
-        (λ halted. absurd (usable halted)) (inr (inl (code, unheld)))
+        (λ refused_by_mode. absurd (usable refused_by_mode)) (inr (inl (code, unheld)))
 
     pub walk_starved_serves : (status : Status) → IsOutOfMemory status
         → EngineWalks env choices before from at moves [] (Err status) before from
     walk_starved_serves status out = unmade status
         (walk_starved keys env (formats_of choices) before at moves usable status out)
-        (λ halted. absurd (usable halted)) (inr (inr out))
+        (λ refused_by_mode. absurd (usable refused_by_mode)) (inr (inr out))
 
     module _ (sequence : ℕ) (reads_at : ReadsAt before at sequence) (to : E) (left : TableCache E C FP F) (given : List Step)
         (result : Result (Unit {0}) Status)
@@ -108,7 +108,7 @@ module _ {E C FP F P : Type 0} {B : Boxed} {keys : InternalOrder C} {key_filters
             ok = row.0;
             err = row.1;
             step = step;
-            halted = λ halted. absurd (usable halted);
+            refused_by_mode = λ refused_by_mode. absurd (usable refused_by_mode);
             reads = (refl, refl);
             snapshots = refl;
             options = record { rest = refl; sink = refl };

@@ -19,13 +19,13 @@ use Rattle.leveldb_version.specs.Format.{Agrees, Format, Meaning}
 use Rattle.leveldb_version.specs.declared.table_cache.TableCache.{TableCache}
 use Rattle.leveldb_store.specs.Read.{HasOpenTables}
 use Rattle.leveldb_store.specs.View.{IsOfNoCompressor, MakesMoves, WalksStore}
-use Rattle.leveldb_store.specs.Written.{IsWritten, Shows}
+use Rattle.leveldb_store.specs.Written.{IsWritten, HasView}
 use Rattle.rusty_leveldb.specs.Boxes.{EngineOf, InternalOrder}
 use Rattle.rusty_leveldb.specs.Causes.{IsNotHeld, Setting, bad_operand, out_of_memory}
 use Rattle.rusty_leveldb.specs.Engine.{Answers, AnswersStill, Recalls, RefusedAsClosed, ShowsViews, held_in, options_in, scene, tables_by, ReadsAt}
 use Rattle.rusty_leveldb.specs.Frame.{MayTouch}
 use Rattle.rusty_leveldb.specs.Machine.{IsSequenceOf, Responds, Step, risk_between}
-use Rattle.rusty_leveldb.specs.Serves.{Goes, IsSpared, Reads, Represents, refusal_of, setting_between}
+use Rattle.rusty_leveldb.specs.Serves.{TakesStep, IsSpared, Reads, Represents, refusal_of, setting_between}
 use Rattle.rusty_leveldb.specs.State as machine
 use Rattle.rusty_leveldb.specs.State.{Answer, Request, Snapshot, State, refused, walk, walked}
 use Rattle.rusty_leveldb.specs.Walks.{landing_of, move_of, walk_of, walked_or}
@@ -113,8 +113,8 @@ module _ {E C FP F : Type 0} {B : Boxed} (keys : InternalOrder C) (env : Ghosts 
         shown : ShowsViews meaning before.store (env.observed from).disk.files old
         shown = was.memory_is.shows not_closed
 
-        shows : Shows (formats (options_in before)).order meaning before.store (env.observed from).disk.files old.history shown.since
-        shows = subst (λ (f : Format). Shows f.order meaning before.store (env.observed from).disk.files old.history shown.since) (sym same_format) shown.shows
+        shows : HasView (formats (options_in before)).order meaning before.store (env.observed from).disk.files old.history shown.since
+        shows = subst (λ (f : Format). HasView f.order meaning before.store (env.observed from).disk.files old.history shown.since) (sym same_format) shown.shows
 
         has_open : HasOpenTables keys env (tables_by formats before) before.store from before.tables
         has_open = record { modelled = modelled; are = was.memory_is.tables not_closed }
@@ -184,7 +184,7 @@ module _ {E C FP F : Type 0} {B : Boxed} (keys : InternalOrder C) (env : Ghosts 
         responds : Responds setting old request (walked_or given result) old
         responds = responds_with result (walks.walks has_open meaning agrees old.history shown.since (reads_in at reads_at).2 shows) (memory_only result walks.none)
 
-        walk_went : Goes store meaning (Recalls keys env formats store meaning) (scene env (Some before) from) request (walked_or given result)
+        walk_went : TakesStep store meaning (Recalls keys env formats store meaning) (scene env (Some before) from) request (walked_or given result)
             (scene env (Some after) to) old
         walk_went = record {
           new = old;
@@ -206,7 +206,7 @@ module _ {E C FP F : Type 0} {B : Boxed} (keys : InternalOrder C) (env : Ghosts 
               last = was.memory_is.last;
               shows = λ in_use. record {
                 since = shown.since;
-                shows = subst (λ (files : Files). Shows old.format.order meaning before.store files old.history shown.since) (sym same_files) shown.shows;
+                shows = subst (λ (files : Files). HasView old.format.order meaning before.store files old.history shown.since) (sym same_files) shown.shows;
                 now = shown.now;
                 held = shown.held;
               };

@@ -15,7 +15,7 @@ use Rattle.leveldb_store.specs.BuildTable.{TableChoices}
 use Rattle.leveldb_version.specs.Format.{Format}
 use Rattle.leveldb_store.specs.OpenStore.{IsUnbroken, OpenStoreValue}
 use Rattle.leveldb_store.specs.Compact.{FailsToCompactRange}
-use Rattle.leveldb_store.specs.Room.{FailsFor, HasFailed, IsFull, TellsOnly}
+use Rattle.leveldb_store.specs.Room.{FailsFor, HasFailed, IsFull, ChangesLoggerOnly}
 use Rattle.leveldb_store.specs.Written.{IsWritten}
 use Rattle.leveldb_store.specs.SoundCall.{IsSoundCall, any_meaning}
 use Rattle.leveldb_store.specs.WriteBatch.{FailsToWrite, WritesBatch, next_batch}
@@ -99,7 +99,7 @@ module _ {E C FP F P : Type 0} {B : Boxed} {keys : InternalOrder C} {key_filters
         ok = row.0;
         err = row.1;
         step = step;
-        halted = λ halted. absurd (not_halted before.mode opened halted);
+        refused_by_mode = λ refused_by_mode. absurd (not_halted before.mode opened refused_by_mode);
         misfit = λ is long. (
           refl,
           refl,
@@ -132,7 +132,7 @@ module _ {E C FP F P : Type 0} {B : Boxed} {keys : InternalOrder C} {key_filters
       (λ (broke : (after.mode ≡ machine.broken) × (IsUnbroken after.store → ⊥)). inl broke.0)
       follows
 
-  module _ (ignores : (a b : OptionsOf C FP B) → TellsOnly a b → formats b ≡ formats a)
+  module _ (ignores : (a b : OptionsOf C FP B) → ChangesLoggerOnly a b → formats b ≡ formats a)
       (fits : IsLongBatch items → ⊥) where
     -- no room is made
     pub room_fails_serves : (after : EngineOf E C FP F B) (to : E) (status : Status)
@@ -144,7 +144,7 @@ module _ {E C FP F P : Type 0} {B : Boxed} {keys : InternalOrder C} {key_filters
           ok = row.0;
           err = row.1;
           step = step;
-          halted = λ halted. absurd (not_halted before.mode opened halted);
+          refused_by_mode = λ refused_by_mode. absurd (not_halted before.mode opened refused_by_mode);
           misfit = λ is long. absurd (fits long);
           written = tt;
           waits = tt;
@@ -155,8 +155,8 @@ module _ {E C FP F P : Type 0} {B : Boxed} {keys : InternalOrder C} {key_filters
               made.makes.keeps.rest.last,
               λ room.
                   let same = (made.makes.not_full room).0 in (
-                    ap (λ (v : OpenStoreValue C). v.recent.entries) same,
-                    ap (λ (v : OpenStoreValue C). v.waiting) same,
+                    ap (λ (v : OpenStoreValue C). v.mem.entries) same,
+                    ap (λ (v : OpenStoreValue C). v.imm) same,
                   ),
             ),
           );
@@ -175,11 +175,11 @@ module _ {E C FP F P : Type 0} {B : Boxed} {keys : InternalOrder C} {key_filters
             opened modelled ignores after to items sync status made
 
         -- where it isn't full, nothing fails
-        full : IsFull before.options.write_buffer_size before.store.recent
+        full : IsFull before.options.write_buffer_size before.store.mem
         full = ⊎_elim (λ is. is)
-            (λ (room : IsFull before.options.write_buffer_size before.store.recent → ⊥).
+            (λ (room : IsFull before.options.write_buffer_size before.store.mem → ⊥).
             absurd (made.makes.not_full room).2)
-            (full_or_not before.options.write_buffer_size before.store.recent)
+            (full_or_not before.options.write_buffer_size before.store.mem)
 
         excused : FailsToCompactRange keys env (tables_by formats before) before.store from
             before.tables (choices (options_in before)) after.store status
@@ -206,24 +206,24 @@ module _ {E C FP F P : Type 0} {B : Boxed} {keys : InternalOrder C} {key_filters
         ⊎_elim
             (λ (full : IsMemtableFull before). inr (
               full,
-              subst (λ entries. IsUnion entries batch value.recent.entries)
+              subst (λ entries. IsUnion entries batch value.mem.entries)
                   (made.makes.empties full).0 gains,
             ))
             (λ (room : IsMemtableFull before → ⊥). inl (
               room,
               subst (λ (v : OpenStoreValue C).
-                  IsUnion v.recent.entries batch value.recent.entries)
+                  IsUnion v.mem.entries batch value.mem.entries)
                   (made.makes.not_full room).0 gains,
             ))
-            (full_or_not before.options.write_buffer_size before.store.recent),
+            (full_or_not before.options.write_buffer_size before.store.mem),
       )
         where
           batch : List Entry
           batch = placed (before.store.set.last_sequence + 1) items
 
-          gains : IsUnion roomy.store.recent.entries batch value.recent.entries
-          gains = subst (λ n. IsUnion roomy.store.recent.entries (placed (n + 1) items)
-              value.recent.entries) made.makes.keeps.rest.last writes.gains
+          gains : IsUnion roomy.store.mem.entries batch value.mem.entries
+          gains = subst (λ n. IsUnion roomy.store.mem.entries (placed (n + 1) items)
+              value.mem.entries) made.makes.keeps.rest.last writes.gains
       batch_written (Err status) writes = tt
 
       -- and none waits, but for one that waited before
@@ -231,12 +231,12 @@ module _ {E C FP F P : Type 0} {B : Boxed} {keys : InternalOrder C} {key_filters
           → WritesBatch env (formats (options_in roomy)).order roomy.store mid items sync result value
           to → OnOk result (OneWaitsAtMost before ended)
       batch_waits (Ok nothing) writes =
-          let waits = ap (λ (v : OpenStoreValue C). v.waiting) writes.rest in ⊎_elim
-          (λ (full : IsFull before.options.write_buffer_size before.store.recent).
+          let waits = ap (λ (v : OpenStoreValue C). v.imm) writes.rest in ⊎_elim
+          (λ (full : IsFull before.options.write_buffer_size before.store.mem).
           inl (waits ∙ (made.makes.empties full).2))
-          (λ (room : IsFull before.options.write_buffer_size before.store.recent → ⊥).
-          inr (room, waits ∙ ap (λ (v : OpenStoreValue C). v.waiting) (made.makes.not_full room).0))
-          (full_or_not before.options.write_buffer_size before.store.recent)
+          (λ (room : IsFull before.options.write_buffer_size before.store.mem → ⊥).
+          inr (room, waits ∙ ap (λ (v : OpenStoreValue C). v.imm) (made.makes.not_full room).0))
+          (full_or_not before.options.write_buffer_size before.store.mem)
       batch_waits (Err status) writes = tt
 
       -- and what was logged is what room in the memtable logged
@@ -263,9 +263,9 @@ module _ {E C FP F P : Type 0} {B : Boxed} {keys : InternalOrder C} {key_filters
         (
           writes.err.1 ∙ made.makes.keeps.rest.last,
           λ room. let same = (made.makes.not_full room).0 in (
-            writes.err.0 ∙ ap (λ (v : OpenStoreValue C). v.recent.entries) same,
-            ap (λ (v : OpenStoreValue C). v.waiting) writes.rest
-                ∙ ap (λ (v : OpenStoreValue C). v.waiting) same,
+            writes.err.0 ∙ ap (λ (v : OpenStoreValue C). v.mem.entries) same,
+            ap (λ (v : OpenStoreValue C). v.imm) writes.rest
+                ∙ ap (λ (v : OpenStoreValue C). v.imm) same,
           ),
         ),
       )
@@ -297,8 +297,8 @@ module _ {E C FP F P : Type 0} {B : Boxed} {keys : InternalOrder C} {key_filters
           sync result value to writes)
 
       -- the memtable that room was made in is empty
-      in_empty : IsFull before.options.write_buffer_size before.store.recent → {status : Status}
-          → FailsToPrepare roomy.store.recent (length items) (bytes_in items) status
+      in_empty : IsFull before.options.write_buffer_size before.store.mem → {status : Status}
+          → FailsToPrepare roomy.store.mem (length items) (bytes_in items) status
           → FailsToPrepare empty_memtable (length items) (bytes_in items) status
       in_empty full (inl large) =
           let none = ap memory_of_entries (made.makes.empties full).0 in
@@ -316,16 +316,16 @@ module _ {E C FP F P : Type 0} {B : Boxed} {keys : InternalOrder C} {key_filters
         subst (λ n. AreUsedUp n (length items)) made.makes.keeps.rest.last used.past,
       ))))
       batch_excused status (inl (inr fails, still)) = ⊎_elim
-          (λ (full : IsFull before.options.write_buffer_size before.store.recent).
+          (λ (full : IsFull before.options.write_buffer_size before.store.mem).
           inr (inr (inr (inr (inr (inl (full, inr (in_empty full fails))))))))
-          (λ (room : IsFull before.options.write_buffer_size before.store.recent → ⊥).
+          (λ (room : IsFull before.options.write_buffer_size before.store.mem → ⊥).
           inr (inr (inr (inr (inl (subst (λ (v : OpenStoreValue C).
-          FailsToPrepare v.recent (length items) (bytes_in items) status)
+          FailsToPrepare v.mem (length items) (bytes_in items) status)
           (made.makes.not_full room).0 fails))))))
-          (full_or_not before.options.write_buffer_size before.store.recent)
+          (full_or_not before.options.write_buffer_size before.store.mem)
       batch_excused status (inr (inl (inl memory))) = inr (inr (inl memory))
       batch_excused status (inr (inl (inr missing))) = ⊎_elim
-          (λ (full : IsFull before.options.write_buffer_size before.store.recent).
+          (λ (full : IsFull before.options.write_buffer_size before.store.mem).
           inr (inr (inr (inr (inr (inl (
             full,
             inl (inl (inr (inr (inr (record {
@@ -338,7 +338,7 @@ module _ {E C FP F P : Type 0} {B : Boxed} {keys : InternalOrder C} {key_filters
                   (missing.1 has.has_open.modelled));
             }))))),
           )))))))
-          (λ (room : IsFull before.options.write_buffer_size before.store.recent → ⊥).
+          (λ (room : IsFull before.options.write_buffer_size before.store.mem → ⊥).
           let still = made.makes.not_full room in
           inr (inr (inr (inr (inr (inr (
             missing.0.code,
@@ -351,7 +351,7 @@ module _ {E C FP F P : Type 0} {B : Boxed} {keys : InternalOrder C} {key_filters
                 before.store (env.observed e).disk.files) (sym still.1) written))
                 (missing.1 modelled),
           )))))))
-          (full_or_not before.options.write_buffer_size before.store.recent)
+          (full_or_not before.options.write_buffer_size before.store.mem)
       batch_excused status (inr (inr broke)) = absurd (let never : true ≡ false = sym broke.0
           ∙ made.makes.keeps.usable.log in cc)
 
@@ -410,7 +410,7 @@ module _ {E C FP F P : Type 0} {B : Boxed} {keys : InternalOrder C} {key_filters
             ok = row.0;
             err = row.1;
             step = stepped;
-            halted = λ halted. absurd (not_halted before.mode opened halted);
+            refused_by_mode = λ refused_by_mode. absurd (not_halted before.mode opened refused_by_mode);
             misfit = λ is long. absurd (fits long);
             written = batch_written result writes_in;
             waits = batch_waits result writes_in;

@@ -23,7 +23,7 @@ use Rattle.leveldb_version.specs.TableCache.{TableOptions, table_options}
 use Rattle.leveldb_store.proofs.OpenTablesLemmas.{open_after_batch}
 use Rattle.leveldb_store.specs.OpenStore.{IsUnbroken, OpenStoreValue}
 use Rattle.leveldb_store.specs.OpenTables.{AreOpenTablesOf}
-use Rattle.leveldb_store.specs.Room.{HasFailed, TellsOnly}
+use Rattle.leveldb_store.specs.Room.{HasFailed, ChangesLoggerOnly}
 use Rattle.leveldb_store.specs.SoundCall.{IsSoundCall, any_meaning}
 use Rattle.leveldb_store.specs.Write.{open_log_path}
 use Rattle.leveldb_store.specs.WriteBatch.{AddsBatch, FailsToWrite, HoldsBatches, IsOf, LeavesHistory, WritesBatch, next_batch}
@@ -34,11 +34,11 @@ use Rattle.leveldb_store.specs.WrittenFrom.{KeepsStoreFrom, KeepsWrittenFrom}
 use Rattle.rusty_leveldb.specs.Boxes.{EngineOf, InternalOrder}
 use Rattle.rusty_leveldb.specs.Room.{EngineMakesRoom}
 use Rattle.rusty_leveldb.specs.EngineValue.{FollowsStore}
-use Rattle.rusty_leveldb.specs.Causes.{Cause, Comes, Fits, Setting, device_failed, out_of_memory, too_large, used_up}
+use Rattle.rusty_leveldb.specs.Causes.{Cause, IsCausedBy, Fits, Setting, device_failed, out_of_memory, too_large, used_up}
 use Rattle.rusty_leveldb.specs.Engine.{HasOwnTables, Recalls, ShowsViews, options_in, scene, formats_of, tables_by}
 use Rattle.rusty_leveldb.specs.Frame.{MayTouch, Spares}
 use Rattle.rusty_leveldb.specs.Machine.{Breaks, Refuses, Risk, Step, Writes, added_batch, risk_between}
-use Rattle.rusty_leveldb.specs.Serves.{Goes, IsSpared, Represents, refusal_of, setting_between}
+use Rattle.rusty_leveldb.specs.Serves.{TakesStep, IsSpared, Represents, refusal_of, setting_between}
 use Rattle.rusty_leveldb.specs.State as machine
 use Rattle.rusty_leveldb.specs.State.{State, done, open_mode, refused, write}
 use Rattle.rusty_leveldb.proofs.EngineLemmas.{SameSnapshots, Stays, follows_open, goes, is_of, machine_spares, none, not_closed, same_format, state_open, views_still, views_then}
@@ -72,7 +72,7 @@ pub room_tells : {E C FP F P : Type 0} {B : Boxed} {keys : InternalOrder C}
     (choices : OptionsOf C FP B → TableChoices keys key_filters) (before : EngineOf E C FP F B)
     (from : E) (result : Result (Unit {0}) Status) (after : EngineOf E C FP F B) (to : E)
     → EngineMakesRoom env choices before from result after to
-    → TellsOnly (options_in before) (options_in after)
+    → ChangesLoggerOnly (options_in before) (options_in after)
 room_tells env choices before from result after to made =
     store_tells before after made.rest made.makes.keeps.rest.cmp made.sink
 
@@ -81,7 +81,7 @@ pub room_by : {E C FP F P : Type 0} {B : Boxed} {keys : InternalOrder C}
     {key_filters : FilterGhosts P} (env : Ghosts E F)
     (choices : OptionsOf C FP B → TableChoices keys key_filters) (before : EngineOf E C FP F B)
     (from : E) (result : Result (Unit {0}) Status) (after : EngineOf E C FP F B) (to : E)
-    → ((a b : OptionsOf C FP B) → TellsOnly a b → formats_of choices b ≡ formats_of choices a)
+    → ((a b : OptionsOf C FP B) → ChangesLoggerOnly a b → formats_of choices b ≡ formats_of choices a)
     → EngineMakesRoom env choices before from result after to
     → tables_by (formats_of choices) after ≡ tables_by (formats_of choices) before
 room_by env choices before from result after to ignores made =
@@ -93,7 +93,7 @@ pub room_tables : {E C FP F P : Type 0} {B : Boxed} {keys : InternalOrder C}
     {key_filters : FilterGhosts P} (env : Ghosts E F)
     (choices : OptionsOf C FP B → TableChoices keys key_filters) (before : EngineOf E C FP F B)
     (from : E) (result : Result (Unit {0}) Status) (after : EngineOf E C FP F B) (to : E)
-    → ((a b : OptionsOf C FP B) → TellsOnly a b → formats_of choices b ≡ formats_of choices a)
+    → ((a b : OptionsOf C FP B) → ChangesLoggerOnly a b → formats_of choices b ≡ formats_of choices a)
     → EngineMakesRoom env choices before from result after to
     → HasOpenTables keys env (tables_by (formats_of choices) before) before.store from before.tables
     → HasOwnTables keys env (formats_of choices) after (env.observed to).disk.files
@@ -110,7 +110,7 @@ pub batch_tells : {E C FP F P : Type 0} {B : Boxed} {keys : InternalOrder C}
     (from : E) (roomy : EngineOf E C FP F B)
     (mid : E) → EngineMakesRoom env choices before from (Ok tt) roomy mid
     → (value : OpenStoreValue C) → value.cmp ≡ roomy.store.cmp
-    → TellsOnly (options_in before) (options_in {E = E} {C = C} {FP = FP} {F = F} {B = B}
+    → ChangesLoggerOnly (options_in before) (options_in {E = E} {C = C} {FP = FP} {F = F} {B = B}
     (record roomy { store = value }))
 batch_tells {C = C} env choices before from roomy mid made value same =
     let tells = room_tells env choices before from (Ok tt) roomy mid made in
@@ -178,18 +178,18 @@ module _ {E C FP F P : Type 0} {B : Boxed} {keys : InternalOrder C} {key_filters
     setting = setting_between meaning (env.failures from) (env.failures to)
 
     abbrev HasCause : Type 0
-    HasCause = (cause : Cause) × Comes setting old (write items sync) (refusal_of status) cause
+    HasCause = (cause : Cause) × IsCausedBy setting old (write items sync) (refusal_of status) cause
 
     makes_tables : MakesTables old (write items sync)
     makes_tables = record { memory = tt; device = tt; writes = tt; reads = tt; format = refl }
 
     without_memory : IsOutOfMemory status
-        → Comes setting old (write items sync) (refusal_of status) out_of_memory
+        → IsCausedBy setting old (write items sync) (refusal_of status) out_of_memory
     without_memory = by_memory env choices store meaning before from old was opened modelled
         (write items sync) makes_tables to status
 
     as_device_failed : HasFailed (env.failures from) (env.failures to)
-        → Comes setting old (write items sync) (refusal_of status) device_failed
+        → IsCausedBy setting old (write items sync) (refusal_of status) device_failed
     as_device_failed = by_device env choices store meaning before from old was opened modelled
         (write items sync) makes_tables to status
 
@@ -239,7 +239,7 @@ module _ {E C FP F P : Type 0} {B : Boxed} {keys : InternalOrder C} {key_filters
 
   -- ---- room in the memtable
 
-  module _ (ignores : (a b : OptionsOf C FP B) → TellsOnly a b → formats b ≡ formats a)
+  module _ (ignores : (a b : OptionsOf C FP B) → ChangesLoggerOnly a b → formats b ≡ formats a)
       (roomy : EngineOf E C FP F B) (mid : E) (result : Result (Unit {0}) Status)
       (made : EngineMakesRoom env choices before from result roomy mid) where
     room_keeps : KeepsStoreFrom order meaning made.smallest (Stays old) before.store
@@ -270,7 +270,7 @@ module _ {E C FP F P : Type 0} {B : Boxed} {keys : InternalOrder C} {key_filters
     room_snapshots = ap (λ (e : EngineOf E C FP F B). e.snapshots) made.rest
 
   -- no room was made
-  module _ (ignores : (a b : OptionsOf C FP B) → TellsOnly a b → formats b ≡ formats a)
+  module _ (ignores : (a b : OptionsOf C FP B) → ChangesLoggerOnly a b → formats b ≡ formats a)
       (after : EngineOf E C FP F B) (to : E) (items : List Item) (sync : Bool)
       (status : Status)
       (made : EngineMakesRoom env choices before from (Err status) after to) where
@@ -291,7 +291,7 @@ module _ {E C FP F P : Type 0} {B : Boxed} {keys : InternalOrder C} {key_filters
         → new.durable ≡ old.durable → new.pending ≡ None → new.locked ≡ old.locked
         → (new.mode ≡ open_mode → IsUnbroken after.store)
         → Refuses (setting items sync status to) old (write items sync) (refusal_of status) new
-        → Goes store meaning (Recalls keys env formats store meaning) (scene env (Some before) from)
+        → TakesStep store meaning (Recalls keys env formats store meaning) (scene env (Some before) from)
         (write items sync) (refused (refusal_of status)) (scene env (Some after) to) old
     went new snapshots mode_is store_is format_is history_is last_is durable_is pending_is locked_is
         unbroken refuses =
@@ -341,7 +341,7 @@ module _ {E C FP F P : Type 0} {B : Boxed} {keys : InternalOrder C} {key_filters
           opening = None;
         })
 
-    pub room_fails : Goes store meaning (Recalls keys env formats store meaning)
+    pub room_fails : TakesStep store meaning (Recalls keys env formats store meaning)
         (scene env (Some before) from)
         (write items sync) (refused (refusal_of status)) (scene env (Some after) to) old
     room_fails = ⊎_elim
@@ -359,7 +359,7 @@ module _ {E C FP F P : Type 0} {B : Boxed} {keys : InternalOrder C} {key_filters
 
   -- ---- the batch, where there is room
 
-  module _ (ignores : (a b : OptionsOf C FP B) → TellsOnly a b → formats b ≡ formats a)
+  module _ (ignores : (a b : OptionsOf C FP B) → ChangesLoggerOnly a b → formats b ≡ formats a)
       (roomy : EngineOf E C FP F B) (mid : E)
       (made : EngineMakesRoom env choices before from (Ok tt) roomy mid)
       (items : List Item) (sync : Bool) (value : OpenStoreValue C) (end_mode : machine.Mode)
@@ -531,7 +531,7 @@ module _ {E C FP F P : Type 0} {B : Boxed} {keys : InternalOrder C} {key_filters
           (end_path (Ok tt) writes sound) (old.history ++ its_batch ∷ []) (old.last + length items) None
           (env.observed mid) (env.observed to) end_last adds.moments)
 
-      pub write_done : Goes store meaning (Recalls keys env formats store meaning)
+      pub write_done : TakesStep store meaning (Recalls keys env formats store meaning)
           (scene env (Some before) from) (write items sync) done (scene env (Some after) to) old
       write_done =
           let nothing = none env formats store meaning before from old was opened in
@@ -642,7 +642,7 @@ module _ {E C FP F P : Type 0} {B : Boxed} {keys : InternalOrder C} {key_filters
           → new.locked ≡ old.locked
           → (new.mode ≡ open_mode → IsUnbroken value)
           → Refuses (setting items sync status to) old (write items sync) (refusal_of status) new
-          → Goes store meaning (Recalls keys env formats store meaning) (scene env (Some before) from)
+          → TakesStep store meaning (Recalls keys env formats store meaning) (scene env (Some before) from)
           (write items sync) (refused (refusal_of status)) (scene env (Some after) to) old
       unwritten new snapshots mode_is store_is format_is history_is last_is durable_is pending_is
           locked_is unbroken refuses =
@@ -711,7 +711,7 @@ module _ {E C FP F P : Type 0} {B : Boxed} {keys : InternalOrder C} {key_filters
           }) files) (sym is) (spared_longer (added_batch old items)
               (old.last + count_of (Some (added_batch old items))) (omega arith))
 
-      pub write_fails : Goes store meaning (Recalls keys env formats store meaning)
+      pub write_fails : TakesStep store meaning (Recalls keys env formats store meaning)
           (scene env (Some before) from) (write items sync) (refused (refusal_of status))
           (scene env (Some after) to) old
       write_fails = ⊎_elim

@@ -20,9 +20,9 @@ use Rattle.leveldb_store.specs.BuildTable.{TableChoices}
 use Rattle.leveldb_store.specs.Compact.{AreClearOf, deepest_overlapped}
 use Rattle.leveldb_store.specs.FoundLogs.{HasLogNotKept}
 use Rattle.leveldb_store.specs.KeptBytes.{LosesNothing}
-use Rattle.leveldb_store.specs.KeptEntries.{TablesMemory}
+use Rattle.leveldb_store.specs.KeptEntries.{CompactsMemtables}
 use Rattle.leveldb_store.specs.Read.{GetsFromMemory, GetsFromTables}
-use Rattle.leveldb_store.specs.Room.{FailsFor, IsFull, TellsOnly}
+use Rattle.leveldb_store.specs.Room.{FailsFor, IsFull, ChangesLoggerOnly}
 use Rattle.leveldb_store.specs.SoundCall.{TimeGoesOn}
 use Rattle.leveldb_store.specs.View.{MoveFails, WalksStore}
 use Rattle.leveldb_store.specs.Write.{open_log_path, with_writer}
@@ -99,7 +99,7 @@ module _ {E C FP F : Type 0} {B : Boxed} where
 
   -- the memtable of an engine is full
   abbrev pub IsMemtableFull : EngineOf E C FP F B → Type 0
-  IsMemtableFull engine = IsFull engine.options.write_buffer_size engine.store.recent
+  IsMemtableFull engine = IsFull engine.options.write_buffer_size engine.store.mem
 
   -- no answer changes: the last number is as before, and where the memtable wasn't full so are the
   -- entries in memory
@@ -107,23 +107,23 @@ module _ {E C FP F : Type 0} {B : Boxed} where
   KeepsMemory before after =
       (after.store.set.last_sequence ≡ before.store.set.last_sequence)
       × ((IsMemtableFull before → ⊥)
-      → (after.store.recent.entries ≡ before.store.recent.entries)
-      × (after.store.waiting ≡ before.store.waiting))
+      → (after.store.mem.entries ≡ before.store.mem.entries)
+      × (after.store.imm ≡ before.store.imm))
 
   -- The batch of these items was written into the memtable that was there, or, where that was full,
   -- into an empty one.
   abbrev pub WritesIntoRoom : EngineOf E C FP F B → List Item → EngineOf E C FP F B → Type 0
   WritesIntoRoom before items after =
       let Gains : List Entry → Type 0 = λ entries.
-      IsUnion entries (next_batch before.store items) after.store.recent.entries in
-      ((IsMemtableFull before → ⊥) × Gains before.store.recent.entries)
+      IsUnion entries (next_batch before.store items) after.store.mem.entries in
+      ((IsMemtableFull before → ⊥) × Gains before.store.mem.entries)
       ⊎ (IsMemtableFull before × Gains [])
 
   -- no memtable waits to become a table, or the one that waited does, where the one that is written
   -- to wasn't full
   abbrev pub OneWaitsAtMost : EngineOf E C FP F B → EngineOf E C FP F B → Type 0
-  OneWaitsAtMost before after = (after.store.waiting ≡ None)
-      ⊎ ((IsMemtableFull before → ⊥) × (after.store.waiting ≡ before.store.waiting))
+  OneWaitsAtMost before after = (after.store.imm ≡ None)
+      ⊎ ((IsMemtableFull before → ⊥) × (after.store.imm ≡ before.store.imm))
 
   -- a sync leaves all that is in memory, but for whether the log's writer is broken
   abbrev pub KeepsAllButWriter : EngineOf E C FP F B → EngineOf E C FP F B → Type 0
@@ -175,7 +175,7 @@ module _ {E C FP F P : Type 0} {B : Boxed} {keys : InternalOrder C} {key_filters
     pub step : Answers keys env (formats_of choices) (Some before) from (write items sync)
         (done_or result) (Some after) to
     -- over any environment: a closed or broken store refuses it, and nothing changes
-    pub halted : IsClosedOrBroken before.mode → IsRefusedByMode before from result after to
+    pub refused_by_mode : IsClosedOrBroken before.mode → IsRefusedByMode before from result after to
     -- so does an open one where the batch is too long, as it is where a key or a value of it is: no
     -- room is made for it, in memory or in files
     pub misfit : before.mode ≡ open_mode → IsLongBatch items → (to ≡ from) × (after ≡ before)
@@ -198,7 +198,7 @@ module _ {E C FP F P : Type 0} {B : Boxed} {keys : InternalOrder C} {key_filters
     pub breaks : OnErr result (IsBroken after.mode ⊎ AppendsNothing to)
     -- the same snapshots are held, and the options stay, but for the sink of their log
     pub snapshots : after.snapshots ≡ before.snapshots
-    pub options : TellsOnly (options_in before) (options_in after)
+    pub options : ChangesLoggerOnly (options_in before) (options_in after)
     -- in any state of the disk it leaves this alone, and no moment is taken back
     pub rest : LeavesRest env before from (write items sync) result after to
     pub time : TimeGoesOn env from to
@@ -216,14 +216,14 @@ module _ {E C FP F P : Type 0} {B : Boxed} {keys : InternalOrder C} {key_filters
     pub step : Answers keys env (formats_of choices) (Some before) from flush (done_or result)
         (Some after) to
     -- over any environment: a closed or broken store refuses it, and nothing changes
-    pub halted : IsClosedOrBroken before.mode → IsRefusedByMode before from result after to
+    pub refused_by_mode : IsClosedOrBroken before.mode → IsRefusedByMode before from result after to
     -- Ok leaves the mode; Err breaks an open store, but out of memory
     pub mode : OnOk result (after.mode ≡ before.mode)
     pub failed : IfErr result (λ e. KeepsModeOrBreaks before after
         × (IsClosedOrBroken after.mode ⊎ IsOutOfMemory e))
     pub memory : KeepsAllButWriter before after
     pub snapshots : after.snapshots ≡ before.snapshots
-    pub options : TellsOnly (options_in before) (options_in after)
+    pub options : ChangesLoggerOnly (options_in before) (options_in after)
     pub rest : LeavesRest env before from flush result after to
     pub time : TimeGoesOn env from to
     -- an Ok counts no failure of the device; why it fails
@@ -241,7 +241,7 @@ module _ {E C FP F P : Type 0} {B : Boxed} {keys : InternalOrder C} {key_filters
     pub step : Answers keys env (formats_of choices) (Some before) from (compact_range low high)
         (done_or result) (Some after) to
     -- over any environment: a closed or broken store refuses it, and nothing changes
-    pub halted : IsClosedOrBroken before.mode → IsRefusedByMode before from result after to
+    pub refused_by_mode : IsClosedOrBroken before.mode → IsRefusedByMode before from result after to
     -- so does an open one where an end is too long
     pub misfit : before.mode ≡ open_mode → IsLongKey low ⊎ IsLongKey high
         → (to ≡ from) × (after ≡ before) × IsErrAnd result (λ e. e.code ≡ InvalidArgument)
@@ -253,11 +253,11 @@ module _ {E C FP F P : Type 0} {B : Boxed} {keys : InternalOrder C} {key_filters
     -- Ok or Err, and whatever the files are: what was in memory is in memory, or was in tables that
     -- were added, before anything was compacted, and no others; after that compactions are logged,
     -- one after another, and nothing else is done
-    pub entries : TablesMemory env (formats_of choices (options_in before)) before.store from
+    pub entries : CompactsMemtables env (formats_of choices (options_in before)) before.store from
         after.store to
     -- Ok: no entry is in memory, all are in tables
-    pub tabled : OnOk result
-        ((after.store.recent.entries ≡ []) × (after.store.waiting ≡ None))
+    pub tables_made : OnOk result
+        ((after.store.mem.entries ≡ []) × (after.store.imm ≡ None))
     -- so live tables alone show the history, as it is now and at each snapshot that is held
     pub by_tables : OnOk result ((store : List ℕ) (meaning : Meaning) (state : State)
         → RepresentsAt keys env (formats_of choices) store meaning (Some after) to state
@@ -268,7 +268,7 @@ module _ {E C FP F P : Type 0} {B : Boxed} {keys : InternalOrder C} {key_filters
         OnOk result (AreClearOf order (named_range low high) (deepest_overlapped order
         (named_range low high) before.store.set.full.added) after.store.set.full.added)
     pub snapshots : after.snapshots ≡ before.snapshots
-    pub options : TellsOnly (options_in before) (options_in after)
+    pub options : ChangesLoggerOnly (options_in before) (options_in after)
     pub rest : LeavesRest env before from (compact_range low high) result after to
     pub time : TimeGoesOn env from to
     -- why it fails
@@ -286,7 +286,7 @@ module _ {E C FP F P : Type 0} {B : Boxed} {keys : InternalOrder C} {key_filters
     pub step : Answers keys env (formats_of choices) (Some before) from (get at key)
         (found_or result) (Some after) to
     -- over any environment: a closed store refuses it, and nothing changes
-    pub halted : IsClosed before.mode → IsRefusedByMode before from result after to
+    pub refused_by_mode : IsClosed before.mode → IsRefusedByMode before from result after to
     -- over any files, Ok or Err: the value is that of memory, or else of the first table on the way
     -- that has the key; none on this way is passed over, and the first that can't be read is an Err
     pub way : IsNotLookedUp before from at key result after to
@@ -297,7 +297,7 @@ module _ {E C FP F P : Type 0} {B : Boxed} {keys : InternalOrder C} {key_filters
         before.tables sequence key result after.store to after.tables))
     pub reads : IsReadOnly before after
     pub snapshots : after.snapshots ≡ before.snapshots
-    pub options : TellsOnly (options_in before) (options_in after)
+    pub options : ChangesLoggerOnly (options_in before) (options_in after)
     pub rest : LeavesRest env before from (get at key) result after to
     pub time : TimeGoesOn env from to
     pub cause : GetFails keys env (formats_of choices) before from at key result to
@@ -313,10 +313,10 @@ module _ {E C FP F P : Type 0} {B : Boxed} {keys : InternalOrder C} {key_filters
     pub step : Answers keys env (formats_of choices) (Some before) from (walk_of at moves)
         (walked_or given result) (Some after) to
     -- over any environment: a closed store refuses it, and nothing changes
-    pub halted : IsClosed before.mode → IsRefusedByMode before from result after to
+    pub refused_by_mode : IsClosed before.mode → IsRefusedByMode before from result after to
     pub reads : IsReadOnly before after
     pub snapshots : after.snapshots ≡ before.snapshots
-    pub options : TellsOnly (options_in before) (options_in after)
+    pub options : ChangesLoggerOnly (options_in before) (options_in after)
     pub rest : LeavesRest env before from (walk_of at moves) result after to
     pub time : TimeGoesOn env from to
     -- no failure is forgotten; it fails as a whole for none of the device, but its moves may
@@ -346,13 +346,13 @@ module _ {E C FP F P : Type 0} {B : Boxed} {keys : InternalOrder C} {key_filters
         (snapshot_or result) (Some after) to
     -- over any environment: no call of it is made, and a closed store refuses this one
     pub still : to ≡ from
-    pub halted : IsClosed before.mode → IsRefusedByMode before from result after to
+    pub refused_by_mode : IsClosed before.mode → IsRefusedByMode before from result after to
     pub reads : IsReadOnly before after
     -- the list of those that are held has this one more, or is as it was
     pub snapshots : MatchResult result
         (λ one. AddsHeld before.store.set.last_sequence before.snapshots one after.snapshots)
         (λ e. after.snapshots ≡ before.snapshots)
-    pub options : TellsOnly (options_in before) (options_in after)
+    pub options : ChangesLoggerOnly (options_in before) (options_in after)
     pub rest : LeavesRest env before from get_snapshot result after to
     pub cause : IfErr result (SnapshotExcused before)
 
@@ -367,13 +367,13 @@ module _ {E C FP F P : Type 0} {B : Boxed} {keys : InternalOrder C} {key_filters
         (release_snapshot (snapshot_of one)) (done_or result) (Some after) to
     -- over any environment: no call of it is made, and a closed store refuses this one
     pub still : to ≡ from
-    pub halted : IsClosed before.mode → IsRefusedByMode before from result after to
+    pub refused_by_mode : IsClosed before.mode → IsRefusedByMode before from result after to
     pub reads : IsReadOnly before after
     -- the list of those that are held lacks this one, or is as it was
     pub snapshots : MatchResult result
         (λ nothing. DropsHeld before.snapshots one after.snapshots)
         (λ e. after.snapshots ≡ before.snapshots)
-    pub options : TellsOnly (options_in before) (options_in after)
+    pub options : ChangesLoggerOnly (options_in before) (options_in after)
     pub rest : LeavesRest env before from (release_snapshot (snapshot_of one)) result after to
     pub cause : IfErr result (ReleaseExcused before (snapshot_of one))
 
@@ -387,12 +387,12 @@ module _ {E C FP F P : Type 0} {B : Boxed} {keys : InternalOrder C} {key_filters
     pub step : Answers keys env (formats_of choices) (Some before) from close (done_or result)
         (Some after) to
     -- over any environment: a closed or broken store refuses it, and nothing changes
-    pub halted : IsClosedOrBroken before.mode → IsRefusedByMode before from result after to
+    pub refused_by_mode : IsClosedOrBroken before.mode → IsRefusedByMode before from result after to
     pub mode : OnOk result (IsClosed after.mode)
     pub failed : OnErr result (IsBroken after.mode ⊎ (IsClosed before.mode × IsClosed after.mode))
     pub memory : KeepsAllButWriter before after
     pub snapshots : after.snapshots ≡ before.snapshots
-    pub options : TellsOnly (options_in before) (options_in after)
+    pub options : ChangesLoggerOnly (options_in before) (options_in after)
     pub rest : LeavesRest env before from close result after to
     pub time : TimeGoesOn env from to
     -- an Ok counts no failure of the device; why it fails
@@ -410,7 +410,7 @@ module _ {E C FP F : Type 0} {B : Boxed} (keys : InternalOrder C) (env : Ghosts 
     -- Err: nothing is held, and the lock is as it was
     pub err : OnErr result (FromEachState keys env formats (Some engine) from None to NotUnlocked)
     -- one that is closed has given back its lock
-    pub halted : IsClosed engine.mode → (to ≡ from) × OnErr result ⊥
+    pub refused_by_mode : IsClosed engine.mode → (to ≡ from) × OnErr result ⊥
     -- where the disk is observed, the call is a step of the machine
     pub step : Answers keys env formats (Some engine) from abandon (done_or result) None to
     -- no file changes, and no lock but the engine's
@@ -430,7 +430,7 @@ module _ {E C FP F : Type 0} {B : Boxed} (env : Ghosts E F)
       : Type 0 where
     pub mode : engine.mode ≡ open_mode
     -- it has the options, but for the sink of their log
-    pub options : TellsOnly given (options_in engine)
+    pub options : ChangesLoggerOnly given (options_in engine)
     -- its store is that of the name
     pub place : engine.store.set.store ≡ name
     pub lock : HasOwnLock engine

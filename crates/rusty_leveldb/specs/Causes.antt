@@ -136,22 +136,24 @@ CompressorFails (Some format) code = HasCompressorError format code
 -- When a cause comes, and which code and text it has; damage is no cause, since the disk is whole.
 -- How much memory the entries take that are too large isn't in the state: the engine's clauses say
 -- it (`IsFull`, `FailsToPrepare`, `FailsToCompactRange`), and which numbers of files are left.
-abbrev pub Comes : Setting → State → Request → Refusal → Cause → Type 0
-Comes setting old request refusal out_of_memory =
+abbrev pub IsCausedBy : Setting → State → Request → Refusal → Cause → Type 0
+IsCausedBy setting old request refusal out_of_memory =
     TakesMemory request × (refusal.code ≡ OutOfMemory) × (refusal.text ≡ [])
-Comes setting old request refusal device_failed =
+IsCausedBy setting old request refusal device_failed =
     ReachesDevice request × HasFailed setting.before setting.after
-Comes setting old request refusal lock_is_held =
+IsCausedBy setting old request refusal lock_is_held =
     TakesLock request × (refusal.code ≡ LockError) × IsTrue old.locked
-Comes setting old request refusal bad_operand =
+IsCausedBy setting old request refusal bad_operand =
     (refusal.code ≡ InvalidArgument) × Misfits old request
-Comes setting old request refusal store_exists =
+IsCausedBy setting old request refusal store_exists =
     (refusal.code ≡ AlreadyExists) × Exists old request
-Comes setting old request refusal used_up = (refusal.code ≡ NotSupported) × IsUsedUp old request
-Comes setting old request refusal too_large = WritesTables request × (refusal.code ≡ NotSupported)
-Comes setting old request refusal compressor_failed =
+IsCausedBy setting old request refusal used_up =
+    (refusal.code ≡ NotSupported) × IsUsedUp old request
+IsCausedBy setting old request refusal too_large =
+    WritesTables request × (refusal.code ≡ NotSupported)
+IsCausedBy setting old request refusal compressor_failed =
     CompressorFails (block_format old request) refusal.code
-Comes setting old request refusal lacks_compressor =
+IsCausedBy setting old request refusal lacks_compressor =
     ReadsTables request × (refusal.code ≡ NotSupported)
     × LacksCompressor old.format setting.meaning
 
@@ -160,7 +162,7 @@ abbrev pub MoveComes : Setting → State → Request → Move → Refusal → Ca
 MoveComes setting old request reset refusal cause = ⊥
 MoveComes setting old request move refusal bad_operand =
     (refusal.code ≡ InvalidArgument) × MoveMisfits move
-MoveComes setting old request move refusal cause = Comes setting old request refusal cause
+MoveComes setting old request move refusal cause = IsCausedBy setting old request refusal cause
 
 -- the refusal of a closed store
 abbrev pub IsClosedRefusal : Refusal → Type 0

@@ -8,7 +8,7 @@ use Rattle.leveldb_iter.specs.Snapshot.{IsSmallestHeld}
 use Rattle.leveldb_store.specs.BuildTable.{TableChoices}
 use Rattle.leveldb_store.specs.Compact.{CompactsRange}
 use Rattle.leveldb_store.specs.EndsOpening.{EndsOpening}
-use Rattle.leveldb_store.specs.KeptEntries.{TablesMemory}
+use Rattle.leveldb_store.specs.KeptEntries.{CompactsMemtables}
 use Rattle.leveldb_store.specs.OpenStore.{OpenStoreValue}
 use Rattle.leveldb_store.specs.OpensStore.{OpensStore}
 use Rattle.leveldb_version.specs.Overlap.{named_range}
@@ -43,7 +43,7 @@ pub record EngineCompactsStore {E C FP F P : Type 0} {B : Boxed} {keys : Interna
       before.tables (choices (options_in before)) smallest (named_range low high) result after.store
       to after.tables
   -- what was in memory is there, or was in a table before anything was compacted
-  pub entries : TablesMemory env (formats_of choices (options_in before)) before.store from
+  pub entries : CompactsMemtables env (formats_of choices (options_in before)) before.store from
       after.store to
   -- nothing else of the engine changes but the sink of the options' log, and its mode
   pub rest : ChangesStore before after

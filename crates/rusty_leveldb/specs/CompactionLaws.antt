@@ -26,5 +26,5 @@ pub record HasViewsInTables {C : Type 0} (meaning : Meaning) (value : OpenStoreV
 abbrev pub AreViewsInTables : Type 0 → Type 0
 AreViewsInTables C = (meaning : Meaning) (value : OpenStoreValue C) (files : Files)
     (state : State) → IsState state → ShowsViews meaning value files state
-    → value.recent.entries ≡ [] → value.waiting ≡ None
+    → value.mem.entries ≡ [] → value.imm ≡ None
     → HasViewsInTables meaning value files state

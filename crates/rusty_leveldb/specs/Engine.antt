@@ -26,7 +26,7 @@ use Rattle.leveldb_store.specs.OpenTables.{AreOpenTablesOf}
 use Rattle.leveldb_store.specs.Read.{HasTablesToRead}
 use Rattle.leveldb_store.specs.Room.{FailsFor, IsFileLost, IsFull}
 use Rattle.leveldb_store.specs.Write.{IsLogLost}
-use Rattle.leveldb_store.specs.Written.{IsWritten, Shows}
+use Rattle.leveldb_store.specs.Written.{IsWritten, HasView}
 use Rattle.rusty_leveldb.specs.State as machine
 use Rattle.rusty_leveldb.specs.State.{State, Opening, Request, Answer, Snapshot}
 use Rattle.leveldb_base.specs.KeyTypes.{IsLongKey}
@@ -97,7 +97,7 @@ pub record HasSnapshots (snapshots : HeldSnapshots) (state : State) : Type 0 whe
 pub record ShowsViews {C : Type 0} (meaning : Meaning) (value : OpenStoreValue C) (files : Files)
     (state : State) : Type 0 where
   pub since : ℕ
-  pub shows : Shows state.format.order meaning value files state.history since
+  pub shows : HasView state.format.order meaning value files state.history since
   pub now : since ≤ greatest (entries_of state.history)
   pub held : (one : Snapshot) → Contains state.held one → since ≤ one.sequence
 
@@ -238,8 +238,8 @@ module _ {E C FP F P : Type 0} {B : Boxed} {keys : InternalOrder C} {key_filters
       ⊎ ((e.code ≡ InvalidArgument) × IsLongBatch items)
       ⊎ IsOutOfMemory e
       ⊎ ((e.code ≡ NotSupported) × AreUsedUp engine.store.set.last_sequence (length items))
-      ⊎ FailsToPrepare engine.store.recent (length items) (bytes_in items) e
-      ⊎ (IsFull engine.options.write_buffer_size engine.store.recent
+      ⊎ FailsToPrepare engine.store.mem (length items) (bytes_in items) e
+      ⊎ (IsFull engine.options.write_buffer_size engine.store.mem
       × (FailsToCompactRange keys env (tables_by (formats_of choices) engine) engine.store at
       engine.tables choices_in left e
       ⊎ FailsToPrepare empty_memtable (length items) (bytes_in items) e))

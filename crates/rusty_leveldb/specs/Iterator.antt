@@ -30,8 +30,8 @@ use Rattle.rusty_leveldb.specs.State.{Snapshot, State}
 use Rattle.rusty_leveldb.specs.declared.db_iter.StoreIterator.{StoreIterator}
 
 -- to which position of pairs a move leads from one, in this order of keys
-abbrev pub Leads : Type 0
-Leads = (List ℕ → List ℕ → Ordering) → List Pair → Option ℕ → Option ℕ
+abbrev pub MoveRule : Type 0
+MoveRule = (List ℕ → List ℕ → Ordering) → List Pair → Option ℕ → Option ℕ
 
 -- no cause
 abbrev pub no_cause : Status → Type 0
@@ -106,7 +106,7 @@ module _ {E F C FP K V : Type 0} (keys : InternalOrder C) (env : Ghosts E F) (cm
     pub has_open : IsWorldOf keys env cmp filters codings shown.value (world_in it)
 
   -- What a move of an iterator does that leads this way, and that may fail for a cause of its own.
-  pub record MovesIterator {R : Type 0} (Own : Status → Type 0) (way : Leads)
+  pub record MovesIterator {R : Type 0} (Own : Status → Type 0) (way : MoveRule)
       (old : StoreIterator E C FP K V F) (result : Result R Status)
       (new : StoreIterator E C FP K V F) : Type 0 where
     -- in a store's view it leads to this position; where it fails it leaves none

@@ -14,7 +14,7 @@ use Rattle.leveldb_version.specs.StoreSteps.{AppendedAreBytes}
 use Rattle.leveldb_version.specs.Holds.{IsHonest, CarriesPrefix}
 use Rattle.rusty_leveldb.specs.State.{State, IsState, broken, closed, Opening, Snapshot, Request, open_store, write, get, walk, get_snapshot, release_snapshot, flush, close, abandon, Move, advance, prev, Landing, stands_on, nowhere, move_refused, Answer, done, found, walked, snapshot, Refusal, refused}
 use Rattle.leveldb_base.specs.KeyTypes.{IsLongKey}
-use Rattle.rusty_leveldb.specs.Causes.{Setting, Cause, TakesLock, IsLongBatch, Comes, IsClosedRefusal, IsBrokenRefusal}
+use Rattle.rusty_leveldb.specs.Causes.{Setting, Cause, TakesLock, IsLongBatch, IsCausedBy, IsClosedRefusal, IsBrokenRefusal}
 use Rattle.rusty_leveldb.specs.Machine.{IsSequenceOf, Step, StaysOr, risk_between, risk_of, Crashes}
 use Rattle.rusty_leveldb.specs.Runs.{Event, Run, setting_of, Ending, goes_on, crashes, Life, Lives, new_state}
 use Rattle.rusty_leveldb.specs.Serves.{Reads, StandsFor, IsSpared, AtEachMoment}
@@ -72,7 +72,7 @@ abbrev pub RefusalHasCause : Type 0
 RefusalHasCause = (setting : Setting) (old new : State)
     (request : Request) (refusal : Refusal)
     → Step old.mode setting old request (refused refusal) new
-    → ((cause : Cause) × Comes setting old request refusal cause)
+    → ((cause : Cause) × IsCausedBy setting old request refusal cause)
     ⊎ ((old.mode ≡ closed) × IsClosedRefusal refusal)
     ⊎ ((old.mode ≡ broken) × IsBrokenRefusal refusal)
 

@@ -7,7 +7,7 @@ use Rattle.leveldb_base.specs.Types.{Pair, position_within, next_position, previ
 use Rattle.leveldb_version.specs.Contents.{Store, missing, made}
 use Rattle.leveldb_store.specs.Room.{HasFailed}
 use Rattle.rusty_leveldb.specs.State.{Mode, open_mode, broken, closed, Snapshot, Opening, State, Move, seek_to_first, advance, prev, seek, reset, Request, open_store, write, get, walk, get_snapshot, release_snapshot, flush, compact_range, close, abandon, Refusal, Landing, stands_on, nowhere, move_refused, Answer, done, found, walked, snapshot, refused}
-use Rattle.rusty_leveldb.specs.Causes.{Setting, Cause, out_of_memory, device_failed, lock_is_held, bad_operand, store_exists, used_up, Fits, MoveMisfits, Comes, MoveComes, IsClosedRefusal, IsBrokenRefusal}
+use Rattle.rusty_leveldb.specs.Causes.{Setting, Cause, out_of_memory, device_failed, lock_is_held, bad_operand, store_exists, used_up, Fits, MoveMisfits, IsCausedBy, MoveComes, IsClosedRefusal, IsBrokenRefusal}
 
 -- ---- writing
 
@@ -130,7 +130,7 @@ pub record KeepsLock (setting : Setting) (old : State) (request : Request) (refu
   -- how many calls had failed when the cause had come
   pub mid : ℕ
   pub later : setting.before ≤ mid
-  pub comes : Comes (record setting { after = mid }) old request refusal cause
+  pub comes : IsCausedBy (record setting { after = mid }) old request refusal cause
   pub failed : HasFailed mid setting.after
 
 -- Not opened: but for what is durable, and a store that was made meanwhile, all is as before. The
@@ -251,7 +251,7 @@ pub record Refuses (setting : Setting) (old : State) (request : Request) (refusa
     (new : State)
     : Type 0 where
   pub cause : Cause
-  pub comes : Comes setting old request refusal cause
+  pub comes : IsCausedBy setting old request refusal cause
   pub leaves : LeavesRefused setting old request refusal cause new
 
 -- refused by the mode, and the state hasn't changed

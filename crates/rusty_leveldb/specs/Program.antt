@@ -65,8 +65,8 @@ status_of (fault.Unread status) = 1
 status_of (fault.Refused status) = 1
 
 -- the program stopped since its input wasn't read
-abbrev pub IsUnread : Fault → Type 0
-IsUnread one = (status : Status) × (one ≡ fault.Unread status)
+abbrev pub IsReadingFault : Fault → Type 0
+IsReadingFault one = (status : Status) × (one ≡ fault.Unread status)
 
 -- A fault is the input's, whose bytes may be known: this line is its first that is no command, or
 -- it has more than 2^26 bytes; or reading it failed, or the memory for that.

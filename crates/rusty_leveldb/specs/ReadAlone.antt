@@ -22,7 +22,7 @@ use Rattle.leveldb_store.specs.OpenTables.{AreOpenTablesOf}
 use Rattle.leveldb_store.specs.Read.{GetsFromMemory, GetsFromTables}
 use Rattle.leveldb_store.specs.Room.{FailsFor}
 use Rattle.leveldb_store.specs.View.{MoveFails, WalksStore}
-use Rattle.leveldb_store.specs.Written.{Shows}
+use Rattle.leveldb_store.specs.Written.{HasView}
 use Rattle.leveldb_table.specs.TableBlock.{KeepsDisk}
 use Rattle.leveldb_version.specs.Batches.{Each}
 use Rattle.leveldb_version.specs.Contents.{made}
@@ -33,7 +33,7 @@ use Rattle.leveldb_version.specs.declared.table_cache.moves.ReadTables.{ReadTabl
 use Rattle.leveldb_store.specs.OpensStore.{LacksUsableEdits}
 use Rattle.leveldb_store.specs.OpensToRead.{WhyNotReadable}
 use Rattle.rusty_leveldb.specs.Boxes.{InternalOrder, ReaderOf}
-use Rattle.rusty_leveldb.specs.Causes.{Cause, Comes}
+use Rattle.rusty_leveldb.specs.Causes.{Cause, IsCausedBy}
 use Rattle.rusty_leveldb.specs.Engine.{IsOpening, IsStoreName}
 use Rattle.rusty_leveldb.specs.Iterator.{IsIterator, IteratesAt, pair_in, shown_store}
 use Rattle.rusty_leveldb.specs.Machine.{Responds}
@@ -110,7 +110,7 @@ module _ {E C FP F : Type 0} {B : Boxed} (keys : InternalOrder C) (env : Ghosts 
   pub record ReadsHistory (meaning : Meaning) (reader : ReaderOf E C FP F B) (files : Files)
       (history : History) : Type 0 where
     pub agrees : Agrees (formats (reader_options reader)) meaning
-    pub shows : Shows (formats (reader_options reader)).order meaning reader.store files history
+    pub shows : HasView (formats (reader_options reader)).order meaning reader.store files history
         (greatest (entries_of history))
     pub reached : greatest (entries_of history) ≤ reader.store.set.last_sequence
     pub tables : AreOpenTablesOf keys env (reader_tables_by formats reader) reader.store.set files
@@ -258,7 +258,7 @@ module _ {E C FP F : Type 0} {B : Boxed} (keys : InternalOrder C) (env : Ghosts 
         → IsOpening name (of_present asked) opening → (meaning : Meaning)
         → Agrees opening.format meaning → (old : State)
         → StandsFor name meaning (env.observed from).disk old → (cause : Cause)
-        × Comes (setting_between meaning (env.failures from) (env.failures to)) old
+        × IsCausedBy (setting_between meaning (env.failures from) (env.failures to)) old
         (open_store opening) (refusal_of e) cause)
     -- a store without `CURRENT` isn't opened, nor one without usable edits
     pub missing : IsTrue env.models_disk → files_at env from (current_path name) ≡ None

@@ -31,9 +31,9 @@ use Rattle.rusty_leveldb.specs.EngineValue.{FollowsStore}
 -- compaction. Where the score of a level asks for a compaction in the files that those leave, there
 -- is one, which takes a file from this level and adds none to it.
 pub record LogsRoom (cmp : List ℕ → List ℕ → Ordering) (old new : VersionSetValue) : Type 0 where
-  pub tabled : VersionSetValue
-  pub tables : LogsTableEdits 2 old tabled
-  pub by_score : LogsByScore cmp tabled new
+  pub tables_made : VersionSetValue
+  pub tables : LogsTableEdits 2 old tables_made
+  pub by_score : LogsByScore cmp tables_made new
 
 -- the entries that a write of this batch adds, by what it returns
 abbrev pub entries_added : Result (Unit {0}) Status → List Entry → List Entry
@@ -51,15 +51,15 @@ pub record KeepsOrCompacts {E F C : Type 0} (env : Ghosts E F) (format : Format)
     (batch : List Entry) (old : OpenStoreValue C) (from : E) (new : OpenStoreValue C) (to : E) : Type 0 where
   -- the store and its environment once tables were made of what was in memory, and nothing was
   -- compacted yet
-  pub tabled : OpenStoreValue C
+  pub tables_made : OpenStoreValue C
   pub at : E
-  pub path : tabled.set.store ≡ old.set.store
-  pub tables : KeepsEntries env format old from tabled at
+  pub path : tables_made.set.store ≡ old.set.store
+  pub tables : KeepsEntries env format old from tables_made at
   -- since then each live table stays as it is but those that one compaction took
-  pub compacts : CompactsOnceAtMost format.order env.models_disk tabled (env.observed at)
-      (with_last tabled.set.last_sequence new) (env.observed to)
+  pub compacts : CompactsOnceAtMost format.order env.models_disk tables_made (env.observed at)
+      (with_last tables_made.set.last_sequence new) (env.observed to)
   -- and what is in memory stays there, with the batch, and nothing else is
-  pub memory : SameEntries (in_memory tabled ++ batch) (in_memory new)
+  pub memory : SameEntries (in_memory tables_made ++ batch) (in_memory new)
 
 -- Room is made in the memtable of a store that isn't broken, and where it was full the compaction
 -- is done for which the store asks then, down to the smallest number at which it is read.
@@ -73,11 +73,11 @@ pub record StoreMakesRoom {E F C FP D P : Type 0} (order : CmpGhosts (InternalKe
   pub keeps : KeepsCompacted order env by old from tables smallest
       (FailsToCompactRange order env by old from tables choices) result new to now
   -- where it isn't full, nothing is done
-  pub not_full : (IsFull limit old.recent → ⊥) → (new ≡ old) × (to ≡ from) × OnErr result ⊥
+  pub not_full : (IsFull limit old.mem → ⊥) → (new ≡ old) × (to ≡ from) × OnErr result ⊥
   -- and one that was full is empty then, no place is taken in it, and none waits
-  pub empties : OnOk result (IsFull limit old.recent
-      → (new.recent.entries ≡ []) × (new.recent.places ≡ 0) × (new.waiting ≡ None))
-  pub logs : OnOk result (IsFull limit old.recent → LogsRoom by.format.order old.set new.set)
+  pub empties : OnOk result (IsFull limit old.mem
+      → (new.mem.entries ≡ []) × (new.mem.places ≡ 0) × (new.imm ≡ None))
+  pub logs : OnOk result (IsFull limit old.mem → LogsRoom by.format.order old.set new.set)
   -- Ok or Err, no entry is lost from memory but into tables
   pub entries : KeepsOrCompacts env by.format [] old from new to
 

@@ -12,7 +12,7 @@ use Rattle.leveldb_iter.specs.declared.moves.Step.{Step}
 use Rattle.leveldb_store.specs.Room.{HasFailed}
 use Rattle.leveldb_version.specs.Format.{Format, Meaning}
 use Rattle.rusty_leveldb.specs.Boxes.{EngineOf, InternalOrder}
-use Rattle.rusty_leveldb.specs.Causes.{Cause, Comes, IsBrokenRefusal, IsClosedRefusal, Setting}
+use Rattle.rusty_leveldb.specs.Causes.{Cause, IsCausedBy, IsBrokenRefusal, IsClosedRefusal, Setting}
 use Rattle.rusty_leveldb.specs.Engine.{Recalls}
 use Rattle.rusty_leveldb.specs.Machine.{Abandons, Breaks, Gets, Keeps, Rejects, Risk, StaysClosed, Walks, added_batch, risk_between}
 use Rattle.rusty_leveldb.specs.Serves.{IsSpared, Represents, refusal_of, setting_between}
@@ -113,5 +113,5 @@ NotUnlocked setting old new = Abandons old old.locked new
 -- meanwhile, and perhaps the lock (`StaysClosed`). It has a cause.
 abbrev pub NotOpened : Opening → Status → Row
 NotOpened opening e setting old new = (cause : Cause)
-    × Comes setting old (open_store opening) (refusal_of e) cause
+    × IsCausedBy setting old (open_store opening) (refusal_of e) cause
     × StaysClosed setting old opening (refusal_of e) cause new

@@ -154,7 +154,7 @@ module _ (store : List ℕ) (meaning : Meaning) where
     -- From this state, a step to one that memory and disk represent then, and at each moment of the
     -- call what a crash leaves is spared. All files stay as they are but those that the request may
     -- touch, and where it only syncs, all bytes do.
-    pub record Goes (from : Scene M) (request : Request) (answer : Answer) (to : Scene M)
+    pub record TakesStep (from : Scene M) (request : Request) (answer : Answer) (to : Scene M)
         (old : State)
         : Type 0 where
       pub new : State
@@ -170,7 +170,7 @@ module _ (store : List ℕ) (meaning : Meaning) where
     -- from every state that memory and disk represent
     abbrev pub Serves : Scene M → Request → Answer → Scene M → Type 0
     Serves from request answer to = (old : State) → Represents from.memory from.observed.disk old
-        → Goes from request answer to old
+        → TakesStep from request answer to old
 
     -- A run of these requests with these answers, each given at its moment, to a state that memory
     -- and disk represent then; what isn't the store's stays as it is. No answer came before the run

@@ -103,9 +103,9 @@ module _ {E F : Type 0} (env : Ghosts E F) (store : List ℕ) where
   -- What a run of commands is, by its result, with the replies that it gave. The store was opened,
   -- each command was answered, and at last the store was abandoned; or the run failed with no
   -- reply, since the store wasn't opened, or out of memory before it began.
-  abbrev pub Plays : Meaning → E → Opening → List Command → List Reply → Result (Unit {0}) Status
-      → E → State → Type 0
-  Plays meaning from opening commands given result to old =
+  abbrev pub RunsCommands : Meaning → E → Opening → List Command → List Reply
+      → Result (Unit {0}) Status → E → State → Type 0
+  RunsCommands meaning from opening commands given result to old =
       let leads : List Request → List Answer → Type 0 = λ requests answers. (moments : List ℕ)
       × Runs store meaning recalls_nothing env.models_moments (scene env None from) requests
       answers moments (scene env None to) old in
@@ -125,7 +125,7 @@ module _ {E F : Type 0} (env : Ghosts E F) (store : List ℕ) where
     pub plays : IsTrue env.models_disk → (opening : Opening) → IsOpening store asked opening
         → (meaning : Meaning) → Agrees opening.format meaning → (old : State)
         → Represents store meaning recalls_nothing None (env.observed from).disk old
-        → Plays meaning from opening commands given ended to old
+        → RunsCommands meaning from opening commands given ended to old
     -- a store that is locked isn't opened, nor one without `CURRENT` or usable edits, nor a missing
     -- one that isn't to be made, or one that is there and must not be
     pub unopened : IsTrue env.models_disk

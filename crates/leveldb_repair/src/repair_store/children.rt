@@ -1,7 +1,7 @@
 //! Walks over tables and memtables, as children of one merge.
 ghost use Rattle.std.specs.Prelude.{◌≡◌, ◌++◌, All, List, IfErr, IfOk, OnOk, map};
 ghost use Rattle.leveldb_base.specs.Error.{IsOutOfMemory};
-ghost use Rattle.leveldb_iter.specs.declared.unlent.Unlent.{Unlent};
+ghost use Rattle.leveldb_iter.specs.declared.in_memory.InMemory.{InMemory};
 ghost use Rattle.leveldb_mem.specs.MemTable.{MemTableState};
 ghost use Rattle.leveldb_repair.specs.RepairSteps.{AreOverMemory};
 ghost use Rattle.leveldb_repair.specs.declared.found_walk.FoundWalk.TheVariants.{Memory, Table};
@@ -11,7 +11,7 @@ use leveldb_base::cmp::UserCmp;
 use leveldb_base::error::Result;
 use leveldb_base::types::LdbIterator;
 use leveldb_env::env::Env;
-use leveldb_iter::unlent::Unlent;
+use leveldb_iter::in_memory::InMemory;
 use leveldb_mem::memtable::{MemTable, MemtableIterator};
 use std::alloc::Global;
 
@@ -21,7 +21,7 @@ pub(super) fn children_of<'a, E: Env, C: UserCmp + Copy + Drop>(
     tables: Vec<FoundTable<E, C>>,
     logs: &'a [MemTable<C>],
 ) -> Result<Vec<FoundWalk<FoundTable<E, C>, MemtableIterator<'a, C>>>>
-    ensures ok { IfOk result (λ children. (memory : List (Unlent _))
+    ensures ok { IfOk result (λ children. (memory : List (InMemory _))
         × (children.items ≡ map Table tables.items ++ map Memory memory)
         × AreOverMemory ⟦<MemtableIterator<'a, C> as LdbIterator>⟧ C.Cmp logs.now memory) }
     ensures memory { IfErr result IsOutOfMemory }
@@ -51,13 +51,13 @@ fn add_memory<'a, E: Env, C: UserCmp + Copy + Drop>(
     logs: &'a [MemTable<C>],
     children: &mut Vec<FoundWalk<FoundTable<E, C>, MemtableIterator<'a, C>>>,
 ) -> Result<()>
-    ensures ok { OnOk result ((memory : List (Unlent _))
+    ensures ok { OnOk result ((memory : List (InMemory _))
         × (children.new.items ≡ children.old.items ++ map Memory memory)
         × AreOverMemory ⟦<MemtableIterator<'a, C> as LdbIterator>⟧ C.Cmp logs.now memory) }
     ensures memory { IfErr result IsOutOfMemory }
 {
     for table in logs {
-        children.push(FoundWalk::Memory(Unlent(table.iter())))?;
+        children.push(FoundWalk::Memory(InMemory(table.iter())))?;
     }
     Ok(())
 }

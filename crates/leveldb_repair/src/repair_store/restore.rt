@@ -27,7 +27,7 @@ use std::alloc::Global;
 
 // What a store is made with: its folder and options, and the greatest number of a name there.
 #[derive(Drop)]
-pub(super) struct Plan<'a, C: UserCmp + Copy + Drop, FP: FilterPolicy + Copy + Drop> {
+pub(super) struct RepairPlan<'a, C: UserCmp + Copy + Drop, FP: FilterPolicy + Copy + Drop> {
     pub(super) alloc: Global,
     pub(super) store: &'a str,
     pub(super) options: &'a Options<C, FP>,
@@ -46,7 +46,7 @@ pub(super) fn restore_walks<
     files: &mut ReadFiles<'_, K>,
     children: Vec<FoundWalk<FoundTable<E, C>, M>>,
     versions: &mut VersionSet<E, C>,
-    plan: &Plan<'_, C, FP>,
+    plan: &RepairPlan<'_, C, FP>,
 ) -> Result<()>
     requires { versions.old.set.next_file ≡ plan.now.greatest + 2 }
     ensures { let choices = choices_of C.Cmp FP.FilterPolicy ⟦<InternalKeyCmp<C> as Cmp>⟧
@@ -69,7 +69,7 @@ fn restore<E: Env, T, W: Walk<E, T>, C: UserCmp + Copy + Drop, FP: FilterPolicy 
     tables: &mut T,
     walk: &mut W,
     versions: &mut VersionSet<E, C>,
-    plan: &Plan<'_, C, FP>,
+    plan: &RepairPlan<'_, C, FP>,
 ) -> Result<()>
     requires { versions.old.set.next_file ≡ plan.now.greatest + 2 }
     ensures { let choices = choices_of C.Cmp FP.FilterPolicy ⟦<InternalKeyCmp<C> as Cmp>⟧
@@ -90,7 +90,7 @@ fn write_store<E: Env, T, W: Walk<E, T>, C: UserCmp + Copy + Drop, FP: FilterPol
     tables: &mut T,
     walk: &mut W,
     versions: &mut VersionSet<E, C>,
-    plan: &Plan<'_, C, FP>,
+    plan: &RepairPlan<'_, C, FP>,
     found: LookedOver,
 ) -> Result<()>
     requires { versions.old.set.next_file ≡ plan.now.greatest + 2 }

@@ -42,7 +42,7 @@ impl<E: Env, C: UserCmp + Copy + Drop> OpenStore<E, C> {
     ) -> Result<()>
         requires usable { IsUnbroken self.old }
         requires order { C.cmp options.now.cmp ≡ C.cmp self.old.cmp }
-        requires none_waits { self.old.waiting ≡ None }
+        requires none_waits { self.old.imm ≡ None }
         ensures compacts { let choices = choices_of C.Cmp FP.FilterPolicy
             ⟦<InternalKeyCmp<C> as Cmp>⟧ ⟦<InternalFilterPolicy<FP> as FilterPolicy>⟧
             ⟦<CompressorList as Compressors>⟧.codings options.now in
@@ -73,7 +73,7 @@ impl<E: Env, C: UserCmp + Copy + Drop> OpenStore<E, C> {
     ) -> Result<()>
         requires usable { IsUnbroken self.old }
         requires order { C.cmp options.now.cmp ≡ C.cmp self.old.cmp }
-        requires none_waits { self.old.waiting ≡ None }
+        requires none_waits { self.old.imm ≡ None }
         ensures compacts { let choices = choices_of C.Cmp FP.FilterPolicy
             ⟦<InternalKeyCmp<C> as Cmp>⟧ ⟦<InternalFilterPolicy<FP> as FilterPolicy>⟧
             ⟦<CompressorList as Compressors>⟧.codings options.now in
@@ -104,7 +104,7 @@ impl<E: Env, C: UserCmp + Copy + Drop> OpenStore<E, C> {
     ) -> Result<()>
         requires usable { IsUnbroken self.old }
         requires order { C.cmp options.now.cmp ≡ C.cmp self.old.cmp }
-        requires none_waits { self.old.waiting ≡ None }
+        requires none_waits { self.old.imm ≡ None }
         requires chosen { IfSome picked (λ it. IsCompactionOf (C.cmp self.old.cmp) self.old.current
             it.manual options.now.max_file_size it) }
         ensures compacts { let choices = choices_of C.Cmp FP.FilterPolicy
@@ -145,7 +145,7 @@ impl<E: Env, C: UserCmp + Copy + Drop> OpenStore<E, C> {
     ) -> Result<()>
         requires usable { IsUnbroken self.old }
         requires order { C.cmp options.now.cmp ≡ C.cmp self.old.cmp }
-        requires none_waits { self.old.waiting ≡ None }
+        requires none_waits { self.old.imm ≡ None }
         requires chosen { IsCompactionOf (C.cmp self.old.cmp) self.old.current compaction.manual
             options.now.max_file_size compaction }
         ensures compacts { let choices = choices_of C.Cmp FP.FilterPolicy

@@ -9,7 +9,7 @@ ghost use Rattle.leveldb_version.specs.Picking.{IsCompactionOf};
 ghost use Rattle.leveldb_version.specs.TableCache.{table_options};
 ghost use Rattle.leveldb_store.specs.BuildTable.{choices_of};
 ghost use Rattle.leveldb_store.specs.Compact.{CompactsRange, CompactsTables, KeepsLevelsAbove, deepest_overlapped};
-ghost use Rattle.leveldb_store.specs.KeptEntries.{CompactsInTurn, TablesMemory};
+ghost use Rattle.leveldb_store.specs.KeptEntries.{CompactsInTurn, CompactsMemtables};
 ghost use Rattle.leveldb_store.specs.OpenStore.{IsUnbroken};
 ghost use Rattle.leveldb_store.specs.Room.{FailsToMakeRoom};
 ghost use Rattle.leveldb_store.specs.RoomSteps.{IsStepToRoom, TablesEntries};
@@ -58,7 +58,7 @@ impl<E: Env, C: UserCmp + Copy + Drop> OpenStore<E, C> {
             CompactsRange ⟦<InternalKeyCmp<C> as Cmp>⟧ E.Env
             (table_options choices.format options.now) self.old env.old tables.old choices smallest
             (named_range from.now to.now) result self.new env.new tables.new }
-        ensures entries { TablesMemory E.Env (format_of C.Cmp FP.FilterPolicy
+        ensures entries { CompactsMemtables E.Env (format_of C.Cmp FP.FilterPolicy
             ⟦<CompressorList as Compressors>⟧.codings options.now) self.old env.old self.new
             env.new }
         ensures log { is_some log.new ≡ is_some log.old }
@@ -66,7 +66,7 @@ impl<E: Env, C: UserCmp + Copy + Drop> OpenStore<E, C> {
         let begin = LookupKey::new(self.alloc, from, 0)?;
         let end = LookupKey::new(self.alloc, to, 0)?;
         let deepest = self.deepest_overlapped(from, to);
-        self.table_memory(env, options, tables, log)?;
+        self.compact_memtables(env, options, tables, log)?;
         self.compact_by_reads(env, options, tables, smallest, log)?;
         let range = (begin.internal_key(), end.internal_key());
         for level in 0..deepest + 1 {
@@ -92,7 +92,7 @@ impl<E: Env, C: UserCmp + Copy + Drop> OpenStore<E, C> {
     }
 
     // Makes tables of the entries that wait, and of those of the memtable.
-    fn table_memory<FP: FilterPolicy + Copy + Drop>(
+    fn compact_memtables<FP: FilterPolicy + Copy + Drop>(
         &mut self,
         env: &mut E,
         options: &Options<C, FP>,
@@ -110,16 +110,16 @@ impl<E: Env, C: UserCmp + Copy + Drop> OpenStore<E, C> {
         ensures tables { TablesEntries E.Env (C.cmp self.old.cmp) (format_of C.Cmp FP.FilterPolicy
             ⟦<CompressorList as Compressors>⟧.codings options.now) 2 self.old env.old tables.old
             result self.new env.new tables.new }
-        ensures tabled { OnOk result
-            ((self.new.recent.entries ≡ []) × (self.new.waiting ≡ None)) }
+        ensures tables_made { OnOk result
+            ((self.new.mem.entries ≡ []) × (self.new.imm ≡ None)) }
         ensures log { is_some log.new ≡ is_some log.old }
     {
-        let _ = self.table_if_waiting(env, options, tables, log)?;
-        if self.recent.len() == 0 {
+        let _ = self.compact_memtable(env, options, tables, log)?;
+        if self.mem.len() == 0 {
             return Ok(());
         }
         self.switch_log(env)?;
-        let _ = self.table_if_waiting(env, options, tables, log)?;
+        let _ = self.compact_memtable(env, options, tables, log)?;
         Ok(())
     }
 
@@ -138,7 +138,7 @@ impl<E: Env, C: UserCmp + Copy + Drop> OpenStore<E, C> {
         requires level { level < 6 }
         requires usable { IsUnbroken self.old }
         requires order { C.cmp options.now.cmp ≡ C.cmp self.old.cmp }
-        requires none_waits { self.old.waiting ≡ None }
+        requires none_waits { self.old.imm ≡ None }
         ensures compacts { let choices = choices_of C.Cmp FP.FilterPolicy
             ⟦<InternalKeyCmp<C> as Cmp>⟧ ⟦<InternalFilterPolicy<FP> as FilterPolicy>⟧
             ⟦<CompressorList as Compressors>⟧.codings options.now in

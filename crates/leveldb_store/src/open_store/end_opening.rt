@@ -31,7 +31,7 @@ impl<E: Env, C: UserCmp + Copy + Drop> OpenStore<E, C> {
     ) -> Result<()>
         requires usable { IsUnbroken self.old }
         requires order { C.cmp options.now.cmp ≡ C.cmp self.old.cmp }
-        requires none_waits { self.old.waiting ≡ None }
+        requires none_waits { self.old.imm ≡ None }
         ensures ends { let choices = choices_of C.Cmp FP.FilterPolicy
             ⟦<InternalKeyCmp<C> as Cmp>⟧ ⟦<InternalFilterPolicy<FP> as FilterPolicy>⟧
             ⟦<CompressorList as Compressors>⟧.codings options.now in

@@ -74,13 +74,13 @@ impl<E: Env, C: UserCmp + Copy + Drop> OpenStore<E, C> {
     fn newest_in_memory(&self, sequence: SequenceNumber, key: &[u8]) -> Lookup<&[u8]>
         ensures { FindsInMemory self.now sequence key.now (lookup_copied result) }
     {
-        let recent = newest_up_to(&self.recent, key, sequence);
-        if !recent.is_absent() {
-            return recent;
+        let mem = newest_up_to(&self.mem, key, sequence);
+        if !mem.is_absent() {
+            return mem;
         }
-        match &self.waiting {
-            Some(waiting) => newest_up_to(waiting, key, sequence),
-            None => recent,
+        match &self.imm {
+            Some(imm) => newest_up_to(imm, key, sequence),
+            None => mem,
         }
     }
 

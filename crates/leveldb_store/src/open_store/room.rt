@@ -6,7 +6,7 @@ ghost use Rattle.leveldb_version.specs.Format.{Agrees, format_of};
 ghost use Rattle.leveldb_store.specs.OpenStore.{IsUnbroken};
 ghost use Rattle.leveldb_store.specs.OpenTables.{ClosesObsolete};
 ghost use Rattle.leveldb_store.specs.Room.{IsFull, MakesRoom, RemovesAtLast, TidiesUp, but_removal};
-ghost use Rattle.leveldb_store.specs.RoomSteps.{TablesEntries, TablesIfWaiting};
+ghost use Rattle.leveldb_store.specs.RoomSteps.{TablesEntries, CompactsMemtable};
 ghost use Rattle.leveldb_store.specs.SoundCall.{BytesAreAppended, IsSoundCall, TimeGoesOn};
 ghost use Rattle.leveldb_store.specs.Switch.{RemovesObsolete};
 
@@ -24,9 +24,9 @@ use leveldb_version::table_cache::TableCache;
 impl<E: Env, C: UserCmp + Copy> OpenStore<E, C> {
     /// Whether the memtable has entries, and they take this much memory or more.
     pub fn is_full(&self, limit: usize) -> bool
-        ensures { IsTrue result ↔ IsFull limit self.now.recent }
+        ensures { IsTrue result ↔ IsFull limit self.now.mem }
     {
-        self.recent.len() > 0 && limit <= self.recent.approx_mem_usage()
+        self.mem.len() > 0 && limit <= self.mem.approx_mem_usage()
     }
 }
 
@@ -77,7 +77,7 @@ impl<E: Env, C: UserCmp + Copy + Drop> OpenStore<E, C> {
             ⟦<InternalFilterPolicy<FP> as FilterPolicy>⟧ ⟦<CompressorList as Compressors>⟧.codings
             options.now) options.now.write_buffer_size (but_removal result) self.new env.new }
         ensures removes { IfOk result (λ removal.
-            IsFull options.now.write_buffer_size self.old.recent
+            IsFull options.now.write_buffer_size self.old.mem
             → RemovesAtLast E.Env self.new removal env.new) }
         ensures sound { IsSoundCall E.Env (C.cmp self.old.cmp) (Agrees (format_of C.Cmp
             FP.FilterPolicy ⟦<CompressorList as Compressors>⟧.codings options.now)) self.old
@@ -90,14 +90,14 @@ impl<E: Env, C: UserCmp + Copy + Drop> OpenStore<E, C> {
         if !self.is_full(options.write_buffer_size) {
             return Ok(Ok(()));
         }
-        let _ = self.table_if_waiting(env, options, tables, log)?;
+        let _ = self.compact_memtable(env, options, tables, log)?;
         self.switch_log(env)?;
-        self.table_if_waiting(env, options, tables, log)
+        self.compact_memtable(env, options, tables, log)
     }
 
     // Makes a table of the entries that wait, if some do, and deletes the files that are obsolete
     // then. An Ok has what the removal returned.
-    pub(super) fn table_if_waiting<FP: FilterPolicy + Copy + Drop>(
+    pub(super) fn compact_memtable<FP: FilterPolicy + Copy + Drop>(
         &mut self,
         env: &mut E,
         options: &Options<C, FP>,
@@ -106,21 +106,21 @@ impl<E: Env, C: UserCmp + Copy + Drop> OpenStore<E, C> {
     ) -> Result<Result<()>>
         requires usable { IsUnbroken self.old }
         requires order { C.cmp options.now.cmp ≡ C.cmp self.old.cmp }
-        ensures waiting { TablesIfWaiting E.Env (C.cmp self.old.cmp) (choices_of C.Cmp
+        ensures imm { CompactsMemtable E.Env (C.cmp self.old.cmp) (choices_of C.Cmp
             FP.FilterPolicy ⟦<InternalKeyCmp<C> as Cmp>⟧
             ⟦<InternalFilterPolicy<FP> as FilterPolicy>⟧ ⟦<CompressorList as Compressors>⟧.codings
             options.now) self.old env.old (but_removal result) self.new env.new }
-        ensures removes { IfOk result (λ removal. self.old.waiting ≢ None
+        ensures removes { IfOk result (λ removal. self.old.imm ≢ None
             → RemovesAtLast E.Env self.new removal env.new) }
         ensures tables { TablesEntries E.Env (C.cmp self.old.cmp) (format_of C.Cmp FP.FilterPolicy
             ⟦<CompressorList as Compressors>⟧.codings options.now) 1 self.old env.old tables.old
             (but_removal result) self.new env.new tables.new }
         ensures log { is_some log.new ≡ is_some log.old }
     {
-        if !self.has_waiting() {
+        if !self.has_imm() {
             return Ok(Ok(()));
         }
-        self.table_waiting(env, options)?;
+        self.write_level0_table(env, options)?;
         Ok(self.tidy_up(env, tables, log))
     }
 }

@@ -16,10 +16,10 @@ use leveldb_mem::memtable::MemTable;
 
 impl<E: Env, C: UserCmp + Copy> OpenStore<E, C> {
     /// Whether entries of the logs before the one that is written wait to be in a table.
-    pub fn has_waiting(&self) -> bool
-        ensures { (result ≡ false) ↔ (self.now.waiting ≡ None) }
+    pub fn has_imm(&self) -> bool
+        ensures { (result ≡ false) ↔ (self.now.imm ≡ None) }
     {
-        self.waiting.is_some()
+        self.imm.is_some()
     }
 
     /// Makes a crash keep all batches, and begins a log of the next number: batches go to it, and
@@ -27,8 +27,8 @@ impl<E: Env, C: UserCmp + Copy> OpenStore<E, C> {
     /// broken if a sync of the log failed once it had begun. A number that was given for a log that
     /// couldn't be made isn't given again.
     pub fn switch_log(&mut self, env: &mut E) -> Result<()>
-        requires none_waits { self.old.waiting ≡ None }
-        requires some { self.old.recent.entries ≢ [] }
+        requires none_waits { self.old.imm ≡ None }
+        requires some { self.old.mem.entries ≢ [] }
         ensures switches { SwitchesLog E.Env self.old env.old result self.new env.new }
         ensures keeps { IsTrue E.models_disk → (meaning : Meaning)
             → KeepsWritten (C.cmp self.old.cmp) meaning self.old (E.observed env.old) self.new
@@ -41,7 +41,7 @@ impl<E: Env, C: UserCmp + Copy> OpenStore<E, C> {
         self.sync(env)?;
         let file = LogFile::make(self.alloc, env, path)?;
         let fresh = MemTable::new(self.alloc, self.cmp);
-        self.waiting = Some(std::mem::replace(&mut self.recent, fresh));
+        self.imm = Some(std::mem::replace(&mut self.mem, fresh));
         self.log = OpenLog { number, file };
         Ok(())
     }

@@ -20,8 +20,8 @@ ghost use Rattle.leveldb_store.specs.KeptEntries.{AddsTableOf};
 ghost use Rattle.leveldb_store.specs.OpenStore.{AreInLevels, AreNumbersGiven};
 ghost use Rattle.leveldb_store.specs.RoomSteps.{AddsNone};
 ghost use Rattle.leveldb_store.specs.SoundCall.{IsSoundCall};
-ghost use Rattle.leveldb_store.specs.Switch.{TablesWaiting};
-ghost use Rattle.leveldb_store.specs.Written.{KeepsWritten, waiting_entries};
+ghost use Rattle.leveldb_store.specs.Switch.{WritesLevel0Table};
+ghost use Rattle.leveldb_store.specs.Written.{KeepsWritten, imm_entries};
 
 use super::OpenStore;
 use crate::build::build_memtable;
@@ -39,17 +39,17 @@ impl<E: Env, C: UserCmp + Copy + Drop> OpenStore<E, C> {
     /// Makes a table of the entries that wait, and logs it in the level that a version picks for
     /// it: then the logs that had them aren't needed any more. Returns `IOError`, and does nothing,
     /// if a call on the manifest failed before.
-    pub fn table_waiting<FP: FilterPolicy + Copy + Drop>(
+    pub fn write_level0_table<FP: FilterPolicy + Copy + Drop>(
         &mut self,
         env: &mut E,
         options: &Options<C, FP>,
     ) -> Result<()>
-        requires waits { self.old.waiting ≢ None }
+        requires waits { self.old.imm ≢ None }
         requires order { C.cmp options.now.cmp ≡ C.cmp self.old.cmp }
-        ensures tables { TablesWaiting E.Env self.old env.old (choices_of C.Cmp FP.FilterPolicy
+        ensures tables { WritesLevel0Table E.Env self.old env.old (choices_of C.Cmp FP.FilterPolicy
             ⟦<InternalKeyCmp<C> as Cmp>⟧ ⟦<InternalFilterPolicy<FP> as FilterPolicy>⟧
             ⟦<CompressorList as Compressors>⟧.codings options.now)
-            (map internal_pair (waiting_entries self.old.waiting)) result self.new env.new }
+            (map internal_pair (imm_entries self.old.imm)) result self.new env.new }
         ensures keeps { IsTrue E.models_disk → (meaning : Meaning)
             → Agrees (format_of C.Cmp FP.FilterPolicy
             ⟦<CompressorList as Compressors>⟧.codings options.now) meaning
@@ -63,44 +63,42 @@ impl<E: Env, C: UserCmp + Copy + Drop> OpenStore<E, C> {
             (AddsNone E.Env (C.cmp self.old.cmp) format self.old env.old self.new env.new) }
         ensures added { let format = format_of C.Cmp FP.FilterPolicy
             ⟦<CompressorList as Compressors>⟧.codings options.now in OnOk result
-            (AddsTableOf E.Env format (waiting_entries self.old.waiting) self.old.set self.new.set
+            (AddsTableOf E.Env format (imm_entries self.old.imm) self.old.set self.new.set
             env.new) }
     {
         if self.versions.is_broken() {
             return err(self.alloc, StatusCode::IOError, "reopen the store");
         }
         let number = self.versions.new_file_number()?;
-        let file = self.build_waiting(env, options, number)?;
+        let file = self.build_imm_table(env, options, number)?;
         let level = self.level_for(&file);
         self.log_table(env, level, file)?;
-        self.waiting = None;
+        self.imm = None;
         Ok(())
     }
 
     // Makes the table of the entries that wait, under this number.
-    fn build_waiting<FP: FilterPolicy + Copy + Drop>(
+    fn build_imm_table<FP: FilterPolicy + Copy + Drop>(
         &self,
         env: &mut E,
         options: &Options<C, FP>,
         number: FileNum,
     ) -> Result<FileMetaData>
-        requires waits { self.now.waiting ≢ None }
+        requires waits { self.now.imm ≢ None }
         requires order { C.cmp options.now.cmp ≡ C.cmp self.now.cmp }
         ensures makes { MakesTable (choices_of C.Cmp FP.FilterPolicy
             ⟦<InternalKeyCmp<C> as Cmp>⟧ ⟦<InternalFilterPolicy<FP> as FilterPolicy>⟧
             ⟦<CompressorList as Compressors>⟧.codings options.now)
-            (map internal_pair (waiting_entries self.now.waiting)) E.Env (λ status. ⊥)
+            (map internal_pair (imm_entries self.now.imm)) E.Env (λ status. ⊥)
             self.now.set.store number env.old result env.new }
         ensures entries { Each IsInternalPair
-            (map internal_pair (waiting_entries self.now.waiting))
-            (waiting_entries self.now.waiting) }
+            (map internal_pair (imm_entries self.now.imm))
+            (imm_entries self.now.imm) }
         ensures rising { AreRising (internal_cmp (C.cmp options.now.cmp))
-            (map internal_pair (waiting_entries self.now.waiting)) }
+            (map internal_pair (imm_entries self.now.imm)) }
     {
-        let Some(waiting) = &self.waiting else {
-            unreachable!()
-        };
-        build_memtable(self.alloc, env, &self.name, options, waiting, number)
+        let Some(imm) = &self.imm else { unreachable!() };
+        build_memtable(self.alloc, env, &self.name, options, imm, number)
     }
 
     // The level for a new table whose entries are newer than those of all others.

@@ -20,9 +20,9 @@ use leveldb_env::env::Env;
 use leveldb_env::filter::FilterPolicy;
 use leveldb_env::options::Options;
 use leveldb_iter::db_iter::DbIterCore;
+use leveldb_iter::in_memory::InMemory;
 use leveldb_iter::merging_iter::MergeCore;
 use leveldb_iter::moves::{Move, Step, make_moves};
-use leveldb_iter::unlent::Unlent;
 use leveldb_iter::walk::Walk;
 use leveldb_mem::memtable::MemtableIterator;
 use leveldb_version::table_cache::{ReadTables, ReadsTables, TableCache};
@@ -180,9 +180,9 @@ impl<E: Env, C: UserCmp + Copy + Drop> OpenStore<E, C> {
     {
         let version = self.versions.current();
         let mut children = Vec::new(self.alloc);
-        children.push(StoreWalk::Memory(Unlent(self.recent.iter())))?;
-        if let Some(waiting) = &self.waiting {
-            children.push(StoreWalk::Memory(Unlent(waiting.iter())))?;
+        children.push(StoreWalk::Memory(InMemory(self.mem.iter())))?;
+        if let Some(imm) = &self.imm {
+            children.push(StoreWalk::Memory(InMemory(imm.iter())))?;
         }
         push_tables(version.new_iters(self.alloc)?, &mut children)?;
         Ok(children)

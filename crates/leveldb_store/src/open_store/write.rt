@@ -22,7 +22,7 @@ impl<E: Env, C: UserCmp + Copy> OpenStore<E, C> {
         ensures { PreparesBatch self.old batch.old result self.new batch.new }
     {
         let first = self.next_sequence(batch.count())?;
-        self.recent.prepare(batch)?;
+        self.mem.prepare(batch)?;
         batch.set_sequence(first);
         Ok(())
     }
@@ -33,7 +33,7 @@ impl<E: Env, C: UserCmp + Copy> OpenStore<E, C> {
         ensures { InsertsBatch self.old batch.now self.new }
     {
         let last = self.versions.last_seq() + u64::from(batch.count());
-        self.recent.insert_prepared(batch.sequence(), batch);
+        self.mem.insert_prepared(batch.sequence(), batch);
         self.versions.set_last_seq(last);
     }
 

@@ -3,7 +3,7 @@
 ghost use Rattle.std.specs.Prelude.{◌≡◌, IfOk, None};
 ghost use Rattle.leveldb_env.specs.Env.{SameLocks};
 ghost use Rattle.leveldb_store.specs.BuildTable.{choices_of};
-ghost use Rattle.leveldb_store.specs.OpeningSteps.{BeginsWriting, LogsIfWanted, MayBeWritten};
+ghost use Rattle.leveldb_store.specs.OpeningSteps.{OpensToWrite, LogsIfWanted, MayBeWritten};
 
 use super::edit::log_edit;
 use super::log_to_write::open_log;
@@ -22,45 +22,45 @@ use std::alloc::Global;
 
 // Replays the logs of the store, opens the log to write, and has the tables that were made take the
 // place of the logs before it. Where there are none and the manifest is in use, no edit is logged.
-pub(super) fn begin_writing<E: Env, C: UserCmp + Copy + Drop, FP: FilterPolicy + Copy + Drop>(
+pub(super) fn open_to_write<E: Env, C: UserCmp + Copy + Drop, FP: FilterPolicy + Copy + Drop>(
     alloc: Global,
     env: &mut E,
     name: &str,
     options: &Options<C, FP>,
     set: RecoveredSet<E>,
 ) -> Result<OpenStore<E, C>>
-    requires { MayBeWritten E.models_disk (C.cmp options.now.cmp) name.now set.is_anew set.versions
-        (E.observed env.old).disk.files }
-    ensures begins { BeginsWriting E.Env (choices_of C.Cmp FP.FilterPolicy
+    requires { MayBeWritten E.models_disk (C.cmp options.now.cmp) name.now
+        set.needs_new_manifest set.versions (E.observed env.old).disk.files }
+    ensures begins { OpensToWrite E.Env (choices_of C.Cmp FP.FilterPolicy
         ⟦<InternalKeyCmp<C> as Cmp>⟧ ⟦<InternalFilterPolicy<FP> as FilterPolicy>⟧
         ⟦<CompressorList as Compressors>⟧.codings options.now)
         name.now set.versions set.logs.keys env.old options.now.write_buffer_size result env.new }
     ensures cmp { IfOk result (λ value. value.cmp ≡ options.now.cmp) }
-    ensures none_waits { IfOk result (λ value. value.waiting ≡ None) }
+    ensures none_waits { IfOk result (λ value. value.imm ≡ None) }
 {
     let path = String::from_str(alloc, name)?;
-    let is_anew = set.is_anew;
+    let needs_new_manifest = set.needs_new_manifest;
     let mut files = set.versions;
     let replay = replay_logs(alloc, env, name, options, &mut files, set.logs)?;
     files.set_last_seq(files.last_seq().max(replay.last));
-    let (log, recent) = open_log(alloc, env, name, options.cmp, &mut files, replay.used)?;
+    let (log, mem) = open_log(alloc, env, name, options.cmp, &mut files, replay.used)?;
     let mut versions = VersionSet::of_files(alloc, options.cmp, files)?;
-    let wanted = is_anew | replay.leaves_log;
-    log_if(alloc, env, &mut versions, wanted, log.number, replay.tables)?;
+    let wanted = needs_new_manifest | replay.leaves_log;
+    log_if_wanted(alloc, env, &mut versions, wanted, log.number, replay.tables)?;
     Ok(OpenStore {
         alloc,
         name: path,
         cmp: options.cmp,
         versions,
         log,
-        recent,
-        waiting: None,
+        mem,
+        imm: None,
         keeps_files: false,
     })
 }
 
 // Logs the edit that has these tables in place of the logs below a number, if it is wanted.
-fn log_if<E: Env, C: UserCmp + Copy + Drop>(
+fn log_if_wanted<E: Env, C: UserCmp + Copy + Drop>(
     alloc: Global,
     env: &mut E,
     versions: &mut VersionSet<E, C>,

@@ -32,7 +32,7 @@ use std::collections::BTreeSet;
 #[derive(Drop)]
 pub(super) struct RecoveredSet<E: Env> {
     pub(super) versions: LiveFiles<E>,
-    pub(super) is_anew: bool,
+    pub(super) needs_new_manifest: bool,
     pub(super) logs: BTreeSet<FileNum>,
 }
 
@@ -52,11 +52,11 @@ pub(super) fn recover_set<E: Env, C: UserCmp, FP: FilterPolicy>(
 {
     let files = files_in(alloc, env, store, listed)?;
     let mut versions = numbered_set(alloc, store, &options.cmp, files.as_slice())?;
-    let is_anew = versions.recover(env, options)?;
+    let needs_new_manifest = versions.recover(env, options)?;
     let logs = logs_to_replay(alloc, env, store, &versions, files.as_slice())?;
     Ok(RecoveredSet {
         versions,
-        is_anew,
+        needs_new_manifest,
         logs,
     })
 }

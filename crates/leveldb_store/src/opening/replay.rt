@@ -5,7 +5,7 @@ ghost use Rattle.leveldb_version.specs.VersionEdit.{new_file_of};
 ghost use Rattle.leveldb_store.specs.BuildTable.{choices_of};
 ghost use Rattle.leveldb_version.specs.Format.{format_of};
 ghost use Rattle.leveldb_store.specs.OpeningSteps.{ReplaysLogs, ReplaysNext, TablesAll, UsesLastLog};
-ghost use Rattle.leveldb_store.specs.ReplayLog.{FailsToTableRest, HasCauseOr, IsUnusable, MakesTablesOnly};
+ghost use Rattle.leveldb_store.specs.ReplayLog.{FailsToBuildRest, HasCauseOr, IsUnusable, MakesTablesOnly};
 
 use super::replay_log::{ReplayedLog, check_empty_if_torn, replay_log};
 use leveldb_base::cmp::{Cmp, InternalKeyCmp, UserCmp};
@@ -123,13 +123,13 @@ fn replay_next<E: Env, C: UserCmp + Copy + Drop, FP: FilterPolicy + Copy + Drop>
         return Ok(());
     }
     replay.leaves_log = true;
-    let mut tables = tabled(alloc, env, store, options, versions, log)?;
+    let mut tables = tables_made(alloc, env, store, options, versions, log)?;
     replay.tables.append(&mut tables)?;
     Ok(())
 }
 
 // The tables of a log, once all its entries are in tables.
-fn tabled<E: Env, C: UserCmp + Copy + Drop, FP: FilterPolicy + Copy + Drop>(
+fn tables_made<E: Env, C: UserCmp + Copy + Drop, FP: FilterPolicy + Copy + Drop>(
     alloc: Global,
     env: &mut E,
     store: &str,
@@ -144,7 +144,7 @@ fn tabled<E: Env, C: UserCmp + Copy + Drop, FP: FilterPolicy + Copy + Drop>(
         (format_of C.Cmp FP.FilterPolicy ⟦<CompressorList as Compressors>⟧.codings options.now)
         log versions.old (map (λ file. new_file_of (0, file)) tables.items) versions.new env.new) }
     ensures cause { HasCauseOr (λ status. (log.rest.kept.entries ≢ [])
-        × FailsToTableRest E.Env (choices_of C.Cmp FP.FilterPolicy ⟦<InternalKeyCmp<C> as Cmp>⟧
+        × FailsToBuildRest E.Env (choices_of C.Cmp FP.FilterPolicy ⟦<InternalKeyCmp<C> as Cmp>⟧
         ⟦<InternalFilterPolicy<FP> as FilterPolicy>⟧ ⟦<CompressorList as Compressors>⟧.codings
         options.now) log versions.old status) (E.failures env.old) (E.failures env.new) result }
 {

@@ -57,8 +57,8 @@ impl<E: Env, C: UserCmp + Copy + Drop> OpenStore<E, C> {
             cmp: options.cmp,
             versions,
             log,
-            recent: logs.rest,
-            waiting: None,
+            mem: logs.rest,
+            imm: None,
             keeps_files: true,
         })
     }

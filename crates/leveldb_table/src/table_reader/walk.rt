@@ -15,7 +15,7 @@ ghost use Rattle.leveldb_table.specs.TableBlock.{LacksBlock, LacksLine, ReadsFil
 use crate::block::BlockWalk;
 use crate::block_cache::BlockCache;
 use crate::damage::corruption;
-use crate::table_reader::{Finder, NO_HANDLE, Table};
+use crate::table_reader::{KeyBuffers, NO_HANDLE, Table};
 use bytes::Bytes;
 use leveldb_base::blockhandle::BlockHandle;
 use leveldb_base::cmp::Cmp;
@@ -80,7 +80,7 @@ fn leave<C: Cmp + Drop>(inner: &mut Option<BlockWalk<C>>, room: &mut Vec<u8>)
 impl<C: Cmp + Copy + Drop> TableCore<C> {
     ghost use Rattle.leveldb_table.specs.TableReaderBlocks.{StartsOver, IsBlockAt, IsBlockOf, line_of, MovesOverFromLine};
     ghost use Rattle.leveldb_table.specs.TableReaderMoves.{Advances, StepsBack, SeeksKey, SeeksFirst, SeeksLast, ToLast, ToNextBlock, ToPreviousBlock, ToKey, ToKeyIfLet};
-    ghost use Rattle.leveldb_table.specs.TableReader.{pairs_in, lines_of, lets, GainsBlocksOf};
+    ghost use Rattle.leveldb_table.specs.TableReader.{pairs_in, lines_of, may_contain, GainsBlocksOf};
     ghost use Rattle.leveldb_table.specs.TableReaderSteps.{StepsInTable, step_to};
     ghost use Rattle.leveldb_table.specs.TableReaderWalk.{IsAtPosition, StepsInside, inner_block, inner_position, inner_pairs, current_of};
 
@@ -92,20 +92,20 @@ impl<C: Cmp + Copy + Drop> TableCore<C> {
         ensures ok { IfOk result (StartsOver table.now) }
         ensures memory { IfErr result IsOutOfMemory }
     {
-        TableCore::with_finder(alloc, table, &mut Finder::new(alloc))
+        TableCore::with_key_buffers(alloc, table, &mut KeyBuffers::new(alloc))
     }
 
     /// At no position, with the finder's room for keys. Where it fails, the finder is as it was.
-    pub(crate) fn with_finder<E: Env, FP: FilterPolicy>(
+    pub(crate) fn with_key_buffers<E: Env, FP: FilterPolicy>(
         alloc: Global,
         table: &Table<E, C, FP>,
-        finder: &mut Finder,
+        key_buffers: &mut KeyBuffers,
     ) -> Result<TableCore<C>>
         ensures ok { IfOk result (StartsOver table.now) }
         ensures memory { IfErr result IsOutOfMemory }
     {
         let index = table.index.clone()?;
-        let (line_room, room) = finder.take_room(alloc);
+        let (line_room, room) = key_buffers.take_room(alloc);
         Ok(TableCore {
             alloc,
             index: BlockWalk::with_room(index, line_room),
@@ -285,7 +285,7 @@ impl<C: Cmp + Copy + Drop> TableCore<C> {
 
     /// Moves to the first pair at or after the key, but to no position where the filters rule out
     /// the key at the block that the index names for it. Returns whether it is at a pair.
-    pub(crate) fn seek_let<E: Env, FP: FilterPolicy>(
+    pub(crate) fn seek_filtered<E: Env, FP: FilterPolicy>(
         &mut self,
         table: &Table<E, C, FP>,
         env: &mut E,
@@ -295,9 +295,9 @@ impl<C: Cmp + Copy + Drop> TableCore<C> {
     ) -> Result<bool>
         ensures enters { let codings = ⟦<CompressorList as Compressors>⟧.codings compressors.now
             in MovesOverFromLine C.Cmp E.Env codings table.now (IsLetPosition
-            (C.accepts table.now.cmp) (C.cmp table.now.cmp) (lets FP.matches table.now) key.now)
-            (ToKeyIfLet C.Cmp (lets FP.matches table.now) key.now) env.old cache.old self.old result
-            env.new cache.new self.new }
+            (C.accepts table.now.cmp) (C.cmp table.now.cmp) (may_contain FP.matches table.now)
+            key.now) (ToKeyIfLet C.Cmp (may_contain FP.matches table.now) key.now) env.old
+            cache.old self.old result env.new cache.new self.new }
         ensures there { IfOk result (λ there. there ≡ is_some (inner_position self.new.inner)) }
     {
         leave(&mut self.inner, &mut self.room);
@@ -306,7 +306,7 @@ impl<C: Cmp + Copy + Drop> TableCore<C> {
             return Ok(false);
         };
         let handle = table.line_handle(self.alloc, value)?;
-        if !table.lets(handle.offset(), key) {
+        if !table.may_contain(handle.offset(), key) {
             return Ok(false);
         }
         self.enter(table, env, cache, compressors, handle, key)?;
@@ -315,8 +315,8 @@ impl<C: Cmp + Copy + Drop> TableCore<C> {
 
     /// The value of the pair at which it is, whose bytes are shared with the block. The finder
     /// gets the pair's key, and the room for keys.
-    pub(crate) fn into_value(self, finder: &mut Finder) -> Result<Option<Bytes>>
-        ensures ok { IfOk result (λ value. pair_with finder.new value ≡ current_of self) }
+    pub(crate) fn into_value(self, key_buffers: &mut KeyBuffers) -> Result<Option<Bytes>>
+        ensures ok { IfOk result (λ value. pair_with key_buffers.new value ≡ current_of self) }
         ensures cause { IfErr result IsOutOfMemory }
     {
         let TableCore {
@@ -327,11 +327,11 @@ impl<C: Cmp + Copy + Drop> TableCore<C> {
             fills: _,
         } = self;
         let Some(inner) = inner else {
-            finder.keep(index.into_key(), room);
+            key_buffers.keep(index.into_key(), room);
             return Ok(None);
         };
         let value = inner.shared_value();
-        finder.keep(index.into_key(), inner.into_key());
+        key_buffers.keep(index.into_key(), inner.into_key());
         value
     }
 

@@ -1,7 +1,7 @@
 //! Laws of a store that an engine has open: what each step of the engine makes of the files, and
 //! that each history is kept at every moment of it.
 ghost use Rattle.std.specs.Prelude.{ℕ, List};
-ghost use Rattle.leveldb_version.specs.WritingLaws.{BatchesAreWritten, LiveNumbersAreBelow, NamesAreNumbered, NewLogsAreWritten, NewTablesAreUnread, NextNumbersAreFree, ObsoleteFilesAreUnread, SameMemoryShows, SyncedLogsAreDurable, TabledIsShown, TrackedAfterGiving, TrackedAfterNewLogs, TrackedAfterSyncs, TrackedAfterUnread, WaitingIsTabledByEdits, WaitingMayGoToLevelZero, WrittenAfterGiving, WrittenAfterSyncs, WrittenAfterUnread, WrittenIsShown};
+ghost use Rattle.leveldb_version.specs.WritingLaws.{BatchesAreWritten, LiveNumbersAreBelow, NamesAreNumbered, NewLogsAreWritten, NewTablesAreUnread, NextNumbersAreFree, ObsoleteFilesAreUnread, SameMemoryShows, SyncedLogsAreDurable, NewTableIsShown, TrackedAfterGiving, TrackedAfterNewLogs, TrackedAfterSyncs, TrackedAfterUnread, ImmBecomesTableByEdits, ImmMayGoToLevelZero, WrittenAfterGiving, WrittenAfterSyncs, WrittenAfterUnread, WrittenIsShown};
 
 use super::stores::StoreFormat;
 
@@ -44,9 +44,9 @@ pub fn logs_may_be_switched<F: StoreFormat>()
 {}
 
 /// The entries that wait go into a table, whose edit takes their logs away.
-pub fn waiting_entries_become_a_table<F: StoreFormat>()
-    ensures edit { (store : List ℕ) → WaitingIsTabledByEdits store F.cmp F.is_table F.allowed }
-    ensures level { (store : List ℕ) → WaitingMayGoToLevelZero store F.cmp F.is_table }
+pub fn imm_entries_become_a_table<F: StoreFormat>()
+    ensures edit { (store : List ℕ) → ImmBecomesTableByEdits store F.cmp F.is_table F.allowed }
+    ensures level { (store : List ℕ) → ImmMayGoToLevelZero store F.cmp F.is_table }
 {}
 
 /// A batch is appended to the log, and a sync of it makes all durable.
@@ -63,6 +63,6 @@ pub fn open_stores_show_their_history<F: StoreFormat>()
 /// What was shown is shown with a table in place of the entries that wait, and by other memory of
 /// the same entries.
 pub fn tables_show_what_waited<F: StoreFormat>()
-    ensures table { TabledIsShown F.cmp }
+    ensures table { NewTableIsShown F.cmp }
     ensures same { SameMemoryShows F.cmp }
 {}

@@ -6,7 +6,7 @@ ghost use Rattle.leveldb_base.specs.Error.{IsOutOfMemory};
 ghost use Rattle.leveldb_env.specs.Env.{BeforeOrAfter, ChangesFiles, FilesUnchanged, HasCause, Run, SameLocks, synced};
 ghost use Rattle.leveldb_mem.specs.Log.{bad, clean};
 ghost use Rattle.leveldb_version.specs.Recover.{ReadSetResult, RecoverResult, WhyUnrecovered};
-ghost use Rattle.leveldb_version.specs.RecoverSteps.{CarriesOut, IsFileUnread, IsManifestAt, IsPlan, IsSizedReplay, set_settled};
+ghost use Rattle.leveldb_version.specs.RecoverSteps.{AppliesPlan, IsFileUnread, IsManifestAt, IsRecoveryPlan, IsSizedReplay, set_installed};
 
 use super::current_file::read_current_file;
 use super::live_files::LiveFiles;
@@ -24,7 +24,7 @@ use std::alloc::Global;
 /// What a set is to become by a manifest that was read: where that is, what its edits leave, and
 /// whether it goes on to be used.
 #[derive(Drop)]
-pub(super) struct Plan {
+pub(super) struct RecoveryPlan {
     path: String,
     number: FileNum,
     size: usize,
@@ -45,7 +45,7 @@ impl<E: Env> LiveFiles<E> {
             result self.new (E.observed env.new) (E.failures env.new) }
     {
         let plan = self.plan(env, options)?;
-        self.carry_out(env, plan)
+        self.apply_plan(env, plan)
     }
 
     /// Becomes the set that the manifest leaves which `CURRENT` names, to be read alone: no edit is
@@ -57,18 +57,22 @@ impl<E: Env> LiveFiles<E> {
             result self.new (E.observed env.new) (E.failures env.new) }
     {
         let plan = self.plan(env, options)?;
-        self.settle(plan, None);
+        self.install(plan, None);
         self.broken = true;
         Ok(())
     }
 
     /// What the set is to become, by the manifest that `CURRENT` names.
-    pub(super) fn plan<C: Cmp, FP>(&self, env: &mut E, options: &Options<C, FP>) -> Result<Plan>
+    pub(super) fn plan<C: Cmp, FP>(
+        &self,
+        env: &mut E,
+        options: &Options<C, FP>,
+    ) -> Result<RecoveryPlan>
         ensures still { IsTrue E.models_disk
             → Run (FilesUnchanged (E.observed env.old).disk.files) (E.observed env.old)
             (E.observed env.new) }
         ensures locks { SameLocks E.models_disk (E.observed env.old) (E.observed env.new) }
-        ensures ok { IfOk result (IsPlan E.models_disk (C.cmp options.now.cmp)
+        ensures ok { IfOk result (IsRecoveryPlan E.models_disk (C.cmp options.now.cmp)
             (C.name options.now.cmp) options.now.reuse_manifest options.now.max_file_size
             self.now (E.observed env.old).disk.files) }
         ensures cause { HasCause (WhyUnrecovered E.models_disk (C.cmp options.now.cmp)
@@ -86,7 +90,7 @@ impl<E: Env> LiveFiles<E> {
             is_clean,
             size,
         );
-        Ok(Plan {
+        Ok(RecoveryPlan {
             path,
             number,
             size,
@@ -97,29 +101,29 @@ impl<E: Env> LiveFiles<E> {
     }
 
     /// Becomes what was planned. Returns whether the next edit begins a new manifest.
-    pub(super) fn carry_out(&mut self, env: &mut E, plan: Plan) -> Result<bool>
+    pub(super) fn apply_plan(&mut self, env: &mut E, plan: RecoveryPlan) -> Result<bool>
         requires there { IsTrue E.models_disk
             → IsSome ((E.observed env.old).disk.files (string_bytes plan.path)) }
         requires fits { plan.next_file + 1 < 2 ^ 64 }
-        ensures recovers { CarriesOut E.Env plan self.old env.old result self.new env.new }
+        ensures recovers { AppliesPlan E.Env plan self.old env.old result self.new env.new }
         ensures files { OnOk result (self.new.full ≡ edit_of plan.left.full) }
     {
         if plan.reuses {
             let file = reopen(env, &plan)?;
-            self.settle(plan, Some(file));
+            self.install(plan, Some(file));
             return Ok(false);
         }
-        self.settle(plan, None);
+        self.install(plan, None);
         Ok(true)
     }
 
     // Becomes what was planned: with the manifest that was read if this is its file, else with a
     // new one that the next edit begins. It takes no memory.
-    fn settle(&mut self, plan: Plan, file: Option<E::File>)
+    fn install(&mut self, plan: RecoveryPlan, file: Option<E::File>)
         requires named { IfSome file (λ file.
             IsTrue E.models_disk → E.name_of file ≡ string_bytes plan.path) }
         requires fits { plan.next_file + 1 < 2 ^ 64 }
-        ensures { self.new ≡ set_settled self.old plan (is_some file) }
+        ensures { self.new ≡ set_installed self.old plan (is_some file) }
     {
         let left = plan.left;
         self.full = left.full;
@@ -184,7 +188,7 @@ fn is_reusable(reuse: bool, limit: usize, is_clean: bool, size: usize) -> bool
 }
 
 // Opens the manifest that was read, which is there, to be appended to, with all its bytes kept.
-fn reopen<E: Env>(env: &mut E, plan: &Plan) -> Result<E::File>
+fn reopen<E: Env>(env: &mut E, plan: &RecoveryPlan) -> Result<E::File>
     requires { IsTrue E.models_disk
         → IsSome ((E.observed env.old).disk.files (string_bytes plan.now.path)) }
     ensures does { IsTrue E.models_disk

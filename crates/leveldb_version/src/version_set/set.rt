@@ -83,9 +83,9 @@ impl<E: Env, C: UserCmp + Copy + Drop> VersionSet<E, C> {
         let plan = self.files.plan(env, options)?;
         let files = plan.left.full.new_files.as_slice();
         let current = Version::of_files(self.files.alloc, options.cmp, files)?;
-        let is_anew = self.files.carry_out(env, plan)?;
+        let needs_new_manifest = self.files.apply_plan(env, plan)?;
         self.current = current;
-        Ok(is_anew)
+        Ok(needs_new_manifest)
     }
 
     /// Has another version of the same files from now on.

@@ -280,9 +280,9 @@ impl From<Status> for Fault {
 }
 
 impl From<AllocError> for Fault {
-    ghost use Rattle.rusty_leveldb.specs.Program.{IsUnread};
+    ghost use Rattle.rusty_leveldb.specs.Program.{IsReadingFault};
 
-    ghost from_gives = { λ _ fault. IsUnread fault };
+    ghost from_gives = { λ _ fault. IsReadingFault fault };
 
     fn from(error: AllocError) -> Fault {
         Fault::Unread(error.into())
@@ -290,9 +290,9 @@ impl From<AllocError> for Fault {
 }
 
 impl From<io::Error> for Fault {
-    ghost use Rattle.rusty_leveldb.specs.Program.{IsUnread};
+    ghost use Rattle.rusty_leveldb.specs.Program.{IsReadingFault};
 
-    ghost from_gives = { λ _ fault. IsUnread fault };
+    ghost from_gives = { λ _ fault. IsReadingFault fault };
 
     fn from(error: io::Error) -> Fault {
         Fault::Unread(error.into())

@@ -21,7 +21,7 @@ invariant_of-self g c =
       is.3,
       subst (λ (s : VersionSetValue). IsTrue g.E.Env.models_disk → HasOwnManifest s) same is.4,
       subst (λ (s : VersionSetValue). s.manifest ≢ unmade) same is.5,
-      subst (λ (s : VersionSetValue). AreUpTo s.last_sequence inside.recent.kept.entries) same is.6,
+      subst (λ (s : VersionSetValue). AreUpTo s.last_sequence inside.mem.kept.entries) same is.6,
       is.7,
       ap (λ (v : VersionsValue g.row.C.Denot). v.current.cmp) versions ∙ charged_cmp inside.versions.current file ∙ is.8,
       subst (λ (s : VersionSetValue). AreNumbersGiven s s.full.added) same is.9,

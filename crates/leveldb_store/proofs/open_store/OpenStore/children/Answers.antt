@@ -6,13 +6,13 @@ use Rattle.leveldb_base.specs.History.{AreRising, AreUpTo, Entry}
 use Rattle.leveldb_base.specs.KeyTypes.{greatest_sequence, internal_cmp}
 use Rattle.leveldb_base.specs.declared.cmp.Cmp.{Ghosts as CmpGhosts}
 use Rattle.leveldb_base.specs.declared.types.LdbIterator.{Ghosts as IteratorGhosts}
-use Rattle.leveldb_iter.specs.declared.unlent.Unlent.{Unlent}
+use Rattle.leveldb_iter.specs.declared.in_memory.InMemory.{InMemory}
 use Rattle.leveldb_mem.specs.MemTable.{Kept, MemTableState}
 use Rattle.leveldb_version.specs.Batches.{Each}
 use Rattle.leveldb_version.specs.VersionIters.{AreVersionIters}
 use Rattle.leveldb_version.specs.declared.version_iter.VersionIter.{VersionIter}
 use Rattle.leveldb_store.specs.OpenStore.{OpenStoreValue}
-use Rattle.leveldb_store.specs.View.{AreChildrenOf, IsOverMemory, waiting_layers}
+use Rattle.leveldb_store.specs.View.{AreChildrenOf, IsOverMemory, imm_layers}
 use Rattle.leveldb_store.specs.declared.store_walk.StoreWalk.{StoreWalk}
 use Rattle.leveldb_store.specs.declared.store_walk.StoreWalk.TheVariants.{Memory, Tables}
 use Rattle.leveldb_store.proofs.CurrentVersionLemmas.{current_by}
@@ -20,7 +20,7 @@ use Rattle.leveldb_store.proofs.open_store.OpenStore.children.Goals.{in-Some+in_
 use Rattle.leveldb_store.proofs.open_store.OpenStore.children.Goals as goal
 
 -- a walk over a memtable of the store's order
-over_memtable : {C M : Type 0} (iterator : IteratorGhosts M) (cmp : CmpGhosts C) (it : Unlent M) (own order : C) (entries : List Entry) → own ≡ order
+over_memtable : {C M : Type 0} (iterator : IteratorGhosts M) (cmp : CmpGhosts C) (it : InMemory M) (own order : C) (entries : List Entry) → own ≡ order
     → iterator.pairs it.0 ≡ map internal_pair entries → iterator.order it.0 ≡ internal_cmp (cmp.cmp own) → AreRising (internal_cmp (cmp.cmp own)) (map internal_pair entries)
     → AreUpTo greatest_sequence entries → IsOverMemory iterator (cmp.cmp order) it entries
 over_memtable iterator cmp it own order entries same pairs order_is sorted numbered = subst (λ c. IsOverMemory iterator (cmp.cmp c) it entries) same (record {
@@ -32,35 +32,35 @@ over_memtable iterator cmp it own order entries same pairs order_is sorted numbe
 
 -- the walks over what is in memory and those over tables
 children_are : {C M : Type 0} (iterator : IteratorGhosts M) (cmp : List ℕ → List ℕ → Ordering) (value : OpenStoreValue C)
-    (recent : Unlent M) (waits : List (Unlent M)) (iters : List (VersionIter C)) (before children : List (StoreWalk C M))
-    → IsOverMemory iterator cmp recent value.recent.entries → Each (IsOverMemory iterator cmp) waits (waiting_layers value.waiting) → AreVersionIters value.current iters
-    → before ≡ Memory recent ∷ map Memory waits → children ≡ before ++ map Tables iters → AreChildrenOf iterator cmp value children
-children_are iterator cmp value recent waits iters before children over_recent over_waits over_tables begin is = record {
-  memory = recent ∷ waits;
-  over_memory = (over_recent, over_waits);
+    (mem : InMemory M) (waits : List (InMemory M)) (iters : List (VersionIter C)) (before children : List (StoreWalk C M))
+    → IsOverMemory iterator cmp mem value.mem.entries → Each (IsOverMemory iterator cmp) waits (imm_layers value.imm) → AreVersionIters value.current iters
+    → before ≡ Memory mem ∷ map Memory waits → children ≡ before ++ map Tables iters → AreChildrenOf iterator cmp value children
+children_are iterator cmp value mem waits iters before children over_mem over_waits over_tables begin is = record {
+  memory = mem ∷ waits;
+  over_memory = (over_mem, over_waits);
   tables = iters;
   over_tables = over_tables;
   are = is ∙ ap (λ walks. walks ++ map Tables iters) begin;
 }
 
-waits_none : {M : Type 0} (iterator : IteratorGhosts M) (cmp : List ℕ → List ℕ → Ordering) (waiting : Option Kept) → waiting ≡ None → Each (IsOverMemory iterator cmp) [] (waiting_layers waiting)
+waits_none : {M : Type 0} (iterator : IteratorGhosts M) (cmp : List ℕ → List ℕ → Ordering) (imm : Option Kept) → imm ≡ None → Each (IsOverMemory iterator cmp) [] (imm_layers imm)
 waits_none iterator cmp None is = tt
 waits_none iterator cmp (Some kept) is = absurd cc
 
 children_alone : {C M : Type 0} (iterator : IteratorGhosts M) (cmp : List ℕ → List ℕ → Ordering) (value : OpenStoreValue C)
-    (recent : Unlent M) (iters : List (VersionIter C)) (before children : List (StoreWalk C M))
-    → IsOverMemory iterator cmp recent value.recent.entries → value.waiting ≡ None → AreVersionIters value.current iters
-    → before ≡ Memory recent ∷ [] → children ≡ before ++ map Tables iters → AreChildrenOf iterator cmp value children
-children_alone iterator cmp value recent iters before children over_recent none =
-    children_are iterator cmp value recent [] iters before children over_recent (waits_none iterator cmp value.waiting none)
+    (mem : InMemory M) (iters : List (VersionIter C)) (before children : List (StoreWalk C M))
+    → IsOverMemory iterator cmp mem value.mem.entries → value.imm ≡ None → AreVersionIters value.current iters
+    → before ≡ Memory mem ∷ [] → children ≡ before ++ map Tables iters → AreChildrenOf iterator cmp value children
+children_alone iterator cmp value mem iters before children over_mem none =
+    children_are iterator cmp value mem [] iters before children over_mem (waits_none iterator cmp value.imm none)
 
-waits_one : {C M : Type 0} (iterator : IteratorGhosts M) (cmp : CmpGhosts C) (order : C) (it : Unlent M) (waiting : Option (MemTableState C)) (memtable : MemTableState C)
-    → waiting ≡ Some memtable → IfSome waiting (λ one. one.cmp ≡ order)
+waits_one : {C M : Type 0} (iterator : IteratorGhosts M) (cmp : CmpGhosts C) (order : C) (it : InMemory M) (imm : Option (MemTableState C)) (memtable : MemTableState C)
+    → imm ≡ Some memtable → IfSome imm (λ one. one.cmp ≡ order)
     → iterator.pairs it.0 ≡ map internal_pair memtable.kept.entries → iterator.order it.0 ≡ internal_cmp (cmp.cmp memtable.cmp)
     → AreRising (internal_cmp (cmp.cmp memtable.cmp)) (map internal_pair memtable.kept.entries) → AreUpTo greatest_sequence memtable.kept.entries
-    → Each (IsOverMemory iterator (cmp.cmp order)) (it ∷ []) (waiting_layers (option_map (λ one. one.kept) waiting))
-waits_one iterator cmp order it waiting memtable is same pairs order_is sorted numbered =
-    subst (λ o. IfSome o (λ one. one.cmp ≡ order) → Each (IsOverMemory iterator (cmp.cmp order)) (it ∷ []) (waiting_layers (option_map (λ one. one.kept) o))) (sym is)
+    → Each (IsOverMemory iterator (cmp.cmp order)) (it ∷ []) (imm_layers (option_map (λ one. one.kept) imm))
+waits_one iterator cmp order it imm memtable is same pairs order_is sorted numbered =
+    subst (λ o. IfSome o (λ one. one.cmp ≡ order) → Each (IsOverMemory iterator (cmp.cmp order)) (it ∷ []) (imm_layers (option_map (λ one. one.kept) o))) (sym is)
     (λ own. (over_memtable iterator cmp it memtable.cmp order memtable.kept.entries own pairs order_is sorted numbered, tt)) same
 
 one_more : {A : Type 0} (old new : List A) (x : A) → new ≡ old ++ x ∷ [] → old ≡ [] → new ≡ x ∷ []
@@ -109,13 +109,13 @@ returns-clause-ok g c =
     rw (← c.self.view_is)
     (elim c.match-self.branch [
       | in-Some+in_ok-push-2 w ↦ children_are _ _ _ (record { 0 = c.iter.result }) (record { 0 = w.iter-in-Some.result } ∷ []) c.in_ok-new_iters.field-0.items c.match-self.children.items c.push_tables.new.children.items
-          (over_memtable _ g.C.Cmp _ c.self.inside.recent.cmp c.self.inside.cmp c.self.inside.recent.kept.entries c.self.invariant.2 c.iter.ensures.pairs c.iter.ensures.order c.iter.ensures.sorted c.iter.ensures.numbered)
-          (waits_one _ g.C.Cmp c.self.inside.cmp _ c.self.inside.waiting w.in-Some.waiting w.in-Some.is c.self.invariant.3 w.iter-in-Some.ensures.pairs w.iter-in-Some.ensures.order w.iter-in-Some.ensures.sorted w.iter-in-Some.ensures.numbered)
+          (over_memtable _ g.C.Cmp _ c.self.inside.mem.cmp c.self.inside.cmp c.self.inside.mem.kept.entries c.self.invariant.2 c.iter.ensures.pairs c.iter.ensures.order c.iter.ensures.sorted c.iter.ensures.numbered)
+          (waits_one _ g.C.Cmp c.self.inside.cmp _ c.self.inside.imm w.in-Some.imm w.in-Some.is c.self.invariant.3 w.iter-in-Some.ensures.pairs w.iter-in-Some.ensures.order w.iter-in-Some.ensures.sorted w.iter-in-Some.ensures.numbered)
           (rw c.current-version.ensures.version at c.in_ok-new_iters.ensures.ok)
           (two_more c.new-children.result.items c.push.new.self.items c.match-self.children.items _ _ (ap (λ v. v.items) w.children-is ∙ w.in_ok-push-2.ensures.items) c.in_ok-push.ensures.items c.new-children.ensures.items)
           c.in_ok-push_tables.ensures.ok
       | in_default w ↦ children_alone _ _ _ (record { 0 = c.iter.result }) c.in_ok-new_iters.field-0.items c.match-self.children.items c.push_tables.new.children.items
-          (over_memtable _ g.C.Cmp _ c.self.inside.recent.cmp c.self.inside.cmp c.self.inside.recent.kept.entries c.self.invariant.2 c.iter.ensures.pairs c.iter.ensures.order c.iter.ensures.sorted c.iter.ensures.numbered)
+          (over_memtable _ g.C.Cmp _ c.self.inside.mem.cmp c.self.inside.cmp c.self.inside.mem.kept.entries c.self.invariant.2 c.iter.ensures.pairs c.iter.ensures.order c.iter.ensures.sorted c.iter.ensures.numbered)
           (ap (option_map (λ one. one.kept)) w.in_default.is)
           (rw c.current-version.ensures.version at c.in_ok-new_iters.ensures.ok)
           (one_more c.new-children.result.items c.match-self.children.items _ (ap (λ v. v.items) w.children-is ∙ c.in_ok-push.ensures.items) c.new-children.ensures.items)

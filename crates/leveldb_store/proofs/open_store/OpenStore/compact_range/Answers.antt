@@ -7,7 +7,7 @@ use Rattle.leveldb_version.specs.Overlap.{named_range}
 use Rattle.leveldb_store.proofs.CompactLevelLemmas.{clear_alike, clear_more}
 use Rattle.leveldb_store.proofs.CompactRangeLemmas.{memory_compacted, range_then}
 use Rattle.leveldb_store.proofs.CompactedLemmas.{failed_at_once}
-use Rattle.leveldb_store.proofs.KeptEntriesLemmas.{memory_compacts, memory_same, memory_tabled}
+use Rattle.leveldb_store.proofs.KeptEntriesLemmas.{memory_compacts, memory_same, memory_in_tables}
 use Rattle.leveldb_store.specs.KeptEntries.{CompactsInTurn, CompactsOnceAtMost}
 use Rattle.leveldb_store.specs.OpenStore.{OpenStoreValue}
 use Rattle.leveldb_store.proofs.open_store.OpenStore.compact_range.Goals as goal
@@ -20,7 +20,7 @@ returns-in_err-begin-clause-compacts g c =
     rw (p.1, p.2)
     (record {
       keeps = failed_at_once _ g.E.Env _ c.args.self.now c.args.env.now c.args.tables.now _ _ _ (inl (inl c.in_err-begin.ensures.cause));
-      tabled = tt;
+      tables_made = tt;
       clear = tt;
     })
 
@@ -30,61 +30,61 @@ returns-in_err-end-clause-compacts g c =
     rw (p.1, p.2)
     (record {
       keeps = failed_at_once _ g.E.Env _ c.args.self.now c.args.env.now c.args.tables.now _ _ _ (inl (inl c.in_err-end.ensures.cause));
-      tabled = tt;
+      tables_made = tt;
       clear = tt;
     })
 
-pub returns-in_err-table_memory-clause-compacts : goal.returns-in_err-table_memory-clause-compacts
-returns-in_err-table_memory-clause-compacts g c =
-    let p = err_from_is_err_and c.from_residual-in_err-table_memory.result c.from_residual-in_err-table_memory.ensures.1 in
-    let failed = c.in_err-table_memory.ensures in
+pub returns-in_err-compact_memtables-clause-compacts : goal.returns-in_err-compact_memtables-clause-compacts
+returns-in_err-compact_memtables-clause-compacts g c =
+    let p = err_from_is_err_and c.from_residual-in_err-compact_memtables.result c.from_residual-in_err-compact_memtables.ensures.1 in
+    let failed = c.in_err-compact_memtables.ensures in
     rw (p.1, p.2)
     (record {
-      keeps = memory_compacted _ g.E.Env _ c.args.self.now c.args.env.now c.args.tables.now _ refl _ (sym c.requires.order) _ c.table_memory.new.self c.table_memory.new.env c.table_memory.new.tables failed.step failed.tables.none_new failed.tables.closes;
-      tabled = tt;
+      keeps = memory_compacted _ g.E.Env _ c.args.self.now c.args.env.now c.args.tables.now _ refl _ (sym c.requires.order) _ c.compact_memtables.new.self c.compact_memtables.new.env c.compact_memtables.new.tables failed.step failed.tables.none_new failed.tables.closes;
+      tables_made = tt;
       clear = tt;
     })
 
 pub compact_by_reads-requires : goal.compact_by_reads-requires
 compact_by_reads-requires g c =
-    let done = c.in_ok-table_memory.ensures in
+    let done = c.in_ok-compact_memtables.ensures in
     record {
       usable = done.step.usable;
       order = c.requires.order ∙ sym (ap g.C.Cmp.cmp done.step.rest.cmp);
-      none_waits = done.tabled.1;
+      none_waits = done.tables_made.1;
     }
 
 pub returns-in_err-compact_by_reads-clause-compacts : goal.returns-in_err-compact_by_reads-clause-compacts
 returns-in_err-compact_by_reads-clause-compacts g c =
     let p = err_from_is_err_and c.from_residual-in_err-compact_by_reads.result c.from_residual-in_err-compact_by_reads.ensures.1 in
-    let done = c.in_ok-table_memory.ensures in
+    let done = c.in_ok-compact_memtables.ensures in
     rw (p.1, p.2)
     (record {
       keeps = range_then _ g.E.Env _ c.args.self.now c.args.env.now c.args.tables.now _ refl _
-          (memory_compacted _ g.E.Env _ c.args.self.now c.args.env.now c.args.tables.now _ refl _ (sym c.requires.order) (Ok tt) c.table_memory.new.self c.table_memory.new.env c.table_memory.new.tables done.step done.tables.none_new done.tables.closes)
+          (memory_compacted _ g.E.Env _ c.args.self.now c.args.env.now c.args.tables.now _ refl _ (sym c.requires.order) (Ok tt) c.compact_memtables.new.self c.compact_memtables.new.env c.compact_memtables.new.tables done.step done.tables.none_new done.tables.closes)
           c.in_err-compact_by_reads.ensures.compacts;
-      tabled = tt;
+      tables_made = tt;
       clear = tt;
     })
 
 pub loop-level-init : goal.loop-level-init
 loop-level-init g c =
-    let done = c.in_ok-table_memory.ensures in
+    let done = c.in_ok-compact_memtables.ensures in
     let read = c.in_ok-compact_by_reads.ensures in
     record {
       keeps = range_then _ g.E.Env _ c.args.self.now c.args.env.now c.args.tables.now _ refl _
-          (memory_compacted _ g.E.Env _ c.args.self.now c.args.env.now c.args.tables.now _ refl _ (sym c.requires.order) (Ok tt) c.table_memory.new.self c.table_memory.new.env c.table_memory.new.tables done.step done.tables.none_new done.tables.closes)
+          (memory_compacted _ g.E.Env _ c.args.self.now c.args.env.now c.args.tables.now _ refl _ (sym c.requires.order) (Ok tt) c.compact_memtables.new.self c.compact_memtables.new.env c.compact_memtables.new.tables done.step done.tables.none_new done.tables.closes)
           read.compacts;
-      tabled = (
-        ap (λ (v : OpenStoreValue g.row.C.Denot). v.recent.entries) read.compacts.memory ∙ done.tabled.0,
-        ap (λ (v : OpenStoreValue g.row.C.Denot). v.waiting) read.compacts.memory ∙ done.tabled.1,
+      tables_made = (
+        ap (λ (v : OpenStoreValue g.row.C.Denot). v.mem.entries) read.compacts.memory ∙ done.tables_made.0,
+        ap (λ (v : OpenStoreValue g.row.C.Denot). v.imm) read.compacts.memory ∙ done.tables_made.1,
       );
       clear = λ level less. absurd (omega (arith, less));
       entries = memory_compacts g.E.Env _ c.args.self.now c.args.env.now
-          (memory_tabled g.E.Env _ c.args.self.now c.args.env.now c.table_memory.new.env done.step.rest.store done.tables.entries)
+          (memory_in_tables g.E.Env _ c.args.self.now c.args.env.now c.compact_memtables.new.env done.step.rest.store done.tables.entries)
           read.compacts.memory (
             [],
-            subst (λ cmp. CompactsOnceAtMost cmp g.E.Env.models_disk c.table_memory.new.self (g.E.Env.observed c.table_memory.new.env) c.compact_by_reads.new.self (g.E.Env.observed c.compact_by_reads.new.env))
+            subst (λ cmp. CompactsOnceAtMost cmp g.E.Env.models_disk c.compact_memtables.new.self (g.E.Env.observed c.compact_memtables.new.env) c.compact_by_reads.new.self (g.E.Env.observed c.compact_by_reads.new.env))
                 (ap g.C.Cmp.cmp done.step.rest.cmp ∙ sym c.requires.order) read.keeps.once,
           );
       log = read.log ∙ done.log;
@@ -98,7 +98,7 @@ returns-in_err-compact_level-clause-compacts g c =
     rw (p.1, p.2)
     (record {
       keeps = range_then _ g.E.Env _ c.args.self.now c.args.env.now c.args.tables.now _ refl _ c.loop-level.invariant.keeps c.in_err-compact_level.ensures.compacts;
-      tabled = tt;
+      tables_made = tt;
       clear = tt;
     })
 
@@ -114,9 +114,9 @@ loop-level-preserved g c =
     let ends = ap user_part (c.internal_key-2.ensures ∙ c.in_ok-end.ensures.ok) ∙ user_part-internal_key to 0 TypeValue in
     record {
       keeps = range_then _ g.E.Env _ c.args.self.now c.args.env.now c.args.tables.now _ refl _ before.keeps done.compacts;
-      tabled = (
-        ap (λ (v : OpenStoreValue g.row.C.Denot). v.recent.entries) done.compacts.memory ∙ before.tabled.0,
-        ap (λ (v : OpenStoreValue g.row.C.Denot). v.waiting) done.compacts.memory ∙ before.tabled.1,
+      tables_made = (
+        ap (λ (v : OpenStoreValue g.row.C.Denot). v.mem.entries) done.compacts.memory ∙ before.tables_made.0,
+        ap (λ (v : OpenStoreValue g.row.C.Denot). v.imm) done.compacts.memory ∙ before.tables_made.1,
       );
       clear = clear_more (g.C.Cmp.cmp c.args.options.now.cmp) (named_range from to) level c.loop-level.self.set.full.added c.compact_level.new.self.set.full.added before.clear (clear_alike level c.compact_level.new.self.set.full.added same begins ends done.clear) done.above;
       entries = memory_compacts g.E.Env _ c.args.self.now c.args.env.now before.entries done.compacts.memory
@@ -133,18 +133,18 @@ returns-in_err-begin-clause-entries g c = memory_same g.E.Env _ c.args.self.now 
 pub returns-in_err-end-clause-entries : goal.returns-in_err-end-clause-entries
 returns-in_err-end-clause-entries g c = memory_same g.E.Env _ c.args.self.now c.args.env.now
 
-pub returns-in_err-table_memory-clause-entries : goal.returns-in_err-table_memory-clause-entries
-returns-in_err-table_memory-clause-entries g c =
-    memory_tabled g.E.Env _ c.args.self.now c.args.env.now c.table_memory.new.env c.in_err-table_memory.ensures.step.rest.store c.in_err-table_memory.ensures.tables.entries
+pub returns-in_err-compact_memtables-clause-entries : goal.returns-in_err-compact_memtables-clause-entries
+returns-in_err-compact_memtables-clause-entries g c =
+    memory_in_tables g.E.Env _ c.args.self.now c.args.env.now c.compact_memtables.new.env c.in_err-compact_memtables.ensures.step.rest.store c.in_err-compact_memtables.ensures.tables.entries
 
 pub returns-in_err-compact_by_reads-clause-entries : goal.returns-in_err-compact_by_reads-clause-entries
 returns-in_err-compact_by_reads-clause-entries g c =
-    let done = c.in_ok-table_memory.ensures in
+    let done = c.in_ok-compact_memtables.ensures in
     memory_compacts g.E.Env _ c.args.self.now c.args.env.now
-    (memory_tabled g.E.Env _ c.args.self.now c.args.env.now c.table_memory.new.env done.step.rest.store done.tables.entries)
+    (memory_in_tables g.E.Env _ c.args.self.now c.args.env.now c.compact_memtables.new.env done.step.rest.store done.tables.entries)
     c.in_err-compact_by_reads.ensures.compacts.memory (
       [],
-      subst (λ cmp. CompactsOnceAtMost cmp g.E.Env.models_disk c.table_memory.new.self (g.E.Env.observed c.table_memory.new.env) c.compact_by_reads.new.self (g.E.Env.observed c.compact_by_reads.new.env))
+      subst (λ cmp. CompactsOnceAtMost cmp g.E.Env.models_disk c.compact_memtables.new.self (g.E.Env.observed c.compact_memtables.new.env) c.compact_by_reads.new.self (g.E.Env.observed c.compact_by_reads.new.env))
           (ap g.C.Cmp.cmp done.step.rest.cmp ∙ sym c.requires.order) c.in_err-compact_by_reads.ensures.keeps.once,
     )
 

@@ -7,7 +7,7 @@ use Rattle.leveldb_version.specs.Overlap.{is_overlapped, named_range}
 use Rattle.leveldb_version.specs.TableCache.{table_options}
 use Rattle.leveldb_store.specs.BuildTable.{choices_of}
 use Rattle.leveldb_store.specs.Compact.{FailsToCompactRange, KeepsCompacted}
-use Rattle.leveldb_store.specs.KeptEntries.{TablesMemory}
+use Rattle.leveldb_store.specs.KeptEntries.{CompactsMemtables}
 use Rattle.leveldb_store.proofs.open_store.OpenStore.compact_range.Given as goal
 
 -- what the compactions so far keep, that nothing is in memory, and which levels are clear
@@ -19,8 +19,8 @@ invariant-loop-level g l =
     let by = table_options choices.format l.options in
     record {
       keeps : KeepsCompacted keys g.E.Env by l.fn.self l.fn.env l.fn.tables l.smallest (FailsToCompactRange keys g.E.Env by l.fn.self l.fn.env l.fn.tables choices) (Ok tt) l.self l.env l.tables;
-      tabled : (l.self.recent.entries ≡ []) × (l.self.waiting ≡ None);
+      tables_made : (l.self.mem.entries ≡ []) × (l.self.imm ≡ None);
       clear : (level : ℕ) → level < l.level → is_overlapped choices.format.order level (named_range l.from l.to) l.self.set.full.added ≡ false;
-      entries : TablesMemory g.E.Env choices.format l.fn.self l.fn.env l.self l.env;
+      entries : CompactsMemtables g.E.Env choices.format l.fn.self l.fn.env l.self l.env;
       log : is_some l.log ≡ is_some l.fn.log;
     }

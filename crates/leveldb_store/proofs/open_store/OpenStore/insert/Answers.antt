@@ -22,7 +22,7 @@ insert_prepared-requires-clause-new g c =
     let last = c.args.self.now.set.last_sequence in
     let same = ap (λ v. v.set.last_sequence) c.self.view_is in
     let first : c.sequence.result ≡ last + 1 = c.sequence.ensures ∙ c.requires.first in
-    new_after c.self.inside.versions.set.last_sequence c.self.inside.recent.kept.entries c.sequence.result c.args.batch.now.items c.self.invariant.6 (omega (arith, first, same))
+    new_after c.self.inside.versions.set.last_sequence c.self.inside.mem.kept.entries c.sequence.result c.args.batch.now.items c.self.invariant.6 (omega (arith, first, same))
 
 pub invariant_of-self : goal.invariant_of-self
 invariant_of-self g c =
@@ -40,7 +40,7 @@ invariant_of-self g c =
       λ modelled. subst HasOwnManifest (sym set) (is.4 modelled),
       λ e. is.5 (sym (ap (λ (s : VersionSetValue). s.manifest) set) ∙ e),
       subst (λ n. AreUpTo n c.insert_prepared.new.self.kept.entries) (sym now)
-          (inserted_up_to c.self.inside.versions.set.last_sequence c.self.inside.recent.kept.entries c.sequence.result c.args.batch.now.items
+          (inserted_up_to c.self.inside.versions.set.last_sequence c.self.inside.mem.kept.entries c.sequence.result c.args.batch.now.items
           c.insert_prepared.new.self.kept.entries is.6 first c.insert_prepared.ensures.adds.gains),
       is.7,
       ap (λ (v : VersionsValue g.row.C.Denot). v.current.cmp) versions ∙ is.8,

@@ -5,7 +5,7 @@ use Rattle.leveldb_version.specs.FullEdit.{files_after}
 use Rattle.leveldb_version.specs.VersionEdit.{Edit, NewFile, edit_of, new_file_of}
 use Rattle.leveldb_version.specs.Writing.{table_edit}
 use Rattle.leveldb_store.specs.OpenStore.{AreInLevels}
-use Rattle.leveldb_store.proofs.TableWaitingLemmas.{table_edit_fits, table_edit_made}
+use Rattle.leveldb_store.proofs.Level0TableLemmas.{table_edit_fits, table_edit_made}
 use Rattle.leveldb_store.proofs.open_store.OpenStore.log_table.Goals as goal
 
 pub log_tables-requires-clause-fits : goal.log_tables-requires-clause-fits

@@ -5,7 +5,7 @@ use Rattle.leveldb_version.specs.Change.{IsVersionAfter}
 use Rattle.leveldb_version.specs.LogEdit.{LogEditResult}
 use Rattle.leveldb_version.specs.VersionEdit.{edit_of}
 use Rattle.leveldb_store.proofs.CurrentVersionLemmas.{current_by, unlogged_store}
-use Rattle.leveldb_store.proofs.TableWaitingLemmas.{KeepsManifest, in_use_of, keeps_manifest, logged_given, logged_levels, own_again}
+use Rattle.leveldb_store.proofs.Level0TableLemmas.{KeepsManifest, in_use_of, keeps_manifest, logged_given, logged_levels, own_again}
 use Rattle.leveldb_store.proofs.open_store.OpenStore.log_tables.Goals as goal
 
 pub invariant_of-self : goal.invariant_of-self
@@ -24,7 +24,7 @@ invariant_of-self g c =
       c.self.invariant.3,
       λ modelled. own_again old new kept (c.self.invariant.4 modelled),
       kept.made,
-      subst (λ n. AreUpTo n c.self.inside.recent.kept.entries) (sym kept.last) c.self.invariant.6,
+      subst (λ n. AreUpTo n c.self.inside.mem.kept.entries) (sym kept.last) c.self.invariant.6,
       c.self.invariant.7,
       c.log_and_apply.ensures.cmp ∙ c.self.invariant.8,
       logged_given c.log_and_apply.result appends c.self.invariant.9 (rw (← c.self.view_is) at c.requires.given),

@@ -31,7 +31,7 @@ invariant_of-self g c =
       is.3,
       λ modelled. subst HasOwnManifest (sym gives.set) (is.4 modelled),
       λ e. is.5 (sym (ap (λ (s : VersionSetValue). s.manifest) gives.set) ∙ e),
-      subst (λ (s : VersionSetValue). AreUpTo s.last_sequence inside.recent.kept.entries) (sym gives.set) is.6,
+      subst (λ (s : VersionSetValue). AreUpTo s.last_sequence inside.mem.kept.entries) (sym gives.set) is.6,
       is.7,
       ap (λ (v : VersionValue g.row.C.Denot). v.cmp) c.merge_tables.ensures.version ∙ is.8,
       live_given inside.versions.set c.merge_tables.new.versions.set full gives.rises is.9,
@@ -62,8 +62,8 @@ returns-clause-makes g c =
       set = c.merge_tables.new.versions.set;
       current = current;
       log = record { number = c.self.inside.log.number; writer = c.self.inside.log.file.writer };
-      recent = c.self.inside.recent.kept;
-      waiting = option_map (λ memtable. memtable.kept) c.self.inside.waiting;
+      mem = c.self.inside.mem.kept;
+      imm = option_map (λ memtable. memtable.kept) c.self.inside.imm;
       keeps_files = c.self.inside.keeps_files;
     }) c.merge_tables.ensures.version))
 

@@ -13,17 +13,17 @@ returns-in_err-set g c =
       none_waits = tt;
     })
 
-pub begin_writing-requires : goal.begin_writing-requires
-begin_writing-requires g c = c.in_ok-set.ensures.ok.may
+pub open_to_write-requires : goal.open_to_write-requires
+open_to_write-requires g c = c.in_ok-set.ensures.ok.may
 
 pub returns : goal.returns
 returns g c = record {
   cause = recovered_caused g.E.Env _ c.args.name.now c.args.options.now.create_if_missing c.args.options.now.error_if_exists c.args.env.now c.args.options.now.write_buffer_size c.in_ok-set.set c.recover.new.env c.in_ok-set.ensures
-      c.begin_writing.new.env c.begin_writing.result c.begin_writing.ensures.begins;
+      c.open_to_write.new.env c.open_to_write.result c.open_to_write.ensures.begins;
   opens = recovered_then g.E.Env _ c.args.name.now c.args.options.now.create_if_missing c.args.options.now.error_if_exists c.args.env.now _ c.in_ok-set.set c.recover.new.env c.in_ok-set.ensures
-      c.begin_writing.new.env c.begin_writing.result c.begin_writing.ensures.begins;
+      c.open_to_write.new.env c.open_to_write.result c.open_to_write.ensures.begins;
   bytes = recovered_bytes g.E.Env _ c.args.name.now c.args.options.now.create_if_missing c.args.options.now.error_if_exists c.args.env.now _ c.in_ok-set.set c.recover.new.env c.in_ok-set.ensures
-      c.begin_writing.new.env c.begin_writing.result c.begin_writing.ensures.begins;
-  cmp = c.begin_writing.ensures.cmp;
-  none_waits = c.begin_writing.ensures.none_waits;
+      c.open_to_write.new.env c.open_to_write.result c.open_to_write.ensures.begins;
+  cmp = c.open_to_write.ensures.cmp;
+  none_waits = c.open_to_write.ensures.none_waits;
 }

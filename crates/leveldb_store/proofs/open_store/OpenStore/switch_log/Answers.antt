@@ -110,7 +110,7 @@ returns-clause-switches g c =
     (ap (λ v. v.cmp) same) (ap (λ v. v.keeps_files) same) (ap (λ v. v.current) same) (ap (λ v. v.set) same) (λ i. record { number = number_is i; writer = (c.in_ok-file.ensures.log i).writer })
     (ap (λ m. m.kept.entries) c.replace.ensures.after ∙ c.new-fresh.ensures.entries)
     (ap (λ m. m.kept.places) c.replace.ensures.after ∙ c.new-fresh.ensures.places)
-    (ap (λ m. Some m.kept) c.replace.ensures.value ∙ ap (λ v. Some v.recent) same) c.in_ok-file.ensures.cause.ok
+    (ap (λ m. Some m.kept) c.replace.ensures.value ∙ ap (λ v. Some v.mem) same) c.in_ok-file.ensures.cause.ok
 
 pub returns-clause-keeps : goal.returns-clause-keeps
 returns-clause-keeps g c = λ modelled meaning allowed w.
@@ -133,8 +133,8 @@ returns-clause-keeps g c = λ modelled meaning allowed w.
     (record {
       set = ap (λ v. v.set) same;
       log = λ i. record { number = number i; writer = (c.in_ok-file.ensures.log i).writer };
-      recent = ap (λ m. m.kept.entries) c.replace.ensures.after ∙ c.new-fresh.ensures.entries;
-      waiting = ap (λ m. Some m.kept) c.replace.ensures.value ∙ ap (λ v. Some v.recent) same;
+      mem = ap (λ m. m.kept.entries) c.replace.ensures.after ∙ c.new-fresh.ensures.entries;
+      imm = ap (λ m. Some m.kept) c.replace.ensures.value ∙ ap (λ v. Some v.mem) same;
     })
     c.requires.none_waits (opening.ok modelled)
 
@@ -148,7 +148,7 @@ invariant_of-self-in_err-path g c =
       c.self.invariant.3,
       λ modelled. subst HasOwnManifest (sym given) (c.self.invariant.4 modelled),
       λ e. c.self.invariant.5 (sym (ap (λ set. set.manifest) given) ∙ e),
-      subst (λ set. AreUpTo set.last_sequence c.self.inside.recent.kept.entries) (sym given) c.self.invariant.6,
+      subst (λ set. AreUpTo set.last_sequence c.self.inside.mem.kept.entries) (sym given) c.self.invariant.6,
       c.self.invariant.7,
       ap (λ (v : VersionsValue g.row.C.Denot). v.current.cmp) versions ∙ c.self.invariant.8,
       live_given c.self.inside.versions.set c.new_file_number.new.self.set (ap (λ (s : VersionSetValue). s.full) given) (omega (arith, ap (λ (s : VersionSetValue). s.next_file) given)) c.self.invariant.9,
@@ -165,7 +165,7 @@ invariant_of-self-2 g c =
       c.self.invariant.3,
       λ modelled. subst HasOwnManifest (sym given) (c.self.invariant.4 modelled),
       λ e. c.self.invariant.5 (sym (ap (λ set. set.manifest) given) ∙ e),
-      subst (λ set. AreUpTo set.last_sequence c.self.inside.recent.kept.entries) (sym given) c.self.invariant.6,
+      subst (λ set. AreUpTo set.last_sequence c.self.inside.mem.kept.entries) (sym given) c.self.invariant.6,
       c.self.invariant.7,
       ap (λ (v : VersionsValue g.row.C.Denot). v.current.cmp) versions ∙ c.self.invariant.8,
       live_given c.self.inside.versions.set c.new_file_number.new.self.set (ap (λ (s : VersionSetValue). s.full) given) (omega (arith, ap (λ (s : VersionSetValue). s.next_file) given)) c.self.invariant.9,
@@ -182,7 +182,7 @@ invariant_of-self g c =
       c.self.invariant.3,
       λ modelled. subst HasOwnManifest (sym same) (c.self.invariant.4 modelled),
       λ e. c.self.invariant.5 (sym (ap (λ set. set.manifest) same) ∙ e),
-      subst (λ set. AreUpTo set.last_sequence c.self.inside.recent.kept.entries) (sym same) c.self.invariant.6,
+      subst (λ set. AreUpTo set.last_sequence c.self.inside.mem.kept.entries) (sym same) c.self.invariant.6,
       c.self.invariant.7,
       ap (λ (v : VersionsValue g.row.C.Denot). v.current.cmp) versions ∙ c.self.invariant.8,
       live_given c.self.inside.versions.set c.new_file_number.new.self.set (ap (λ (s : VersionSetValue). s.full) same) (omega (arith, ap (λ (s : VersionSetValue). s.next_file) same)) c.self.invariant.9,

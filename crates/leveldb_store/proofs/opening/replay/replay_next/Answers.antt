@@ -2,7 +2,7 @@ use Rattle.std.proofs.Common.{◌≡◌, ◌==◌, ◌∙◌, inl, inr, false, t
 use Rattle.std.proofs.lemmas.Bool.{eq-eqb, eqb-true}
 use Rattle.std.proofs.lemmas.Result.{err_from_is_err_and}
 use Rattle.leveldb_store.proofs.ReplayLogLemmas.{none_of_length}
-use Rattle.leveldb_store.proofs.ReplayNextLemmas.{IsBoth, ReplaysNext-tabled, ReplaysNext-torn, ReplaysNext-unlisted, ReplaysNext-unread, ReplaysNext-untabled, ReplaysNext-used}
+use Rattle.leveldb_store.proofs.ReplayNextLemmas.{IsBoth, ReplaysNext-tables_made, ReplaysNext-torn, ReplaysNext-unlisted, ReplaysNext-unread, ReplaysNext-not_in_tables, ReplaysNext-used}
 use Rattle.leveldb_store.proofs.opening.replay.replay_next.Goals.{then-replay, else-replay, else-may_go_on-via-then-may_go_on+then-log+else-is_empty, else-may_go_on-via-then-may_go_on+else-log, else-may_go_on-via-else-may_go_on}
 use Rattle.leveldb_store.proofs.opening.replay.replay_next.Goals as goal
 
@@ -31,7 +31,7 @@ pub returns-in_err-tables-clause-replays : goal.returns-in_err-tables-clause-rep
 returns-in_err-tables-clause-replays g c =
     let log = c.in_ok-log.log in
     let failed = err_from_is_err_and c.from_residual-in_err-tables.result c.from_residual-in_err-tables.ensures.1 in
-    rw (failed.1, failed.2) (ReplaysNext-untabled g.E.Env _ _ c.args.number c.args.may_go_on c.args.replay.now c.args.versions.now c.args.env.now log c.in_ok-log.ensures.replays c.requires.none
+    rw (failed.1, failed.2) (ReplaysNext-not_in_tables g.E.Env _ _ c.args.number c.args.may_go_on c.args.replay.now c.args.versions.now c.args.env.now log c.in_ok-log.ensures.replays c.requires.none
     c.in_ok-check_empty_if_torn.ensures.ok c.in_err-tables.ensures.spares _ c.in_err-tables.ensures.cause _)
 
 pub returns-in_err-append-clause-replays : goal.returns-in_err-append-clause-replays
@@ -46,7 +46,7 @@ returns-clause-replays g c =
     let log = c.in_ok-log.log in
     let both : IsBoth c.args.replay.now.is_clean log.is_clean c.if-replay.replay = elim c.if-replay.branch [ then-replay w ↦ inl (w.if-replay.true, w.replay-is) | else-replay w ↦ inr (w.if-replay.false, w.replay-is ∙ w.if-replay.false) ] in
     let items : c.append.new.self.items ≡ c.args.replay.now.tables.items ++ c.in_ok-tables.tables.items = c.in_ok-append.ensures.items in
-    ReplaysNext-tabled g.E.Env _ _ c.args.number c.args.may_go_on c.args.replay.now c.args.versions.now c.args.env.now log c.in_ok-log.ensures.replays c.requires.none
+    ReplaysNext-tables_made g.E.Env _ _ c.args.number c.args.may_go_on c.args.replay.now c.args.versions.now c.args.env.now log c.in_ok-log.ensures.replays c.requires.none
     c.in_ok-check_empty_if_torn.ensures.ok c.in_ok-tables.ensures.spares c.in_ok-tables.ensures.cause.ok c.in_ok-tables.tables.items c.in_ok-tables.ensures.ok _ c.requires.none refl both items refl
 
 pub returns-clause-unused : goal.returns-clause-unused

@@ -24,10 +24,10 @@ returns-in-Some g c =
     let found = c.get.ensures.value ∙ ap (λ k. value_of k tables.pairs) key in
     let tables_are = c.get.follows.holds-at-none ∙ ap (λ k. record tables { pairs = looked_for k tables.pairs }) key in
     let there : table_at old number ≡ Some c.in-Some.table.now = sym found ∙ ap option_copied c.in-Some.is in
-    let found_pair = found_with c.find.new.finder c.find.result in
+    let found_pair = found_with c.find.new.key_buffers c.find.result in
     record {
-      uses = uses_open keys g.E.Env by refl old state number c.ranges.number.fits c.in-Some.table.now there _ tables_are _ refl c.args.key.now found_pair c.find.new.finder c.find.ensures;
-      gets = λ modelled was. gets_open keys g.E.Env by refl old state number c.ranges.number.fits c.in-Some.table.now there _ tables_are _ refl c.args.key.now found_pair c.find.new.finder c.find.ensures modelled was;
+      uses = uses_open keys g.E.Env by refl old state number c.ranges.number.fits c.in-Some.table.now there _ tables_are _ refl c.args.key.now found_pair c.find.new.key_buffers c.find.ensures;
+      gets = λ modelled was. gets_open keys g.E.Env by refl old state number c.ranges.number.fits c.in-Some.table.now there _ tables_are _ refl c.args.key.now found_pair c.find.new.key_buffers c.find.ensures modelled was;
       in_open = in_open (table_at old number) there c.find.ensures;
     }
 
@@ -45,8 +45,8 @@ returns-in_err-table g c =
     let tables_are = c.get.follows.holds-at-none ∙ ap (λ k. record tables { pairs = looked_for k tables.pairs }) key in
     let none : table_at old number ≡ None = sym found ∙ ap option_copied c.in_default.is in
     let opens = opens_before keys g.E.Env by refl old state number c.ranges.number.fits none tables_are c.in_err-table.ensures in
-    let result = found_with c.open.new.self.finder c.from_residual.result in
-    let refused = found_refused _ c.open.new.self.finder c.from_residual.result c.from_residual.ensures.1 in
+    let result = found_with c.open.new.self.key_buffers c.from_residual.result in
+    let refused = found_refused _ c.open.new.self.key_buffers c.from_residual.result c.from_residual.ensures.1 in
     record {
       uses = uses_unopened keys g.E.Env by refl old state number c.ranges.number.fits none result refused opens _ (λ other why. inl why);
       gets = λ modelled was. gets_unopened keys g.E.Env by refl old state number c.ranges.number.fits none result refused opens modelled was;
@@ -69,11 +69,11 @@ returns-then-cap-eq0 g c =
     let opens = opens_before keys g.E.Env by refl old state number c.ranges.number.fits none tables_are c.in_ok-table.ensures in
     let table = c.in_ok-table.table in
     let now = c.open.new.self in
-    let found_pair = found_with c.find-then-cap-eq0.new.finder c.find-then-cap-eq0.result in
+    let found_pair = found_with c.find-then-cap-eq0.new.key_buffers c.find-then-cap-eq0.result in
     let put = put_none (table_key number) table (tables_of now) (sym c.cap.ensures ∙ c.if-cap-eq0.true) in
     record {
-      uses = uses_looked keys g.E.Env by refl old state number c.ranges.number.fits none table now opens _ refl c.args.key.now found_pair c.find-then-cap-eq0.new.finder table refl c.find-then-cap-eq0.ensures _ put;
-      gets = λ modelled was. gets_looked keys g.E.Env by refl old state number c.ranges.number.fits none table now opens _ refl c.args.key.now found_pair c.find-then-cap-eq0.new.finder table refl c.find-then-cap-eq0.ensures _ put modelled was;
+      uses = uses_looked keys g.E.Env by refl old state number c.ranges.number.fits none table now opens _ refl c.args.key.now found_pair c.find-then-cap-eq0.new.key_buffers table refl c.find-then-cap-eq0.ensures _ put;
+      gets = λ modelled was. gets_looked keys g.E.Env by refl old state number c.ranges.number.fits none table now opens _ refl c.args.key.now found_pair c.find-then-cap-eq0.new.key_buffers table refl c.find-then-cap-eq0.ensures _ put modelled was;
       in_open = λ other at. absurd (none_value none at);
     }
 
@@ -93,8 +93,8 @@ returns-in_err-insert g c =
     let opens = opens_before keys g.E.Env by refl old state number c.ranges.number.fits none tables_are c.in_ok-table.ensures in
     let table = c.in_ok-table.table in
     let now = c.open.new.self in
-    let result = found_with now.finder c.from_residual-in_err-insert.result in
-    let refused = found_refused _ now.finder c.from_residual-in_err-insert.result c.from_residual-in_err-insert.ensures.1 in
+    let result = found_with now.key_buffers c.from_residual-in_err-insert.result in
+    let refused = found_refused _ now.key_buffers c.from_residual-in_err-insert.result c.from_residual-in_err-insert.ensures.1 in
     let insert = c.in_err-insert.ensures in
     record {
       uses = uses_unkept keys g.E.Env by refl old state number c.ranges.number.fits none table now opens result insert.memory refused _ insert.err;
@@ -118,13 +118,13 @@ returns g c =
     let opens = opens_before keys g.E.Env by refl old state number c.ranges.number.fits none tables_are c.in_ok-table.ensures in
     let table = c.in_ok-table.table in
     let now = c.open.new.self in
-    let found_pair = found_with c.find-2.new.finder c.find-2.result in
+    let found_pair = found_with c.find-2.new.key_buffers c.find-2.result in
     let put = rw key at c.in_ok-insert.ensures.ok in
     let cap = c.cap.ensures in
     let some = c.if-cap-eq0.false in
     let it = put_found (table_key number) c.table_key-name.result table (tables_of now) c.insert.new.self key put (omega (arith, cap, some)) c.unwrap-table.result.now (sym (ap option_copied c.unwrap-table.ensures) ∙ c.peek.ensures) in
     record {
-      uses = uses_looked keys g.E.Env by refl old state number c.ranges.number.fits none table now opens _ refl c.args.key.now found_pair c.find-2.new.finder c.unwrap-table.result.now it c.find-2.ensures _ put;
-      gets = λ modelled was. gets_looked keys g.E.Env by refl old state number c.ranges.number.fits none table now opens _ refl c.args.key.now found_pair c.find-2.new.finder c.unwrap-table.result.now it c.find-2.ensures _ put modelled was;
+      uses = uses_looked keys g.E.Env by refl old state number c.ranges.number.fits none table now opens _ refl c.args.key.now found_pair c.find-2.new.key_buffers c.unwrap-table.result.now it c.find-2.ensures _ put;
+      gets = λ modelled was. gets_looked keys g.E.Env by refl old state number c.ranges.number.fits none table now opens _ refl c.args.key.now found_pair c.find-2.new.key_buffers c.unwrap-table.result.now it c.find-2.ensures _ put modelled was;
       in_open = λ other at. absurd (none_value none at);
     }

@@ -23,7 +23,7 @@ returns g c =
     let options = c.args.options.now in
     let keys = key_order g.row.C g.C.UserCmp g.C.UserCmp-dict g.C.Cmp g.C.Cmp-dict in
     let by = table_options (format_of g.C.Cmp g.FP.FilterPolicy (compressors g.dyn-2).codings options) options in
-    let pair = pair_with c.find.new.self.finder c.in_ok-value.value in
+    let pair = pair_with c.find.new.self.key_buffers c.in_ok-value.value in
     let gets = subst (λ (key : List ℕ). IsTrue g.E.Env.models_disk → MatchesFiles keys g.E.Env by (files_at g.E.Env c.args.env.now) c.args.tables.now
     → GetsPair keys g.E.Env by c.args.number key c.args.env.now c.args.tables.now (Ok pair) c.find.new.env c.find.new.self) c.internal_key.ensures c.in_ok-value.ensures.gets in
     search_answers g.E.Env by c.args.key.now c.args.env.now c.args.tables.now c.args.number pair c.value_at.result c.in_ok-value.ensures.uses gets

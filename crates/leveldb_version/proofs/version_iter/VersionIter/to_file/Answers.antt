@@ -1,6 +1,6 @@
 use Rattle.std.proofs.Common.{◌≡◌, ◌<◌, ◌∙◌, Err, Ok, ap, length, refl, subst, sym, true}
 use Rattle.leveldb_base.specs.contracts.cmp.internal.InternalKeyCmpCmp.TheImpl.{ghosts as key_order}
-use Rattle.leveldb_version.specs.VersionIter.{MovesToFile, TurnsTo}
+use Rattle.leveldb_version.specs.VersionIter.{MovesToFile, KeepsTableOrNone}
 use Rattle.leveldb_version.proofs.VersionIterLemmas.{to_file_empty, to_file_made, to_file_past, to_file_refused}
 use Rattle.leveldb_version.proofs.version_iter.VersionIter.to_file.Goals as goal
 
@@ -14,7 +14,7 @@ returns-in_err-step g c =
     let old = c.args.self.now in
     let turned = c.turn_to.new.self in
     let at : turned.at ≡ c.args.at = c.turn_to.ensures.at in
-    let turns = subst (λ n. TurnsTo old.at old.core n turned.core) (sym at) c.turn_to.ensures.turns in
+    let turns = subst (λ n. KeepsTableOrNone old.at old.core n turned.core) (sym at) c.turn_to.ensures.turns in
     let within : turned.at < length old.files.now = subst (λ n. n < length old.files.now) (sym at) c.if-at-self.false in
     subst (λ n. MovesToFile keys g.E.Env g.C.Cmp g.FP.FilterPolicy g.K.Compressors.codings n c.args.to (c.args.env.now, c.args.tables.now) old c.from_residual.result (c.step.new.env, c.step.new.tables) c.step.new.self) at
     (to_file_refused _ g.E.Env g.C.Cmp g.FP.FilterPolicy g.K.Compressors.codings (c.args.env.now, c.args.tables.now) old turned turns (ap (λ f. f.now) c.turn_to.ensures.files) c.args.to c.requires (Err c.in_err-step.field-0.0) (c.step.new.env, c.step.new.tables) c.step.new.self c.in_err-step.ensures within refl c.from_residual.result c.from_residual.ensures.1)
@@ -25,7 +25,7 @@ returns-then-branch g c =
     let old = c.args.self.now in
     let turned = c.turn_to.new.self in
     let at : turned.at ≡ c.args.at = c.turn_to.ensures.at in
-    let turns = subst (λ n. TurnsTo old.at old.core n turned.core) (sym at) c.turn_to.ensures.turns in
+    let turns = subst (λ n. KeepsTableOrNone old.at old.core n turned.core) (sym at) c.turn_to.ensures.turns in
     let within : turned.at < length old.files.now = subst (λ n. n < length old.files.now) (sym at) c.if-at-self.false in
     subst (λ n. MovesToFile keys g.E.Env g.C.Cmp g.FP.FilterPolicy g.K.Compressors.codings n c.args.to (c.args.env.now, c.args.tables.now) old (Ok true) (c.step.new.env, c.step.new.tables) c.step.new.self) at
     (subst (λ r. MovesToFile keys g.E.Env g.C.Cmp g.FP.FilterPolicy g.K.Compressors.codings turned.at c.args.to (c.args.env.now, c.args.tables.now) old r (c.step.new.env, c.step.new.tables) c.step.new.self) (c.in_ok-step.was ∙ ap Ok c.if-branch.true)
@@ -37,7 +37,7 @@ returns g c =
     let old = c.args.self.now in
     let turned = c.turn_to.new.self in
     let at : turned.at ≡ c.args.at = c.turn_to.ensures.at in
-    let turns = subst (λ n. TurnsTo old.at old.core n turned.core) (sym at) c.turn_to.ensures.turns in
+    let turns = subst (λ n. KeepsTableOrNone old.at old.core n turned.core) (sym at) c.turn_to.ensures.turns in
     let within : turned.at < length old.files.now = subst (λ n. n < length old.files.now) (sym at) c.if-at-self.false in
     subst (λ n. MovesToFile keys g.E.Env g.C.Cmp g.FP.FilterPolicy g.K.Compressors.codings n c.args.to (c.args.env.now, c.args.tables.now) old c.err.result (c.step.new.env, c.step.new.tables) c.step.new.self) at
     (to_file_empty _ g.E.Env g.C.Cmp g.FP.FilterPolicy g.K.Compressors.codings (c.args.env.now, c.args.tables.now) old turned turns (ap (λ f. f.now) c.turn_to.ensures.files) c.args.to c.requires c.step.result (c.step.new.env, c.step.new.tables) c.step.new.self c.step.ensures within (c.in_ok-step.was ∙ ap Ok c.if-branch.false) c.err.result c.err.ensures.code)

@@ -9,7 +9,7 @@ use Rattle.leveldb_version.specs.Format.{format_of}
 use Rattle.leveldb_store.specs.BuildTable.{choices_of}
 use Rattle.leveldb_store.specs.SoundCall.{TimeGoesOn}
 use Rattle.rusty_leveldb.specs.RunCalls.{CallsInTurn}
-use Rattle.rusty_leveldb.proofs.Playing.{PlaysSoFar}
+use Rattle.rusty_leveldb.proofs.Playing.{RunsCommandsSoFar}
 use Rattle.rusty_leveldb.proofs.shell.runs.run.Given as goal
 
 abbrev pub invariant-loop-command : goal.invariant-loop-command
@@ -17,7 +17,7 @@ invariant-loop-command g l =
     (g.E.Env.failures l.fn.env ≤ g.E.Env.failures l.env)
     × (vec_len l.replies + (length l.commands - l.command-index) ≤ vec_capacity l.replies)
     × (given : List Reply) × (l.replies.items ≡ l.fn.replies.items ++ given) × (length given ≡ l.command-index)
-    × PlaysSoFar g.row.C.Denot g.row.FP.Denot (key_order g.row.C g.C.UserCmp g.C.UserCmp-dict g.C.Cmp g.C.Cmp-dict) g.E.Env (format_of g.C.Cmp g.FP.FilterPolicy (compressors g.dyn-2).codings) l.name l.fn.env (opening_of g.C.Cmp g.FP.FilterPolicy (compressors g.dyn-2).codings l.fn.opt) (take l.command-index l.commands) given (map snapshot_of l.taken.items) l.engine l.env
+    × RunsCommandsSoFar g.row.C.Denot g.row.FP.Denot (key_order g.row.C g.C.UserCmp g.C.UserCmp-dict g.C.Cmp g.C.Cmp-dict) g.E.Env (format_of g.C.Cmp g.FP.FilterPolicy (compressors g.dyn-2).codings) l.name l.fn.env (opening_of g.C.Cmp g.FP.FilterPolicy (compressors g.dyn-2).codings l.fn.opt) (take l.command-index l.commands) given (map snapshot_of l.taken.items) l.engine l.env
     × TimeGoesOn g.E.Env l.fn.env l.env
     × CallsInTurn g.E.Env (choices_of g.C.Cmp g.FP.FilterPolicy (key_order g.row.C g.C.UserCmp g.C.UserCmp-dict g.C.Cmp g.C.Cmp-dict) (key_policy g.row.FP g.FP.FilterPolicy g.FP.FilterPolicy-dict) (compressors g.dyn-2).codings)
     l.initial.engine l.initial.env [] (take l.command-index l.commands) given l.engine l.env l.taken.items

@@ -16,4 +16,4 @@ returns g c =
     set_read g.E.Env.models_disk (g.C.Cmp.cmp c.args.options.now.cmp) (g.C.Cmp.name c.args.options.now.cmp) c.args.self.now
     (g.E.Env.observed c.args.env.now) (g.E.Env.observed c.plan.new.env) (g.E.Env.failures c.args.env.now) (g.E.Env.failures c.plan.new.env) c.plan.ensures.still c.plan.ensures.locks
     c.args.options.now.reuse_manifest c.args.options.now.max_file_size c.in_ok-plan.plan c.in_ok-plan.ensures.ok c.in_ok-plan.ensures.cause.ok
-    c.settle.new.self _ c.settle.ensures (ap (λ (s : VersionSetValue). record s { manifest = broken }) c.self.view_is)
+    c.install.new.self _ c.install.ensures (ap (λ (s : VersionSetValue). record s { manifest = broken }) c.self.view_is)

@@ -15,6 +15,6 @@ returns-in_err-plan g c =
 pub returns : goal.returns
 returns g c =
     subst (λ (failed : ℕ). RecoverResult g.E.Env.models_disk (g.C.Cmp.cmp c.args.options.now.cmp) (g.C.Cmp.name c.args.options.now.cmp) c.args.options.now.reuse_manifest c.args.options.now.max_file_size c.args.self.now
-    (g.E.Env.observed c.args.env.now) failed c.carry_out.result c.carry_out.new.self (g.E.Env.observed c.carry_out.new.env) (g.E.Env.failures c.carry_out.new.env)) c.in_ok-plan.ensures.cause.ok
-    (c.carry_out.ensures.recovers (g.C.Cmp.cmp c.args.options.now.cmp) (g.C.Cmp.name c.args.options.now.cmp) c.args.options.now.reuse_manifest c.args.options.now.max_file_size
+    (g.E.Env.observed c.args.env.now) failed c.apply_plan.result c.apply_plan.new.self (g.E.Env.observed c.apply_plan.new.env) (g.E.Env.failures c.apply_plan.new.env)) c.in_ok-plan.ensures.cause.ok
+    (c.apply_plan.ensures.recovers (g.C.Cmp.cmp c.args.options.now.cmp) (g.C.Cmp.name c.args.options.now.cmp) c.args.options.now.reuse_manifest c.args.options.now.max_file_size
     c.args.env.now c.in_ok-plan.ensures.ok c.plan.ensures.still c.plan.ensures.locks)

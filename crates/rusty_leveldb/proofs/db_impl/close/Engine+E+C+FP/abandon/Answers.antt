@@ -27,7 +27,7 @@ returns-then-eq g c =
     record {
       ok = row.0;
       err = row.1;
-      halted = λ closed. (refl, tt);
+      refused_by_mode = λ closed. (refl, tt);
       step = step;
       others = λ modelled own. spares_still c.args.self.store.set.store (λ path. ⊥)
           (g.E.Env.observed c.args.env.now).disk;
@@ -51,7 +51,7 @@ returns g c =
     record {
       ok = row.0;
       err = row.1;
-      halted = λ closed. absurd (open_still closed);
+      refused_by_mode = λ closed. absurd (open_still closed);
       step = step;
       others = abandon_others g.E.Env c.args.self c.args.env.now c.give_back.new.env
           c.give_back.result c.give_back.ensures.does c.deref.result.now lock

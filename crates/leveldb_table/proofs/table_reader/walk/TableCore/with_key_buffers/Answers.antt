@@ -1,6 +1,6 @@
 use Rattle.std.proofs.Common.{None, ◌∙◌, ap, rules}
 use Rattle.leveldb_table.specs.Block.{pairs_of}
-use Rattle.leveldb_table.proofs.table_reader.walk.TableCore.with_finder.Goals as goal
+use Rattle.leveldb_table.proofs.table_reader.walk.TableCore.with_key_buffers.Goals as goal
 
 pub returns-clause-ok : goal.returns-clause-ok
 returns-clause-ok g c =

@@ -8,26 +8,26 @@ use std::mem;
 /// Where look-ups in tables keep their keys: one that is used again takes no memory for them. Its
 /// value is the key of the pair that was found last.
 #[derive(Drop)]
-pub struct Finder {
+pub struct KeyBuffers {
     // the room for the key of a line of an index
     line_key: Vec<u8>,
     key: Vec<u8>,
 }
 
-impl Model for Finder {
+impl Model for KeyBuffers {
     ghost use Rattle.std.specs.Prelude.{ℕ, List};
 
     ghost Value = { List ℕ };
 
-    ghost view = { λ finder. finder.key.items };
+    ghost view = { λ key_buffers. key_buffers.key.items };
 }
 
-impl Finder {
+impl KeyBuffers {
     /// A finder that has found nothing. It takes no memory yet.
-    pub fn new(alloc: Global) -> Finder
+    pub fn new(alloc: Global) -> KeyBuffers
         ensures { result ≡ [] }
     {
-        Finder {
+        KeyBuffers {
             line_key: Vec::new(alloc),
             key: Vec::new(alloc),
         }
@@ -54,7 +54,7 @@ impl Finder {
         ensures key { result.1.items ≡ self.old }
         ensures none { self.new ≡ [] }
     {
-        let Finder { line_key, key } = mem::replace(self, Finder::new(alloc));
+        let KeyBuffers { line_key, key } = mem::replace(self, KeyBuffers::new(alloc));
         (line_key, key)
     }
 
@@ -62,6 +62,6 @@ impl Finder {
     pub(crate) fn keep(&mut self, line_key: Vec<u8>, key: Vec<u8>)
         ensures { self.new ≡ key.items }
     {
-        *self = Finder { line_key, key };
+        *self = KeyBuffers { line_key, key };
     }
 }

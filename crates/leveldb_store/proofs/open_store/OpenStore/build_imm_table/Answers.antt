@@ -1,5 +1,5 @@
 use Rattle.std.proofs.Common.{◌≡◌, ◌∙◌, sym}
-use Rattle.leveldb_store.proofs.open_store.OpenStore.build_waiting.Goals as goal
+use Rattle.leveldb_store.proofs.open_store.OpenStore.build_imm_table.Goals as goal
 
 pub returns-clause-makes : goal.returns-clause-makes
 returns-clause-makes g c =

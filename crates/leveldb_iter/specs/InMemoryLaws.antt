@@ -4,12 +4,12 @@ use Rattle.std.specs.Prelude.{◌≡◌, List, ℕ, Option}
 use Rattle.std.proofs.Common.{sym, ap, ◌∙◌, subst, refl}
 use Rattle.leveldb_base.specs.Types.{Pair, IsPosition, pair_at}
 use Rattle.leveldb_base.specs.declared.types.LdbIterator.{Ghosts as IteratorGhosts}
-use Rattle.leveldb_iter.specs.declared.unlent.Unlent.{Unlent}
+use Rattle.leveldb_iter.specs.declared.in_memory.InMemory.{InMemory}
 use Rattle.leveldb_iter.specs.Walk.{KeyOrder, WalkLaws}
-use Rattle.leveldb_iter.specs.Unlent.{IsAloneOver, IsAloneAt, FailsAlone, alone_here}
+use Rattle.leveldb_iter.specs.InMemory.{IsAloneOver, IsAloneAt, FailsAlone, alone_here}
 
 module _ {W M : Type 0} {iterator : IteratorGhosts M} where
-  alone_at_position : (world : W) (it : Unlent M) (order : KeyOrder) (pairs : List Pair)
+  alone_at_position : (world : W) (it : InMemory M) (order : KeyOrder) (pairs : List Pair)
       (position : Option ℕ) → IsAloneAt iterator world it order pairs position
       → alone_here iterator it ≡ pair_at pairs position
   alone_at_position world it order pairs position at =
@@ -17,7 +17,7 @@ module _ {W M : Type 0} {iterator : IteratorGhosts M} where
       ap (pair_at (iterator.pairs it.0)) (sym at.position_is)
       ∙ ap (λ list. pair_at list position) (sym over.pairs_are)
 
-  alone_in_range : (world : W) (it : Unlent M) (order : KeyOrder) (pairs : List Pair)
+  alone_in_range : (world : W) (it : InMemory M) (order : KeyOrder) (pairs : List Pair)
       (position : Option ℕ) → IsPosition (iterator.pairs it.0) (iterator.position it.0)
       → IsAloneAt iterator world it order pairs position → IsPosition pairs position
   alone_in_range world it order pairs position within at =
@@ -25,7 +25,7 @@ module _ {W M : Type 0} {iterator : IteratorGhosts M} where
       subst (λ list. IsPosition list position) (sym over.pairs_are)
       (subst (IsPosition (iterator.pairs it.0)) (sym at.position_is) within)
 
-  stays_alone : (first second : W) (it : Unlent M) (order : KeyOrder) (pairs : List Pair)
+  stays_alone : (first second : W) (it : InMemory M) (order : KeyOrder) (pairs : List Pair)
       → IsAloneOver iterator first it order pairs → IsAloneOver iterator second it order pairs
   stays_alone first second it order pairs over =
       record { order_is = over.order_is; pairs_are = over.pairs_are; sorted = over.sorted }

@@ -22,20 +22,20 @@ use Rattle.leveldb_version.specs.VersionEdit.{NewFile, new_file_of}
 use Rattle.leveldb_version.specs.VersionSetValue.{OpenManifest, VersionSetValue, broken, in_use, with_number_given}
 use Rattle.leveldb_version.specs.Writing.{table_edit}
 use Rattle.leveldb_store.proofs.CurrentVersionLemmas.{lower_stay}
-use Rattle.leveldb_store.proofs.NoNewEntriesLemmas.{adds_none_tabled}
+use Rattle.leveldb_store.proofs.NoNewEntriesLemmas.{adds_none_tables_made}
 use Rattle.leveldb_store.proofs.TableKeepsLemmas.{appending_and_syncing, is_table_path, types_apart}
-use Rattle.leveldb_store.proofs.TableWaitingLemmas.{has_made, same_logged}
+use Rattle.leveldb_store.proofs.Level0TableLemmas.{has_made, same_logged}
 use Rattle.leveldb_store.specs.BuildTable.{MakesTable, TableChoices}
 use Rattle.leveldb_store.specs.OpenStore.{AreNumbersGiven, HasOwnManifest, OpenStoreValue}
-use Rattle.leveldb_store.specs.Written.{IsWritten, waiting_entries}
+use Rattle.leveldb_store.specs.Written.{IsWritten, imm_entries}
 use Rattle.leveldb_store.specs.WrittenFrom.{AddsNoEntry}
 
 module _ {E F C D FP : Type 0} {order : CmpGhosts D} {filters : FilterGhosts FP} (env : Ghosts E F)
     (choices : TableChoices order filters) (old : OpenStoreValue C) (from mid : E) (level : ℕ)
-    (file : FileMetaData) (some : waiting_entries old.waiting ≢ [])
-    (each : Each IsInternalPair (map internal_pair (waiting_entries old.waiting))
-    (waiting_entries old.waiting))
-    (m : MakesTable choices (map internal_pair (waiting_entries old.waiting)) env (λ status. ⊥)
+    (file : FileMetaData) (some : imm_entries old.imm ≢ [])
+    (each : Each IsInternalPair (map internal_pair (imm_entries old.imm))
+    (imm_entries old.imm))
+    (m : MakesTable choices (map internal_pair (imm_entries old.imm)) env (λ status. ⊥)
     old.set.store old.set.next_file from (Ok file) mid)
     (modelled : IsTrue env.models_disk) (cmp : List ℕ → List ℕ → Ordering)
     (same : choices.format.order ≡ cmp) (meaning : Meaning)
@@ -53,7 +53,7 @@ module _ {E F C D FP : Type 0} {order : CmpGhosts D} {filters : FilterGhosts FP}
   it = new_file_of (level, file)
 
   abbrev table : LiveTable
-  table = record { file = it; entries = waiting_entries old.waiting }
+  table = record { file = it; entries = imm_entries old.imm }
 
   added_is : set.full.added ≡ old.set.full.added ++ it ∷ []
   added_is =
@@ -80,9 +80,9 @@ module _ {E F C D FP : Type 0} {order : CmpGhosts D} {filters : FilterGhosts FP}
 
   pub table_adds_none : (next : VersionValue C) → IsWritten cmp meaning old (files_at env from)
       → AddsNoEntry cmp meaning old (files_at env from)
-      (record old { set = set; current = next; waiting = None }) (files_at env to)
+      (record old { set = set; current = next; imm = None }) (files_at env to)
   table_adds_none next w =
-      adds_none_tabled cmp meaning old (record old { set = set; current = next; waiting = None })
+      adds_none_tables_made cmp meaning old (record old { set = set; current = next; imm = None })
       (files_at env from) (files_at env to) table w
       (ap (λ (s : VersionSetValue). s.store) l.ok) added_is
       (same_logged env choices old from usable next_fits mid level file m manifest used own {to = to}

@@ -8,11 +8,11 @@ use leveldb_base::types::LdbIterator;
 /// An iterator that borrows what it reads from once, or owns it, as a walk whose moves need nothing
 /// of the environment and the tables that they borrow.
 #[derive(Drop)]
-pub struct Unlent<M>(pub M);
+pub struct InMemory<M>(pub M);
 
-impl<E, T, M: LdbIterator> Walk<E, T> for Unlent<M> {
-    ghost use Rattle.leveldb_iter.specs.Unlent.{IsAloneOver, IsAloneAt, FailsAlone, alone_here};
-    ghost use Rattle.leveldb_iter.specs.UnlentLaws.{alone_laws};
+impl<E, T, M: LdbIterator> Walk<E, T> for InMemory<M> {
+    ghost use Rattle.leveldb_iter.specs.InMemory.{IsAloneOver, IsAloneAt, FailsAlone, alone_here};
+    ghost use Rattle.leveldb_iter.specs.InMemoryLaws.{alone_laws};
 
     ghost over = { IsAloneOver M.LdbIterator };
 

@@ -53,8 +53,8 @@ use Rattle.leveldb_store.specs.BuildTable.{MakesTable, TableChoices}
 use Rattle.leveldb_version.specs.Format.{Agrees, Format, IsTableOf, Meaning}
 use Rattle.leveldb_store.specs.OpenStore.{AreInLevels, AreNumbersGiven, HasOwnManifest, OpenStoreValue}
 use Rattle.leveldb_store.specs.SoundCall.{IsSoundCall}
-use Rattle.leveldb_store.specs.Switch.{FailsToTableWaiting, TablesWaiting}
-use Rattle.leveldb_store.specs.Written.{IsData, IsDataPath, IsWritten, KeepsStore, KeepsWritten, Shows, SparesRest, memory_of, waiting_entries}
+use Rattle.leveldb_store.specs.Switch.{FailsToWriteLevel0Table, WritesLevel0Table}
+use Rattle.leveldb_store.specs.Written.{IsData, IsDataPath, IsWritten, KeepsStore, KeepsWritten, HasView, SparesRest, memory_of, imm_entries}
 
 -- ---- the edit
 
@@ -93,12 +93,12 @@ table_edit_fits log level file fits = record {
 -- ---- what waits
 
 -- a memtable that waits has entries
-pub waiting_has_entries : {C : Type 0} (waiting : Option (MemTableState C))
-    → option_map (λ memtable. memtable.kept) waiting ≢ None
-    → IfSome waiting (λ memtable. memtable.kept.entries ≢ [])
-    → waiting_entries (option_map (λ memtable. memtable.kept) waiting) ≢ []
-waiting_has_entries None waits some = absurd (waits refl)
-waiting_has_entries (Some memtable) waits some = some
+pub imm_has_entries : {C : Type 0} (imm : Option (MemTableState C))
+    → option_map (λ memtable. memtable.kept) imm ≢ None
+    → IfSome imm (λ memtable. memtable.kept.entries ≢ [])
+    → imm_entries (option_map (λ memtable. memtable.kept) imm) ≢ []
+imm_has_entries None waits some = absurd (waits refl)
+imm_has_entries (Some memtable) waits some = some
 
 -- ---- the set after an edit
 
@@ -271,7 +271,7 @@ module _ {C : Type 0} (cmp : List ℕ → List ℕ → Ordering) (meaning : Mean
         (level : file.level ≡ output_level cmp (file_range file) old.set.full.added)
         (number : file.number ≡ old.set.next_file) (edit_fits : FitsEdit file)
         (has : HasTable old.set.store cmp (IsTableOf cmp meaning) v1.disk.files
-        (record { file = file; entries = waiting_entries old.waiting }))
+        (record { file = file; entries = imm_entries old.imm }))
         (kept : IsKept (v1.disk.files (table_path old.set.store file.number)))
         (models_disk : Bool) (modelled : IsTrue models_disk) (v2 : Observed)
         (failed now_failed : ℕ) (set : VersionSetValue) where
@@ -331,18 +331,18 @@ module _ {C : Type 0} (cmp : List ℕ → List ℕ → Ordering) (meaning : Mean
           l = logs (w1 is).manifest (w1 is).is_in_use
 
       -- where it is
-      pub keeps_tabled : Logs (Ok tt)
-          → KeepsWritten cmp meaning old v0 (record old { set = set; waiting = None }) v2
-      keeps_tabled logs allowed is = record {
+      pub keeps_tables_made : Logs (Ok tt)
+          → KeepsWritten cmp meaning old v0 (record old { set = set; imm = None }) v2
+      keeps_tables_made logs allowed is = record {
         moments = run_logged is (Ok tt) logs (λ s. IsTrue (allowed s));
         written = λ unbroken.
-            subst (λ x. IsWritten cmp meaning (record old { set = x; waiting = None })
+            subst (λ x. IsWritten cmp meaning (record old { set = x; imm = None })
             v2.disk.files) (sym l.ok)
             (written_done cmp meaning old v0.disk.files is next_fits v1.disk.files run.has
             (bytes is.by.tracked.bytes) total file level number edit_fits has kept v2.disk.files
             files);
         shows = λ history since s.
-            subst (λ x. Shows cmp meaning (record old { set = x; waiting = None }) v2.disk.files
+            subst (λ x. HasView cmp meaning (record old { set = x; imm = None }) v2.disk.files
             history since) (sym l.ok)
             (shows_done cmp meaning old v0.disk.files is next_fits v1.disk.files run.has
             (bytes is.by.tracked.bytes) total file level number edit_fits has kept v2.disk.files
@@ -365,10 +365,10 @@ module _ {C : Type 0} (cmp : List ℕ → List ℕ → Ordering) (meaning : Mean
 module _ {E F C D FP : Type 0} {order : CmpGhosts D} {filters : FilterGhosts FP} (env : Ghosts E F)
     (choices : TableChoices order filters) (old : OpenStoreValue C) (from : E) where
   abbrev pairs : List Pair
-  pairs = map internal_pair (waiting_entries old.waiting)
+  pairs = map internal_pair (imm_entries old.imm)
 
   abbrev Tables : Result (Unit {0}) Status → OpenStoreValue C → E → Type 0
-  Tables result new to = TablesWaiting env old from choices pairs result new to
+  Tables result new to = WritesLevel0Table env old from choices pairs result new to
 
   spares_nothing : SparesRest env.models_disk old (env.observed from) old (env.observed from)
   spares_nothing = record {
@@ -386,7 +386,7 @@ module _ {E F C D FP : Type 0} {order : CmpGhosts D} {filters : FilterGhosts FP}
 
   -- nothing was done
   pub tables_nothing : (status : Status)
-      → FailsToTableWaiting env old from choices pairs from status → Tables (Err status) old from
+      → FailsToWriteLevel0Table env old from choices pairs from status → Tables (Err status) old from
   tables_nothing status why = record {
     logged = tt;
     none_waits = tt;
@@ -396,7 +396,7 @@ module _ {E F C D FP : Type 0} {order : CmpGhosts D} {filters : FilterGhosts FP}
     tables = record { live = λ file there. there; files = λ modelled number fits given. refl };
     err = inl (inl refl);
     broken_before = λ is. (refl, refl);
-    recent = refl;
+    mem = refl;
     log = refl;
     rest = spares_nothing;
     cause = record { later = omega arith; ok = tt; uncounted = λ excused. refl; cause = inl why };
@@ -453,7 +453,7 @@ module _ {E F C D FP : Type 0} {order : CmpGhosts D} {filters : FilterGhosts FP}
       tables = record { live = λ file there. there; files = same_made (Err status) m };
       err = inl (inr refl);
       broken_before = λ is. absurd (usable is);
-      recent = refl;
+      mem = refl;
       log = refl;
       rest = record {
         store = refl;
@@ -478,7 +478,7 @@ module _ {E F C D FP : Type 0} {order : CmpGhosts D} {filters : FilterGhosts FP}
       };
     }
       where
-        uncounted : FailsToTableWaiting env old from choices pairs mid status
+        uncounted : FailsToWriteLevel0Table env old from choices pairs mid status
             → env.failures mid ≡ env.failures from
         uncounted (inl used) = never_used_up status used
         uncounted (inr (inl memory)) = m.cause.uncounted (inl memory)
@@ -578,7 +578,7 @@ module _ {E F C D FP : Type 0} {order : CmpGhosts D} {filters : FilterGhosts FP}
         };
         err = ⊎_elim (λ memory. inl (inr memory.1)) (λ broke. inr broke) l.err;
         broken_before = λ is. absurd (usable is);
-        recent = refl;
+        mem = refl;
         log = refl;
         rest = record {
           store = either (λ s. s.store) refl refl;
@@ -611,7 +611,7 @@ module _ {E F C D FP : Type 0} {order : CmpGhosts D} {filters : FilterGhosts FP}
               (λ memory. omega (arith, ap (λ (s : VersionSetValue). s.next_file) memory.1))
               (λ is. omega (arith, ap (λ (s : VersionSetValue). s.next_file) is)) l.err
 
-          uncounted : FailsToTableWaiting env old from choices pairs to status
+          uncounted : FailsToWriteLevel0Table env old from choices pairs to status
               → env.failures to ≡ env.failures from
           uncounted (inl numbers) = never_used_up status numbers
           uncounted (inr (inl memory)) = l.cause.uncounted (inl memory) ∙ same_count
@@ -624,7 +624,7 @@ module _ {E F C D FP : Type 0} {order : CmpGhosts D} {filters : FilterGhosts FP}
       pub tables_logged : AreNumbersGiven old.set old.set.full.added → (next : VersionValue C)
           → IsVersionAfter choices.format.order (table_edit old.log.number (new_file_of (level, file))) old.current next → level ≡ output_level choices.format.order (file_range (new_file_of (level, file)))
           old.set.full.added → Logged (Ok tt)
-          → Tables (Ok tt) (record old { set = set; current = next; waiting = None }) to
+          → Tables (Ok tt) (record old { set = set; current = next; imm = None }) to
       tables_logged given next gains picked l = record {
         logged = record {
           manifest = manifest;
@@ -641,7 +641,7 @@ module _ {E F C D FP : Type 0} {order : CmpGhosts D} {filters : FilterGhosts FP}
         tables = record { live = still_live; files = same_logged (Ok tt) l };
         err = tt;
         broken_before = λ is. absurd (usable is);
-        recent = refl;
+        mem = refl;
         log = refl;
         rest = record {
           store = ap (λ (s : VersionSetValue). s.store) l.ok;
@@ -678,10 +678,10 @@ module _ {E F C D FP : Type 0} {order : CmpGhosts D} {filters : FilterGhosts FP}
 
 module _ {E F C D FP : Type 0} {order : CmpGhosts D} {filters : FilterGhosts FP} (env : Ghosts E F)
     (choices : TableChoices order filters) (old : OpenStoreValue C) (from mid : E)
-    (level : ℕ) (file : FileMetaData) (some : waiting_entries old.waiting ≢ [])
-    (each : Each IsInternalPair (map internal_pair (waiting_entries old.waiting))
-    (waiting_entries old.waiting))
-    (m : MakesTable choices (map internal_pair (waiting_entries old.waiting)) env (λ status. ⊥)
+    (level : ℕ) (file : FileMetaData) (some : imm_entries old.imm ≢ [])
+    (each : Each IsInternalPair (map internal_pair (imm_entries old.imm))
+    (imm_entries old.imm))
+    (m : MakesTable choices (map internal_pair (imm_entries old.imm)) env (λ status. ⊥)
     old.set.store old.set.next_file from (Ok file) mid)
     (modelled : IsTrue env.models_disk) (cmp : List ℕ → List ℕ → Ordering)
     (same : choices.format.order ≡ cmp) (meaning : Meaning)
@@ -689,7 +689,7 @@ module _ {E F C D FP : Type 0} {order : CmpGhosts D} {filters : FilterGhosts FP}
   abbrev made_table : LiveTable
   made_table = record {
     file = new_file_of (level, file);
-    entries = waiting_entries old.waiting;
+    entries = imm_entries old.imm;
   }
 
   -- the table is there by what names and ids mean
@@ -700,8 +700,8 @@ module _ {E F C D FP : Type 0} {order : CmpGhosts D} {filters : FilterGhosts FP}
       let known : IsMeaningOf meaning.filters f.policy_name (λ key. f.matches (user_part key)) =
       subst (λ (o : Option (List ℕ → List ℕ → Bool)).
       IfSome o (λ known. known ≡ (λ key. f.matches (user_part key)))) (sym agrees.filters) refl in
-      let here = m.has (some_pairs (waiting_entries old.waiting) some) modelled meaning.filters level
-      (waiting_entries old.waiting) known each in
+      let here = m.has (some_pairs (imm_entries old.imm) some) modelled meaning.filters level
+      (imm_entries old.imm) known each in
       subst (λ o. HasTable old.set.store o (IsTableOf o meaning) (env.observed mid).disk.files
       made_table) same
       (held_tables_by_more (Decodes f.codings) (Decodes meaning.codings)
@@ -711,7 +711,7 @@ module _ {E F C D FP : Type 0} {order : CmpGhosts D} {filters : FilterGhosts FP}
   -- all of it is kept
   kept_made : IsKept ((env.observed mid).disk.files (table_path old.set.store file.num))
   kept_made = subst IsKept
-      (sym ((m.made (some_pairs (waiting_entries old.waiting) some)).kept modelled)) refl
+      (sym ((m.made (some_pairs (imm_entries old.imm) some)).kept modelled)) refl
 
   module _ (next_fits : old.set.next_file + 1 < 2 ^ 64) (total : IsTotalOrder cmp)
       (picked : level ≡ output_level cmp (file_range (new_file_of (level, file)))
@@ -735,9 +735,9 @@ module _ {E F C D FP : Type 0} {order : CmpGhosts D} {filters : FilterGhosts FP}
     -- one that was
     pub keeps_done : LogsEdit (Ok tt)
         → KeepsWritten cmp meaning old (env.observed from)
-        (record old { set = set; waiting = None }) (env.observed to)
+        (record old { set = set; imm = None }) (env.observed to)
     keeps_done logs =
-        keeps_tabled cmp meaning old next_fits (env.observed from) (env.observed mid)
+        keeps_tables_made cmp meaning old next_fits (env.observed from) (env.observed mid)
         (m.run modelled) (m.bytes modelled) total (new_file_of (level, file)) picked m.number_is.0
         (m.fits level) has_made kept_made env.models_disk modelled (env.observed to)
         (env.failures mid) (env.failures to) set logs

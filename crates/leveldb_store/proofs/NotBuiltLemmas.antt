@@ -17,7 +17,7 @@ use Rattle.leveldb_table.specs.PutBlock.{IsNoMetaindex, IsNotPut, IsPutError, St
 use Rattle.leveldb_table.specs.TableBuilder.{IsNewBuilder, TableBuilt}
 use Rattle.leveldb_table.specs.TableBuilderAdd.{IsAddError, IsNotAdded, IsNotClosed, IsNotLined}
 use Rattle.leveldb_table.specs.TableBuilderFinish.{IsFinishError, StopsFromFilters, StopsFromIndex}
-use Rattle.leveldb_store.specs.BuildTable.{AreSomeNotTabled, HasTaken, IsNotTabled, TableChoices, flushes_all, puts_all}
+use Rattle.leveldb_store.specs.BuildTable.{AreSomeNotBuilt, HasTaken, IsNotBuilt, TableChoices, flushes_all, puts_all}
 use Rattle.leveldb_store.specs.TableFile.{IsAddFault, IsFinishFault}
 use Rattle.leveldb_version.specs.Format.{HasCompressorError}
 
@@ -152,13 +152,13 @@ module _ (codings : Codings) (status : Status) where
 
 -- Memory is out; it isn't supported, as an entry, a filter or a count that is too large, or an id
 -- without a compressor; or a compressor that is set fails for a block.
-pub not_tabled_causes : {C FP : Type 0} {order : CmpGhosts C} {filters : FilterGhosts FP}
+pub not_built_causes : {C FP : Type 0} {order : CmpGhosts C} {filters : FilterGhosts FP}
     (choices : TableChoices order filters) (pairs : List Pair) (status : Status)
-    → IsNotTabled choices pairs status
+    → IsNotBuilt choices pairs status
     → IsOutOfMemory status ⊎ (status.code ≡ NotSupported)
     ⊎ HasCompressorError choices.format status.code
-not_tabled_causes choices pairs status (inl memory) = inl memory
-not_tabled_causes {order = order} {filters = filters} choices pairs status
+not_built_causes choices pairs status (inl memory) = inl memory
+not_built_causes {order = order} {filters = filters} choices pairs status
     (inr (core, new, stops)) = ⊎_elim (λ memory. inl memory)
     (λ other. inr (⊎_elim (λ code. inl code)
     (λ is. inr (record { id = is.0; coding = is.1; is_set = is.2; block = is.3; fails = is.4 }))
@@ -189,10 +189,10 @@ module _ {C FP : Type 0} {order : CmpGhosts C} {filters : FilterGhosts FP}
     (taken : HasTaken order filters choices.format.codings puts_all core [] pairs mid written)
     {status : Status} where
   -- it doesn't take the next pair
-  pub not_tabled_next : (pair : Pair)
+  pub not_built_next : (pair : Pair)
       → IsAddFault order filters choices.format.codings mid pair status
-      → IsNotTabled choices (pairs ++ pair ∷ []) status
-  not_tabled_next pair fault =
+      → IsNotBuilt choices (pairs ++ pair ∷ []) status
+  not_built_next pair fault =
       let failed = fault written in
       inr (
         core,
@@ -211,9 +211,9 @@ module _ {C FP : Type 0} {order : CmpGhosts C} {filters : FilterGhosts FP}
       )
 
   -- it doesn't finish
-  pub not_tabled_end : IsFinishFault order filters choices.format.codings mid status
-      → IsNotTabled choices pairs status
-  not_tabled_end fault =
+  pub not_built_end : IsFinishFault order filters choices.format.codings mid status
+      → IsNotBuilt choices pairs status
+  not_built_end fault =
       let failed = fault written in
       inr (
         core,
@@ -228,19 +228,19 @@ module _ {C FP : Type 0} {order : CmpGhosts C} {filters : FilterGhosts FP}
       )
 
 -- of some of more pairs no table is built either
-pub some_not_tabled : {C FP : Type 0} {order : CmpGhosts C} {filters : FilterGhosts FP}
+pub some_not_built : {C FP : Type 0} {order : CmpGhosts C} {filters : FilterGhosts FP}
     (choices : TableChoices order filters) {pairs more : List Pair} {status : Status}
     → ((pair : Pair) → Contains pairs pair → Contains more pair)
-    → IsNotTabled choices pairs status → AreSomeNotTabled choices more status
-some_not_tabled choices {pairs} among not =
-    record { some = pairs; among = among; not_tabled = not }
+    → IsNotBuilt choices pairs status → AreSomeNotBuilt choices more status
+some_not_built choices {pairs} among not =
+    record { some = pairs; among = among; not_built = not }
 
-pub more_not_tabled : {C FP : Type 0} {order : CmpGhosts C} {filters : FilterGhosts FP}
+pub more_not_built : {C FP : Type 0} {order : CmpGhosts C} {filters : FilterGhosts FP}
     (choices : TableChoices order filters) {pairs more : List Pair} {status : Status}
     → ((pair : Pair) → Contains pairs pair → Contains more pair)
-    → AreSomeNotTabled choices pairs status → AreSomeNotTabled choices more status
-more_not_tabled choices among not = record {
+    → AreSomeNotBuilt choices pairs status → AreSomeNotBuilt choices more status
+more_not_built choices among not = record {
   some = not.some;
   among = λ pair there. among pair (not.among pair there);
-  not_tabled = not.not_tabled;
+  not_built = not.not_built;
 }

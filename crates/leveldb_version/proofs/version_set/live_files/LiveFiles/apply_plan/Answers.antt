@@ -1,7 +1,7 @@
 use Rattle.std.proofs.Common.{refl}
 use Rattle.std.proofs.lemmas.Result.{err_from_is_err_and}
 use Rattle.leveldb_version.proofs.RecoveredLemmas.{recovered_anew, recovered_going_on, reopening_refused}
-use Rattle.leveldb_version.proofs.version_set.live_files.LiveFiles.carry_out.Goals as goal
+use Rattle.leveldb_version.proofs.version_set.live_files.LiveFiles.apply_plan.Goals as goal
 
 pub returns-in_err-file-clause-recovers : goal.returns-in_err-file-clause-recovers
 returns-in_err-file-clause-recovers g c = λ cmp comparator reuse limit start is still locks.
@@ -14,9 +14,9 @@ pub returns-then-plan-clause-recovers : goal.returns-then-plan-clause-recovers
 returns-then-plan-clause-recovers g c = λ cmp comparator reuse limit start is still locks.
     recovered_going_on g.E.Env.models_disk cmp comparator reuse limit c.args.self.now _ (g.E.Env.observed start) c.args.plan is (g.E.Env.observed c.args.env.now) (g.E.Env.observed c.reopen.new.env)
     (g.E.Env.failures c.args.env.now) (g.E.Env.failures c.args.env.now) (g.E.Env.failures c.reopen.new.env) still locks c.reopen.ensures.locks refl c.if-plan.true
-    _ c.in_ok-file.ensures.does c.in_ok-file.ensures.cause.ok c.settle.ensures
+    _ c.in_ok-file.ensures.does c.in_ok-file.ensures.cause.ok c.install.ensures
 
 pub returns-clause-recovers : goal.returns-clause-recovers
 returns-clause-recovers g c = λ cmp comparator reuse limit start is still locks.
     recovered_anew g.E.Env.models_disk cmp comparator reuse limit c.args.self.now _ (g.E.Env.observed start) c.args.plan is (g.E.Env.observed c.args.env.now)
-    (g.E.Env.failures c.args.env.now) (g.E.Env.failures c.args.env.now) still locks refl c.if-plan.false c.settle-2.ensures
+    (g.E.Env.failures c.args.env.now) (g.E.Env.failures c.args.env.now) still locks refl c.if-plan.false c.install-2.ensures

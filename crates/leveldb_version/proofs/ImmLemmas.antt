@@ -31,7 +31,7 @@ use Rattle.leveldb_version.specs.VersionEdit.{Edit, FieldFits, IsEncodable, NewF
 use Rattle.leveldb_version.specs.VersionSet.{is_same_file, level_file, live_after}
 use Rattle.leveldb_version.specs.VersionSetValue.{OpenManifest, VersionSetValue}
 use Rattle.leveldb_version.specs.Writing.{EngineMemory, IsTrackedBy, IsWrittenBy, table_edit}
-use Rattle.leveldb_version.specs.WritingLaws.{HasWaiting, TablesAreInRange, WaitingIsTabledByEdits, WaitingMayGoToLevelZero}
+use Rattle.leveldb_version.specs.WritingLaws.{HasImm, TablesAreInRange, ImmBecomesTableByEdits, ImmMayGoToLevelZero}
 use Rattle.std.proofs.Common.{◌++◌, ◌<◌, ◌^◌, ◌∙◌, ◌∷◌, ◌≡◌, ◌≤◌, ◌⊎◌, Bool, List, [], ap, append-nil, arith, false, inl, inr, refl, subst, sym, true, ℕ, ⊎_elim}
 use Rattle.std.proofs.lemmas.Bool.{cases_lt}
 use Rattle.std.proofs.lemmas.List.Elements.{Contains-append_cases, Contains-append_left}
@@ -95,23 +95,23 @@ module _ (store : List ℕ) (cmp : List ℕ → List ℕ → Ordering)
       (subst (λ ps. Each IsInternalPair ps a.entries) pairs p.each) q.each
 
   -- the entries that wait are in logs
-  pub waiting_in_logs : (files : Files) (edits : List Edit) (memory : EngineMemory)
+  pub imm_in_logs : (files : Files) (edits : List Edit) (memory : EngineMemory)
       (w : IsWrittenBy store cmp IsTableOf files edits memory) (entry : Entry)
-      → Contains memory.waiting entry → Contains (log_entries w.tracked.managed.logs) entry
-  waiting_in_logs files edits memory w entry c =
-      let l = (w.waiting_is entry).0 c in
+      → Contains memory.imm entry → Contains (log_entries w.tracked.managed.logs) entry
+  imm_in_logs files edits memory w entry c =
+      let l = (w.imm_is entry).0 c in
       in_logs w.tracked.managed.logs l.0 entry l.1 l.3
 
   -- so a table of them may be added to level 0
-  pub waiting_may_go_to_level_zero : WaitingMayGoToLevelZero store cmp IsTableOf
-  waiting_may_go_to_level_zero ranges files edits memory w table has level entries numbers tables
+  pub imm_may_go_to_level_zero : ImmMayGoToLevelZero store cmp IsTableOf
+  imm_may_go_to_level_zero ranges files edits memory w table has level entries numbers tables
       has_tables one = record {
         bounded = ranges files table has;
         newer = λ a b in_tables in_table same_key.
             w.tracked.managed.fit.below a b
             (tables_in store cmp IsTableOf one files (live_after edits) tables
             w.tracked.managed.tables has_tables w.tracked.managed.has_tables a in_tables)
-            (waiting_in_logs files edits memory w b ((entries b).0 in_table));
+            (imm_in_logs files edits memory w b ((entries b).0 in_table));
         above = λ a c less. absurd (omega (arith, level, less));
         beside = λ a c same deep. absurd (omega (arith, level, same, deep));
         number = λ a c a_level its_level. let h = has_tables.each a c in numbers a.file h.2 h.1;
@@ -124,7 +124,7 @@ module _ (store : List ℕ) (cmp : List ℕ → List ℕ → Ordering)
   module _ (one : OneTableReading IsTableOf) (total : IsTotalOrder cmp)
       (ranges : TablesAreInRange store cmp IsTableOf) (files : Files) (edits : List Edit)
       (memory : EngineMemory) (w : IsWrittenBy store cmp IsTableOf files edits memory)
-      (table : LiveTable) (h : HasWaiting store cmp IsTableOf files edits memory table)
+      (table : LiveTable) (h : HasImm store cmp IsTableOf files edits memory table)
       (can : IsEncodable (written_edit memory.set (table_edit memory.log table.file))) where
     abbrev plain : Edit
     plain = table_edit memory.log table.file
@@ -218,12 +218,12 @@ module _ (store : List ℕ) (cmp : List ℕ → List ℕ → Ordering)
 
     wrote : SameEntries (table_entries (table ∷ [])) (log_entries p.front)
     wrote entry = (
-      λ c. let l = (w.waiting_is entry).0 ((h.entries entry).0
+      λ c. let l = (w.imm_is entry).0 ((h.entries entry).0
           (subst (λ es. Contains es entry) (append-nil table.entries) c)) in
           in_logs p.front l.0 entry (in_front_of memory.log m.logs p l.0 l.1 l.2) l.3,
       λ c. let l = log_of p.front entry c in
           subst (λ es. Contains es entry) (sym (append-nil table.entries))
-          ((h.entries entry).1 ((w.waiting_is entry).1
+          ((h.entries entry).1 ((w.imm_is entry).1
           (l.0, front_is_in memory.log m.logs p l.0 l.1, p.before l.0 l.1, l.2))),
     )
 
@@ -243,12 +243,12 @@ module _ (store : List ℕ) (cmp : List ℕ → List ℕ → Ordering)
     exact : EditRefines store cmp IsTableOf memory.set.last_sequence files edits edit
     exact = takes.refines memory.set.last_sequence (omega arith)
 
-    waiting_edit_keeps : AreBytes (edit_record memory.set plain)
+    imm_edit_keeps : AreBytes (edit_record memory.set plain)
         → (bound : ℕ) → memory.set.last_sequence ≤ bound → (now : Files)
         → AppendingAndSyncing w.manifest.path
         (frame w.manifest.writer (edit_record memory.set plain)) files now
         → KeepsHistory store cmp IsTableOf allowed bound files now
-    waiting_edit_keeps bytes bound most now passes =
+    imm_edit_keeps bytes bound most now passes =
         appended_edits_keep store cmp IsTableOf allowed files edits memory.set plain
         w.tracked.tracks w.tracked.store_is w.tracked.bytes can bytes bound
         (takes.refines bound most) w.manifest w.is_in_use now passes
@@ -328,7 +328,7 @@ module _ (store : List ℕ) (cmp : List ℕ → List ℕ → Ordering)
       }
 
       written_then : IsWrittenBy store cmp IsTableOf now then
-          (record memory { set = set_then; waiting = [] })
+          (record memory { set = set_then; imm = [] })
       written_then = record {
         tracked = tracked_then;
         manifest = manifest_then;
@@ -336,8 +336,8 @@ module _ (store : List ℕ) (cmp : List ℕ → List ℕ → Ordering)
         writable = writable_then;
         log_is = w.log_is;
         from_log = omega arith;
-        recent_is = w.recent_is;
-        waiting_is = λ entry. (
+        mem_is = w.mem_is;
+        imm_is = λ entry. (
           λ c. absurd (in_none entry c),
           λ l. let up = takes.from_log l.0.number
               (tracked_then.managed.has_logs.each l.0 l.1).1 in
@@ -347,10 +347,10 @@ module _ (store : List ℕ) (cmp : List ℕ → List ℕ → Ordering)
         last_fits = w.last_fits;
       }
 
-  pub waiting_is_tabled : WaitingIsTabledByEdits store cmp IsTableOf allowed
-  waiting_is_tabled one total ranges files edits memory w table h next_fits number_fits size_fits
+  pub imm_becomes_table : ImmBecomesTableByEdits store cmp IsTableOf allowed
+  imm_becomes_table one total ranges files edits memory w table h next_fits number_fits size_fits
       first last = record {
-        keeps = waiting_edit_keeps one total ranges files edits memory w table h can bytes;
+        keeps = imm_edit_keeps one total ranges files edits memory w table h can bytes;
         after = written_then one total ranges files edits memory w table h can bytes;
       }
     where

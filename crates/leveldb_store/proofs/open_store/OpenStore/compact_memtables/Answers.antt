@@ -4,108 +4,108 @@ use Rattle.leveldb_store.proofs.KeptEntriesLemmas.{entries_switched, entries_the
 use Rattle.leveldb_store.proofs.LoggedEditsLemmas.{more_tables, two_tables}
 use Rattle.leveldb_store.proofs.NoNewEntriesLemmas.{adds_none_in_order, steps_add_none, switch_adds_none}
 use Rattle.leveldb_store.proofs.OpenTablesLemmas.{closes_after, closes_none, closes_then}
-use Rattle.leveldb_store.proofs.RoomLemmas.{fails_first, step_for, step_switched, step_tabled, usable_switched}
-use Rattle.leveldb_store.proofs.open_store.OpenStore.table_memory.Goals as goal
+use Rattle.leveldb_store.proofs.RoomLemmas.{fails_first, step_for, step_switched, step_tables_made, usable_switched}
+use Rattle.leveldb_store.proofs.open_store.OpenStore.compact_memtables.Goals as goal
 
-pub returns-in_err-table_if_waiting-clause-step : goal.returns-in_err-table_if_waiting-clause-step
-returns-in_err-table_if_waiting-clause-step g c =
+pub returns-in_err-compact_memtable-clause-step : goal.returns-in_err-compact_memtable-clause-step
+returns-in_err-compact_memtable-clause-step g c =
     let old = c.args.self.now in
     let from = c.args.env.now in
     let cmp = g.C.Cmp.cmp old.cmp in
     let p = err_from_is_err_and c.from_residual.result c.from_residual.ensures.1 in
-    let failed = c.in_err-table_if_waiting.ensures.waiting in
+    let failed = c.in_err-compact_memtable.ensures.imm in
     rw (p.1, p.2)
-    (step_for g.E.Env cmp _ (fails_first g.E.Env cmp _ old from) old from _ c.table_if_waiting.new.self c.table_if_waiting.new.env failed.step)
+    (step_for g.E.Env cmp _ (fails_first g.E.Env cmp _ old from) old from _ c.compact_memtable.new.self c.compact_memtable.new.env failed.step)
 
 pub returns-in_err-switch_log-clause-step : goal.returns-in_err-switch_log-clause-step
 returns-in_err-switch_log-clause-step g c =
-    let first = c.in_ok-table_if_waiting.ensures.waiting in
+    let first = c.in_ok-compact_memtable.ensures.imm in
     let failed = c.in_err-switch_log.ensures in
     let p = err_from_is_err_and c.from_residual-in_err-switch_log.result c.from_residual-in_err-switch_log.ensures.1 in
     rw (p.1, p.2)
-    (step_switched g.E.Env g.C.Cmp.cmp _ c.args.self.now c.table_if_waiting.new.self c.args.env.now c.table_if_waiting.new.env first.step first.numbers _ c.switch_log.new.self c.switch_log.new.env failed.switches failed.keeps failed.sound)
+    (step_switched g.E.Env g.C.Cmp.cmp _ c.args.self.now c.compact_memtable.new.self c.args.env.now c.compact_memtable.new.env first.step first.numbers _ c.switch_log.new.self c.switch_log.new.env failed.switches failed.keeps failed.sound)
 
-pub table_if_waiting-requires-2-clause-usable : goal.table_if_waiting-requires-2-clause-usable
-table_if_waiting-requires-2-clause-usable g c =
-    let first = c.in_ok-table_if_waiting.ensures.waiting in
+pub compact_memtable-requires-2-clause-usable : goal.compact_memtable-requires-2-clause-usable
+compact_memtable-requires-2-clause-usable g c =
+    let first = c.in_ok-compact_memtable.ensures.imm in
     let done = c.in_ok-switch_log.ensures in
-    usable_switched g.E.Env c.table_if_waiting.new.self c.table_if_waiting.new.env first.step.usable (Ok tt) c.switch_log.new.self c.switch_log.new.env done.switches
+    usable_switched g.E.Env c.compact_memtable.new.self c.compact_memtable.new.env first.step.usable (Ok tt) c.switch_log.new.self c.switch_log.new.env done.switches
 
-pub returns-in_err-table_if_waiting-2-clause-step : goal.returns-in_err-table_if_waiting-2-clause-step
-returns-in_err-table_if_waiting-2-clause-step g c =
+pub returns-in_err-compact_memtable-2-clause-step : goal.returns-in_err-compact_memtable-2-clause-step
+returns-in_err-compact_memtable-2-clause-step g c =
     let order = g.C.Cmp.cmp in
     let old = c.args.self.now in
     let from = c.args.env.now in
-    let mid = c.table_if_waiting.new.self in
-    let at = c.table_if_waiting.new.env in
-    let first = c.in_ok-table_if_waiting.ensures.waiting in
+    let mid = c.compact_memtable.new.self in
+    let at = c.compact_memtable.new.env in
+    let first = c.in_ok-compact_memtable.ensures.imm in
     let done = c.in_ok-switch_log.ensures in
     let second = step_switched g.E.Env order _ old mid from at first.step first.numbers (Ok tt) c.switch_log.new.self c.switch_log.new.env done.switches done.keeps done.sound in
-    let p = err_from_is_err_and c.from_residual-in_err-table_if_waiting-2.result c.from_residual-in_err-table_if_waiting-2.ensures.1 in
+    let p = err_from_is_err_and c.from_residual-in_err-compact_memtable-2.result c.from_residual-in_err-compact_memtable-2.ensures.1 in
     rw (p.1, p.2)
-    (step_tabled g.E.Env order _ old mid from at first.step first.numbers first.recent c.switch_log.new.self c.switch_log.new.env done.switches second _ c.table_if_waiting-2.new.self c.table_if_waiting-2.new.env
-    c.in_err-table_if_waiting-2.ensures.waiting.step)
+    (step_tables_made g.E.Env order _ old mid from at first.step first.numbers first.mem c.switch_log.new.self c.switch_log.new.env done.switches second _ c.compact_memtable-2.new.self c.compact_memtable-2.new.env
+    c.in_err-compact_memtable-2.ensures.imm.step)
 
 pub returns-clause-step : goal.returns-clause-step
 returns-clause-step g c =
     let order = g.C.Cmp.cmp in
     let old = c.args.self.now in
     let from = c.args.env.now in
-    let mid = c.table_if_waiting.new.self in
-    let at = c.table_if_waiting.new.env in
-    let first = c.in_ok-table_if_waiting.ensures.waiting in
+    let mid = c.compact_memtable.new.self in
+    let at = c.compact_memtable.new.env in
+    let first = c.in_ok-compact_memtable.ensures.imm in
     let done = c.in_ok-switch_log.ensures in
     let second = step_switched g.E.Env order _ old mid from at first.step first.numbers (Ok tt) c.switch_log.new.self c.switch_log.new.env done.switches done.keeps done.sound in
-    step_tabled g.E.Env order _ old mid from at first.step first.numbers first.recent c.switch_log.new.self c.switch_log.new.env done.switches second (Ok tt) c.table_if_waiting-2.new.self c.table_if_waiting-2.new.env
-    c.in_ok-table_if_waiting-2.ensures.waiting.step
+    step_tables_made g.E.Env order _ old mid from at first.step first.numbers first.mem c.switch_log.new.self c.switch_log.new.env done.switches second (Ok tt) c.compact_memtable-2.new.self c.compact_memtable-2.new.env
+    c.in_ok-compact_memtable-2.ensures.imm.step
 
 -- ---- the tables
 
-pub returns-in_err-table_if_waiting-clause-tables : goal.returns-in_err-table_if_waiting-clause-tables
-returns-in_err-table_if_waiting-clause-tables g c =
+pub returns-in_err-compact_memtable-clause-tables : goal.returns-in_err-compact_memtable-clause-tables
+returns-in_err-compact_memtable-clause-tables g c =
     let p = err_from_is_err_and c.from_residual.result c.from_residual.ensures.1 in
-    let failed = c.in_err-table_if_waiting.ensures.tables in
+    let failed = c.in_err-compact_memtable.ensures.tables in
     rw (p.1, p.2) (record { entries = failed.entries; none_new = tt; logs = tt; closes = failed.closes })
 
 pub returns-then-len-eq0-clause-tables : goal.returns-then-len-eq0-clause-tables
 returns-then-len-eq0-clause-tables g c =
-    let first = c.in_ok-table_if_waiting.ensures.tables in
+    let first = c.in_ok-compact_memtable.ensures.tables in
     record { entries = first.entries; none_new = first.none_new; logs = more_tables 1 first.logs; closes = first.closes }
 
 pub returns-in_err-switch_log-clause-tables : goal.returns-in_err-switch_log-clause-tables
 returns-in_err-switch_log-clause-tables g c =
-    let mid = c.table_if_waiting.new.self in
-    let at = c.table_if_waiting.new.env in
+    let mid = c.compact_memtable.new.self in
+    let at = c.compact_memtable.new.env in
     let new = c.switch_log.new.self in
-    let rest = c.in_ok-table_if_waiting.ensures.waiting.step.rest in
-    let first = c.in_ok-table_if_waiting.ensures.tables in
+    let rest = c.in_ok-compact_memtable.ensures.imm.step.rest in
+    let first = c.in_ok-compact_memtable.ensures.tables in
     let switched = c.in_err-switch_log.ensures.switches in
     let p = err_from_is_err_and c.from_residual-in_err-switch_log.result c.from_residual-in_err-switch_log.ensures.1 in
     rw (p.1, p.2)
     (record {
       entries = entries_then g.E.Env _ rest.store rest.numbers switched.rest.store switched.rest.numbers first.entries
-          (entries_switched g.E.Env _ mid at c.in_ok-table_if_waiting.ensures.waiting.none_waits _ new c.switch_log.new.env switched);
+          (entries_switched g.E.Env _ mid at c.in_ok-compact_memtable.ensures.imm.none_waits _ new c.switch_log.new.env switched);
       none_new = tt;
       logs = tt;
       closes = closes_then g.E.Env c.args.self.now.set mid.set rest.store rest.numbers first.entries.live.live first.closes
-          (closes_none g.E.Env mid.set new.set switched.tables c.table_if_waiting.new.tables);
+          (closes_none g.E.Env mid.set new.set switched.tables c.compact_memtable.new.tables);
     })
 
-pub returns-in_err-table_if_waiting-2-clause-tables : goal.returns-in_err-table_if_waiting-2-clause-tables
-returns-in_err-table_if_waiting-2-clause-tables g c =
+pub returns-in_err-compact_memtable-2-clause-tables : goal.returns-in_err-compact_memtable-2-clause-tables
+returns-in_err-compact_memtable-2-clause-tables g c =
     let order = g.C.Cmp.cmp in
     let old = c.args.self.now in
-    let mid = c.table_if_waiting.new.self in
-    let at = c.table_if_waiting.new.env in
+    let mid = c.compact_memtable.new.self in
+    let at = c.compact_memtable.new.env in
     let switched = c.switch_log.new.self in
     let begun = c.switch_log.new.env in
-    let one = c.in_ok-table_if_waiting.ensures.waiting in
-    let first = c.in_ok-table_if_waiting.ensures.tables in
+    let one = c.in_ok-compact_memtable.ensures.imm in
+    let first = c.in_ok-compact_memtable.ensures.tables in
     let done = c.in_ok-switch_log.ensures in
-    let last = c.in_err-table_if_waiting-2.ensures.tables in
+    let last = c.in_err-compact_memtable-2.ensures.tables in
     let second = step_switched g.E.Env order _ old mid c.args.env.now at one.step one.numbers (Ok tt) switched begun done.switches done.keeps done.sound in
-    let rest = c.in_err-table_if_waiting-2.ensures.waiting.step.rest in
-    let p = err_from_is_err_and c.from_residual-in_err-table_if_waiting-2.result c.from_residual-in_err-table_if_waiting-2.ensures.1 in
+    let rest = c.in_err-compact_memtable-2.ensures.imm.step.rest in
+    let p = err_from_is_err_and c.from_residual-in_err-compact_memtable-2.result c.from_residual-in_err-compact_memtable-2.ensures.1 in
     rw (p.1, p.2)
     (record {
       entries = entries_then g.E.Env _ second.rest.store second.rest.numbers rest.store rest.numbers
@@ -123,18 +123,18 @@ returns-clause-tables g c =
     let order = g.C.Cmp.cmp in
     let old = c.args.self.now in
     let from = c.args.env.now in
-    let mid = c.table_if_waiting.new.self in
-    let at = c.table_if_waiting.new.env in
+    let mid = c.compact_memtable.new.self in
+    let at = c.compact_memtable.new.env in
     let switched = c.switch_log.new.self in
     let begun = c.switch_log.new.env in
-    let new = c.table_if_waiting-2.new.self in
-    let to = c.table_if_waiting-2.new.env in
-    let one = c.in_ok-table_if_waiting.ensures.waiting in
-    let first = c.in_ok-table_if_waiting.ensures.tables in
+    let new = c.compact_memtable-2.new.self in
+    let to = c.compact_memtable-2.new.env in
+    let one = c.in_ok-compact_memtable.ensures.imm in
+    let first = c.in_ok-compact_memtable.ensures.tables in
     let done = c.in_ok-switch_log.ensures in
-    let last = c.in_ok-table_if_waiting-2.ensures.tables in
+    let last = c.in_ok-compact_memtable-2.ensures.tables in
     let second = step_switched g.E.Env order _ old mid from at one.step one.numbers (Ok tt) switched begun done.switches done.keeps done.sound in
-    let rest = c.in_ok-table_if_waiting-2.ensures.waiting.step.rest in
+    let rest = c.in_ok-compact_memtable-2.ensures.imm.step.rest in
     record {
       entries = entries_then g.E.Env _ second.rest.store second.rest.numbers rest.store rest.numbers
           (entries_then g.E.Env _ one.step.rest.store one.step.rest.numbers done.switches.rest.store done.switches.rest.numbers first.entries

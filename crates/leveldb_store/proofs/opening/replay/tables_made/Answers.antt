@@ -3,7 +3,7 @@ use Rattle.std.proofs.lemmas.Result.{err_from_is_err_and}
 use Rattle.leveldb_version.proofs.RecoverLemmas.{cause_of_error}
 use Rattle.leveldb_store.proofs.ReplayAllLemmas.{TablesAll-made, TablesAll-none}
 use Rattle.leveldb_store.proofs.ReplayLogLemmas.{none_of_length}
-use Rattle.leveldb_store.proofs.opening.replay.tabled.Goals as goal
+use Rattle.leveldb_store.proofs.opening.replay.tables_made.Goals as goal
 
 -- a list that hasn't length 0 isn't empty
 some_entries : {X : Type 0} (xs : List X) (n : ℕ) → n ≡ length xs → n ≢ 0 → xs ≢ []
