@@ -2,8 +2,8 @@
 use super::children::{Device, Source, list_of, list_of_keys};
 use leveldb_base::cmp::DefaultCmp;
 use leveldb_base::error::{Result, StatusCode};
-use leveldb_iter::merging_iter::{MergeCore, MergingIter};
 use leveldb_iter::in_memory::InMemory;
+use leveldb_iter::merging_iter::{MergeCore, MergingIter};
 use leveldb_iter::walk::Walk;
 use leveldb_iter::walk_iter::WalkIter;
 use std::alloc::Global;

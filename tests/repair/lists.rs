@@ -3,8 +3,8 @@ use bytes::Bytes;
 use leveldb_base::cmp::{DefaultCmp, InternalKeyCmp};
 use leveldb_base::error::Result;
 use leveldb_base::key_types::{ValueType, parse_internal_key, tag_bytes};
-use leveldb_iter::merging_iter::MergeCore;
 use leveldb_iter::in_memory::InMemory;
+use leveldb_iter::merging_iter::MergeCore;
 use std::alloc::Global;
 use support::Listed;
 

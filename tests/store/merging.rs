@@ -124,7 +124,10 @@ pub fn slow_merge(alloc: Global, smallest: u64, entries: &[Put]) -> Result<Vec<P
     Ok(left)
 }
 
-fn walk_over(alloc: Global, entries: &[Put]) -> Result<InMemory<Listed<InternalKeyCmp<DefaultCmp>>>> {
+fn walk_over(
+    alloc: Global,
+    entries: &[Put],
+) -> Result<InMemory<Listed<InternalKeyCmp<DefaultCmp>>>> {
     let mut pairs = Vec::new(alloc);
     for entry in entries {
         pairs.push((

@@ -234,9 +234,20 @@ impl<E: Env, FP: FilterPolicy> Reader<'_, E, FP> {
     }
 
     /// Looks a key up with a finder.
-    fn find(&mut self, alloc: Global, key: &[u8], key_buffers: &mut KeyBuffers) -> Result<Option<Bytes>> {
-        self.table
-            .find(alloc, self.env, self.cache, self.compressors, key, key_buffers)
+    fn find(
+        &mut self,
+        alloc: Global,
+        key: &[u8],
+        key_buffers: &mut KeyBuffers,
+    ) -> Result<Option<Bytes>> {
+        self.table.find(
+            alloc,
+            self.env,
+            self.cache,
+            self.compressors,
+            key,
+            key_buffers,
+        )
     }
 }
 
@@ -265,7 +276,11 @@ fn is_found(
 }
 
 /// Whether a look-up with a finder found the same pair, whose key is in the finder.
-fn is_same_find(found: &Option<(Bytes, Bytes)>, value: &Option<Bytes>, key_buffers: &KeyBuffers) -> bool {
+fn is_same_find(
+    found: &Option<(Bytes, Bytes)>,
+    value: &Option<Bytes>,
+    key_buffers: &KeyBuffers,
+) -> bool {
     match (found, value) {
         (Some((key, found)), Some(value)) => {
             key_buffers.key() == key.as_slice() && value.as_slice() == found.as_slice()
