@@ -1,7 +1,7 @@
 //! The calls of a store.
 use leveldb_base::error::Result;
 use rusty_leveldb::db_impl::open_read_only;
-use rusty_leveldb::{DB, MemEnv, Move, Options};
+use rusty_leveldb::{DB, MemEnv, Move, Options, repair};
 
 #[test]
 fn snapshots(rt: HostRuntime) -> Result<()> {
@@ -60,4 +60,18 @@ fn reading_alone(rt: HostRuntime) -> Result<()> {
     let mut it = store.new_iter()?;
     assert!(rt; it.advance()?);
     Ok(())
+}
+
+#[test]
+fn repairs(rt: HostRuntime) -> Result<()> {
+    let alloc = rt.alloc();
+    let mut env = MemEnv::new(alloc);
+    let mut db = DB::open(alloc, "db", &mut env, Options::default())?;
+    db.put(b"a", b"1")?;
+    db.close()?;
+    db.abandon()?;
+    repair(alloc, "db", &mut env, Options::default())?;
+    let mut db = DB::open(alloc, "db", &mut env, Options::default())?;
+    assert!(rt; db.get(b"a")?.is_some());
+    db.close()
 }
