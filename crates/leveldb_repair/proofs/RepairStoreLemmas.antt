@@ -17,7 +17,7 @@ use Rattle.leveldb_store.specs.Merging.{LeavesFiles}
 use Rattle.leveldb_store.specs.OpensStore.{IsBareFolder}
 use Rattle.leveldb_repair.proofs.RepairFailsLemmas.{fails_earlier, fails_weaker}
 use Rattle.leveldb_repair.specs.FoundWalkTable.{FailsBetweenOr}
-use Rattle.leveldb_repair.specs.RepairStore.{ArePairsFound, HasClash, HasLargeBatchInLog, HasTooFewNumbers, HasUndecodedTable, HasUnlikeDeletions, IsMomentOfRepair, HoldsAllFound, RepairsStore, WhyNotEnded, WhyNotBegun}
+use Rattle.leveldb_repair.specs.RepairStore.{ArePairsFound, AreTooManyFound, HasClash, HasLargeBatchInLog, HasTooFewNumbers, HasUndecodedTable, HasUnlikeDeletions, IsMomentOfRepair, HoldsAllFound, RepairsStore, WhyNotEnded, WhyNotBegun}
 
 -- what the compressors of a format decode means the same
 pub decodes_by : {format : Format} {meaning : Meaning} → Agrees format meaning
@@ -150,7 +150,12 @@ module _ {C FP : Type 0} {order : CmpGhosts C} {filters : FilterGhosts FP}
           (same_files modelled) (found modelled),
       not_built,
     )
-    ended_after (inr rest) = inr rest
+    ended_after (inr (inl (code, many))) = inr (inl (
+      code,
+      λ modelled. subst (λ (files : Files). AreTooManyFound store files choices.format)
+          (same_files modelled) (many modelled),
+    ))
+    ended_after (inr (inr lacking)) = inr (inr lacking)
 
     cause_after : {to : E} {status : Status} → FailsBetweenOr env
         ((WhyNotBegun env choices.format store mid status × (IsTrue env.models_disk

@@ -2,7 +2,7 @@
 -- and at its end it is.
 use Rattle.std.specs.Prelude.{All, Contains, IsTrue, IsUtf8, Result}
 use Rattle.std.specs.List.Sorted.{IsStrictlySortedBy}
-use Rattle.std.proofs.Common.{◌≡◌, ◌≤◌, ◌<◌, ◌+◌, ◌-◌, ◌^◌, ◌⊎◌, ◌∙◌, inl, inr, ⊎_elim, ℕ, List, [], ◌∷◌, ◌++◌, Ok, Err, refl, sym, ap, subst, arith}
+use Rattle.std.proofs.Common.{◌≡◌, ◌≤◌, ◌<◌, ◌+◌, ◌-◌, ◌^◌, ◌⊎◌, ◌∙◌, inl, inr, ⊎_elim, ℕ, List, [], ◌∷◌, ◌++◌, Ok, Err, refl, sym, ap, subst, arith, length}
 use Rattle.std.proofs.lemmas.List.Elements.{All-contains, All-nil, Contains-append_left}
 use Rattle.std.specs.declared.cmp.Ordering.{Ordering}
 use Rattle.std.proofs.Math.Arith.{lt_of_le-ne}
@@ -52,7 +52,7 @@ use Rattle.leveldb_repair.proofs.RepairNumbersLemmas.{AreRepairedOf, tables_repa
 use Rattle.leveldb_repair.proofs.RepairStoreLemmas.{decodes_by}
 use Rattle.leveldb_repair.specs.FoundWalkTable.{FailsBetweenOr}
 use Rattle.leveldb_repair.specs.RepairSteps.{AreAllFound, IsOverAll, IsToRepair}
-use Rattle.leveldb_repair.specs.RepairStore.{ArePairsFound, IsMomentOfRepair, HoldsAllFound, RepairsStore, WhyNotEnded, WhyNotBegun}
+use Rattle.leveldb_repair.specs.RepairStore.{ArePairsFound, AreTooManyFound, IsMomentOfRepair, HoldsAllFound, RepairsStore, WhyNotEnded, WhyNotBegun}
 use Rattle.leveldb_repair.specs.WriteFound.{HasWritten, WritesFound, files_of_level_one, merge_of_all}
 use Rattle.leveldb_repair.specs.declared.look_over.LookedOver.{LookedOver}
 
@@ -349,9 +349,35 @@ module _ {C FP : Type 0} {order : CmpGhosts C} {filters : FilterGhosts FP}
             (Contains-append_left read front.0 from_pair.0 from_pair.1))));
       }
 
+  -- if the numbers are used up, too many pairs are found
+  many_found : {later : ℕ} → later ≡ 2 ^ 64 - 1
+      → (BearsNewTables env walk store (taken + 2) start → (pairs : List Pair)
+      → walk.over start it (key_order order choices.cmp) pairs
+      → later ≤ taken + 2 + length pairs)
+      → IsTrue env.models_disk → AreTooManyFound store before choices.format
+  many_found most few modelled =
+      let all = is.over modelled in
+      let found_is = all.3 in
+      let repairs = all.0 in
+      let given = few is.bears all.1 all.2 in
+      record {
+        taken = taken;
+        taken_is = repairs.taken_is;
+        pairs = all.1;
+        found = record {
+          rising = found_is.rising;
+          found = λ meaning agrees entry there.
+              (found_is.found_is meaning (decodes_by agrees) entry).0 there;
+        };
+        too_many = omega (arith, most, given);
+      }
+
   -- why writing stopped
   write_cause : {later : ℕ} {end : E × T} {status : Status}
       → env.failures from ≤ env.failures start.0
+      → (BearsNewTables env walk store (taken + 2) start → (pairs : List Pair)
+      → walk.over start it (key_order order choices.cmp) pairs
+      → later ≤ taken + 2 + length pairs)
       → FailsOnWay env walk store (taken + 2) start it end status
       ⊎ ((mid : ℕ) × (env.failures start.0 ≤ mid) × (read : List Pair)
       × (BearsNewTables env walk store (taken + 2) start → (pairs : List Pair)
@@ -360,11 +386,11 @@ module _ {C FP : Type 0} {order : CmpGhosts C} {filters : FilterGhosts FP}
       × FailsToWrite (IsMergeFault (merge_of_all choices store) later read) mid
       (env.failures end.0) (failed status))
       → FailsBetweenOr env (WhyNotEnded choices env store from status) from end.0 status
-  write_cause {end = end} {status = status} counted (inl way) =
+  write_cause {end = end} {status = status} counted few (inl way) =
       fails_weaker env from end.0 status (λ (why : HasLackCode env choices.format.codings status
       × (IsTrue env.models_disk → ⊥)). inr (inr why))
       (is.fails end status (way.from_start is.bears))
-  write_cause {later} {end} {status} counted (inr (mid, least, read, begins, fails)) =
+  write_cause {later} {end} {status} counted few (inr (mid, least, read, begins, fails)) =
       by fails.cause
     where
       by : (IsOutOfMemory status ⊎ (IsMergeFault (merge_of_all choices store) later read status
@@ -378,7 +404,8 @@ module _ {C FP : Type 0} {order : CmpGhosts C} {filters : FilterGhosts FP}
         λ modelled. read_found modelled read begins,
         not_built,
       ))))
-      by (inl (inr (inr (inl used_up), same))) = inr (inr (inr (inr (inl (later, used_up)))))
+      by (inl (inr (inr (inl used_up), same))) =
+          inr (inr (inr (inr (inl (used_up.code, many_found used_up.last few)))))
       by (inl (inr (inr (inr (code, misplaced)), same))) = inr (inr (inr (inr (inr (
         inl code,
         λ modelled. misplaced (read_in_place modelled read begins),
@@ -391,14 +418,17 @@ module _ {C FP : Type 0} {order : CmpGhosts C} {filters : FilterGhosts FP}
       → WritesFound choices env store (taken + 2) walk items start it (Err status) later end
       → RepairsStore choices env store from (Err status) end.0
   unwritten items begun fits writes =
-      not_ended begun fits writes.changes (write_cause leaves.later writes.cause)
+      not_ended begun fits writes.changes (write_cause leaves.later writes.few writes.cause)
 
   -- the numbers are used up
   pub used_up : {later : ℕ} {end : E} {status : Status} → taken + 2 ≤ later
       → later ≡ 2 ^ 64 - 1 → ChangesNewTables env store (taken + 2) later start.0 end
+      → (BearsNewTables env walk store (taken + 2) start → (pairs : List Pair)
+      → walk.over start it (key_order order choices.cmp) pairs
+      → later ≤ taken + 2 + length pairs)
       → status.code ≡ NotSupported → RepairsStore choices env store from (Err status) end
-  used_up {later} begun most changes code = not_ended begun (omega (arith, most)) changes
-      (inr (inr (inr (inr (inl (later, record { code = code; last = most }))))))
+  used_up begun most changes few code = not_ended begun (omega (arith, most)) changes
+      (inr (inr (inr (inr (inl (code, many_found most few))))))
 
   -- memory is out
   pub no_memory : {later : ℕ} {end : E} {status : Status} → taken + 2 ≤ later

@@ -114,12 +114,14 @@ module _ {C FP : Type 0} {order : CmpGhosts C} {filters : FilterGhosts FP}
   all_written walk items (Ok files) merged = record {
     ok = (merged.ok.0, written merged.ok.1, merged.ok.2);
     changes = merged.changes;
+    few = merged.few;
     comes = merged.comes;
     cause = tt;
   }
   all_written walk items (Err status) merged = record {
     ok = tt;
     changes = merged.changes;
+    few = merged.few;
     comes = merged.comes;
     cause = merged.cause;
   }

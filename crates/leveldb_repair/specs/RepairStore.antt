@@ -1,6 +1,6 @@
 -- What a repair of the files in a store's folder leaves and returns: a store of all that was found,
 -- or the files as they were; what they are meanwhile, and why it fails.
-use Rattle.std.specs.Prelude.{◌≡◌, ◌≢◌, ◌⊎◌, ◌≤◌, ◌+◌, ◌^◌, ℕ, List, Contains, Result, None, Some, IfErr, OnOk, IsTrue}
+use Rattle.std.specs.Prelude.{◌≡◌, ◌≢◌, ◌⊎◌, ◌≤◌, ◌+◌, ◌^◌, ℕ, List, Contains, length, Result, None, Some, IfErr, OnOk, IsTrue}
 use Rattle.leveldb_base.specs.Entries.{entries_of_pairs, entry_of_pair, internal_pair}
 use Rattle.leveldb_base.specs.History.{AreRising, Entry}
 use Rattle.leveldb_base.specs.KeyTypes.{internal_cmp}
@@ -22,7 +22,6 @@ use Rattle.leveldb_version.specs.Found.{AreFound, HasNoTableNorLog, IsAnyTable, 
 use Rattle.leveldb_version.specs.Levels.{LiveTable, table_entries}
 use Rattle.leveldb_version.specs.Paths.{current_path}
 use Rattle.leveldb_version.specs.Repairing.{IsGreatestInFolder, IsRepairedStore, IsAmidRepair}
-use Rattle.leveldb_version.specs.VersionSetValue.{AreFileNumbersUsedUp}
 use Rattle.leveldb_store.specs.BuildTable.{AreSomeNotBuilt, TableChoices}
 use Rattle.leveldb_store.specs.Listing.{MatchesName}
 use Rattle.leveldb_store.specs.OpensStore.{IsBareFolder}
@@ -107,6 +106,15 @@ module _ (store : List ℕ) (files : Files) where
         → Contains (entries_of_pairs pairs) entry
         → IsFound store (IsAnyTable format.order meaning) files entry
 
+  -- So many pairs are found that 64 bits don't have a number for a table of each, and three more,
+  -- above those of all names: the manifest's, the next log's, and one after it.
+  pub record AreTooManyFound (format : Format) : Type 0 where
+    pub taken : ℕ
+    pub taken_is : IsGreatestInFolder store files taken
+    pub pairs : List Pair
+    pub found : ArePairsFound format pairs
+    pub too_many : 2 ^ 64 ≤ taken + 3 + length pairs
+
   -- a table of the folder has a block that isn't decoded, and the status says why
   abbrev pub HasUndecodedTable : Format → Status → Type 0
   HasUndecodedTable format status = (name : List ℕ) × (n : ℕ) × IsFileName name n Table
@@ -149,14 +157,15 @@ module _ {C FP : Type 0} {order : CmpGhosts C} {filters : FilterGhosts FP}
     (choices : TableChoices order filters) {E F : Type 0} (env : EnvGhosts E F) where
   module _ (store : List ℕ) (from : E) where
     -- Why a repair that was begun isn't ended: no table is built of some pairs, whose entries are
-    -- found, or the numbers of files are used up. Where no disk is modelled a file that was there
-    -- may be missing or lack a block.
+    -- found; or the numbers of files are used up, where so many pairs are found. Where no disk is
+    -- modelled a file that was there may be missing or lack a block.
     abbrev pub WhyNotEnded : Status → Type 0
     WhyNotEnded status =
         ((pairs : List Pair) × (IsTrue env.models_disk
         → ArePairsFound store (env.observed from).disk.files choices.format pairs)
         × AreSomeNotBuilt choices pairs status)
-        ⊎ ((number : ℕ) × AreFileNumbersUsedUp number status)
+        ⊎ ((status.code ≡ NotSupported) × (IsTrue env.models_disk
+        → AreTooManyFound store (env.observed from).disk.files choices.format))
         ⊎ (HasLackCode env choices.format.codings status × (IsTrue env.models_disk → ⊥))
 
     -- What a repair of the files in the store's folder returns and leaves.

@@ -86,6 +86,10 @@ module _ {C FP : Type 0} {order : CmpGhosts C} {filters : FilterGhosts FP}
           → walk.over start it (key_order order choices.cmp) pairs → pairs ≡ read))
       -- now and at each moment on the way no file changes but tables of numbers that were given
       pub changes : ChangesNewTables env store first later start.0 end.0
+      -- a walk that is over a list, and bears new tables, has a pair for each number that was given
+      pub few : BearsNewTables env walk store first start → (pairs : List Pair)
+          → walk.over start it (key_order order choices.cmp) pairs
+          → later ≤ first + length pairs
       -- moves of the walk and new tables lead to where it ends, so that what both keep is kept
       pub comes : IsReachedFrom env walk store first start end
       -- A move failed; or, after some pairs were read, at last a call that writes. Where the walk

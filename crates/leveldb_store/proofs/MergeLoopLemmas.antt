@@ -1,5 +1,5 @@
 -- The loop of a merge: where its walk is, which pairs are merged, and what moves and new tables leave.
-use Rattle.std.proofs.Common.{◌≡◌, ◌≤◌, ◌∙◌, inl, inr, ℕ, List, [], ◌∷◌, ◌++◌, drop, take, Option, None, Some, Result, Ok, Err, refl, sym, ap, subst, arith}
+use Rattle.std.proofs.Common.{◌≡◌, ◌≤◌, ◌+◌, ◌∙◌, inl, inr, ℕ, List, [], ◌∷◌, ◌++◌, drop, take, Option, None, Some, Result, Ok, Err, refl, sym, ap, subst, arith, length, length-append}
 use Rattle.std.proofs.lemmas.List.{take-append-drop}
 use Rattle.leveldb_base.specs.Cmp.{IsExactOrder}
 use Rattle.leveldb_base.specs.Error.{IsOutOfMemory}
@@ -169,6 +169,11 @@ pub may_rise : {old new : VersionSetValue} → MayGiveNumber old new → old.nex
 may_rise (inl same) = omega (arith, ap (λ (set : VersionSetValue). set.next_file) same)
 may_rise (inr given) = omega (arith, ap (λ (set : VersionSetValue). set.next_file) given)
 
+pub may_give_one : {old new : VersionSetValue} → MayGiveNumber old new
+    → new.next_file ≤ old.next_file + 1
+may_give_one (inl same) = omega (arith, ap (λ (set : VersionSetValue). set.next_file) same)
+may_give_one (inr given) = omega (arith, ap (λ (set : VersionSetValue). set.next_file) given)
+
 -- ---- the loop
 
 module _ {C FP : Type 0} {order : CmpGhosts C} {filters : FilterGhosts FP}
@@ -188,6 +193,8 @@ module _ {C FP : Type 0} {order : CmpGhosts C} {filters : FilterGhosts FP}
     pub changes : ChangesNewTables env merge.store first next start.0 at.0
     pub read : List Pair
     pub merged : HasMerged merge env first read next at.0 passing outputs
+    -- no more numbers were given than pairs were read
+    pub few : next ≤ first + length read
     pub walked : BearsNewTables env walk merge.store first start → (pairs : List Pair)
         → walk.over start from (key_order order merge.choices.cmp) pairs
         → HasPassed pairs read at it
@@ -199,6 +206,20 @@ module _ {C FP : Type 0} {order : CmpGhosts C} {filters : FilterGhosts FP}
   AreFirst read = BearsNewTables env walk merge.store first start → (pairs : List Pair)
       → walk.over start from (key_order order merge.choices.cmp) pairs
       → (rest : List Pair) × (pairs ≡ read ++ rest)
+
+  -- no list that the walk is over has fewer pairs than numbers were given from the first one on
+  abbrev pub HasPairForEach : ℕ → Type 0
+  HasPairForEach next = BearsNewTables env walk merge.store first start → (pairs : List Pair)
+      → walk.over start from (key_order order merge.choices.cmp) pairs
+      → next ≤ first + length pairs
+
+  has_pair_for_each : {next : ℕ} (read : List Pair) → next ≤ first + length read → AreFirst read
+      → HasPairForEach next
+  has_pair_for_each read few begins bears pairs over =
+      let front = begins bears pairs over in
+      let longer = length-append read front.0 in
+      let same = ap length front.1 in
+      omega (arith, few, longer, same)
 
   -- at each list that the walk is over it is at this pair
   abbrev pub IsAtPair : E × T → W → Pair → Type 0
@@ -227,6 +248,7 @@ module _ {C FP : Type 0} {order : CmpGhosts C} {filters : FilterGhosts FP}
       changes = still_new env merge.store first (leaves start at kept);
       read = [];
       merged = merged;
+      few = omega arith;
       walked = λ bears pairs over. record {
         position = position_within pairs 0;
         here = begins pairs over;
@@ -251,12 +273,20 @@ module _ {C FP : Type 0} {order : CmpGhosts C} {filters : FilterGhosts FP}
                 ∙ ap (λ ps. ps ++ drop count pairs) before,
           )
 
+      -- one number more was given at most, and this pair was read
+      few_with : {later : ℕ} → later ≤ next + 1
+          → later ≤ first + length (so_far.read ++ pair ∷ [])
+      few_with one =
+          let few = so_far.few in
+          let longer = length-append so_far.read (pair ∷ []) in
+          omega (arith, few, one, longer)
+
     module _ {next later : ℕ} {at to : E} {tables : T} {it : W} {passing left : Passing}
         {outputs new : OutputsValue E C FP F} {pair : Pair}
         (so_far : MergesSoFar next (at, tables) it passing outputs) where
       -- a pair was taken, and the walk is at the next one
       pub so_far_next : {end : E × T} {now : W} {x : Unit {0}} → next ≤ later
-          → IsAtPair (at, tables) it pair
+          → later ≤ next + 1 → IsAtPair (at, tables) it pair
           → TakesPair merge env first so_far.read pair next at (Ok x) later to left new
           → walk.keeps (to, tables) end
           → ((pairs : List Pair) (position : Option ℕ)
@@ -266,7 +296,7 @@ module _ {C FP : Type 0} {order : CmpGhosts C} {filters : FilterGhosts FP}
           → ((latest : E × T) (status : Status) → walk.fails end now latest status
           → walk.fails (to, tables) it latest status)
           → MergesSoFar later end now left new
-      so_far_next {end} up here takes kept moved excuses =
+      so_far_next {end} up one here takes kept moved excuses =
           let come = by_writing at to tables later so_far.come takes.changes in
           let still = leaves (to, tables) end kept in
           record {
@@ -276,6 +306,7 @@ module _ {C FP : Type 0} {order : CmpGhosts C} {filters : FilterGhosts FP}
                 (still_new env merge.store first still);
             read = so_far.read ++ pair ∷ [];
             merged = merged_still merge env still takes.ok;
+            few = few_with pair so_far one;
             walked = λ bears pairs over.
                 let past = so_far.walked bears pairs over in
                 record {
@@ -294,11 +325,12 @@ module _ {C FP : Type 0} {order : CmpGhosts C} {filters : FilterGhosts FP}
 
       -- it was taken, and the walk doesn't go on
       pub merge_unmoved : {X : Type 0} {items : X → List FileMetaData} {end : E × T}
-          {x : Unit {0}} {status : Status} → next ≤ later
+          {x : Unit {0}} {status : Status} → next ≤ later → later ≤ next + 1
+          → IsAtPair (at, tables) it pair
           → TakesPair merge env first so_far.read pair next at (Ok x) later to left new
           → walk.keeps (to, tables) end → walk.fails (to, tables) it end status
           → MergesTables merge env first {X = X} walk items start from (Err status) later end
-      merge_unmoved {end = end} {status = status} up takes kept failed =
+      merge_unmoved {end = end} {status = status} up one here takes kept failed =
           let come = by_writing at to tables later so_far.come takes.changes in
           let still = leaves (to, tables) end kept in
           record {
@@ -306,6 +338,8 @@ module _ {C FP : Type 0} {order : CmpGhosts C} {filters : FilterGhosts FP}
             changes = new-trans env merge.store
                 (new-then env merge.store up so_far.changes takes.changes)
                 (still_new env merge.store first still);
+            few = has_pair_for_each (so_far.read ++ pair ∷ []) (few_with pair so_far one)
+                (first_with pair so_far here);
             comes = by_move (to, tables) end come kept;
             cause = inl (record {
               at = (to, tables);
@@ -320,13 +354,15 @@ module _ {C FP : Type 0} {order : CmpGhosts C} {filters : FilterGhosts FP}
 
       -- it isn't taken
       pub merge_untaken : {X : Type 0} {items : X → List FileMetaData} {status : Status}
-          → next ≤ later → IsAtPair (at, tables) it pair
+          → next ≤ later → later ≤ next + 1 → IsAtPair (at, tables) it pair
           → TakesPair merge env first so_far.read pair next at (Err status) later to left new
           → MergesTables merge env first {X = X} walk items start from (Err status) later
           (to, tables)
-      merge_untaken up here takes = record {
+      merge_untaken up one here takes = record {
         ok = tt;
         changes = new-then env merge.store up so_far.changes takes.changes;
+        few = has_pair_for_each (so_far.read ++ pair ∷ []) (few_with pair so_far one)
+            (first_with pair so_far here);
         comes = by_writing at to tables later so_far.come takes.changes;
         cause = inr (
           env.failures at,
@@ -338,12 +374,13 @@ module _ {C FP : Type 0} {order : CmpGhosts C} {filters : FilterGhosts FP}
       }
 
     -- the walk doesn't come to its first pair
-    pub merge_unbegun : {X : Type 0} {items : X → List FileMetaData} {later : ℕ} {end : E × T}
+    pub merge_unbegun : {X : Type 0} {items : X → List FileMetaData} {end : E × T}
         {status : Status} → walk.keeps start end → walk.fails start from end status
-        → MergesTables merge env first {X = X} walk items start from (Err status) later end
+        → MergesTables merge env first {X = X} walk items start from (Err status) first end
     merge_unbegun {end = end} kept failed = record {
       ok = tt;
       changes = still_new env merge.store first (leaves start end kept);
+      few = λ bears pairs over. omega arith;
       comes = by_move start end itself kept;
       cause = inl (record {
         at = start;
@@ -375,6 +412,7 @@ module _ {C FP : Type 0} {order : CmpGhosts C} {filters : FilterGhosts FP}
       merge_endless memory = record {
         ok = tt;
         changes = so_far.changes;
+        few = has_pair_for_each so_far.read so_far.few first_read;
         comes = so_far.come;
         cause = inr (
           env.failures at,
@@ -402,12 +440,14 @@ module _ {C FP : Type 0} {order : CmpGhosts C} {filters : FilterGhosts FP}
               sym (taken_all pairs past.position end.0 end.1) ∙ past.before,
         );
         changes = new-trans env merge.store so_far.changes finishes.changes;
+        few = has_pair_for_each so_far.read so_far.few first_read;
         comes = by_writing at to tables next so_far.come finishes.changes;
         cause = tt;
       }
       merge_finished exact cmp_is {to = to} none (Err status) finishes = record {
         ok = tt;
         changes = new-trans env merge.store so_far.changes finishes.changes;
+        few = has_pair_for_each so_far.read so_far.few first_read;
         comes = by_writing at to tables next so_far.come finishes.changes;
         cause = inr (
           env.failures at,

@@ -1,6 +1,6 @@
 -- How the pairs of a walk are merged into new tables: what is left of them, what the walk has to
 -- bear meanwhile, and why it fails.
-use Rattle.std.specs.Prelude.{◌≡◌, ◌⊎◌, ◌≤◌, ℕ, Bool, true, not, length, List, [], ◌∷◌, ◌++◌, flat_map, Contains, Option, None, Some, Result, IfErr, IfOk, IsTrue, OnOk}
+use Rattle.std.specs.Prelude.{◌≡◌, ◌⊎◌, ◌≤◌, ◌+◌, ℕ, Bool, true, not, length, List, [], ◌∷◌, ◌++◌, flat_map, Contains, Option, None, Some, Result, IfErr, IfOk, IsTrue, OnOk}
 use Rattle.std.specs.List.{filter}
 use Rattle.std.specs.declared.cmp.Ordering.{Ordering}
 use Rattle.leveldb_base.specs.Entries.{entries_of_pairs, entry_of_pair}
@@ -177,6 +177,10 @@ module _ {C FP : Type 0} {order : CmpGhosts C} {filters : FilterGhosts FP}
           → walk.over start it (key_order order merge.choices.cmp) pairs → pairs ≡ read))
       -- now and at each moment on the way no file changes but tables of numbers that were given
       pub changes : ChangesNewTables env merge.store first later start.0 end.0
+      -- a walk that is over a list, and bears new tables, has a pair for each number that was given
+      pub few : BearsNewTables env walk merge.store first start → (pairs : List Pair)
+          → walk.over start it (key_order order merge.choices.cmp) pairs
+          → later ≤ first + length pairs
       -- moves of the walk and new tables lead to where it ends, so that what both keep is kept
       pub comes : IsReachedFrom env walk merge.store first start end
       -- A move failed; or, after some pairs were read, at last a call that writes. Where the walk

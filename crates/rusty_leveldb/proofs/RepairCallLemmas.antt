@@ -38,7 +38,7 @@ use Rattle.rusty_leveldb.specs.State.{Opening, State, closed}
 use Rattle.rusty_leveldb.specs.Unopened.{MakesLockAlone}
 use Rattle.rusty_leveldb.proofs.OpenCallLemmas.{IsNear}
 use Rattle.rusty_leveldb.proofs.Others.{others_made}
-use Rattle.rusty_leveldb.proofs.RepairFilesLemmas.{bare_back, clash_back, few_back, in_repair_back, large_back, pairs_back, repair_back, undecoded_back, unlike_back}
+use Rattle.rusty_leveldb.proofs.RepairFilesLemmas.{bare_back, clash_back, few_back, in_repair_back, large_back, many_back, pairs_back, repair_back, undecoded_back, unlike_back}
 use Rattle.rusty_leveldb.proofs.RepairStatesLemmas.{closed_if_free, made_keeps, made_spared, repaired_stands, repair_leaves, repair_spares, still_stands}
 use Rattle.rusty_leveldb.proofs.UnderLockLemmas.{IsTaken, failed_beside, set_other, set_same}
 
@@ -410,7 +410,12 @@ module _ {E F C FP : Type 0} {order : CmpGhosts C} {filters : FilterGhosts FP} (
         (not.1 modelled),
     not.2,
   )
-  not_ended_of e (inr other) = inr other
+  not_ended_of e (inr (inl (code, many))) = inr (inl (
+    code,
+    λ modelled. many_back store old here (but modelled) (lock_made modelled) choices.format
+        (many modelled),
+  ))
+  not_ended_of e (inr (inr lacking)) = inr (inr lacking)
 
   why_of_repair : (e : Status) → FailsBetweenOr env ((WhyNotBegun env choices.format store taken e
       × (IsTrue env.models_disk

@@ -19,7 +19,7 @@ use Rattle.leveldb_version.specs.Paths.{IsFilePath, current_path, lock_path}
 use Rattle.leveldb_version.specs.Repairing.{IsGreatestInFolder, IsAmidRepair, SameTablesAndLogs}
 use Rattle.leveldb_store.proofs.TableKeepsLemmas.{types_apart}
 use Rattle.leveldb_store.specs.NextFound.{BeginsAt}
-use Rattle.leveldb_repair.specs.RepairStore.{ArePairsFound, HasClash, HasLargeBatchInLog, HasTooFewNumbers, HasUndecodedTable, HasUnlikeDeletions, IsFoundPair, HoldsOldOrAllFound, HoldsAllFound}
+use Rattle.leveldb_repair.specs.RepairStore.{ArePairsFound, AreTooManyFound, HasClash, HasLargeBatchInLog, HasTooFewNumbers, HasUndecodedTable, HasUnlikeDeletions, IsFoundPair, HoldsOldOrAllFound, HoldsAllFound}
 use Rattle.rusty_leveldb.proofs.LockLemmas.{lock_current}
 
 empty_twice : (file : Option File) → or_empty (or_empty file) ≡ or_empty file
@@ -147,6 +147,16 @@ module _ (store : List ℕ) (old mid : Files) (but : SameBut (lock_path store) o
     rising = are.rising;
     found = λ meaning agrees entry c. found_back (IsAnyTable format.order meaning) entry
         (are.found meaning agrees entry c);
+  }
+
+  pub many_back : (format : Format) → AreTooManyFound store mid format
+      → AreTooManyFound store old format
+  many_back format many = record {
+    taken = many.taken;
+    taken_is = greatest_back many.taken many.taken_is;
+    pairs = many.pairs;
+    found = pairs_back format many.pairs many.found;
+    too_many = many.too_many;
   }
 
   pub large_back : HasLargeBatchInLog store mid → HasLargeBatchInLog store old

@@ -1,7 +1,7 @@
 use Rattle.std.proofs.Common.{◌∙◌, None, inl, refl}
 use Rattle.std.proofs.lemmas.Result.{err_from_is_err_and}
 use Rattle.leveldb_base.proofs.HistoryLemmas.{exact_order}
-use Rattle.leveldb_store.proofs.MergeLoopLemmas.{back_may, gives_may, may_rise, merge_endless, merge_finished, merge_unbegun, merge_unmoved, merge_untaken, so_far_begun, so_far_next}
+use Rattle.leveldb_store.proofs.MergeLoopLemmas.{back_may, gives_may, may_give_one, may_rise, merge_endless, merge_finished, merge_unbegun, merge_unmoved, merge_untaken, so_far_begun, so_far_next}
 use Rattle.leveldb_store.proofs.MergingLemmas.{merged_none}
 use Rattle.leveldb_store.proofs.ReplayFilesLemmas.{GivesNumbers-refl}
 use Rattle.leveldb_store.proofs.merge_tables.merge_tables.Goals as goal
@@ -56,7 +56,7 @@ returns-in_err-take-clause-merges g c = λ leaves.
     let so_far = c.loop.invariant.so_far leaves in
     let laws = g.met.W.Walk.laws in
     let failed = err_from_is_err_and c.from_residual-in_err-take.result c.from_residual-in_err-take.ensures.1 in
-    rw failed.1 (rw failed.2 (merge_untaken _ g.E.Env g.W.Walk _ _ _ leaves so_far (may_rise c.take.ensures.numbers)
+    rw failed.1 (rw failed.2 (merge_untaken _ g.E.Env g.W.Walk _ _ _ leaves so_far (may_rise c.take.ensures.numbers) (may_give_one c.take.ensures.numbers)
     (λ pairs position here. c.in-Some.ensures ∙ laws.at_position (c.loop.env, c.loop.tables) c.loop.walk _ pairs position here)
     (c.in_err-take.ensures.takes c.args.versions.now.set.next_file so_far.read so_far.merged)))
 
@@ -73,8 +73,10 @@ returns-in_err-take-clause-version g c = c.take.ensures.version ∙ c.loop.invar
 pub returns-in_err-advance-clause-merges : goal.returns-in_err-advance-clause-merges
 returns-in_err-advance-clause-merges g c = λ leaves.
     let so_far = c.loop.invariant.so_far leaves in
+    let laws = g.met.W.Walk.laws in
     let failed = err_from_is_err_and c.from_residual-in_err-advance.result c.from_residual-in_err-advance.ensures.1 in
-    rw failed.1 (rw failed.2 (merge_unmoved _ g.E.Env g.W.Walk _ _ _ leaves so_far (may_rise c.take.ensures.numbers)
+    rw failed.1 (rw failed.2 (merge_unmoved _ g.E.Env g.W.Walk _ _ _ leaves so_far (may_rise c.take.ensures.numbers) (may_give_one c.take.ensures.numbers)
+    (λ pairs position here. c.in-Some.ensures ∙ laws.at_position (c.loop.env, c.loop.tables) c.loop.walk _ pairs position here)
     (c.in_ok-take.ensures.takes c.args.versions.now.set.next_file so_far.read so_far.merged) c.advance.ensures.moves.kept c.in_err-advance.ensures.moves.cause))
 
 pub returns-in_err-advance-clause-numbers : goal.returns-in_err-advance-clause-numbers
@@ -95,7 +97,7 @@ loop-preserved g c =
       version = c.take.ensures.version ∙ c.loop.invariant.version;
       so_far = λ leaves.
           let so_far = c.loop.invariant.so_far leaves in
-          so_far_next _ g.E.Env g.W.Walk _ _ _ leaves so_far (may_rise c.take.ensures.numbers)
+          so_far_next _ g.E.Env g.W.Walk _ _ _ leaves so_far (may_rise c.take.ensures.numbers) (may_give_one c.take.ensures.numbers)
           (λ pairs position here. c.in-Some.ensures ∙ laws.at_position (c.loop.env, c.loop.tables) c.loop.walk _ pairs position here)
           (c.in_ok-take.ensures.takes c.args.versions.now.set.next_file so_far.read so_far.merged) c.advance.ensures.moves.kept
           (λ pairs position here. c.in_ok-advance.ensures.moves.ok _ pairs position here) c.advance.ensures.moves.excuses;
