@@ -127,7 +127,7 @@ module _ {format : Format} {meaning : Meaning} (agrees : Agrees format meaning) 
   -- ---- a look-up
 
   module _ {accepts : List ℕ → Bool} {cmp : List ℕ → List ℕ → Ordering} (order : IsPreorderOn accepts cmp) {bytes : List ℕ} {parts : List Part} (has : HasParts meaning.codings accepts cmp bytes parts)
-      (lets : ℕ → List ℕ → Bool) (key : List ℕ) (fit : accepts key ≡ true) where
+      (may_contain : ℕ → List ℕ → Bool) (key : List ℕ) (fit : accepts key ≡ true) where
     abbrev lines : List Pair
     lines = map index_pair parts
 
@@ -210,30 +210,30 @@ module _ {format : Format} {meaning : Meaning} (agrees : Agrees format meaning) 
             (seek_after order has.parted has.accepted key fit (parts_some has) i other.0.part named other.0.there (ap (λ ps. seek_position cmp ps key) (sym other.1) ∙ none)) refl after
 
     -- as the filters let the key pass
-    found_if_let : (i : ℕ) (at : AtLine i) (new : TablePosition) (b : Bool) → seek_position cmp lines key ≡ Some i → lets at.part.handle.offset key ≡ b → ToKeyByLineIfLet format.codings cmp bytes lines b key i (Ok new)
-        → pair_at new.pairs new.inner ≡ found_in cmp lets key parts
+    found_if_let : (i : ℕ) (at : AtLine i) (new : TablePosition) (b : Bool) → seek_position cmp lines key ≡ Some i → may_contain at.part.handle.offset key ≡ b → ToKeyByLineIfLet format.codings cmp bytes lines b key i (Ok new)
+        → pair_at new.pairs new.inner ≡ found_in cmp may_contain key parts
     found_if_let i at new b named is to = by b is to
       where
-        found_is : (b : Bool) → lets at.part.handle.offset key ≡ b → found_in cmp lets key parts ≡ (if b then first_from cmp key (pairs_in parts) else None)
+        found_is : (b : Bool) → may_contain at.part.handle.offset key ≡ b → found_in cmp may_contain key parts ≡ (if b then first_from cmp key (pairs_in parts) else None)
         found_is b is =
-            ap (λ (o : Option Part). elim o [ None ↦ None | Some part ↦ if lets part.handle.offset key then first_from cmp key (pairs_in parts) else None ]) (named_at cmp key parts i at.part named at.there)
+            ap (λ (o : Option Part). elim o [ None ↦ None | Some part ↦ if may_contain part.handle.offset key then first_from cmp key (pairs_in parts) else None ]) (named_at cmp key parts i at.part named at.there)
             ∙ ap (λ z. if z then first_from cmp key (pairs_in parts) else None) is
 
-        by : (b : Bool) → lets at.part.handle.offset key ≡ b → ToKeyByLineIfLet format.codings cmp bytes lines b key i (Ok new) → pair_at new.pairs new.inner ≡ found_in cmp lets key parts
+        by : (b : Bool) → may_contain at.part.handle.offset key ≡ b → ToKeyByLineIfLet format.codings cmp bytes lines b key i (Ok new) → pair_at new.pairs new.inner ≡ found_in cmp may_contain key parts
         by true is to = found_in_block i at new named to ∙ sym (first_is cmp key (pairs_in parts)) ∙ sym (found_is true is)
         by false is to = ap (pair_at new.pairs) to ∙ sym (found_is false is)
 
     -- by the line that the index has for the key
-    pub look_up_finds : (new : TablePosition) → LookUpFromLine format.codings cmp bytes lines lets key (seek_position cmp lines key) (Ok new) → pair_at new.pairs new.inner ≡ found_in cmp lets key parts
+    pub look_up_finds : (new : TablePosition) → LookUpFromLine format.codings cmp bytes lines may_contain key (seek_position cmp lines key) (Ok new) → pair_at new.pairs new.inner ≡ found_in cmp may_contain key parts
     look_up_finds new look_up = by (seek_position cmp lines key) refl look_up
       where
-        by : (o : Option ℕ) → seek_position cmp lines key ≡ o → LookUpFromLine format.codings cmp bytes lines lets key o (Ok new) → pair_at new.pairs new.inner ≡ found_in cmp lets key parts
+        by : (o : Option ℕ) → seek_position cmp lines key ≡ o → LookUpFromLine format.codings cmp bytes lines may_contain key o (Ok new) → pair_at new.pairs new.inner ≡ found_in cmp may_contain key parts
         by None none nowhere =
-            ap (pair_at new.pairs) nowhere.1 ∙ sym (ap (pair_at (pairs_in parts)) (let_none cmp lets key parts none)) ∙ found_at cmp lets key parts
+            ap (pair_at new.pairs) nowhere.1 ∙ sym (ap (pair_at (pairs_in parts)) (let_none cmp may_contain key parts none)) ∙ found_at cmp may_contain key parts
         by (Some i) named line =
             let at = named_handle i line.handle line.names in
-            found_if_let i at.0 new (lets at.0.part.handle.offset key) named refl
-            (subst (λ (h : Handle). ToKeyByLineIfLet format.codings cmp bytes lines (lets h.offset key) key i (Ok new)) at.1 line.outcome)
+            found_if_let i at.0 new (may_contain at.0.part.handle.offset key) named refl
+            (subst (λ (h : Handle). ToKeyByLineIfLet format.codings cmp bytes lines (may_contain h.offset key) key i (Ok new)) at.1 line.outcome)
 
     -- ---- why it fails
 
@@ -263,7 +263,7 @@ module _ {format : Format} {meaning : Meaning} (agrees : Agrees format meaning) 
         by None after = lacks_after status (next_position lines (Some i)) after
 
     -- a look-up fails only where the format lacks a compressor
-    pub look_up_lacks : (status : Status) → LookUpFromLine format.codings cmp bytes lines lets key (seek_position cmp lines key) (Err status) → Wants status
+    pub look_up_lacks : (status : Status) → LookUpFromLine format.codings cmp bytes lines may_contain key (seek_position cmp lines key) (Err status) → Wants status
     look_up_lacks status look_up = by (seek_position cmp lines key) look_up
       where
         by_let : (i : ℕ) (b : Bool) → ToKeyByLineIfLet format.codings cmp bytes lines b key i (Err status) → Wants status
@@ -271,10 +271,10 @@ module _ {format : Format} {meaning : Meaning} (agrees : Agrees format meaning) 
         by_let i true (inr to) = lacks_in_block i status to
         by_let i false to = absurd to
 
-        by : (o : Option ℕ) → LookUpFromLine format.codings cmp bytes lines lets key o (Err status) → Wants status
+        by : (o : Option ℕ) → LookUpFromLine format.codings cmp bytes lines may_contain key o (Err status) → Wants status
         by None nowhere = absurd nowhere
         by (Some i) (inl none) =
             let line = value_of (λ (pair : Pair). (handle : Handle) → HandleFits handle → pair.1 ≡ handle_bytes handle → ⊥) (pair_at lines (Some i)) none.0 in
             let at = at_line i line.0 line.1 in
             absurd (line.2 at.0.part.handle at.0.is.is_there.is_there.fits (ap (λ (z : Pair). z.1) at.1))
-        by (Some i) (inr line) = by_let i (lets line.handle.offset key) line.outcome
+        by (Some i) (inr line) = by_let i (may_contain line.handle.offset key) line.outcome

@@ -21,7 +21,7 @@ use Rattle.leveldb_table.proofs.TableReaderLemmas.{index_read, opened_pass, open
 use Rattle.leveldb_table.proofs.TableBlockLemmas.{fails_ok, fails_own, fails_refused, fails_weaker, reads_ok, reads_own, reads_refused, reads_weaker}
 use Rattle.leveldb_table.specs.Table.{index_pair}
 use Rattle.leveldb_table.specs.TableBlock.{HasLackCode, IsUndecodedBy}
-use Rattle.leveldb_table.specs.TableReader.{lets, lines_of}
+use Rattle.leveldb_table.specs.TableReader.{lines_of, may_contain}
 use Rattle.leveldb_table.specs.TableReaderMoves.{FindsPair, LookUpFromLine, LookUpInTable}
 use Rattle.leveldb_table.specs.TableReaderWalk.{Outcome}
 use Rattle.leveldb_version.specs.Format.{Agrees, Format, IsTableFault, IsTableOf, Meaning}
@@ -61,21 +61,21 @@ module _ {C FP F : Type 0} (order : CmpGhosts (InternalKeyCmp C)) (by : TableOpt
 
     -- a look-up goes by the lines of its data blocks
     along : (out : Outcome) → LookUpInTable order by.format.codings (key_matches by.format) table key bytes out
-        → LookUpFromLine by.format.codings (internal_cmp by.format.order) bytes (map index_pair is.parts) (lets (key_matches by.format) table) key (seek_position (internal_cmp by.format.order) (map index_pair is.parts) key) out
+        → LookUpFromLine by.format.codings (internal_cmp by.format.order) bytes (map index_pair is.parts) (may_contain (key_matches by.format) table) key (seek_position (internal_cmp by.format.order) (map index_pair is.parts) key) out
     along out look_up =
         let same : order.cmp table.cmp ≡ internal_cmp by.format.order = ap order.cmp opened.ordered.0 ∙ order_is in
         let same_index : order.cmp table.index.cmp ≡ internal_cmp by.format.order = ap order.cmp opened.ordered.1 ∙ order_is in
-        subst (λ ls. LookUpFromLine by.format.codings (internal_cmp by.format.order) bytes ls (lets (key_matches by.format) table) key (seek_position (internal_cmp by.format.order) ls key) out) lines_are
-        (subst (λ (o : List ℕ → List ℕ → Ordering). LookUpFromLine by.format.codings (internal_cmp by.format.order) bytes (lines_of table) (lets (key_matches by.format) table) key (seek_position o (lines_of table) key) out) same_index
-        (subst (λ (o : List ℕ → List ℕ → Ordering). LookUpFromLine by.format.codings o bytes (lines_of table) (lets (key_matches by.format) table) key (seek_position (order.cmp table.index.cmp) (lines_of table) key) out) same look_up))
+        subst (λ ls. LookUpFromLine by.format.codings (internal_cmp by.format.order) bytes ls (may_contain (key_matches by.format) table) key (seek_position (internal_cmp by.format.order) ls key) out) lines_are
+        (subst (λ (o : List ℕ → List ℕ → Ordering). LookUpFromLine by.format.codings (internal_cmp by.format.order) bytes (lines_of table) (may_contain (key_matches by.format) table) key (seek_position o (lines_of table) key) out) same_index
+        (subst (λ (o : List ℕ → List ℕ → Ordering). LookUpFromLine by.format.codings o bytes (lines_of table) (may_contain (key_matches by.format) table) key (seek_position (order.cmp table.index.cmp) (lines_of table) key) out) same look_up))
 
     pub look_up_wants : (status : Status) → LookUpInTable order by.format.codings (key_matches by.format) table key bytes (Err status) → Wants agrees status
-    look_up_wants status look_up = look_up_lacks agrees (store_order exact) (parts_there is) (lets (key_matches by.format) table) key (accepted_key key tagged) status (along (Err status) look_up)
+    look_up_wants status look_up = look_up_lacks agrees (store_order exact) (parts_there is) (may_contain (key_matches by.format) table) key (accepted_key key tagged) status (along (Err status) look_up)
 
     pub pair_says : (found : Option Pair) → FindsPair order by.format.codings (key_matches by.format) table key bytes found → SaysNewest pairs key found
     pair_says found finds =
         let parts = parts_there is in
-        let at = look_up_finds agrees (store_order exact) parts (lets (key_matches by.format) table) key (accepted_key key tagged) finds.position (along (Ok finds.position) finds.look_up) in
+        let at = look_up_finds agrees (store_order exact) parts (may_contain (key_matches by.format) table) key (accepted_key key tagged) finds.position (along (Ok finds.position) finds.look_up) in
         let pass = opened_pass is (opens_more agrees opened.opened) agrees.filters in
         subst (λ ps. SaysNewest ps key found) (sym is.pairs_are) (says_newest exact parts (λ policy. by.format.matches) by.policy table.filters opened.filtered pass key tagged found (finds.is ∙ at))
 

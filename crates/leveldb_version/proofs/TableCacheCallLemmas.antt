@@ -20,7 +20,7 @@ use Rattle.leveldb_table.specs.BlockCache.{GainsBlocks, HoldsOnlyOf, IsBlockOfFi
 use Rattle.leveldb_table.specs.Cache.{Cached, looked_for, others, put_first, value_of}
 use Rattle.leveldb_table.specs.OpenTable.{IsFilteredBy, file_of, id_of}
 use Rattle.leveldb_table.specs.TableBlock.{FileHas, ForBytesOf, KeepsDisk, ReadsFile}
-use Rattle.leveldb_table.specs.TableReader.{lets, lines_of}
+use Rattle.leveldb_table.specs.TableReader.{lines_of, may_contain}
 use Rattle.leveldb_table.specs.TableReaderMoves.{FindsPair, LookUpFromLine, LookUpInTable, LooksUp}
 use Rattle.leveldb_table.specs.TableReaderWalk.{Outcome}
 use Rattle.leveldb_table.specs.declared.block_cache.CachedBlock.{CachedBlock}
@@ -160,9 +160,9 @@ uses_uncopied env {Why} result out uses = record {
 -- ---- filters of the options
 
 -- the filters of a table let the same keys pass by any meaning of its policy
-same_lets : {C FP F : Type 0} (format : Format) (policy : FP) (matches : FP → List ℕ → List ℕ → Bool) → matches policy ≡ key_matches format policy → (table : StoreTable C FP F) → IsFilteredBy policy table
-    → lets matches table ≡ lets (key_matches format) table
-same_lets format policy matches is table filtered =
+same_may_contain : {C FP F : Type 0} (format : Format) (policy : FP) (matches : FP → List ℕ → List ℕ → Bool) → matches policy ≡ key_matches format policy → (table : StoreTable C FP F) → IsFilteredBy policy table
+    → may_contain matches table ≡ may_contain (key_matches format) table
+same_may_contain format policy matches is table filtered =
     (elim table.filters as (λ f. IfSome f (λ reader. reader.policy ≡ policy)
     → (λ (offset : ℕ) (key : List ℕ). elim f [ None ↦ true | Some reader ↦ passes (matches reader.policy) reader.filters offset key ])
     ≡ (λ (offset : ℕ) (key : List ℕ). elim f [ None ↦ true | Some reader ↦ passes (key_matches format reader.policy) reader.filters offset key ])) [
@@ -201,7 +201,7 @@ module _ {E C FP F : Type 0} (order : CmpGhosts (InternalKeyCmp C)) (env : EnvGh
         → LookUpInTable order by.format.codings (key_matches by.format) table key bytes out
     look_up_by table key bytes out filtered looked =
         subst (λ l. LookUpFromLine by.format.codings (order.cmp table.cmp) bytes (lines_of table) l key (seek_position (order.cmp table.index.cmp) (lines_of table) key) out)
-        (same_lets by.format by.policy matches matches_is table filtered) looked
+        (same_may_contain by.format by.policy matches matches_is table filtered) looked
 
     -- a table that is opened finds or lacks what some table does
     some_finds : (table : StoreTable C FP F) {key bytes : List ℕ} → IsOpenedWith by table bytes → (found : Option Pair) → FindsPair order by.format.codings matches table key bytes found
