@@ -1,7 +1,7 @@
 mod CountLemmas
 mod CutLemmas
 mod MergeLemmas
-mod MergedLemmas
+pub mod MergedLemmas
 mod MergedEntriesLemmas
 pub mod LayersMergedLemmas
 mod ChildrenLemmas

@@ -14,7 +14,6 @@ pub mod FoundWalkOpenLemmas
 pub mod FoundWalkLemmas
 pub mod FoundWalkBesideLemmas
 pub mod FoundWalkBearingLemmas
-pub mod ListsMergeLemmas
 pub mod RepairClashLemmas
 pub mod RepairMergeLemmas
 pub mod RepairFoundClashLemmas

@@ -15,6 +15,7 @@ use Rattle.leveldb_base.specs.declared.cmp.internal.InternalKeyCmp.{InternalKeyC
 use Rattle.leveldb_base.specs.declared.types.LdbIterator.{Ghosts as IteratorGhosts}
 use Rattle.leveldb_env.specs.Compressor.{Codings}
 use Rattle.leveldb_env.specs.declared.env.Env.{Ghosts as EnvGhosts}
+use Rattle.leveldb_iter.proofs.MergedLemmas.{each_has_merge}
 use Rattle.leveldb_iter.specs.Merge.{HaveOnePairAKey, IsMerge}
 use Rattle.leveldb_iter.specs.MergedEntries.{internal_order}
 use Rattle.leveldb_iter.specs.MergingIter.{AreMerged, IsMergeAt}
@@ -30,7 +31,6 @@ use Rattle.leveldb_version.specs.Batches.{Each}
 use Rattle.leveldb_store.proofs.BearingLemmas.{IsMergeOf}
 use Rattle.leveldb_store.specs.View.{IsOverMemory, any_in_order}
 use Rattle.leveldb_repair.proofs.FoundWalkBearingLemmas.{IsFoundChild}
-use Rattle.leveldb_repair.proofs.ListsMergeLemmas.{lists_have_merge}
 use Rattle.leveldb_repair.proofs.RepairMergeLemmas.{memory_lists}
 use Rattle.leveldb_repair.specs.FoundWalk.{IsWalkOver}
 use Rattle.leveldb_repair.specs.FoundWalkLaws.{found_laws}
@@ -162,7 +162,7 @@ module _ {E C K M F : Type 0} (order : CmpGhosts (InternalKeyCmp C)) (env : EnvG
 
       -- and so have a merge
       pub children_have_merge : (pairs : List Pair) × IsMerge keys lists pairs
-      children_have_merge = lists_have_merge keys keys_total lists lists_sorted
+      children_have_merge = each_has_merge keys keys_total lists lists_sorted
 
       -- the merge of the children is over each merge of the lists
       pub children_merged : {child : WalkGhosts (FoundWalk E C M F) E (ReadFiles K)}

@@ -17,8 +17,22 @@ use Rattle.leveldb_base.specs.declared.key_types.ValueType.{ValueType}
 use Rattle.leveldb_base.specs.declared.key_types.ValueType.TheVariants.{TypeDeletion, TypeValue}
 use Rattle.leveldb_iter.specs.Merge.{HaveOnePairAKey, IsPairOf}
 use Rattle.leveldb_iter.specs.Walk.{KeyOrder}
+use Rattle.leveldb_version.proofs.OneStoreLemmas.{flat_in, in_flat}
 use Rattle.leveldb_version.specs.Store.{IsInternalPair}
-use Rattle.leveldb_repair.proofs.ListsMergeLemmas.{in_lists, of_lists, pairs_of}
+use Rattle.leveldb_store.specs.Merging.{all_pairs}
+
+-- ---- the pairs of lists in one list
+
+of_lists : (lists : List (List Pair)) (pair : Pair) → Contains (all_pairs lists) pair
+    → IsPairOf lists pair
+of_lists lists pair there =
+    let from = in_flat (λ (list : List Pair). list) lists pair there in
+    let list = from.1 in (list.0, from.0, list.1, list.2, from.2)
+
+in_lists : (lists : List (List Pair)) (pair : Pair) → IsPairOf lists pair
+    → Contains (all_pairs lists) pair
+in_lists lists pair any = flat_in (λ (list : List Pair). list) lists any.1 pair
+    (any.0, any.2, any.3) any.4
 
 -- ---- two pairs of one key
 
@@ -87,7 +101,7 @@ module _ (order : KeyOrder) where
 
   module _ (lists : List (List Pair)) where
     abbrev pairs : List Pair
-    pairs = pairs_of lists
+    pairs = all_pairs lists
 
     -- lists have one pair of each key, or a clash
     pub one_or_clash : HaveOnePairAKey order lists ⊎ HaveClash order lists
