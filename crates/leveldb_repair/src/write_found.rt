@@ -21,15 +21,16 @@ use leveldb_version::version_set::VersionSet;
 use std::alloc::Global;
 
 /// A version set of no files for a store under this path, whose next number is the second one above
-/// `greatest`: the first above it is left to a manifest. `NotSupported` where 64 bits don't have both
-/// and one more, which the manifest tells as the next number if the second is the next log's.
+/// `greatest`: the first above it is left to a manifest. `NotSupported` where 64 bits don't have
+/// both and one more, which the manifest has as the next number if the second is the next log's.
 pub fn set_above<E: Env, C: UserCmp + Copy + Drop>(
     alloc: Global,
     store: &str,
     cmp: &C,
     greatest: FileNum,
 ) -> Result<VersionSet<E, C>>
-    ensures ok { IfOk result (λ it. it ≡ versions_above store.now (C.name cmp.now) cmp.now greatest) }
+    ensures ok { IfOk result
+        (λ it. it ≡ versions_above store.now (C.name cmp.now) cmp.now greatest) }
     ensures fits { OnOk result (greatest + 3 < 2 ^ 64) }
     ensures cause { IfErr result (λ status. IsOutOfMemory status
         ⊎ AreFileNumbersTooFew greatest 3 status) }

@@ -443,13 +443,13 @@ module _ {E C FP F P : Type 0} {B : Boxed} {keys : InternalOrder C} {key_filters
     -- Ok: what was pending is in the history or forgotten, nothing is held, and the lock is
     pub ok : IfOk result (λ engine. (opening : Opening) → IsOpening name asked opening
         → (meaning : Meaning) → Agrees opening.format meaning
-        → FromStatesOf keys env (formats_of choices) (risk_of (open_store opening)) name meaning None
-        from (Some engine) to (λ _ old new. Opens old opening new))
+        → FromStatesOf keys env (formats_of choices) (risk_of (open_store opening)) name meaning
+        None from (Some engine) to (λ _ old new. Opens old opening new))
     -- Err: no store is open, and the history is as it was
     pub err : IfErr result (λ e. (opening : Opening) → IsOpening name asked opening
         → (meaning : Meaning) → Agrees opening.format meaning
-        → FromStatesOf keys env (formats_of choices) (risk_of (open_store opening)) name meaning None
-        from None to (NotOpened opening e))
+        → FromStatesOf keys env (formats_of choices) (risk_of (open_store opening)) name meaning
+        None from None to (NotOpened opening e))
     -- and that history is one as which its files were read
     pub found : IfOk result (λ engine. (opening : Opening) → IsOpening name asked opening
         → (meaning : Meaning) → Agrees opening.format meaning → IsTrue env.models_disk

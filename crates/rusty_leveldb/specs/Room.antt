@@ -48,7 +48,8 @@ with_last n value = record value { set = record value.set { last_sequence = n } 
 -- that was added, and then one compaction may have taken that table. These entries, of a batch, are
 -- added to memory.
 pub record KeepsOrCompacts {E F C : Type 0} (env : Ghosts E F) (format : Format)
-    (batch : List Entry) (old : OpenStoreValue C) (from : E) (new : OpenStoreValue C) (to : E) : Type 0 where
+    (batch : List Entry) (old : OpenStoreValue C) (from : E) (new : OpenStoreValue C) (to : E)
+    : Type 0 where
   -- the store and its environment once tables were made of what was in memory, and nothing was
   -- compacted yet
   pub tables_made : OpenStoreValue C

@@ -103,7 +103,8 @@ impl<
     /// Moves to the first pair, or to no position in an empty store.
     pub fn seek_to_first(&mut self) -> Result<()>
         ensures { MovesIterator ⟦<InternalKeyCmp<C> as Cmp>⟧ E.Env C.Cmp FP.FilterPolicy
-            K.codings V.Walk no_cause (λ _ pairs _. position_within pairs 0) self.old result self.new }
+            K.codings V.Walk no_cause (λ _ pairs _. position_within pairs 0) self.old result
+            self.new }
     {
         let moved = self.view.seek_to_first(self.env, &mut self.tables);
         self.count_read();

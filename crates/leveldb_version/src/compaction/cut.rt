@@ -86,8 +86,8 @@ impl OutputCut {
         max_file_size: usize,
         key: InternalKey<'_>,
     ) -> bool
-        ensures { PassesFiles (C.cmp ucmp.now) (map new_file_of files.now) max_file_size key.now self.old
-            result self.new }
+        ensures { PassesFiles (C.cmp ucmp.now) (map new_file_of files.now) max_file_size key.now
+            self.old result self.new }
     {
         let left = &files[self.passed.min(files.len())..];
         let passed = files_before(ucmp, left, key);

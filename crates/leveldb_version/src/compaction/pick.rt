@@ -221,8 +221,9 @@ fn chosen_with<'v, C: UserCmp>(
     requires there { Contains (at_level file.now.0 version.now.files) file.now }
     ensures chosen { IfOk result (λ chosen. AreChosen (C.cmp version.now.cmp)
         (new_files_of version.now) file.now.0 (borrowed_files chosen.items)) }
-    ensures file { IfOk result (λ chosen. AreOrdered (C.cmp version.now.cmp)
-        (new_files_of version.now) → Contains (borrowed_files chosen.items) (new_file_of file.now)) }
+    ensures file { IfOk result (λ chosen.
+        AreOrdered (C.cmp version.now.cmp) (new_files_of version.now)
+        → Contains (borrowed_files chosen.items) (new_file_of file.now)) }
     ensures memory { IfErr result IsOutOfMemory }
 {
     if file.0 == 0 {

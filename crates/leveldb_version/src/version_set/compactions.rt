@@ -101,7 +101,8 @@ impl<E: Env, C: UserCmp + Copy + Drop> VersionSet<E, C> {
         C: 'b,
         FP: 'b,
         K: 'b,
-        ensures merges { let walk = ⟦<VersionIter<'c, C> as Walk<E, ReadTables<'b, E, C, FP, K>>>⟧ in
+        ensures merges { let walk =
+            ⟦<VersionIter<'c, C> as Walk<E, ReadTables<'b, E, C, FP, K>>>⟧ in
             IfOk result (MergesTablesOf walk ⟦<InternalKeyCmp<C> as Cmp>⟧ self.now.current.cmp
             compaction.now.inputs) }
         ensures memory { IfErr result IsOutOfMemory }
