@@ -75,7 +75,7 @@ pub record StoreMakesRoom {E F C FP D P : Type 0} (order : CmpGhosts (InternalKe
       (FailsToCompactRange order env by old from tables choices) result new to now
   -- where it isn't full, nothing is done
   pub not_full : (IsFull limit old.mem → ⊥) → (new ≡ old) × (to ≡ from) × OnErr result ⊥
-  -- and one that was full is empty then, no place is taken in it, and none waits
+  -- and one that was full is empty then, no place is taken in it, and there is no immutable one
   pub empties : OnOk result (IsFull limit old.mem
       → (new.mem.entries ≡ []) × (new.mem.places ≡ 0) × (new.imm ≡ None))
   pub logs : OnOk result (IsFull limit old.mem → LogsRoom by.format.order old.set new.set)
