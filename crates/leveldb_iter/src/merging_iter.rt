@@ -1,4 +1,5 @@
 //! The merge of walks.
+// LevelDB: table/merger.cc
 ghost use Rattle.std.specs.Prelude.{◌≡◌, ◌<◌, length, List, ℕ, None};
 ghost use Rattle.std.specs.Option.{ForSome};
 ghost use Rattle.leveldb_base.specs.Types.{Pair};

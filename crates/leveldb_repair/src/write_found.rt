@@ -1,4 +1,5 @@
 //! What was found goes to new tables, all of it.
+// LevelDB: db/repair.cc, Repairer::RepairTable
 ghost use Rattle.std.specs.Prelude.{◌≡◌, ◌+◌, ◌<◌, ◌^◌, ◌⊎◌, IfErr, IfOk, OnOk, true, false};
 ghost use Rattle.leveldb_base.specs.Error.{IsOutOfMemory};
 ghost use Rattle.leveldb_repair.specs.WriteFound.{WritesFound, versions_above};

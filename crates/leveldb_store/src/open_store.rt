@@ -1,4 +1,5 @@
 //! An open store: what is in memory of it, and the log to which batches are appended.
+// LevelDB: db/db_impl.h, DBImpl
 ghost use Rattle.std.specs.Prelude.{◌≡◌, ◌↔◌, IsTrue, false};
 ghost use Rattle.leveldb_store.specs.OpenStore.{IsUnbroken};
 

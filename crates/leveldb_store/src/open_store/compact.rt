@@ -1,5 +1,6 @@
 //! One compaction of an open store: other files take the place of those that it takes, and its edit
 //! is logged.
+// LevelDB: db/db_impl.cc, DBImpl::BackgroundCompaction
 ghost use Rattle.std.specs.Prelude.{◌≡◌, ◌⊎◌, ◌++◌, IfErr, IfSome, None, Option, OnOk, is_some, map};
 ghost use Rattle.leveldb_base.specs.Error.{IsOutOfMemory};
 ghost use Rattle.leveldb_version.specs.Format.{format_of};

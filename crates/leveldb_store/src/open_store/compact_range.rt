@@ -1,4 +1,5 @@
 //! Compactions of a range of keys.
+// LevelDB: db/db_impl.cc, DBImpl::CompactRange
 ghost use Rattle.std.specs.Prelude.{◌≡◌, ◌<◌, [], IfErr, IfOk, IfSome, None, OnOk, false, is_some, true};
 ghost use Rattle.leveldb_base.specs.Error.{IsOutOfMemory};
 ghost use Rattle.leveldb_base.specs.KeyTypes.{user_part};

@@ -1,5 +1,6 @@
 //! A switch of the log: the memtable (`mem`) becomes the immutable one (`imm`), and batches go to a
 //! log of the next number.
+// LevelDB: db/db_impl.cc, DBImpl::MakeRoomForWrite
 ghost use Rattle.std.specs.Prelude.{◌≡◌, ◌≢◌, ◌↔◌, [], None, IsTrue, false};
 ghost use Rattle.leveldb_version.specs.Format.{Meaning};
 ghost use Rattle.leveldb_store.specs.SoundCall.{IsSoundCall, any_meaning};

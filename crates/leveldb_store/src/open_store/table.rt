@@ -1,4 +1,5 @@
 //! The table of the immutable memtable (`imm`), and its edit.
+// LevelDB: db/db_impl.cc, DBImpl::CompactMemTable and WriteLevel0Table
 ghost use Rattle.std.specs.Prelude.{◌≡◌, ◌≢◌, ◌<◌, ◌≤◌, None, IsTrue, OnErr, OnOk, map};
 ghost use Rattle.leveldb_base.specs.Entries.{internal_pair};
 ghost use Rattle.leveldb_base.specs.History.{AreRising};

@@ -1,4 +1,5 @@
 //! Where a compaction's outputs are cut, so that none overlaps too much of the level after its own.
+// LevelDB: db/version_set.cc, Compaction::ShouldStopBefore
 ghost use Rattle.std.specs.Prelude.{◌≡◌, ◌+◌, map, take_while};
 ghost use Rattle.std.specs.List.{prefix_len};
 ghost use Rattle.std.specs.Ordering.{is_gt};

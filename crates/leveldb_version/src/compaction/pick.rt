@@ -1,4 +1,5 @@
 //! Which compaction is asked for: by a version's score, by reads, or by a range.
+// LevelDB: db/version_set.cc, VersionSet::PickCompaction and CompactRange
 ghost use Rattle.std.specs.Prelude.{◌≡◌, ◌<◌, ◌↔◌, ◌⊎◌, ◌==◌, [], true, Contains, IfErr, IfOk, IfSome, IsTrue, None, find, map};
 ghost use Rattle.std.specs.Option.{option_copied, option_map};
 ghost use Rattle.std.specs.Ordering.{is_gt};

@@ -1,4 +1,5 @@
 //! The compactions for which a version set asks, and the merge of the tables that one takes.
+// LevelDB: db/version_set.cc, VersionSet
 ghost use Rattle.std.specs.Prelude.{◌≡◌, ◌<◌, IfErr, IfOk};
 ghost use Rattle.leveldb_base.specs.Error.{IsOutOfMemory};
 ghost use Rattle.leveldb_base.specs.KeyTypes.{user_part};

@@ -1,4 +1,5 @@
 //! Writing to a store: batches, and syncs of its log.
+// LevelDB: db/db_impl.cc, DBImpl::Write
 ghost use Rattle.std.specs.Prelude.{◌≡◌, ◌∷◌, [], Some, None, false, is_some};
 ghost use Rattle.leveldb_mem.specs.WriteBatch.{item_of};
 ghost use Rattle.rusty_leveldb.specs.State.{open_mode};
