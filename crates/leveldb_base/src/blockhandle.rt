@@ -1,4 +1,5 @@
 //! The offset and size of a block in its file, as a table's indexes and its footer keep them.
+// LevelDB: table/format.h, BlockHandle
 ghost use Rattle.std.specs.Prelude.{◌≡◌, ◌≤◌, ◌++◌, Option, Some, length, drop};
 ghost use Rattle.leveldb_base.specs.BlockHandle.{Handle, HandleFits, handle_bytes, ReadsHandle};
 

@@ -1,4 +1,5 @@
 //! Comparators: the order of keys, and short keys between two of them.
+// LevelDB: util/comparator.cc
 ghost use Rattle.std.specs.Prelude.{◌≡◌, ◌≢◌, ◌+◌, ◌<◌, ℕ, Bool, true, List, IfOk, IfErr, IfSome, length, slice_index, slice_set};
 ghost use Rattle.std.specs.Option.{option_map};
 ghost use Rattle.std.specs.declared.cmp.Ordering.{Ordering};

@@ -1,4 +1,5 @@
 //! CRC32C, the checksum that guards each piece of a log and each block of a table.
+// LevelDB: util/crc32c.cc
 ghost use Rattle.std.specs.Prelude.{◌≡◌, ℕ, List, [], ◌++◌, bit_xor};
 ghost use Rattle.leveldb_base.specs.Crc.{crc_register, crc_of, masked, unmasked, HasRead};
 

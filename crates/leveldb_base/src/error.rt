@@ -1,4 +1,5 @@
 //! Errors: a code that names the cause, and a text for the reader.
+// LevelDB: util/status.cc
 ghost use Rattle.std.specs.Prelude.{◌≡◌, Some, None, IfOk, IfSome, IsErrAnd, string_bytes};
 ghost use Rattle.leveldb_base.specs.Error.{status_text, text_of, annotated};
 

@@ -4,6 +4,7 @@
 //! An internal key is the user's key and eight bytes of `sequence << 8 | type`, the lowest first. A
 //! look-up key is an internal key after its length, and a memtable key is that and the value after
 //! its length.
+// LevelDB: db/dbformat.cc
 ghost use Rattle.std.specs.Prelude.{◌≡◌, ◌+◌, ◌/◌, ◌%◌, ◌^◌, ◌<◌, ◌≤◌, ◌⊎◌, ℕ, List, [], ◌++◌, Option, Some, IfOk, IfErr, OnOk, length, drop, vec_len};
 ghost use Rattle.leveldb_base.specs.Error.{IsOutOfMemory};
 ghost use Rattle.leveldb_base.specs.Varint.{little, varint, sized};

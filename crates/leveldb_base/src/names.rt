@@ -1,4 +1,5 @@
 //! The names of a store's files: their numbers and types, and the names that a store gives.
+// LevelDB: db/filename.cc
 ghost use Rattle.std.specs.Prelude.{◌≡◌, ℕ, Result, Ok, MatchOption, IfOk, IfErr, string_bytes};
 ghost use Rattle.leveldb_base.specs.Error.{IsOutOfMemory};
 ghost use Rattle.leveldb_base.specs.Names.{IsNumber, IsWord, IsExtension, IsFileName, ReadsName, file_path};

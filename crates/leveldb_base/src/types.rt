@@ -1,5 +1,6 @@
 //! Words of every layer: numbers of files and entries, ranges, file types, and the meaning of an
 //! iterator.
+// LevelDB: db/dbformat.h, SequenceNumber; db/version_edit.h, FileMetaData
 ghost use Rattle.std.specs.Prelude.{◌≡◌, ◌⊎◌, List, ℕ, Option, None, IfOk, IfErr, OnOk, OnErr, is_some};
 ghost use Rattle.std.specs.declared.cmp.Ordering.{Ordering};
 ghost use Rattle.leveldb_base.specs.declared.error.Status.{Status};

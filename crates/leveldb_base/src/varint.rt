@@ -1,6 +1,7 @@
 //! Varints, and texts after their lengths, as LevelDB's logs and tables write them: seven bits a
 //! byte, the lowest group first, a byte from 128 on where more follow. Only the shortest encoding
 //! is read.
+// LevelDB: util/coding.cc
 ghost use Rattle.std.specs.Prelude.{◌≡◌, ◌+◌, ◌^◌, ◌<◌, ◌≤◌, ◌++◌, vec_len, vec_capacity, length, drop, Option, Some, OnOk, OnErr, IfErr};
 ghost use Rattle.leveldb_base.specs.Error.{IsOutOfMemory};
 ghost use Rattle.leveldb_base.specs.Varint.{varint, sized, ReadsVarint, ReadsSized};

@@ -1,4 +1,5 @@
 //! Compressors: what is stored for a block, and the list of those that a store knows.
+// LevelDB: table/format.cc and table/table_builder.cc, where they compress
 ghost use Rattle.std.specs.Prelude.{◌≡◌, ◌⊎◌, ℕ, true, false, if◌then◌else◌, [], Option, None, Some, map, length, ◌<◌, ◌≤◌, is_some, option_map, ◌==◌, IfOk, IfErr, IfSome, IfNone, OnOk, OnErr};
 ghost use Rattle.std.specs.List.{position_or_len};
 ghost use Rattle.leveldb_base.specs.Error.{IsOutOfMemory};

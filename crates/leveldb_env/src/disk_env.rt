@@ -1,4 +1,5 @@
 //! An environment over the files of the operating system.
+// LevelDB: util/env_posix.cc
 ghost use Rattle.std.specs.Prelude.{◌≡◌, ◌<◌, ◌^◌, ℕ, List, [], false, Err, IfOk, Ok, None};
 ghost use Rattle.leveldb_env.specs.Env.{HasCause};
 ghost use Rattle.leveldb_env.specs.DiskEnv.{nothing_observed, IsExcused};

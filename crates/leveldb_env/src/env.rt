@@ -1,5 +1,6 @@
 //! The environment: the calls by which a store reaches its disk, and the sinks and sources of
 //! bytes.
+// LevelDB: include/leveldb/env.h, Env
 ghost use Rattle.std.specs.Prelude.{◌≡◌, ◌≢◌, ◌≤◌, ◌<◌, ◌+◌, ◌^◌, ℕ, Bool, true, false, List, length, map, IfOk, OnErr, IfErr, OnOk, IsTrue, ◌↔◌, IsSome, string_bytes, IfSome, Result};
 ghost use Rattle.leveldb_env.specs.Env.{Files, bytes_of, created, emptied, deleted, renamed, extended, synced, without_folder, lock_set, same, Observed, ChangesFiles, BeforeOrAfter, PrefixAppended, FilesUnchanged, AnyFiles, ChangesLocks, SameLocks, HasCause, IsMissing, IsGone, IsEmptyFolder, IsLocked, LockIs, ReadsAt, ListsChildren};
 ghost use Rattle.leveldb_base.specs.Error.{IsOutOfMemory};

@@ -1,4 +1,5 @@
 //! Errors whose texts name a file.
+// LevelDB: util/env_posix.cc, PosixError
 ghost use Rattle.std.specs.Prelude.{◌≡◌, IfSome, IsErrAnd, string_bytes};
 ghost use Rattle.leveldb_base.specs.Error.{status_text, annotated};
 

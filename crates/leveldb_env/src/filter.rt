@@ -1,4 +1,5 @@
 //! Filters, which rule out most keys that are in none of the blocks that they were made for.
+// LevelDB: include/leveldb/filter_policy.h
 ghost use Rattle.std.specs.Prelude.{◌≡◌, ◌<◌, ℕ, Bool, true, List, [], length, Contains, IfOk, IfErr, OnOk, slice_index_or};
 ghost use Rattle.leveldb_env.specs.Filter.{keys_at, IsFilterError};
 

@@ -3,6 +3,7 @@
 //! A filter is made of the keys of the blocks that begin in its 2048 bytes, so the block at an
 //! offset has the filter at `offset / 2048`. The filters are stored one after another; then come
 //! their offsets and the offset of these, four bytes each, and the byte 11.
+// LevelDB: table/filter_block.cc
 ghost use Rattle.std.specs.Prelude.{◌≡◌, ◌↔◌, ◌⊎◌, ◌+◌, ◌-◌, ◌*◌, ◌/◌, ◌^◌, ◌<◌, ◌≤◌, [], ◌∷◌, ◌++◌, length, flat_map, get_or, replicate, All, IfOk, IfErr, OnOk, OnErr, IsErrAnd, IsTrue, IsOk};
 ghost use Rattle.std.specs.List.{concat};
 ghost use Rattle.leveldb_base.specs.Error.{IsOutOfMemory};

@@ -1,4 +1,5 @@
 //! Where a store says what it does, in lines for a reader.
+// LevelDB: include/leveldb/env.h, Logger
 
 use leveldb_base::error::Result;
 use std::alloc::Global;

@@ -1,4 +1,5 @@
 //! An environment in memory.
+// LevelDB: helpers/memenv/memenv.cc
 ghost use Rattle.std.specs.Prelude.{◌≡◌, ◌⊎◌, ◌<◌, ◌+◌, ◌^◌, true, false, refl, ℕ, List, length, map, codes, Ok, IfOk, IfErr, IfSome, IsErrAnd, OnOk, OnErr, Some, None, IsSome, IsSomeAnd, is_some, string_bytes};
 ghost use Rattle.std.specs.BTreeSet.{contains_text};
 ghost use Rattle.leveldb_base.specs.Error.{status_text, annotated, IsOutOfMemory};

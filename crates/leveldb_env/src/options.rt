@@ -1,4 +1,5 @@
 //! What a store is opened with.
+// LevelDB: include/leveldb/options.h
 ghost use Rattle.std.specs.Prelude.{◌≡◌, ◌⊎◌, ◌≤◌, ◌^◌, ℕ, List, true, None, IfErr, OnOk, IsSome};
 ghost use Rattle.leveldb_env.specs.Compressor.{plain_codings};
 ghost use Rattle.leveldb_env.specs.MemEnv.{disk_of};

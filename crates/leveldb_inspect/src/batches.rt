@@ -1,4 +1,5 @@
 //! The batches of a log as text.
+// LevelDB: db/dumpfile.cc, WriteBatchPrinter
 ghost use Rattle.std.specs.Prelude.{IfErr};
 ghost use Rattle.leveldb_inspect.specs.Inspect.{IsOutputError};
 

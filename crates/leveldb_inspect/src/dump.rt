@@ -1,4 +1,5 @@
 //! Dumps of files, whose names say what they hold.
+// LevelDB: db/dumpfile.cc
 ghost use Rattle.std.specs.Prelude.{◌⊎◌, IfErr};
 ghost use Rattle.leveldb_base.specs.Error.{IsOutOfMemory};
 ghost use Rattle.leveldb_table.specs.TableBlock.{KeepsDisk};

@@ -1,4 +1,5 @@
 //! The edits of a manifest as text.
+// LevelDB: db/dumpfile.cc, DumpDescriptor
 ghost use Rattle.std.specs.Prelude.{IfErr};
 ghost use Rattle.leveldb_inspect.specs.Inspect.{IsOutputError};
 

@@ -1,4 +1,5 @@
 //! The fragments of a block of a log.
+// LevelDB: db/log_reader.cc, Reader::ReadPhysicalRecord
 ghost use Rattle.std.specs.Prelude.{◌≡◌, ◌≤◌, ◌<◌, ◌+◌, ℕ, length, IfSome};
 ghost use Rattle.leveldb_inspect.specs.Inspect.{FitsFront};
 

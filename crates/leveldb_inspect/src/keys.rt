@@ -1,4 +1,5 @@
 //! Internal keys as text.
+// LevelDB: db/dbformat.cc, ParsedInternalKey::DebugString
 ghost use Rattle.std.specs.Prelude.{IfErr};
 ghost use Rattle.leveldb_inspect.specs.Inspect.{IsOutputError};
 

@@ -1,4 +1,5 @@
 //! The program: words in, lines out.
+// LevelDB: db/leveldbutil.cc
 ghost use Rattle.std.specs.Prelude.{◌≡◌, ◌≤◌, IfErr};
 ghost use Rattle.leveldb_table.specs.TableBlock.{KeepsDisk};
 ghost use Rattle.leveldb_inspect.specs.Inspect.{IsOutputError};

@@ -1,4 +1,5 @@
 //! The records of a log's file, read block by block, with what is damaged between them.
+// LevelDB: db/dumpfile.cc, PrintLogContents
 ghost use Rattle.std.specs.Prelude.{◌≡◌, ◌≤◌, ◌<◌, ◌+◌, ◌⊎◌, ◌^◌, IfErr, IfOk, length};
 ghost use Rattle.leveldb_base.specs.Error.{IsOutOfMemory};
 ghost use Rattle.leveldb_base.specs.declared.error.Status.{Status};

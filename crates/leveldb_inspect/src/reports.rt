@@ -1,4 +1,5 @@
 //! What is said of the damage in a log's file.
+// LevelDB: db/dumpfile.cc, CorruptionReporter
 ghost use Rattle.std.specs.Prelude.{IfErr};
 ghost use Rattle.leveldb_inspect.specs.Inspect.{IsOutputError};
 

@@ -1,4 +1,5 @@
 //! The tables of a store as text.
+// LevelDB: db/dumpfile.cc, DumpTable
 ghost use Rattle.std.specs.Prelude.{IfErr};
 ghost use Rattle.leveldb_table.specs.TableBlock.{KeepsDisk};
 ghost use Rattle.leveldb_inspect.specs.Inspect.{IsOutputError};

@@ -81,7 +81,8 @@ FailsOrClashes walk cmp world compares children later status =
 
 module _ {E T I C : Type 0} (walk : WalkGhosts I E T) (cmp : CmpGhosts C) where
   -- in this world a merge of walks over these lists is over these pairs
-  abbrev pub IsMergeOfLists : E × T → MergeCore C I → KeyOrder → List (List Pair) → List Pair → Type 0
+  abbrev pub IsMergeOfLists : E × T → MergeCore C I → KeyOrder → List (List Pair) → List Pair
+      → Type 0
   IsMergeOfLists world it order lists pairs =
       AreMerged walk cmp world it.cmp it.children.items order lists pairs
 

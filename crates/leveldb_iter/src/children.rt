@@ -1,4 +1,5 @@
 //! The children of a merge: the steps that they make, and which of them is at the first pair.
+// LevelDB: table/merger.cc, the children of MergingIterator
 ghost use Rattle.std.specs.Prelude.{◌≡◌, ◌<◌, ◌⊎◌, true, length, List, ℕ, Some};
 ghost use Rattle.std.specs.Option.{ForSome};
 ghost use Rattle.leveldb_base.specs.Types.{Pair, pair_of};

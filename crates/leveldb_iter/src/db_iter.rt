@@ -1,4 +1,5 @@
 //! The view of a store at a sequence number, as a walk above one over all entries.
+// LevelDB: db/db_iter.cc
 ghost use Rattle.std.specs.Prelude.{◌≡◌, ◌<◌, ◌^◌, ℕ, true, List, None, Some, IfOk, IfErr, OnErr, is_some, IsErrAnd};
 ghost use Rattle.std.specs.Bool.{then_some};
 ghost use Rattle.leveldb_base.specs.Error.{IsOutOfMemory};

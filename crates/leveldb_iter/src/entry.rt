@@ -1,4 +1,5 @@
 //! The entry that a walk over internal keys is at.
+// LevelDB: db/db_iter.cc, DBIter::ParseKey
 ghost use Rattle.std.specs.Prelude.{◌≡◌, ◌+◌, ◌-◌, ◌^◌, IfOk, IfErr, length, min};
 ghost use Rattle.leveldb_base.specs.Error.{IsOutOfMemory};
 ghost use Rattle.leveldb_iter.specs.DbIterSteps.{IsEntryRead, IsUntagged};

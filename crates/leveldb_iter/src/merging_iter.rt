@@ -1,4 +1,5 @@
 //! The merge of walks.
+// LevelDB: table/merger.cc
 ghost use Rattle.std.specs.Prelude.{◌≡◌, ◌<◌, length, List, ℕ, None};
 ghost use Rattle.std.specs.Option.{ForSome};
 ghost use Rattle.leveldb_base.specs.Types.{Pair};
@@ -151,8 +152,8 @@ impl<C: Cmp, I> MergeCore<C, I> {
     where
         I: Walk<E, T>,
         requires { self.old.current ≡ Some i }
-        ensures { Readies I.Walk C.Cmp (IsMergeOfListsAt I.Walk C.Cmp) (λ _ _. previous_position) Reverse
-            (env.old, tables.old) self.old result (env.new, tables.new) self.new.cmp
+        ensures { Readies I.Walk C.Cmp (IsMergeOfListsAt I.Walk C.Cmp) (λ _ _. previous_position)
+            Reverse (env.old, tables.old) self.old result (env.new, tables.new) self.new.cmp
             self.new.children.items self.new.current }
     {
         self.current = None;
@@ -180,9 +181,9 @@ impl<C: Cmp, I> MergeCore<C, I> {
     where
         I: Walk<E, T>,
         ensures { Readies I.Walk C.Cmp (λ world it order lists pairs _.
-            IsMergeOfLists I.Walk C.Cmp world it order lists pairs) (λ _ pairs _. last_position pairs)
-            Reverse (env.old, tables.old) self.old result (env.new, tables.new) self.new.cmp
-            self.new.children.items self.new.current }
+            IsMergeOfLists I.Walk C.Cmp world it order lists pairs)
+            (λ _ pairs _. last_position pairs) Reverse (env.old, tables.old) self.old result
+            (env.new, tables.new) self.new.cmp self.new.children.items self.new.current }
     {
         self.current = None;
         step_each(&mut self.children, env, tables, Step::Last)

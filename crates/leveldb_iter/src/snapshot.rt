@@ -1,4 +1,5 @@
 //! Snapshots: the sequence numbers at which readers hold a store.
+// LevelDB: db/snapshot.h
 ghost use Rattle.std.specs.Prelude.{◌≡◌, ◌↔◌, ◌⊎◌, ◌^◌, ◌-◌, [], Contains, IfErr, IfOk, IfSome, IsSome, IsTrue, OnErr, Some, slice_get};
 ghost use Rattle.std.specs.Bool.{OnFalse, OnTrue};
 ghost use Rattle.leveldb_base.specs.Error.{IsOutOfMemory};

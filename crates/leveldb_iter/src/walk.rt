@@ -1,4 +1,5 @@
 //! A walk over pairs whose moves borrow what the pairs are read from.
+// LevelDB: include/leveldb/iterator.h
 ghost use Rattle.std.specs.Prelude.{◌≡◌, List, ℕ, Option, IfOk, is_some};
 ghost use Rattle.leveldb_base.specs.declared.error.Status.{Status};
 ghost use Rattle.leveldb_base.specs.Types.{Pair, pair_of};

@@ -2,6 +2,7 @@
 //! masked checksum of what follows the length (4 bytes), the length of the data (2), a type (1),
 //! the data. A record is one Full fragment, or a First, any Middles and a Last; a fragment is
 //! within one block. Fewer than 7 bytes at a block's end are zeros.
+// LevelDB: db/log_format.h
 ghost use Rattle.std.specs.Prelude.{◌≡◌};
 ghost use Rattle.leveldb_mem.specs.Log.{record_type};
 

@@ -1,4 +1,5 @@
 //! The newest entries of a store, in memory.
+// LevelDB: db/memtable.cc
 ghost use Rattle.std.specs.Prelude.{◌≡◌, ◌+◌, ◌<◌, ◌≤◌, ◌^◌, ℕ, List, [], ◌∷◌, ◌++◌, length, map};
 ghost use Rattle.std.specs.Prelude.{IsTrue, ◌↔◌, Some, None, slice_get, option_copied};
 ghost use Rattle.std.specs.Option.{ForSome};

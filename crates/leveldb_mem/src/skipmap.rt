@@ -1,4 +1,5 @@
 //! A map from keys to values in the order of a comparator.
+// LevelDB: db/skiplist.h
 ghost use Rattle.std.specs.Prelude.{◌≡◌, ◌⊎◌, ◌+◌, ◌^◌, ◌<◌, ◌≤◌, ◌==◌, true, [], ◌++◌, length};
 ghost use Rattle.std.specs.Prelude.{OnOk, OnErr, IfErr, Some, None, slice_get};
 ghost use Rattle.std.specs.Option.{ForSome};

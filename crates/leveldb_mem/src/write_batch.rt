@@ -2,6 +2,7 @@
 //! it in the log: the number of the first change (8 bytes), the number of changes (4), and the
 //! changes in order. A change is its kind (1 byte) and its key after its length; a put has its
 //! value after its length, too.
+// LevelDB: db/write_batch.cc
 ghost use Rattle.std.specs.Prelude.{◌≡◌, ◌↔◌, ◌⊎◌, ◌+◌, ◌^◌, ◌<◌, ◌≤◌, [], ◌∷◌, ◌++◌, length, take};
 ghost use Rattle.std.specs.Prelude.{drop};
 ghost use Rattle.std.specs.Prelude.{Some, None, IfOk, OnOk, OnErr, IfErr, IfSome, IsErrAnd, IsTrue};

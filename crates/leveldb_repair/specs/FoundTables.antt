@@ -91,7 +91,8 @@ module _ (store : List ℕ) (files : Files) where
 abbrev pub WhyNoTables : {E F : Type 0} → EnvGhosts E F → Codings
     → (List ℕ → List ℕ → Ordering) → List ℕ → Files → List ListedFile → Status → Type 0
 WhyNoTables env codings cmp store files listed status =
-    ((status.code ≡ Corruption) × (IsTrue env.models_disk → Any (IsMissingTable store files) listed))
+    ((status.code ≡ Corruption)
+    × (IsTrue env.models_disk → Any (IsMissingTable store files) listed))
     ⊎ (HasLackCode env codings status × (IsTrue env.models_disk
     → Any (IsUndecodedTable store files codings cmp status) listed))
 

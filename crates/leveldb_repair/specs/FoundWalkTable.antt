@@ -90,7 +90,8 @@ module _ {E C F : Type 0} (order : CmpGhosts (InternalKeyCmp C)) (env : EnvGhost
       pub has : FileHas env state (file_of it.table) bytes
       pub parts_are : HasParts codings (order.accepts it.table.cmp) (order.cmp it.table.cmp) bytes
           parts
-      pub holds : HoldsOnlyOf order codings (order.cmp it.table.cmp) (id_of it.table) bytes it.blocks
+      pub holds : HoldsOnlyOf order codings (order.cmp it.table.cmp) (id_of it.table) bytes
+          it.blocks
       pub indexed : IsIndexed order (order.cmp it.table.cmp) parts it.core
       pub sorted : IsSortedIn (key_order order it.table.cmp) (pairs_in parts)
 

@@ -1,4 +1,5 @@
 //! The files of a folder.
+// LevelDB: db/repair.cc, Repairer::FindFiles
 ghost use Rattle.std.specs.Prelude.{◌≡◌, IfErr, IfOk, string_bytes};
 ghost use Rattle.leveldb_base.specs.Error.{IsOutOfMemory};
 ghost use Rattle.leveldb_env.specs.Env.{in_folder};

@@ -1,4 +1,5 @@
 //! The logs of a store's folder, in memory as far as they are found.
+// LevelDB: db/repair.cc, Repairer::ConvertLogFilesToTables
 ghost use Rattle.std.specs.Prelude.{◌≡◌, ◌↔◌, IsTrue};
 ghost use Rattle.leveldb_base.specs.History.{AreUpTo};
 ghost use Rattle.leveldb_base.specs.declared.types.FileType.TheVariants.{Log};

@@ -1,4 +1,5 @@
 //! The readable tables of a store's folder, whether a manifest names them or not.
+// LevelDB: db/repair.cc, Repairer::ExtractMetaData
 ghost use Rattle.std.specs.Prelude.{◌≡◌, ◌↔◌, IsTrue};
 ghost use Rattle.leveldb_base.specs.declared.types.FileType.TheVariants.{Table};
 ghost use Rattle.leveldb_repair.specs.FoundTables.{FindsTable, FindsTables, SizesFile};

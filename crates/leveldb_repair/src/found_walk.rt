@@ -1,5 +1,6 @@
 //! The children of a repair's merge: walks over memtables, and walks over tables that are found in
 //! the store's folder.
+// LevelDB: db/repair.cc, Repairer::NewTableIterator
 ghost use Rattle.std.specs.Prelude.{◌≡◌};
 
 use leveldb_base::cmp::{Cmp, InternalKeyCmp, UserCmp};

@@ -25,7 +25,8 @@ pub fn look_over<E, T, W: Walk<E, T>>(
     tables: &mut T,
     walk: &mut W,
 ) -> Result<LookedOver>
-    ensures { LooksOver W.Walk (env.old, tables.old) walk.old result (env.new, tables.new) walk.new }
+    ensures { LooksOver W.Walk (env.old, tables.old) walk.old result (env.new, tables.new)
+        walk.new }
 {
     let mut found = LookedOver {
         last: 0,

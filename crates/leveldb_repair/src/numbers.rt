@@ -1,4 +1,5 @@
 //! The numbers that the names of a store's files have.
+// LevelDB: db/repair.cc, Repairer::FindFiles
 ghost use Rattle.leveldb_repair.specs.Numbers.{IsGreatestNumber};
 
 use leveldb_base::types::FileNum;

@@ -1,5 +1,6 @@
 //! The repair of the files in a store's folder: all that is found goes to new tables, which a new
 //! manifest names.
+// LevelDB: db/repair.cc, Repairer::Run
 ghost use Rattle.leveldb_repair.specs.RepairStore.{RepairsStore};
 ghost use Rattle.leveldb_store.specs.BuildTable.{choices_of};
 

@@ -1,4 +1,5 @@
 //! What was found goes to new tables, all of it.
+// LevelDB: db/repair.cc, Repairer::RepairTable
 ghost use Rattle.std.specs.Prelude.{◌≡◌, ◌+◌, ◌<◌, ◌^◌, ◌⊎◌, IfErr, IfOk, OnOk, true, false};
 ghost use Rattle.leveldb_base.specs.Error.{IsOutOfMemory};
 ghost use Rattle.leveldb_repair.specs.WriteFound.{WritesFound, versions_above};
@@ -21,15 +22,16 @@ use leveldb_version::version_set::VersionSet;
 use std::alloc::Global;
 
 /// A version set of no files for a store under this path, whose next number is the second one above
-/// `greatest`: the first above it is left to a manifest. `NotSupported` where 64 bits don't have both
-/// and one more, which the manifest tells as the next number if the second is the next log's.
+/// `greatest`: the first above it is left to a manifest. `NotSupported` where 64 bits don't have
+/// both and one more, which the manifest has as the next number if the second is the next log's.
 pub fn set_above<E: Env, C: UserCmp + Copy + Drop>(
     alloc: Global,
     store: &str,
     cmp: &C,
     greatest: FileNum,
 ) -> Result<VersionSet<E, C>>
-    ensures ok { IfOk result (λ it. it ≡ versions_above store.now (C.name cmp.now) cmp.now greatest) }
+    ensures ok { IfOk result
+        (λ it. it ≡ versions_above store.now (C.name cmp.now) cmp.now greatest) }
     ensures fits { OnOk result (greatest + 3 < 2 ^ 64) }
     ensures cause { IfErr result (λ status. IsOutOfMemory status
         ⊎ AreFileNumbersTooFew greatest 3 status) }

@@ -24,7 +24,7 @@ use Rattle.leveldb_version.specs.Contents.{Contents, Store, made}
 use Rattle.leveldb_version.specs.Opening.{IsRecoveredBut}
 use Rattle.leveldb_version.specs.OpeningLaws.{RecoveredIsTracked}
 use Rattle.leveldb_version.specs.Paths.{log_path, manifest_path, table_path}
-use Rattle.leveldb_version.specs.Recover.{IsRead, IsReusable, LeavesFiles, ReadManifest, next_number_after, set_going_on, set_starting_anew}
+use Rattle.leveldb_version.specs.Recover.{IsRead, IsReusable, SyncsManifestAtMost, ReadManifest, next_number_after, set_going_on, set_starting_anew}
 use Rattle.leveldb_version.specs.Store.{IsManagedBy, LogIsReplayed, ReplayedLog}
 use Rattle.leveldb_version.specs.StoreSteps.{AppendedAreBytes, KeepsHistory}
 use Rattle.leveldb_version.specs.VersionEdit.{Edit, NewFile}
@@ -76,7 +76,7 @@ module _ {E F : Type 0} (env : Ghosts E F) (format : Format) (reuse : Bool) (lim
 
   -- each history is kept while the manifest is synced
   pub leaving_keeps : (cmp : List ℕ → List ℕ → Ordering) (IsTable : List ℕ → List Pair → Type 0) (allowed : Store → Type 0) (bound : ℕ) → AppendedAreBytes first
-      → LeavesFiles env.models_disk format.order format.order_name reuse limit (new_version_set store format.order_name) (env.observed from) (env.observed to)
+      → SyncsManifestAtMost env.models_disk format.order format.order_name reuse limit (new_version_set store format.order_name) (env.observed from) (env.observed to)
       → Run (KeepsHistory store cmp IsTable allowed bound first) (env.observed from) (env.observed to)
   leaving_keeps cmp IsTable allowed bound bytes leaves = Run-mono keeps leaves.run
     where
@@ -332,7 +332,7 @@ module _ {E F : Type 0} (env : Ghosts E F) (format : Format) (reuse : Bool) (lim
 
         -- ---- its logs are synced
 
-        module _ (leaves : LeavesFiles env.models_disk format.order format.order_name reuse limit (new_version_set store format.order_name) (env.observed from) (env.observed to)) where
+        module _ (leaves : SyncsManifestAtMost env.models_disk format.order format.order_name reuse limit (new_version_set store format.order_name) (env.observed from) (env.observed to)) where
           but_logs : IsRecoveredBut store format.order IsTable logs then_files edits_read set
           but_logs = (stores_are_recovered store format.order IsTable then_files edits_read set).first tracked
               (safe_stores_keep_tables store format.order IsTable (λ it. IsTrue (sound.allowed it)) then_files edits_read set tracked sound.bound sound.durable sound.history

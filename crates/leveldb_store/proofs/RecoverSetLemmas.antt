@@ -20,7 +20,7 @@ use Rattle.leveldb_version.proofs.UsableLemmas.{full_of_all}
 use Rattle.leveldb_version.specs.Current.{IsCurrentText}
 use Rattle.leveldb_version.specs.FullEdit.{full_after}
 use Rattle.leveldb_version.specs.Paths.{current_path}
-use Rattle.leveldb_version.specs.Recover.{HasRecordOfNoEdit, IsNamed, IsRead, IsReusable, LeavesFiles, RecoverResult, Recovers, WhyUnrecovered, lost, next_number_after, no_edit, set_going_on, set_starting_anew, too_long, unread, unusable, used_up}
+use Rattle.leveldb_version.specs.Recover.{HasRecordOfNoEdit, IsNamed, IsRead, IsReusable, SyncsManifestAtMost, RecoverResult, Recovers, WhyUnrecovered, lost, next_number_after, no_edit, set_going_on, set_starting_anew, too_long, unread, unusable, used_up}
 use Rattle.leveldb_version.specs.Store.{HasEdits}
 use Rattle.leveldb_version.specs.VersionEdit.{Edit, NewFile, empty_edit}
 use Rattle.leveldb_version.specs.VersionSet.{ListsFiles, level_file, live_after}
@@ -46,7 +46,7 @@ use Rattle.leveldb_store.proofs.OpeningFindLemmas.{listed, no_slash_in_name}
 
 module _ (models_disk : Bool) (format : Format) (reuse : Bool) (limit : ℕ) where
   abbrev Leaves : VersionSetValue → Observed → Observed → Type 0
-  Leaves old from to = LeavesFiles models_disk format.order format.order_name reuse limit old from to
+  Leaves old from to = SyncsManifestAtMost models_disk format.order format.order_name reuse limit old from to
 
   -- nothing changed yet
   nothing_left : (old : VersionSetValue) (from to : Observed) → Run (FilesUnchanged from.disk.files) from to → Leaves old from to

@@ -15,7 +15,7 @@ use Rattle.leveldb_store.proofs.BatchHistoryLemmas.{after_batch, batch_added, pe
 use Rattle.leveldb_store.proofs.TableKeepsLemmas.{appending_and_syncing}
 use Rattle.leveldb_store.specs.OpenStore.{IsUnbroken, OpenStoreValue}
 use Rattle.leveldb_store.specs.Write.{AreNumbersUsedUp, CanBeInserted, HasNumbers, InsertsBatch, IsLogLost, LogsText, PreparesBatch, open_log_path, with_mem, with_writer}
-use Rattle.leveldb_store.specs.WriteBatch.{FailsToWrite, WritesBatch, next_batch}
+use Rattle.leveldb_store.specs.WriteBatch.{FailsToWriteBatch, WritesBatch, next_batch}
 
 module _ {E F C : Type 0} (env : Ghosts E F) (cmp : List ℕ → List ℕ → Ordering)
     (old : OpenStoreValue C) (from : E) (items : List Item) (sync : Bool) (mem : Kept)
@@ -71,7 +71,7 @@ module _ {E F C : Type 0} (env : Ghosts E F) (cmp : List ℕ → List ℕ → Or
             (env.observed from).disk.files (env.observed to).disk.files (logs.run modelled).has
 
         uncounted : (status : Status) → (IsLogLost env old from to status
-            → env.failures to ≡ env.failures from) → FailsToWrite env cmp old from items to status
+            → env.failures to ≡ env.failures from) → FailsToWriteBatch env cmp old from items to status
             → env.failures to ≡ env.failures from
         uncounted status lost excused = ⊎_elim
             (λ unprepared. ap env.failures unprepared.1) lost excused

@@ -229,7 +229,8 @@ module _ {E F C FP : Type 0} (order : CmpGhosts (InternalKeyCmp C)) (env : Ghost
         × IsCompactionBy by.format.order smallest it.level it.max_file_size it.manual
         old.log.number before inputs outputs after logged.edit
 
-    -- What a compaction of an open store's current version leaves, in which no memtable waits.
+    -- What a compaction of an open store's current version leaves, where there is no immutable
+    -- memtable.
     pub record CompactsStore (smallest : ℕ) (it : CompactionValue C)
         (result : Result (Unit {0}) Status) (new : OpenStoreValue C) (to : E)
         (now : TableCache E C FP F) : Type 0 where

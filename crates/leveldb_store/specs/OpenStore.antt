@@ -28,7 +28,7 @@ pub record OpenStoreValue (C : Type 0) : Type 0 where
   pub current : VersionValue C
   -- the log to which batches are appended
   pub log : OpenLogValue
-  -- the memtable of that log, and the one of the logs before it, which waits to be a table
+  -- the memtable of that log, and the immutable one, of the logs before it, which is to be a table
   pub mem : Kept
   pub imm : Option Kept
   -- whether no file of it is deleted, since one of them is damaged

@@ -28,7 +28,7 @@ use Rattle.leveldb_version.specs.NewStore.{first_edit, first_manifest}
 use Rattle.leveldb_version.specs.Contents.{Contents}
 use Rattle.leveldb_version.specs.Opening.{tables_edit}
 use Rattle.leveldb_version.specs.Paths.{current_path, log_path, table_path}
-use Rattle.leveldb_version.specs.Recover.{LeavesFiles, Recovers}
+use Rattle.leveldb_version.specs.Recover.{SyncsManifestAtMost, Recovers}
 use Rattle.leveldb_version.specs.Store.{HasLog, HasNoStore, ReplayedLog as StoreLog, SameEntries, log_batches, log_entries}
 use Rattle.leveldb_version.specs.VersionEdit.{IsEncodable, NewFile, new_file_of}
 use Rattle.leveldb_version.specs.VersionSetValue.{AreFileNumbersUsedUp, OpenManifest, VersionSetValue, broken, in_use, new_version_set, unmade, with_number_given}
@@ -520,7 +520,7 @@ module _ {E F : Type 0} (env : Ghosts E F) (format : Format) (reuse : Bool) (lim
   -- what recovering the set returns and leaves
   pub record RecoversSet (result : Result (RecoveredSet E F) Status) (to : E) : Type 0 where
     pub ok : IfOk result (λ it. IsRecoveredSet it.needs_new_manifest it.versions it.logs.keys to)
-    pub files : IsTrue env.models_disk → LeavesFiles env.models_disk format.order
+    pub files : IsTrue env.models_disk → SyncsManifestAtMost env.models_disk format.order
         format.order_name reuse limit (new_version_set store format.order_name)
         (env.observed from) (env.observed to)
     -- at each moment nothing but the store's own files has changed

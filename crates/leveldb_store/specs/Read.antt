@@ -32,7 +32,7 @@ use Rattle.leveldb_store.specs.Written.{HasLiveTables, HasView, imm_entries}
 abbrev pub in_memory : {C : Type 0} → OpenStoreValue C → List Entry
 in_memory value = value.mem.entries ++ imm_entries value.imm
 
--- what memory has of a key at a number, if the entries that wait are the older ones: a value, a
+-- what memory has of a key at a number, if the immutable memtable has the older entries: a value, a
 -- deletion, or nothing
 abbrev pub FindsInMemory : {C : Type 0} → OpenStoreValue C → ℕ → List ℕ
     → Lookup (List ℕ) → Type 0

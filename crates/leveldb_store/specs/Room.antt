@@ -80,8 +80,8 @@ module _ {E F C : Type 0} (env : Ghosts E F) (cmp : List ℕ → List ℕ → Or
       → IsWritten cmp meaning old (env.observed from).disk.files → ⊥)
 
   -- Why no room is made, where the device didn't fail: out of memory; the numbers of files are too
-  -- few for two tables and a log; no table is built of the entries of the memtable, or of those
-  -- that wait; or a file of the store is lost.
+  -- few for two tables and a log; no table is built of the entries of the memtable, or of those of
+  -- the immutable one; or a file of the store is lost.
   abbrev pub FailsToMakeRoom : {D FP : Type 0} {order : CmpGhosts D} {filters : FilterGhosts FP}
       → TableChoices order filters → Status → Type 0
   FailsToMakeRoom choices status = IsOutOfMemory status
@@ -101,7 +101,8 @@ module _ {E F C : Type 0} (env : Ghosts E F) (cmp : List ℕ → List ℕ → Or
         → (new.mem.entries ≡ []) × (new.imm ≡ None))
     -- and no place was taken in it yet
     pub places : OnOk result (IsFull limit old.mem → new.mem.places ≡ 0)
-    -- after an Err it is full still, or one waits: that a file wasn't deleted is no Err
+    -- after an Err it is full still, or there is an immutable one: that a file wasn't deleted is no
+    -- Err
     pub err : OnErr result (IsFull limit new.mem ⊎ (new.imm ≢ None))
     pub keeps : IsTrue env.models_disk → (meaning : Meaning) → Agrees choices.format meaning
         → KeepsWritten cmp meaning old (env.observed from) new (env.observed to)

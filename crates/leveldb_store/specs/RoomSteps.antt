@@ -21,8 +21,8 @@ use Rattle.leveldb_store.specs.Written.{IsWritten, KeepsWritten, SparesRest}
 use Rattle.leveldb_store.specs.WrittenFrom.{AddsNoEntry}
 
 module _ {E F C : Type 0} (env : Ghosts E F) (cmp : List ℕ → List ℕ → Ordering) where
-  -- Why no table is made of the entries that wait, where the device didn't fail: out of memory; the
-  -- numbers of files are used up; none is built of them; or a file of the store is lost.
+  -- Why no table is made of the immutable memtable, where the device didn't fail: out of memory;
+  -- the numbers of files are used up; none is built of it; or a file of the store is lost.
   abbrev pub FailsToCompactMemtable : {D FP : Type 0} {order : CmpGhosts D}
       {filters : FilterGhosts FP} → TableChoices order filters → OpenStoreValue C → E → Status
       → Type 0
@@ -51,9 +51,10 @@ module _ {E F C : Type 0} (env : Ghosts E F) (cmp : List ℕ → List ℕ → Or
 
   -- What a call leaves of the entries in memory that makes tables of them, this many at most, and
   -- deletes obsolete files after each.
-  pub record TablesEntries {FP : Type 0} (format : Format) (count : ℕ) (old : OpenStoreValue C)
-      (from : E) (tables : TableCache E C FP F) (result : Result (Unit {0}) Status)
-      (new : OpenStoreValue C) (to : E) (now : TableCache E C FP F) : Type 0 where
+  pub record MakesTablesOfMemory {FP : Type 0} (format : Format) (count : ℕ)
+      (old : OpenStoreValue C) (from : E) (tables : TableCache E C FP F)
+      (result : Result (Unit {0}) Status) (new : OpenStoreValue C) (to : E)
+      (now : TableCache E C FP F) : Type 0 where
     -- whatever the files are, Ok or Err, no entry is lost, nor is a live table
     pub entries : KeepsEntries env format old from new to
     -- Ok: of a store that is written no entry is new
@@ -63,15 +64,15 @@ module _ {E F C : Type 0} (env : Ghosts E F) (cmp : List ℕ → List ℕ → Or
     -- a table is closed before its file is deleted
     pub closes : ClosesObsolete env old.set from tables to now
 
-  -- what making a table of the entries that wait leaves, if some do
+  -- what making a table of the immutable memtable leaves, if there is one
   pub record CompactsMemtable {D FP : Type 0} {order : CmpGhosts D} {filters : FilterGhosts FP}
       (choices : TableChoices order filters) (old : OpenStoreValue C) (from : E)
       (result : Result (Unit {0}) Status) (new : OpenStoreValue C) (to : E) : Type 0 where
     pub step : IsStepToRoom choices.format (FailsToCompactMemtable choices old from) old from result
         new to
-    -- Ok: none wait, and one number was given at most
+    -- Ok: there is none any more, and one number was given at most
     pub none_waits : OnOk result (new.imm ≡ None)
     pub numbers : OnOk result (new.set.next_file ≤ old.set.next_file + 1)
-    -- Err: they wait still
+    -- Err: there is one still
     pub waits : OnErr result (new.imm ≢ None)
     pub mem : new.mem ≡ old.mem

@@ -1,4 +1,4 @@
--- What a switch of the log, the table of the entries that wait, and the removal of obsolete files
+-- What a switch of the log, the table of the immutable memtable, and the removal of obsolete files
 -- change of an open store, and why each fails.
 use Rattle.std.specs.Prelude.{◌≡◌, ◌≢◌, ◌⊎◌, ◌≤◌, ◌<◌, ◌+◌, ◌-◌, ◌^◌, ℕ, Bool, List, [], ◌∷◌, All, Contains, None, Some, Result, Ok, Err, IfErr, IsErrAnd, IsSome, OnErr, OnOk, IsTrue, length}
 use Rattle.leveldb_base.specs.Error.{IsOutOfMemory}
@@ -61,9 +61,9 @@ module _ {E F C : Type 0} (env : Ghosts E F) (old : OpenStoreValue C) (from : E)
   FailsToSwitch to status = AreFileNumbersUsedUp old.set.next_file status
       ⊎ IsLogLost env old from to status
 
-  -- The log was synced, batches go to one of the next number, and the entries of the memtable wait.
-  -- After an Err they are where they were; a number may have been given, and the log's writer be
-  -- broken.
+  -- The log was synced, batches go to one of the next number, and the memtable is the immutable
+  -- one. After an Err the entries are where they were; a number may have been given, and the log's
+  -- writer be broken.
   pub record SwitchesLog (result : Result (Unit {0}) Status) (new : OpenStoreValue C) (to : E)
       : Type 0 where
     pub set : OnOk result (new.set ≡ with_number_given old.set)
@@ -80,7 +80,7 @@ module _ {E F C : Type 0} (env : Ghosts E F) (old : OpenStoreValue C) (from : E)
     pub rest : SparesRest env.models_disk old (env.observed from) new (env.observed to)
     pub cause : HasCause (FailsToSwitch to) (env.failures from) (env.failures to) result
 
-  -- ---- the table of the entries that wait
+  -- ---- the table of the immutable memtable
 
   -- the manifest is missing, or a call on it failed before
   abbrev pub IsManifestLost : E → Status → Type 0
@@ -99,9 +99,9 @@ module _ {E F C : Type 0} (env : Ghosts E F) (old : OpenStoreValue C) (from : E)
       ⊎ (IsNotBuilt choices pairs status × (env.failures to ≡ env.failures from))
       ⊎ IsManifestLost to status
 
-  -- The entries that waited are in a table, which the set has in the level that is picked for it;
-  -- `pairs` are they. After an Err they wait still; a number may have been given, and the set be
-  -- broken.
+  -- The entries of the immutable memtable are in a table, which the set has in the level that is
+  -- picked for it; `pairs` are they. After an Err they are where they were; a number may have been
+  -- given, and the set be broken.
   pub record WritesLevel0Table {D FP : Type 0} {order : CmpGhosts D} {filters : FilterGhosts FP}
       (choices : TableChoices order filters) (pairs : List Pair)
       (result : Result (Unit {0}) Status) (new : OpenStoreValue C) (to : E) : Type 0 where

@@ -237,7 +237,7 @@ pub record IsOverMemory {M : Type 0} (iterator : IteratorGhosts M)
   pub sorted : AreRising (internal_cmp cmp) (map internal_pair entries)
   pub numbered : AreUpTo greatest_sequence entries
 
--- the entries of a memtable that waits as a layer, if one does
+-- the entries of the immutable memtable as a layer, if there is one
 abbrev pub imm_layers : Option Kept → List (List Entry)
 imm_layers None = []
 imm_layers (Some imm) = imm.entries ∷ []
@@ -246,7 +246,7 @@ imm_layers (Some imm) = imm.entries ∷ []
 pub record AreChildrenOf {C M : Type 0} (iterator : IteratorGhosts M)
     (cmp : List ℕ → List ℕ → Ordering) (value : OpenStoreValue C) (children : List (StoreWalk C M))
     : Type 0 where
-  -- over the log's memtable, and over the one that waits
+  -- over the log's memtable, and over the immutable one
   pub memory : List (InMemory M)
   pub over_memory : Each (IsOverMemory iterator cmp) memory
       (value.mem.entries ∷ imm_layers value.imm)

@@ -99,8 +99,8 @@ module _ {E F C : Type 0} (env : Ghosts E F) (cmp : List ℕ → List ℕ → Or
   module _ (items : List Item) where
     -- Why a batch isn't written, where the device didn't fail: the numbers are used up or the
     -- memtable has no room, and no call was made; out of memory; or the log is lost.
-    abbrev pub FailsToWrite : E → Status → Type 0
-    FailsToWrite to status =
+    abbrev pub FailsToWriteBatch : E → Status → Type 0
+    FailsToWriteBatch to status =
         ((AreNumbersUsedUp old.set.last_sequence (length items) status
         ⊎ FailsToPrepare old.mem (length items) (bytes_in items) status) × (to ≡ from))
         ⊎ IsLogLost env old from to status
@@ -137,4 +137,4 @@ module _ {E F C : Type 0} (env : Ghosts E F) (cmp : List ℕ → List ℕ → Or
       pub usable : OnOk result (IsUnbroken new)
       -- after an Err either no call was made, or the log is broken
       pub breaks : OnErr result ((to ≡ from) ⊎ (new.log.writer.broken ≡ true))
-      pub cause : HasCause (FailsToWrite to) (env.failures from) (env.failures to) result
+      pub cause : HasCause (FailsToWriteBatch to) (env.failures from) (env.failures to) result

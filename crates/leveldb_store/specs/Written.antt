@@ -22,7 +22,7 @@ use Rattle.leveldb_store.specs.OpenStore.{IsUnbroken, OpenStoreValue}
 
 -- ---- memory
 
--- the entries of a memtable that waits, if one does
+-- the entries of the immutable memtable, if there is one
 abbrev pub imm_entries : Option Kept → List Entry
 imm_entries None = []
 imm_entries (Some imm) = imm.entries

@@ -1,4 +1,5 @@
 //! Tables made of the entries that a store has in memory.
+// LevelDB: db/builder.cc
 ghost use Rattle.std.specs.Prelude.{◌≡◌, ◌⊎◌, List, [], IfErr, OnOk, map};
 ghost use Rattle.leveldb_base.specs.Entries.{internal_pair};
 ghost use Rattle.leveldb_base.specs.History.{AreRising};

@@ -1,4 +1,5 @@
 //! What is left out of a log or a manifest, which is read up to its first bad end.
+// LevelDB: db/db_impl.cc, LogReporter of DBImpl::RecoverLogFile
 ghost use Rattle.std.specs.Prelude.{◌≡◌, ◌≤◌, ◌<◌, ◌+◌, ◌^◌, ◌↔◌, ◌⊎◌, ◌++◌, All, IfNone, IfSome, IsSomeAnd, IsTrue, List, false, length, slice_index, ℕ};
 ghost use Rattle.leveldb_mem.specs.Log.{Fragment, NoFragment, filler, log_block_size, room};
 ghost use Rattle.leveldb_mem.specs.Log.Taking.{HasRightChecksum, declared_length};

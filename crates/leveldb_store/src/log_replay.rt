@@ -1,5 +1,6 @@
 //! A log of a store, read batch by batch: one record and one batch of it are in memory at a time,
 //! and its file is borrowed for one call.
+// LevelDB: db/db_impl.cc, DBImpl::RecoverLogFile
 ghost use Rattle.std.specs.Prelude.{◌≡◌, ◌<◌, ◌+◌, ◌⊎◌, false, true, IfErr, IfOk, IsErrAnd, IsTrue, OnOk, string_bytes};
 ghost use Rattle.leveldb_base.specs.Error.{IsOutOfMemory};
 ghost use Rattle.leveldb_base.specs.declared.error.StatusCode.TheVariants.{Corruption};

@@ -1,4 +1,5 @@
 //! The walk over what a compaction merges.
+// LevelDB: db/version_set.cc, VersionSet::MakeInputIterator
 ghost use Rattle.std.specs.Prelude.{IfErr, IfOk};
 ghost use Rattle.leveldb_base.specs.Error.{IsOutOfMemory};
 ghost use Rattle.leveldb_store.specs.MergeInputs.{MergesTablesOf};

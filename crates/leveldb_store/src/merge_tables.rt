@@ -1,5 +1,6 @@
 //! The loop of a compaction: the pairs of a walk go to new tables, but for those whose entries may
 //! go.
+// LevelDB: db/db_impl.cc, DBImpl::DoCompactionWork
 ghost use Rattle.std.specs.Prelude.{◌≡◌, List, ℕ};
 ghost use Rattle.leveldb_base.specs.Types.{Pair};
 ghost use Rattle.leveldb_store.specs.BuildTable.{choices_of};

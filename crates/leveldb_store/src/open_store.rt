@@ -1,4 +1,5 @@
 //! An open store: what is in memory of it, and the log to which batches are appended.
+// LevelDB: db/db_impl.h, DBImpl
 ghost use Rattle.std.specs.Prelude.{◌≡◌, ◌↔◌, IsTrue, false};
 ghost use Rattle.leveldb_store.specs.OpenStore.{IsUnbroken};
 
@@ -41,9 +42,9 @@ pub struct OpenStore<E: Env, C: Cmp> {
     pub(crate) cmp: C,
     pub(crate) versions: VersionSet<E, C>,
     pub(crate) log: OpenLog<E>,
-    // The entries of the log's batches.
+    // The memtable: the entries of the log's batches.
     pub(crate) mem: MemTable<C>,
-    // Those of the logs before it, until they are in a table.
+    // The immutable memtable: those of the logs before it, until they are in a table.
     pub(crate) imm: Option<MemTable<C>>,
     // Whether no file is deleted, since a log or a manifest that was left aside is damaged.
     pub(crate) keeps_files: bool,
@@ -93,9 +94,9 @@ impl<E: Env, C: Cmp> Model for OpenStore<E, C> {
 
     // The version set is of the store's path, the log's file has the path of the log's number,
     // which has 64 bits, and both memtables have the store's order. A manifest in use is in the
-    // store's folder. The manifest is in use or broken. No entry of the log's memtable has a number
-    // past the last one, and a memtable that waits has entries. The version has the store's order.
-    // The number of each live file was given, and they are in levels.
+    // store's folder. The manifest is in use or broken. No entry of the memtable has a number past
+    // the last one, and an immutable memtable has entries. The version has the store's order. The
+    // number of each live file was given, and they are in levels.
     ghost invariant = { λ it. (it.versions.set.store ≡ string_bytes it.name)
         × ((it.log.file.path ≡ log_path (string_bytes it.name) it.log.number)
         × (it.log.number < 2 ^ 64))

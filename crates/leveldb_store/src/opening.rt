@@ -1,4 +1,5 @@
 //! Opening a store over its manifest, its tables and its logs.
+// LevelDB: db/db_impl.cc, DB::Open
 ghost use Rattle.std.specs.Prelude.{◌≡◌, IfOk, None};
 ghost use Rattle.leveldb_env.specs.Env.{HasCause};
 ghost use Rattle.leveldb_store.specs.BuildTable.{choices_of};

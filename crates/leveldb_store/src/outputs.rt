@@ -1,4 +1,5 @@
 //! Tables that pairs go to, one after another.
+// LevelDB: db/db_impl.cc, DBImpl::OpenCompactionOutputFile and FinishCompactionOutputFile
 ghost use Rattle.std.specs.Prelude.{◌≡◌, ◌<◌, ◌≤◌, ◌↔◌, ◌&&◌, ◌||◌, ◌∷◌, [], List, ℕ, None, IfSome, IsTrue, OnOk, is_some, length, true, vec_capacity, vec_len};
 ghost use Rattle.std.specs.declared.cmp.Ordering.TheVariants.{Less};
 ghost use Rattle.std.specs.Str.{bytes_eq};

@@ -1,4 +1,5 @@
 //! Which entries a merge leaves out, as the entry just before tells.
+// LevelDB: db/db_impl.cc, what DBImpl::DoCompactionWork drops
 ghost use Rattle.std.specs.Prelude.{◌≡◌, Bool, IfErr, List, OnErr, OnOk, Option, None, Some, ℕ};
 ghost use Rattle.leveldb_base.specs.Entries.{entry_of_pair};
 ghost use Rattle.leveldb_base.specs.Error.{IsOutOfMemory};

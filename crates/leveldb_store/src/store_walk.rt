@@ -1,4 +1,5 @@
 //! The children of a store's merge: walks over memory, and walks over tables.
+// LevelDB: db/db_impl.cc, the children of DBImpl::NewInternalIterator
 ghost use Rattle.std.specs.Prelude.{◌≡◌};
 
 use leveldb_base::cmp::{Cmp, InternalKeyCmp, UserCmp};

@@ -1,4 +1,5 @@
 //! A table that goes to its file block by block.
+// LevelDB: db/builder.cc
 ghost use Rattle.std.specs.Prelude.{◌≡◌, ◌<◌, ◌^◌, ◌-◌, ◌↔◌, IfErr, IfOk, IsTrue, OnOk, false, min, nat_lt, true};
 ghost use Rattle.std.specs.declared.cmp.Ordering.TheVariants.{Less};
 ghost use Rattle.leveldb_base.specs.Error.{IsOutOfMemory};

@@ -127,7 +127,8 @@ module _ {C FP F : Type 0} (order : CmpGhosts C) where
       → List ℕ → List ℕ → Outcome → Type 0
   LookUpInTable codings matches table key bytes out =
       LookUpFromLine codings (order.cmp table.cmp) bytes (lines_of table)
-      (may_contain matches table) key (seek_position (order.cmp table.index.cmp) (lines_of table) key) out
+      (may_contain matches table) key
+      (seek_position (order.cmp table.index.cmp) (lines_of table) key) out
 
   -- What it finds: the pair at the position to which it comes, if that is one.
   pub record FindsPair (codings : Codings) (matches : FP → List ℕ → List ℕ → Bool)

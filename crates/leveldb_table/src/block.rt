@@ -1,4 +1,5 @@
 //! Blocks: sorted pairs as bytes, checked once and then walked both ways.
+// LevelDB: table/block.cc
 ghost use Rattle.std.specs.Prelude.{◌≡◌, ◌⊎◌, None, IfOk, IfErr, IsErrAnd};
 ghost use Rattle.leveldb_base.specs.Error.{IsOutOfMemory};
 ghost use Rattle.leveldb_base.specs.declared.error.StatusCode.TheVariants.{Corruption};

@@ -1,4 +1,5 @@
 //! Block builders: pairs in order, put into the bytes of a block.
+// LevelDB: table/block_builder.cc
 ghost use Rattle.std.specs.Prelude.{◌≡◌, ◌↔◌, ◌⊎◌, ℕ, ◌+◌, ◌*◌, ◌^◌, ◌<◌, ◌≤◌, Bool, true, false, List, [], ◌∷◌, ◌++◌, length, take, drop, flat_map, max, None, vec_len, vec_capacity, IfOk, IfErr, OnOk, OnErr, IsErrAnd, IsTrue};
 ghost use Rattle.leveldb_base.specs.Error.{IsOutOfMemory};
 ghost use Rattle.leveldb_base.specs.Varint.{little, varint};

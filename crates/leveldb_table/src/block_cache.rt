@@ -1,4 +1,5 @@
 //! Blocks of tables kept in memory.
+// LevelDB: table/table.cc, Table::BlockReader
 ghost use Rattle.std.specs.Prelude.{◌≡◌, ◌<◌};
 ghost use Rattle.leveldb_table.specs.BlockCache.{cache_key};
 

@@ -1,5 +1,6 @@
 //! Caches: values under keys of 16 bytes, as many as there is room for, of which the least
 //! recently used goes first.
+// LevelDB: util/cache.cc
 ghost use Rattle.std.specs.Prelude.{◌≡◌, ◌↔◌, ◌+◌, ◌^◌, ◌<◌, ◌≤◌, [], length, None, Some, nat_eq, IfOk, IfErr, OnErr, OnOk, IsErrAnd, IsTrue, option_copied};
 ghost use Rattle.std.specs.List.{IsDistinct};
 ghost use Rattle.std.specs.Str.{bytes_eq};

@@ -1,5 +1,6 @@
 //! Readable tables: whether the file at a path is one, whatever its filters are. So a repair finds
 //! out which of a folder's files it may read.
+// LevelDB: db/repair.cc, Repairer::ScanTable
 ghost use Rattle.leveldb_table.specs.ReadableTable.{JudgesTable, OpensJudged};
 
 use judge::Judge;

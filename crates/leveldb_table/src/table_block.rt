@@ -1,4 +1,5 @@
 //! Blocks read from a table's file, each with its trailer.
+// LevelDB: table/format.cc, ReadBlock
 ghost use Rattle.std.specs.Prelude.{◌≡◌, ◌⊎◌, ◌≤◌, ◌<◌, ◌+◌, ◌^◌, ℕ, length, take, drop, List, None, IfOk, IfSome, IfNone, IsErrAnd};
 ghost use Rattle.leveldb_base.specs.declared.error.StatusCode.TheVariants.{InvalidArgument};
 ghost use Rattle.leveldb_env.specs.Compressor.{Decodes};

@@ -1,4 +1,5 @@
 //! Table builders, and the parts of a table's file that they share with its readers.
+// LevelDB: table/table_builder.cc
 ghost use Rattle.std.specs.Prelude.{◌≡◌, ◌↔◌, ◌+◌, ◌-◌, ◌^◌, ◌<◌, ◌++◌, ◌∷◌, List, max, true, false, min, IfOk, IfErr, OnOk, OnErr, IsTrue};
 ghost use Rattle.std.specs.declared.cmp.Ordering.TheVariants.{Less};
 ghost use Rattle.leveldb_env.specs.Compressor.{Codings};

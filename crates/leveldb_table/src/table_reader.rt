@@ -1,4 +1,5 @@
 //! Tables: files that are opened once, and then looked up and walked block by block.
+// LevelDB: table/table.cc
 ghost use Rattle.std.specs.Prelude.{◌≡◌, ◌⊎◌, ◌+◌, ◌^◌, ◌<◌, List, ℕ, Bool, true, None, Some, length, map, IfOk, IfSome, IfErr, Err, OnErr, IsErrAnd, MatchOption};
 ghost use Rattle.leveldb_base.specs.Cmp.{bytewise};
 ghost use Rattle.leveldb_base.specs.BlockHandle.{Handle, handle_bytes, HandleFits};

@@ -11,7 +11,7 @@ use Rattle.leveldb_mem.specs.Log.{log_block_size}
 use Rattle.leveldb_mem.specs.Log.Writer.{new_writer}
 use Rattle.leveldb_version.specs.Current.{IsCurrentText}
 use Rattle.leveldb_version.specs.Paths.{current_path}
-use Rattle.leveldb_version.specs.Recover.{IsNamed, IsRead, LeavesFiles, ReadManifest, ReadSetResult, RecoverResult, WhyUnrecovered, lost, no_edit, set_going_on, set_starting_anew, too_long, unread, unusable, used_up}
+use Rattle.leveldb_version.specs.Recover.{IsNamed, IsRead, SyncsManifestAtMost, ReadManifest, ReadSetResult, RecoverResult, WhyUnrecovered, lost, no_edit, set_going_on, set_starting_anew, too_long, unread, unusable, used_up}
 use Rattle.leveldb_version.specs.RecoverSteps.{IsRecoveryPlan, set_installed}
 use Rattle.leveldb_version.specs.VersionSetValue.{VersionSetValue, broken, in_use, unmade}
 use Rattle.leveldb_version.specs.declared.version_set.recover.RecoveryPlan.{RecoveryPlan}
@@ -89,7 +89,7 @@ module _ (models_disk : Bool) (cmp : List ℕ → List ℕ → Ordering) (compar
         (more_locks : SameLocks models_disk mid after) (same : f1 ≡ f0) (reuses : plan.reuses ≡ true) where
       syncs_named : {T : Type 0} (result : Result T Status) → IsTrue models_disk
           → ChangesFiles models_disk (synced (string_bytes plan.path)) (BeforeOrAfter (synced (string_bytes plan.path))) mid after result
-          → LeavesFiles models_disk cmp comparator reuse limit old before after
+          → SyncsManifestAtMost models_disk cmp comparator reuse limit old before after
       syncs_named {T} result modelled does =
           let path : List ℕ = in_folder old.store is.manifest.name in
           let P : List ℕ → Type 0 = λ p. ChangesFiles {T = T} models_disk (synced p) (BeforeOrAfter (synced p)) mid after result in

@@ -34,8 +34,8 @@ abbrev pub ChosenMayBeCompacted : Type 0
 ChosenMayBeCompacted = (cmp : List ℕ → List ℕ → Ordering) (files : List NewFile) (level : ℕ)
     (chosen : List NewFile) (low high : List ℕ) → level < 6
     → ((file : NewFile) → Contains chosen file → Contains files file × (file.level ≡ level))
-    → (AreOnce files → AreOnce chosen) → AreEnds cmp chosen low high → AreClosed cmp level files chosen low high
-    → MayCompact cmp files level
+    → (AreOnce files → AreOnce chosen) → AreEnds cmp chosen low high
+    → AreClosed cmp level files chosen low high → MayCompact cmp files level
     (chosen ++ overlapping cmp (level + 1) (closed_range low high) files)
 
 -- What a widened range takes of level 0 is closed, also where the range is open at an end: no file
@@ -59,7 +59,7 @@ ChoicesGoBySets = (cmp : List ℕ → List ℕ → Ordering) (level : ℕ)
 -- ---- laws of a set's files, whatever is in them
 
 -- what an edit leaves of a set's files
-pub record LeavesFiles (edit : Edit) (files : List NewFile) : Type 0 where
+pub record EditsFiles (edit : Edit) (files : List NewFile) : Type 0 where
   -- each is one that it adds, or was there and isn't one that it deletes
   pub among : (file : NewFile) → Contains (files_after edit files) file → Contains edit.added file
       ⊎ (Contains files file
@@ -75,7 +75,7 @@ pub record LeavesFiles (edit : Edit) (files : List NewFile) : Type 0 where
 
 -- each edit leaves that
 abbrev pub FilesAreEdited : Type 0
-FilesAreEdited = (edit : Edit) (files : List NewFile) → LeavesFiles edit files
+FilesAreEdited = (edit : Edit) (files : List NewFile) → EditsFiles edit files
 
 -- an edit that deletes the inputs and adds outputs within them leaves the files of each level
 -- apart

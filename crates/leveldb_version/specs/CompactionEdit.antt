@@ -110,7 +110,8 @@ module _ (store : List ℕ) (cmp : List ℕ → List ℕ → Ordering)
 
   module _ (allowed : Store → Type 0) where
     -- What logging an edit keeps and leaves: every history at each moment on the way; then the
-    -- tables that were there by the edit are live, the store is written on, and no entries wait.
+    -- tables that were there by the edit are live, the store is written on, and the immutable
+    -- memtable has no entries.
     pub record EditIsLogged (files : Files) (edits : List Edit) (memory : EngineMemory)
         (w : IsWrittenBy store cmp IsTableOf files edits memory) (edit : Edit) : Type 0 where
       pub keeps : (bound : ℕ) → memory.set.last_sequence ≤ bound → (now : Files)
@@ -160,7 +161,8 @@ module _ (store : List ℕ) (cmp : List ℕ → List ℕ → Ordering)
           (edits ++ written_edit memory.set edit ∷ [])
           (record memory { set = set_appended w.manifest memory.set edit })
 
-    -- a compaction's edit may be logged once its outputs are made, where no entries wait
+    -- a compaction's edit may be logged once its outputs are made, where the immutable memtable has
+    -- no entries
     abbrev pub CompactionsAreLogged : Type 0
     CompactionsAreLogged = OneTableReading IsTableOf → IsTotalOrder cmp
         → TablesAreInRange store cmp IsTableOf → (files : Files) (edits : List Edit)

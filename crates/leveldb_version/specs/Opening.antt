@@ -26,7 +26,7 @@ use Rattle.leveldb_version.specs.Writing.{EngineMemory, IsTrackedBy}
 abbrev pub tables_edit : ℕ → List NewFile → Edit
 tables_edit log files = record empty_edit { log_number = Some log; added = files }
 
--- the memory with which an engine begins to write: no entries wait
+-- the memory with which an engine begins to write: the immutable memtable has no entries
 abbrev pub opened_memory : VersionSetValue → ℕ → List Entry → EngineMemory
 opened_memory set log mem = record {
   set = set;

@@ -220,7 +220,7 @@ module _ (models_disk : Bool) (cmp : List ℕ → List ℕ → Ordering) (compar
 
   -- the files are as they were, or the manifest that `CURRENT` named, and which may be used on, was
   -- synced
-  pub record LeavesFiles (old : VersionSetValue) (before after : Observed) : Type 0 where
+  pub record SyncsManifestAtMost (old : VersionSetValue) (before after : Observed) : Type 0 where
     pub manifest : List ℕ
     pub number : ℕ
     pub run : Run (BeforeOrAfter (synced (in_folder old.store manifest)) before.disk.files)
@@ -238,7 +238,7 @@ module _ (models_disk : Bool) (cmp : List ℕ → List ℕ → Ordering) (compar
       : Type 0 where
     pub ok : IfOk result (λ anew. Recovers old before anew new after)
     pub err : OnErr result (new ≡ old)
-    pub files : IsTrue models_disk → LeavesFiles old before after
+    pub files : IsTrue models_disk → SyncsManifestAtMost old before after
     pub locks : SameLocks models_disk before after
     pub cause : HasCause (WhyUnrecovered old before failed now_failed) failed now_failed result
 

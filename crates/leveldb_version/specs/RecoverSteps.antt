@@ -65,8 +65,8 @@ IsManifestUnread models_disk store before failed now_failed status =
 -- The plan has what was read of a manifest that a store may begin with: where it is and its size,
 -- whether it goes on to be used, what its edits leave, and the number of the next file.
 pub record IsRecoveryPlan (models_disk : Bool) (cmp : List ℕ → List ℕ → Ordering)
-    (comparator : List ℕ) (reuse : Bool) (limit : ℕ) (old : VersionSetValue) (files : Files) (plan : RecoveryPlan)
-    : Type 0 where
+    (comparator : List ℕ) (reuse : Bool) (limit : ℕ) (old : VersionSetValue) (files : Files)
+    (plan : RecoveryPlan) : Type 0 where
   pub manifest : ReadManifest
   pub read : IsTrue models_disk → IsRead old.store files manifest
   pub usable : IsUsable cmp comparator manifest.edits

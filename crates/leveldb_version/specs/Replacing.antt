@@ -47,7 +47,8 @@ module _ (store : List ℕ) (cmp : List ℕ → List ℕ → Ordering)
   -- such an edit changes nothing that is shown
   abbrev pub ReplacingRefines : Type 0
   ReplacingRefines = OneTableReading IsTableOf → (bound : ℕ) (files : Files) (edits : List Edit)
-      (edit : Edit) → ReplacesTables bound files (live_after edits) (live_after (edits ++ edit ∷ []))
+      (edit : Edit)
+      → ReplacesTables bound files (live_after edits) (live_after (edits ++ edit ∷ []))
       → EditRefines store cmp IsTableOf bound files edits edit
 
   -- an edit that swaps tables is one

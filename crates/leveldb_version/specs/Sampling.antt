@@ -21,4 +21,5 @@ module _ (cmp : List ℕ → List ℕ → Ordering) (key : List ℕ) where
     pub charge : Option LevelFile
     pub charges : (new, chosen) ≡ charged old charge
     -- which file is charged, if the files of each level from 1 on are apart
-    pub which : AreDisjointLevels cmp (new_files_of old) → ChargesForSample (new_files_of old) charge
+    pub which : AreDisjointLevels cmp (new_files_of old)
+        → ChargesForSample (new_files_of old) charge

@@ -50,13 +50,13 @@ pub record EngineMemory : Type 0 where
   pub set : VersionSetValue
   -- the number of the log to which batches are appended
   pub log : ℕ
-  -- the entries of that log
+  -- the memtable: the entries of that log
   pub mem : List Entry
-  -- those of the logs before it, which wait to be in a table
+  -- the immutable memtable: those of the logs before it, which are to be in a table
   pub imm : List Entry
 
 -- the memory after a switch: batches go to a log of the next number, and the entries of the one
--- before wait
+-- before are the immutable memtable
 abbrev pub switched_memory : EngineMemory → EngineMemory
 switched_memory memory = record {
   set = with_number_given memory.set;
@@ -123,7 +123,7 @@ module _ (store : List ℕ) (cmp : List ℕ → List ℕ → Ordering)
     pub log_is : writable.log.number ≡ memory.log
     -- it isn't below the set's log number, so that each log above it is replayed too
     pub from_log : memory.set.log_number ≤ memory.log
-    -- it has the recent entries, and the logs before it have those that wait
+    -- it has the entries of the memtable, and the logs before it have those of the immutable one
     pub mem_is : SameEntries memory.mem (all_entries writable.log.batches)
     pub imm_is : (entry : Entry) → Contains memory.imm entry
         ↔ IsInLogBelow tracked.managed.logs memory.log entry

@@ -112,9 +112,10 @@ module _ (store : List ℕ) (cmp : List ℕ → List ℕ → Ordering)
       (kind : FileType) → IsFileName name n kind → IsObsolete memory.set kind n
       → IsUnread store files (in_folder store name)
 
-  -- ---- the table of the entries that wait
+  -- ---- the table of the immutable memtable
 
-  -- A table that is kept has exactly the entries that wait, and it may be added to the live ones.
+  -- A table that is kept has exactly the entries of the immutable memtable, and it may be added to
+  -- the live ones.
   pub record HasImm (files : Files) (edits : List Edit) (memory : EngineMemory)
       (table : LiveTable) : Type 0 where
     pub has : HasTable store cmp IsTableOf files table
@@ -130,7 +131,7 @@ module _ (store : List ℕ) (cmp : List ℕ → List ℕ → Ordering)
   TablesAreInRange = (files : Files) (table : LiveTable)
       → HasTable store cmp IsTableOf files table → IsBounded cmp table
 
-  -- a table of the entries that wait may be added to level 0, if its number is above those of all
+  -- a table of the immutable memtable may be added to level 0, if its number is above those of all
   -- live tables
   abbrev pub ImmMayGoToLevelZero : Type 0
   ImmMayGoToLevelZero = TablesAreInRange → (files : Files) (edits : List Edit)
@@ -158,7 +159,8 @@ module _ (store : List ℕ) (cmp : List ℕ → List ℕ → Ordering)
       -- the engine may go on with the log that it has
       pub stays : IsWrittenBy store cmp IsTableOf now edits
           (record memory { set = with_number_given memory.set })
-      -- or with the new one, if that is there, the log before is kept, and no entries wait yet
+      -- or with the new one, if that is there, the log before is kept, and the immutable memtable
+      -- has no entries yet
       pub switches : now (log_path store memory.set.next_file) ≡ Some (kept_file [])
           → IsKept (files (log_path store memory.log)) → memory.imm ≡ []
           → IsWrittenBy store cmp IsTableOf now edits (switched_memory memory)
@@ -172,8 +174,8 @@ module _ (store : List ℕ) (cmp : List ℕ → List ℕ → Ordering)
 
     -- ---- the table's edit
 
-    -- What logging the table's edit leaves: each history is kept at each moment, and after it no
-    -- entry waits any more.
+    -- What logging the table's edit leaves: each history is kept at each moment, and after it the
+    -- immutable memtable has no entries any more.
     pub record ImmBecomesTable (files : Files) (edits : List Edit) (memory : EngineMemory)
         (w : IsWrittenBy store cmp IsTableOf files edits memory) (edit : Edit) : Type 0 where
       pub keeps : (bound : ℕ) → memory.set.last_sequence ≤ bound → (now : Files)
@@ -262,7 +264,7 @@ module _ (store : List ℕ) (cmp : List ℕ → List ℕ → Ordering)
 -- ---- what is shown after a table
 
 module _ (cmp : List ℕ → List ℕ → Ordering) where
-  -- what was shown is shown with the table in place of the entries that wait
+  -- what was shown is shown with the table in place of the immutable memtable
   abbrev pub NewTableIsShown : Type 0
   NewTableIsShown = (memory : EngineMemory) (table : LiveTable) (tables : List LiveTable)
       (history : History) (from : ℕ) → IsTotalOrder cmp

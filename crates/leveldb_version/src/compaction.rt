@@ -1,4 +1,5 @@
 //! Compactions: which files one takes of a level and of the next, and the edit that it makes.
+// LevelDB: db/version_set.cc, Compaction
 ghost use Rattle.std.specs.Prelude.{◌≡◌, ◌≢◌, ◌↔◌, ◌<◌, ◌+◌, ◌*◌, ◌++◌, ◌∷◌, [], List, None, IfErr, IfOk, IfSome, IsPermutation, IsTrue, OnErr, OnOk, length, map, nat_lt, slice_get};
 ghost use Rattle.std.specs.Option.{option_copied, option_map};
 ghost use Rattle.leveldb_base.specs.Error.{IsOutOfMemory};

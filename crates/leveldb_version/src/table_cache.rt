@@ -1,4 +1,5 @@
 //! The open tables of a store, each kept while there is room.
+// LevelDB: db/table_cache.cc
 ghost use Rattle.std.specs.Prelude.{◌≡◌, IfErr, IfOk, IsTrue, OnErr, OnOk, option_copied};
 ghost use Rattle.leveldb_base.specs.Error.{IsOutOfMemory};
 ghost use Rattle.leveldb_env.specs.Env.{Files};

@@ -1,4 +1,5 @@
 //! A version: the files of a store by levels, and the calls on them that only look.
+// LevelDB: db/version_set.cc, Version
 ghost use Rattle.std.specs.Prelude.{◌≡◌, ◌<◌, ◌≤◌, [], None, IfOk, IfErr, length, map, string_bytes};
 ghost use Rattle.std.specs.Option.{option_copied, option_map};
 ghost use Rattle.leveldb_base.specs.Error.{IsOutOfMemory};

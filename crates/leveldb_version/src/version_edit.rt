@@ -2,6 +2,7 @@
 //! An edit is fields in any order, each a tag and its value: 1 the comparator's name, 2 the log's
 //! number, 3 the next file's, 4 the last sequence number, 5 a compaction pointer, 6 a deleted file,
 //! 7 a new file, 9 the previous log's number. Of several values of 1 to 4 and 9 the last counts.
+// LevelDB: db/version_edit.cc
 ghost use Rattle.std.specs.Prelude.{◌≡◌, ◌⊎◌, [], ◌∷◌, ◌++◌, Some, IfOk, IfErr, OnOk, OnErr, IsSomeAnd, string_bytes};
 ghost use Rattle.std.specs.BTreeSet.{insert_key};
 ghost use Rattle.leveldb_base.specs.Error.{IsOutOfMemory};

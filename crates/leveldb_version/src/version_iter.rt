@@ -1,4 +1,5 @@
 //! Walks over the tables of files, one after the other.
+// LevelDB: db/version_set.cc, Version::NewConcatenatingIterator
 ghost use Rattle.std.specs.Prelude.{◌≡◌, ◌≤◌, false, is_some, length, true};
 ghost use Rattle.std.specs.List.Sorted.{IsPartitionPoint, IsPartitionedBy};
 ghost use Rattle.leveldb_base.specs.Types.{next_position, pair_of, previous_position};

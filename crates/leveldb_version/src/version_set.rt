@@ -1,5 +1,6 @@
 //! The set of a store's files: what it asks of a file's keys, and how a store finds the manifest
 //! that keeps it.
+// LevelDB: db/version_set.cc, VersionSet
 ghost use Rattle.std.specs.Prelude.{◌≡◌, ◌↔◌, IsTrue, OnOk, IfErr, map};
 ghost use Rattle.leveldb_version.specs.VersionEdit.{new_file_of};
 ghost use Rattle.leveldb_version.specs.VersionSet.{IsKeyRange, HaveKeyRanges};

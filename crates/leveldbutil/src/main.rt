@@ -1,4 +1,5 @@
 //! `leveldbutil dump|stat|check`: prints what a store's files hold.
+// LevelDB: db/leveldbutil.cc
 #![tactic(auto)]
 
 use leveldb_base::error::Result;

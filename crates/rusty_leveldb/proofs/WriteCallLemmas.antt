@@ -18,7 +18,7 @@ use Rattle.leveldb_store.specs.Compact.{FailsToCompactRange}
 use Rattle.leveldb_store.specs.Room.{FailsFor, HasFailed, IsFull, ChangesLoggerOnly}
 use Rattle.leveldb_store.specs.Written.{IsWritten}
 use Rattle.leveldb_store.specs.SoundCall.{IsSoundCall, any_meaning}
-use Rattle.leveldb_store.specs.WriteBatch.{FailsToWrite, WritesBatch, next_batch}
+use Rattle.leveldb_store.specs.WriteBatch.{FailsToWriteBatch, WritesBatch, next_batch}
 use Rattle.rusty_leveldb.specs.Boxes.{EngineOf, InternalOrder}
 use Rattle.rusty_leveldb.specs.EngineValue.{FollowsStore}
 use Rattle.rusty_leveldb.specs.Room.{EngineMakesRoom, LogsRoom, KeepsOrCompacts, entries_added}
@@ -309,7 +309,7 @@ module _ {E C FP F P : Type 0} {B : Boxed} {keys : InternalOrder C} {key_filters
 
       -- why the batch isn't written
       batch_excused : (status : Status)
-          → FailsToWrite env (formats (options_in before)).order roomy.store mid items to status
+          → FailsToWriteBatch env (formats (options_in before)).order roomy.store mid items to status
           → WriteExcused env choices before from items value status
       batch_excused status (inl (inl used, still)) = inr (inr (inr (inl (
         used.code,
@@ -366,7 +366,7 @@ module _ {E C FP F P : Type 0} {B : Boxed} {keys : InternalOrder C} {key_filters
       batch_cause (Err status) writes = record {
         later = omega (arith, made.makes.keeps.cause.later, writes.cause.later);
         cause = ⊎_elim
-            (λ (why : FailsToWrite env (formats (options_in before)).order roomy.store mid items to
+            (λ (why : FailsToWriteBatch env (formats (options_in before)).order roomy.store mid items to
             status). inl (batch_excused status why))
             (λ counted. inr (failed_later (env.failures from) (env.failures mid) (env.failures to)
             made.makes.keeps.cause.later writes.cause.later (⊎_elim

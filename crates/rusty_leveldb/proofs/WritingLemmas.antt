@@ -26,7 +26,7 @@ use Rattle.leveldb_store.specs.OpenTables.{AreOpenTablesOf}
 use Rattle.leveldb_store.specs.Room.{HasFailed, ChangesLoggerOnly}
 use Rattle.leveldb_store.specs.SoundCall.{IsSoundCall, any_meaning}
 use Rattle.leveldb_store.specs.Write.{open_log_path}
-use Rattle.leveldb_store.specs.WriteBatch.{AddsBatch, FailsToWrite, HoldsBatches, IsOf, LeavesHistory, WritesBatch, next_batch}
+use Rattle.leveldb_store.specs.WriteBatch.{AddsBatch, FailsToWriteBatch, HoldsBatches, IsOf, LeavesHistory, WritesBatch, next_batch}
 use Rattle.leveldb_store.specs.Read.{HasOpenTables}
 use Rattle.leveldb_store.specs.Compact.{FailsToCompactRange}
 use Rattle.leveldb_store.specs.Written.{IsDataPath, IsWritten, KeepsShown}
@@ -612,7 +612,7 @@ module _ {E C FP F P : Type 0} {B : Boxed} {keys : InternalOrder C} {key_filters
           (subst (λ (g : Format). IsWritten g.order meaning roomy.store here)
           (sym (same_format env formats store meaning before from old was opened)) room_written))
 
-      batch_cause : FailsToWrite env (formats (options_in before)).order roomy.store mid items to status
+      batch_cause : FailsToWriteBatch env (formats (options_in before)).order roomy.store mid items to status
           ⊎ ((env.failures to ≡ env.failures mid + 1)
           ⊎ ((env.failures mid ≡ 2 ^ 64 - 1) × (env.failures to ≡ env.failures mid)))
           → HasCause items sync status to

@@ -119,8 +119,8 @@ module _ {E C FP F : Type 0} {B : Boxed} where
       ((IsMemtableFull before → ⊥) × Gains before.store.mem.entries)
       ⊎ (IsMemtableFull before × Gains [])
 
-  -- no memtable waits to become a table, or the one that waited does, where the one that is written
-  -- to wasn't full
+  -- no memtable waits to become a table, as the immutable one, or the one that did does, where the
+  -- one that is written to wasn't full
   abbrev pub OneWaitsAtMost : EngineOf E C FP F B → EngineOf E C FP F B → Type 0
   OneWaitsAtMost before after = (after.store.imm ≡ None)
       ⊎ ((IsMemtableFull before → ⊥) × (after.store.imm ≡ before.store.imm))
@@ -443,13 +443,13 @@ module _ {E C FP F P : Type 0} {B : Boxed} {keys : InternalOrder C} {key_filters
     -- Ok: what was pending is in the history or forgotten, nothing is held, and the lock is
     pub ok : IfOk result (λ engine. (opening : Opening) → IsOpening name asked opening
         → (meaning : Meaning) → Agrees opening.format meaning
-        → FromStatesOf keys env (formats_of choices) (risk_of (open_store opening)) name meaning None
-        from (Some engine) to (λ _ old new. Opens old opening new))
+        → FromStatesOf keys env (formats_of choices) (risk_of (open_store opening)) name meaning
+        None from (Some engine) to (λ _ old new. Opens old opening new))
     -- Err: no store is open, and the history is as it was
     pub err : IfErr result (λ e. (opening : Opening) → IsOpening name asked opening
         → (meaning : Meaning) → Agrees opening.format meaning
-        → FromStatesOf keys env (formats_of choices) (risk_of (open_store opening)) name meaning None
-        from None to (NotOpened opening e))
+        → FromStatesOf keys env (formats_of choices) (risk_of (open_store opening)) name meaning
+        None from None to (NotOpened opening e))
     -- and that history is one as which its files were read
     pub found : IfOk result (λ engine. (opening : Opening) → IsOpening name asked opening
         → (meaning : Meaning) → Agrees opening.format meaning → IsTrue env.models_disk

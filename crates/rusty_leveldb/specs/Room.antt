@@ -48,7 +48,8 @@ with_last n value = record value { set = record value.set { last_sequence = n } 
 -- that was added, and then one compaction may have taken that table. These entries, of a batch, are
 -- added to memory.
 pub record KeepsOrCompacts {E F C : Type 0} (env : Ghosts E F) (format : Format)
-    (batch : List Entry) (old : OpenStoreValue C) (from : E) (new : OpenStoreValue C) (to : E) : Type 0 where
+    (batch : List Entry) (old : OpenStoreValue C) (from : E) (new : OpenStoreValue C) (to : E)
+    : Type 0 where
   -- the store and its environment once tables were made of what was in memory, and nothing was
   -- compacted yet
   pub tables_made : OpenStoreValue C
@@ -74,7 +75,7 @@ pub record StoreMakesRoom {E F C FP D P : Type 0} (order : CmpGhosts (InternalKe
       (FailsToCompactRange order env by old from tables choices) result new to now
   -- where it isn't full, nothing is done
   pub not_full : (IsFull limit old.mem → ⊥) → (new ≡ old) × (to ≡ from) × OnErr result ⊥
-  -- and one that was full is empty then, no place is taken in it, and none waits
+  -- and one that was full is empty then, no place is taken in it, and there is no immutable one
   pub empties : OnOk result (IsFull limit old.mem
       → (new.mem.entries ≡ []) × (new.mem.places ≡ 0) × (new.imm ≡ None))
   pub logs : OnOk result (IsFull limit old.mem → LogsRoom by.format.order old.set new.set)

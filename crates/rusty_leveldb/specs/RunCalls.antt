@@ -71,7 +71,8 @@ module _ {E C FP F P : Type 0} {B : Boxed} {keys : InternalOrder C} {key_filters
       × (left ≡ taken ++ held_by result) × EngineHolds env choices before from result after to
   CallsEngine before from taken (command.GetAt number key) reply after to left =
       (result : Result (Option (List ℕ)) Status) × IsTold taken (found_or result) reply left
-      × EngineGets env choices before from (Some (view_named taken number)) key.items result after to
+      × EngineGets env choices before from (Some (view_named taken number)) key.items result
+      after to
   CallsEngine before from taken (command.Release number) reply after to left =
       (result : Result (Unit {0}) Status) × IsTold taken (done_or result) reply left
       × EngineReleases env choices before from (held_named taken number) result after to

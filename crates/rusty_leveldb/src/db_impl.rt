@@ -1,4 +1,5 @@
 //! The store: an engine, and `DB`, which is an engine beside a borrow of its environment.
+// LevelDB: db/db_impl.cc
 
 mod close;
 mod compact;

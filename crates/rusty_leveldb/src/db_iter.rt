@@ -1,4 +1,5 @@
 //! Iterators over a store's view.
+// LevelDB: db/db_iter.cc
 ghost use Rattle.std.specs.Prelude.{◌≡◌, ◌-◌, None, IfErr, IfOk, IsErrAnd, is_some};
 ghost use Rattle.leveldb_base.specs.Error.{IsOutOfMemory};
 ghost use Rattle.leveldb_base.specs.Types.{copied_pair, last_position, next_position, pair_of, position_within, previous_position, seek_position};
@@ -103,7 +104,8 @@ impl<
     /// Moves to the first pair, or to no position in an empty store.
     pub fn seek_to_first(&mut self) -> Result<()>
         ensures { MovesIterator ⟦<InternalKeyCmp<C> as Cmp>⟧ E.Env C.Cmp FP.FilterPolicy
-            K.codings V.Walk no_cause (λ _ pairs _. position_within pairs 0) self.old result self.new }
+            K.codings V.Walk no_cause (λ _ pairs _. position_within pairs 0) self.old result
+            self.new }
     {
         let moved = self.view.seek_to_first(self.env, &mut self.tables);
         self.count_read();

@@ -1,4 +1,5 @@
 //! Samples of the keys that iterators read: each charges a file with a seek.
+// LevelDB: db/db_iter.cc, the read samples of DBIter
 ghost use Rattle.std.specs.Prelude.{◌≡◌, ◌%◌, [], IfErr, OnErr, OnOk, Some};
 ghost use Rattle.leveldb_base.specs.Error.{IsOutOfMemory};
 ghost use Rattle.rand_core.specs.Stream.{next_u64};

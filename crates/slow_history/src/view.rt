@@ -31,8 +31,8 @@ fn put_value<'a, C: Cmp>(
     key: &'a [u8],
     value: Option<&'a [u8]>,
 ) -> Result<Vec<BorrowedPair<'a>>>
-    ensures pairs { IfOk result (λ put. borrowed_pairs put.items ≡ with_value (C.cmp cmp.now) key.now
-        (option_map (λ bytes. bytes.now) value.entry) (borrowed_pairs pairs.now)) }
+    ensures pairs { IfOk result (λ put. borrowed_pairs put.items ≡ with_value (C.cmp cmp.now)
+        key.now (option_map (λ bytes. bytes.now) value.entry) (borrowed_pairs pairs.now)) }
     ensures cause { IfErr result IsOutOfMemory }
 {
     let mut put = Vec::new(alloc);

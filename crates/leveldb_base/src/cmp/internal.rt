@@ -1,4 +1,5 @@
 //! The orders of internal keys and of memtable keys, each made from an order of users' keys.
+// LevelDB: db/dbformat.cc, InternalKeyComparator; db/memtable.h, KeyComparator
 ghost use Rattle.std.specs.Prelude.{◌≡◌, ◌<◌, ◌^◌, ℕ, List, IfOk, IfErr};
 ghost use Rattle.leveldb_base.specs.Error.{IsOutOfMemory};
 ghost use Rattle.leveldb_base.specs.KeyTypes.{internal_key, internal_cmp, memtable_cmp};

@@ -1,4 +1,5 @@
 //! The order of bytes, eight of them at a time.
+// LevelDB: include/leveldb/slice.h, Slice::compare
 ghost use Rattle.std.specs.Prelude.{◌≡◌};
 ghost use Rattle.leveldb_base.specs.Cmp.{bytewise};
 

@@ -1,4 +1,5 @@
 //! The register of CRC32C, and what a text makes of it, sixteen bytes at a time.
+// LevelDB: util/crc32c.cc, Extend
 ghost use Rattle.std.specs.Prelude.{◌≡◌, ℕ, ◌+◌, ◌<◌, ◌≤◌, List, ◌++◌, fold, bit_xor};
 ghost use Rattle.leveldb_base.specs.Crc.{crc_byte, crc_zeros, crc_register, crc_of, HasRead};
 

@@ -1,4 +1,5 @@
 //! What a byte becomes in the register of CRC32C when zero bytes follow it, worked out beforehand.
+// LevelDB: util/crc32c.cc, its tables
 
 /// The register after a byte and `k` zero bytes, from a register of 0, is `TABLES[k][byte]`.
 #[rattlefmt::skip]

@@ -1,4 +1,5 @@
 //! The calls of the system that take a name, each with what makes it last.
+// LevelDB: util/env_posix.cc
 ghost use Rattle.std.specs.Prelude.{◌≡◌, None};
 ghost use Rattle.leveldb_base.specs.declared.error.StatusCode.TheVariants.{OutOfMemory};
 

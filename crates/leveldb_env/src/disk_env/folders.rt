@@ -1,4 +1,5 @@
 //! Folders, whose syncs make the names in them last.
+// LevelDB: util/env_posix.cc, PosixWritableFile::SyncDirIfManifest
 use super::syncs::FailedSyncs;
 use std::fs::{self, DirBuilder, File};
 use std::io;

@@ -1,4 +1,5 @@
 //! What is left to be done where a sync failed.
+// LevelDB: util/env_posix.cc, PosixWritableFile::SyncFd
 use std::alloc::Global;
 use std::collections::BTreeSet;
 use std::fs::File;

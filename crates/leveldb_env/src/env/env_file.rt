@@ -1,4 +1,5 @@
 //! An open file as a sink and as a source.
+// LevelDB: include/leveldb/env.h, WritableFile and RandomAccessFile
 ghost use Rattle.leveldb_env.specs.EnvFile.{AppendsBorrowed, SyncsBorrowed, ReadsBorrowed};
 
 use crate::env::{Env, Sink, Source};

@@ -1,4 +1,5 @@
 //! Where bytes go: what a log or a table is written to.
+// LevelDB: include/leveldb/env.h, WritableFile
 ghost use Rattle.std.specs.Prelude.{ℕ, List, Result};
 ghost use Rattle.leveldb_base.specs.declared.error.Status.{Status};
 ghost use Rattle.leveldb_env.specs.Sink.{AppendsBytes, FlushesNothing, ChangesBorrowed};

@@ -1,4 +1,5 @@
 //! Where bytes come from: what a log is read from.
+// LevelDB: include/leveldb/env.h, SequentialFile
 ghost use Rattle.std.specs.Prelude.{ℕ, ◌≤◌, List, Result, IfOk, IfErr, length};
 ghost use Rattle.leveldb_base.specs.declared.error.Status.{Status};
 ghost use Rattle.leveldb_env.specs.Source.{given, GivesAll, GivesFirst, GivesUp};

@@ -1,4 +1,5 @@
 //! Files that are read or replaced whole, and files that must be there.
+// LevelDB: util/env.cc, ReadFileToString and WriteStringToFileSync
 ghost use Rattle.std.specs.Prelude.{◌≡◌, ◌≢◌, Some, IsTrue, IfOk, IfErr, IsSomeAnd};
 ghost use Rattle.leveldb_env.specs.Env.{bytes_of, kept_file, same, with_file, AppendedAreBytes, ChangesFiles, FilesUnchanged, SameBut, SameLocks, HasCause};
 ghost use Rattle.leveldb_base.specs.Error.{IsOutOfMemory};

@@ -2,6 +2,7 @@
 //!
 //! A filter is its bits, eight a byte from the lowest on, and in one more byte how many of them a
 //! key has.
+// LevelDB: util/bloom.cc
 ghost use Rattle.std.specs.Prelude.{◌≡◌, ◌==◌, ◌||◌, false, ◌*◌, ◌^◌, ◌<◌, ◌≤◌, ℕ, MatchOption, length, fold, slice_index};
 ghost use Rattle.std.specs.List.{list_all, list_any};
 ghost use Rattle.byteorder.specs.Endian.{little_number};

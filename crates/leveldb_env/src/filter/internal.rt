@@ -1,4 +1,5 @@
 //! Filters of internal keys, into which the users' keys alone go.
+// LevelDB: db/dbformat.cc, InternalFilterPolicy
 ghost use Rattle.std.specs.Prelude.{◌≡◌, IfOk, IfErr, map};
 ghost use Rattle.leveldb_base.specs.KeyTypes.{user_part};
 ghost use Rattle.leveldb_base.specs.Error.{IsOutOfMemory};

@@ -1,4 +1,5 @@
 //! Texts one after another in one vector, so that all of them can be borrowed at once.
+// LevelDB: table/filter_block.h, the keys of FilterBlockBuilder
 ghost use Rattle.std.specs.Prelude.{◌≡◌, ◌-◌, ◌≤◌, [], ◌∷◌, ◌++◌, length, replicate, OnOk, OnErr, IfErr};
 ghost use Rattle.std.specs.List.{concat};
 ghost use Rattle.leveldb_base.specs.Error.{IsOutOfMemory};

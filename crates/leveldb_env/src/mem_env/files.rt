@@ -1,4 +1,5 @@
 //! Files in memory, and what the calls of an environment make of a map of them by name.
+// LevelDB: helpers/memenv/memenv.cc, FileState
 ghost use Rattle.std.specs.Prelude.{◌≡◌, ◌<◌, ◌+◌, ◌^◌, false, [], ◌++◌, length, min, drop, is_some, map, OnOk, OnErr, IfOk, IsSome, string_bytes};
 ghost use Rattle.std.specs.Option.{option_copied};
 ghost use Rattle.leveldb_env.specs.Env.{bytes_of, kept_file, longer_file, file_kept, with_file, emptied, created, deleted, renamed, extended, synced, without_folder, ListsChildren};

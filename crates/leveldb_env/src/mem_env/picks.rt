@@ -1,4 +1,5 @@
 //! What a crash leaves of files in memory, by choice.
+// LevelDB: db/fault_injection_test.cc
 ghost use Rattle.std.specs.Prelude.{◌≡◌, ◌↔◌, IfOk, IsTrue};
 ghost use Rattle.std.specs.Map.{lookup};
 ghost use Rattle.std.specs.Option.{option_copied};

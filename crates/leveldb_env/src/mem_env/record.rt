@@ -1,4 +1,5 @@
 //! A disk in memory that records what its files were at each moment.
+// LevelDB: db/fault_injection_test.cc, FaultInjectionTestEnv
 ghost use Rattle.std.specs.Prelude.{◌≡◌, ◌<◌, ◌+◌, ◌-◌, ◌^◌, ◌==◌, ◌&&◌, ◌||◌, true, false, Bool, ℕ, List, None, Some, if◌then◌else◌, not, IsErr, IsErrAnd, OnOk};
 
 use crate::env::Env;

@@ -1,4 +1,5 @@
 //! Files that hold a log.
+// LevelDB: db/log_reader.cc, where it opens a file
 ghost use Rattle.std.specs.Prelude.{IsTrue, IfOk, IfErr, IsSomeAnd, map, if◌then◌else◌};
 ghost use Rattle.leveldb_env.specs.Env.{bytes_of, same, ChangesFiles, FilesUnchanged, SameLocks};
 ghost use Rattle.leveldb_env.specs.EnvFile.{opened};

@@ -1,4 +1,5 @@
 //! A log that is open: its file beside the writer of its records.
+// LevelDB: db/db_impl.h, logfile_ and log_ of DBImpl
 ghost use Rattle.std.specs.Prelude.{◌≡◌, ◌≢◌, ◌%◌, ◌↔◌, [], true, false, IfErr, IfOk, IsErrAnd, IsTrue, string_bytes};
 ghost use Rattle.leveldb_base.specs.Error.{IsOutOfMemory};
 ghost use Rattle.leveldb_env.specs.Env.{BeforeOrAfter, ChangesFiles, HasCause, SameLocks, created, emptied};

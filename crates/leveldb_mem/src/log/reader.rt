@@ -1,4 +1,5 @@
 //! The reader of a log: it joins fragments to records.
+// LevelDB: db/log_reader.cc
 ghost use Rattle.std.specs.Prelude.{◌≡◌, ◌≢◌, ◌↔◌, ℕ, ◌+◌, ◌-◌, ◌*◌, ◌%◌, ◌≤◌, ◌<◌, true, false};
 ghost use Rattle.std.specs.Prelude.{[], take};
 ghost use Rattle.std.specs.Prelude.{drop, length, slice_index, slice_range, vec_len, List, IfOk};

@@ -1,4 +1,5 @@
 //! The writer of a log: it frames records and puts each into its sink in one piece.
+// LevelDB: db/log_writer.cc
 ghost use Rattle.std.specs.Prelude.{◌≡◌, ◌≢◌, ◌%◌, ◌<◌, ◌≤◌, ◌++◌, true, false, [], length, OnOk};
 ghost use Rattle.std.specs.Prelude.{IfErr, IsErrAnd};
 ghost use Rattle.leveldb_base.specs.Error.{IsOutOfMemory};

@@ -1,4 +1,5 @@
 //! A user's key as of a sequence number, among memtable keys.
+// LevelDB: db/dbformat.h, LookupKey
 ghost use Rattle.std.specs.Ordering.{is_lt, ordering_then, nat_cmp};
 ghost use Rattle.leveldb_base.specs.KeyTypes.{front_key, user_part, sequence_part};
 

@@ -1,4 +1,5 @@
 //! A walk over the entries of a memtable.
+// LevelDB: db/memtable.cc, MemTableIterator
 ghost use Rattle.std.specs.Prelude.{map};
 ghost use Rattle.std.specs.Ordering.{is_lt};
 ghost use Rattle.std.specs.Option.{ForSome};

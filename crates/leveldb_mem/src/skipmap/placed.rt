@@ -1,4 +1,5 @@
 //! Pairs of a key and a value in a skip list, each after a path that is chosen at its insertion.
+// LevelDB: db/skiplist.h, SkipList::Node; util/arena.cc
 ghost use Rattle.std.specs.Prelude.{◌≡◌, ◌+◌, ◌*◌, ◌^◌, ◌<◌, ◌≤◌, ◌⊎◌, ℕ, List, [], ◌∷◌, ◌++◌};
 ghost use Rattle.std.specs.Prelude.{length};
 ghost use Rattle.std.specs.Prelude.{take, drop, slice_index, slice_index_or, vec_len, vec_capacity};

@@ -1,4 +1,5 @@
 //! Paths to positions among a map's keys.
+// LevelDB: db/skiplist.h, SkipList::FindGreaterOrEqual
 ghost use Rattle.std.specs.Prelude.{◌≡◌, ◌+◌, ◌-◌, ◌⊎◌, ◌↔◌, ◌<◌, ◌≤◌, IsTrue, ℕ, Bool, true, List};
 ghost use Rattle.std.specs.Prelude.{[]};
 ghost use Rattle.std.specs.Prelude.{◌∷◌, length, take};

@@ -1,4 +1,5 @@
 //! The words of a skip list's nodes, and the heights of their towers.
+// LevelDB: db/skiplist.h, SkipList::RandomHeight
 ghost use Rattle.std.specs.Prelude.{◌≡◌, ◌≢◌, ◌+◌, ◌<◌, ◌≤◌, ℕ, length, slice_index};
 ghost use Rattle.leveldb_mem.specs.Towers.{drawn_links};
 

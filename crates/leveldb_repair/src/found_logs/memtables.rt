@@ -1,4 +1,5 @@
 //! Memtables that are filled one after another, with batches whose numbers may fall.
+// LevelDB: db/repair.cc, Repairer::ConvertLogToTable
 ghost use Rattle.std.specs.Prelude.{◌≡◌, ◌<◌, ◌⊎◌, [], IfErr, IfOk, IsTrue, OnOk, length};
 ghost use Rattle.leveldb_base.specs.Error.{IsOutOfMemory};
 ghost use Rattle.leveldb_base.specs.History.{AreUpTo};

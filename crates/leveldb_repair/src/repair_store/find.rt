@@ -1,4 +1,5 @@
 //! What is found in a store's folder.
+// LevelDB: db/repair.cc, Repairer::FindFiles and ExtractMetaData
 ghost use Rattle.std.specs.Prelude.{◌≡◌, ◌⊎◌, ◌↔◌, Any, IsTrue};
 ghost use Rattle.leveldb_base.specs.declared.types.FileType.TheVariants.{Log, Table};
 ghost use Rattle.leveldb_repair.specs.RepairSteps.{FindsAll};

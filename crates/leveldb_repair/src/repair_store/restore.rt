@@ -1,4 +1,5 @@
 //! New tables of all that is found, and a manifest that names them.
+// LevelDB: db/repair.cc, Repairer::WriteDescriptor
 ghost use Rattle.std.specs.Prelude.{◌≡◌, ◌<◌, ◌+◌, ◌^◌, [], IfErr, IfOk};
 ghost use Rattle.leveldb_base.specs.Error.{IsOutOfMemory};
 ghost use Rattle.leveldb_repair.specs.RepairSteps.{AreOverFound, IsOverAll, IsOverFound};

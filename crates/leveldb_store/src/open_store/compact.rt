@@ -1,5 +1,6 @@
 //! One compaction of an open store: other files take the place of those that it takes, and its edit
 //! is logged.
+// LevelDB: db/db_impl.cc, DBImpl::BackgroundCompaction
 ghost use Rattle.std.specs.Prelude.{◌≡◌, ◌⊎◌, ◌++◌, IfErr, IfSome, None, Option, OnOk, is_some, map};
 ghost use Rattle.leveldb_base.specs.Error.{IsOutOfMemory};
 ghost use Rattle.leveldb_version.specs.Format.{format_of};
@@ -27,8 +28,8 @@ impl<E: Env, C: UserCmp + Copy + Drop> OpenStore<E, C> {
     /// Does the compaction for which the current version asks, by the score of a level or else by
     /// reads, if it asks for one, and deletes the files that are obsolete then; what fails of that
     /// is a line for `log`. Entries that are shadowed at `smallest`, the smallest number at which
-    /// the store is read, may go, and deletions up to it that no deeper level needs. No memtable
-    /// waits.
+    /// the store is read, may go, and deletions up to it that no deeper level needs. There is no
+    /// immutable memtable.
     ///
     /// After an Err the tables are those that they were, no file has lost a byte, and the next call
     /// tries again, unless the store broke.
@@ -131,7 +132,7 @@ impl<E: Env, C: UserCmp + Copy + Drop> OpenStore<E, C> {
     // Does a compaction of the current version: its edit is logged once the tables are synced that
     // take the place of those that it takes. Entries that are shadowed at `smallest`, the smallest
     // number at which the store is read, may go, and deletions up to it that no deeper level needs.
-    // No memtable waits.
+    // There is no immutable memtable.
     //
     // After an Err the tables are those that they were, and the next call tries again, unless the
     // store broke.

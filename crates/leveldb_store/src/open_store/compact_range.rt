@@ -1,4 +1,5 @@
 //! Compactions of a range of keys.
+// LevelDB: db/db_impl.cc, DBImpl::CompactRange
 ghost use Rattle.std.specs.Prelude.{◌≡◌, ◌<◌, [], IfErr, IfOk, IfSome, None, OnOk, false, is_some, true};
 ghost use Rattle.leveldb_base.specs.Error.{IsOutOfMemory};
 ghost use Rattle.leveldb_base.specs.KeyTypes.{user_part};
@@ -12,7 +13,7 @@ ghost use Rattle.leveldb_store.specs.Compact.{CompactsRange, CompactsTables, Kee
 ghost use Rattle.leveldb_store.specs.KeptEntries.{CompactsInTurn, CompactsMemtables};
 ghost use Rattle.leveldb_store.specs.OpenStore.{IsUnbroken};
 ghost use Rattle.leveldb_store.specs.Room.{FailsToMakeRoom};
-ghost use Rattle.leveldb_store.specs.RoomSteps.{IsStepToRoom, TablesEntries};
+ghost use Rattle.leveldb_store.specs.RoomSteps.{IsStepToRoom, MakesTablesOfMemory};
 
 use super::OpenStore;
 use leveldb_base::cmp::{Cmp, InternalKeyCmp, UserCmp};
@@ -107,9 +108,9 @@ impl<E: Env, C: UserCmp + Copy + Drop> OpenStore<E, C> {
             IsStepToRoom E.Env (C.cmp self.old.cmp) choices.format
             (FailsToMakeRoom E.Env (C.cmp self.old.cmp) self.old env.old choices)
             self.old env.old result self.new env.new }
-        ensures tables { TablesEntries E.Env (C.cmp self.old.cmp) (format_of C.Cmp FP.FilterPolicy
-            ⟦<CompressorList as Compressors>⟧.codings options.now) 2 self.old env.old tables.old
-            result self.new env.new tables.new }
+        ensures tables { MakesTablesOfMemory E.Env (C.cmp self.old.cmp) (format_of C.Cmp
+            FP.FilterPolicy ⟦<CompressorList as Compressors>⟧.codings options.now) 2 self.old
+            env.old tables.old result self.new env.new tables.new }
         ensures tables_made { OnOk result
             ((self.new.mem.entries ≡ []) × (self.new.imm ≡ None)) }
         ensures log { is_some log.new ≡ is_some log.old }

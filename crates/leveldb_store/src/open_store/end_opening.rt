@@ -1,4 +1,5 @@
 //! The end of an opening: one compaction is done at most, and what is obsolete is deleted.
+// LevelDB: db/db_impl.cc, the end of DB::Open
 ghost use Rattle.std.specs.Prelude.{◌≡◌, None, is_some};
 ghost use Rattle.leveldb_version.specs.TableCache.{table_options};
 ghost use Rattle.leveldb_store.specs.BuildTable.{choices_of};

@@ -1,5 +1,6 @@
 //! The files that take the place of those of a compaction: those of new tables, into which its own
 //! are merged, or the one file that it moves.
+// LevelDB: db/db_impl.cc, DBImpl::InstallCompactionResults
 ghost use Rattle.std.specs.Prelude.{◌≡◌, ◌≢◌, ◌+◌, ◌↔◌, IfSome, IsTrue};
 ghost use Rattle.std.specs.declared.cmp.Ordering.TheVariants.{Less};
 ghost use Rattle.leveldb_base.specs.KeyTypes.{user_part};

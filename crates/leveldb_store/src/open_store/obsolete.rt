@@ -1,4 +1,5 @@
 //! Deletions of the store's files that nothing needs any more.
+// LevelDB: db/db_impl.cc, DBImpl::RemoveObsoleteFiles
 ghost use Rattle.std.specs.Prelude.{◌≡◌, ◌↔◌, IsTrue, map, string_bytes};
 ghost use Rattle.leveldb_base.specs.declared.types.FileType.TheVariants.{Log, Table};
 ghost use Rattle.leveldb_env.specs.Env.{ListsChildren};

@@ -1,4 +1,5 @@
 //! Looking a key up: in the memtables, and then in the tables of the version.
+// LevelDB: db/db_impl.cc, DBImpl::Get
 ghost use Rattle.std.specs.Prelude.{◌≡◌, IfErr, IfOk};
 ghost use Rattle.leveldb_base.specs.Entries.{FindsNewest, lookup_copied, value_found};
 ghost use Rattle.leveldb_base.specs.Error.{IsOutOfMemory};

@@ -1,12 +1,13 @@
 //! Room in the memtable: entries of one that is full become a table, and obsolete files are
 //! deleted.
+// LevelDB: db/db_impl.cc, DBImpl::MakeRoomForWrite
 ghost use Rattle.std.specs.Prelude.{◌≡◌, ◌≢◌, ◌↔◌, None, IfOk, IsTrue, is_some};
 ghost use Rattle.leveldb_store.specs.BuildTable.{choices_of};
 ghost use Rattle.leveldb_version.specs.Format.{Agrees, format_of};
 ghost use Rattle.leveldb_store.specs.OpenStore.{IsUnbroken};
 ghost use Rattle.leveldb_store.specs.OpenTables.{ClosesObsolete};
 ghost use Rattle.leveldb_store.specs.Room.{IsFull, MakesRoom, RemovesAtLast, TidiesUp, but_removal};
-ghost use Rattle.leveldb_store.specs.RoomSteps.{TablesEntries, CompactsMemtable};
+ghost use Rattle.leveldb_store.specs.RoomSteps.{MakesTablesOfMemory, CompactsMemtable};
 ghost use Rattle.leveldb_store.specs.SoundCall.{BytesAreAppended, IsSoundCall, TimeGoesOn};
 ghost use Rattle.leveldb_store.specs.Switch.{RemovesObsolete};
 
@@ -55,14 +56,15 @@ impl<E: Env, C: UserCmp + Copy + Drop> OpenStore<E, C> {
         removal
     }
 
-    /// Makes room in the memtable, if its entries take `write_buffer_size` bytes or more. They wait
-    /// while batches go to a new log, and become a table. Where they wait already, since a call
-    /// before made no table of them, they become one before anything else, so that one memtable
-    /// waits at most. Obsolete files are deleted after each table, and their tables closed; what
-    /// fails of that is a line for `log`. An Ok has what the last of these removals returned.
+    /// Makes room in the memtable (`mem`), if its entries take `write_buffer_size` bytes or more.
+    /// It is the immutable memtable (`imm`) then, while batches go to a new log, and becomes a
+    /// table. Where there is an immutable one already, since a call before made no table of it,
+    /// that becomes one before anything else, so that there is one at most. Obsolete files are
+    /// deleted after each table, and their tables closed; what fails of that is a line for `log`.
+    /// An Ok has what the last of these removals returned.
     ///
-    /// After an Err the memtable is full still, or one waits. Whatever the files are, no entry is
-    /// lost. The next call goes on from there, unless the store broke.
+    /// After an Err the memtable is full still, or there is an immutable one. Whatever the files
+    /// are, no entry is lost. The next call goes on from there, unless the store broke.
     pub fn make_room<FP: FilterPolicy + Copy + Drop>(
         &mut self,
         env: &mut E,
@@ -82,9 +84,9 @@ impl<E: Env, C: UserCmp + Copy + Drop> OpenStore<E, C> {
         ensures sound { IsSoundCall E.Env (C.cmp self.old.cmp) (Agrees (format_of C.Cmp
             FP.FilterPolicy ⟦<CompressorList as Compressors>⟧.codings options.now)) self.old
             env.old (but_removal result) self.new env.new }
-        ensures tables { TablesEntries E.Env (C.cmp self.old.cmp) (format_of C.Cmp FP.FilterPolicy
-            ⟦<CompressorList as Compressors>⟧.codings options.now) 2 self.old env.old tables.old
-            (but_removal result) self.new env.new tables.new }
+        ensures tables { MakesTablesOfMemory E.Env (C.cmp self.old.cmp) (format_of C.Cmp
+            FP.FilterPolicy ⟦<CompressorList as Compressors>⟧.codings options.now) 2 self.old
+            env.old tables.old (but_removal result) self.new env.new tables.new }
         ensures log { is_some log.new ≡ is_some log.old }
     {
         if !self.is_full(options.write_buffer_size) {
@@ -95,8 +97,8 @@ impl<E: Env, C: UserCmp + Copy + Drop> OpenStore<E, C> {
         self.compact_memtable(env, options, tables, log)
     }
 
-    // Makes a table of the entries that wait, if some do, and deletes the files that are obsolete
-    // then. An Ok has what the removal returned.
+    // Makes a table of the immutable memtable, if there is one, and deletes the files that are
+    // obsolete then. An Ok has what the removal returned.
     pub(super) fn compact_memtable<FP: FilterPolicy + Copy + Drop>(
         &mut self,
         env: &mut E,
@@ -112,9 +114,9 @@ impl<E: Env, C: UserCmp + Copy + Drop> OpenStore<E, C> {
             options.now) self.old env.old (but_removal result) self.new env.new }
         ensures removes { IfOk result (λ removal. self.old.imm ≢ None
             → RemovesAtLast E.Env self.new removal env.new) }
-        ensures tables { TablesEntries E.Env (C.cmp self.old.cmp) (format_of C.Cmp FP.FilterPolicy
-            ⟦<CompressorList as Compressors>⟧.codings options.now) 1 self.old env.old tables.old
-            (but_removal result) self.new env.new tables.new }
+        ensures tables { MakesTablesOfMemory E.Env (C.cmp self.old.cmp) (format_of C.Cmp
+            FP.FilterPolicy ⟦<CompressorList as Compressors>⟧.codings options.now) 1 self.old
+            env.old tables.old (but_removal result) self.new env.new tables.new }
         ensures log { is_some log.new ≡ is_some log.old }
     {
         if !self.has_imm() {

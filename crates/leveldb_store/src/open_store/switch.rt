@@ -1,5 +1,6 @@
-//! A switch of the log: the entries of the memtable wait, and batches go to a log of the next
-//! number.
+//! A switch of the log: the memtable (`mem`) becomes the immutable one (`imm`), and batches go to a
+//! log of the next number.
+// LevelDB: db/db_impl.cc, DBImpl::MakeRoomForWrite
 ghost use Rattle.std.specs.Prelude.{◌≡◌, ◌≢◌, ◌↔◌, [], None, IsTrue, false};
 ghost use Rattle.leveldb_version.specs.Format.{Meaning};
 ghost use Rattle.leveldb_store.specs.SoundCall.{IsSoundCall, any_meaning};
@@ -15,7 +16,8 @@ use leveldb_mem::log::LogFile;
 use leveldb_mem::memtable::MemTable;
 
 impl<E: Env, C: UserCmp + Copy> OpenStore<E, C> {
-    /// Whether entries of the logs before the one that is written wait to be in a table.
+    /// Whether there is an immutable memtable: entries of the logs before the one that is written,
+    /// which aren't in a table yet.
     pub fn has_imm(&self) -> bool
         ensures { (result ≡ false) ↔ (self.now.imm ≡ None) }
     {
@@ -23,9 +25,9 @@ impl<E: Env, C: UserCmp + Copy> OpenStore<E, C> {
     }
 
     /// Makes a crash keep all batches, and begins a log of the next number: batches go to it, and
-    /// the entries of the one before wait. After an Err they are where they were. The store is
-    /// broken if a sync of the log failed once it had begun. A number that was given for a log that
-    /// couldn't be made isn't given again.
+    /// the entries of the one before are the immutable memtable. After an Err they are where they
+    /// were. The store is broken if a sync of the log failed once it had begun. A number that was
+    /// given for a log that couldn't be made isn't given again.
     pub fn switch_log(&mut self, env: &mut E) -> Result<()>
         requires none_waits { self.old.imm ≡ None }
         requires some { self.old.mem.entries ≢ [] }

@@ -1,4 +1,5 @@
-//! The table of the entries that wait, and its edit.
+//! The table of the immutable memtable (`imm`), and its edit.
+// LevelDB: db/db_impl.cc, DBImpl::CompactMemTable and WriteLevel0Table
 ghost use Rattle.std.specs.Prelude.{◌≡◌, ◌≢◌, ◌<◌, ◌≤◌, None, IsTrue, OnErr, OnOk, map};
 ghost use Rattle.leveldb_base.specs.Entries.{internal_pair};
 ghost use Rattle.leveldb_base.specs.History.{AreRising};
@@ -36,9 +37,9 @@ use leveldb_env::options::Options;
 use leveldb_version::version_edit::VersionEdit;
 
 impl<E: Env, C: UserCmp + Copy + Drop> OpenStore<E, C> {
-    /// Makes a table of the entries that wait, and logs it in the level that a version picks for
-    /// it: then the logs that had them aren't needed any more. Returns `IOError`, and does nothing,
-    /// if a call on the manifest failed before.
+    /// Makes a table of the immutable memtable, and logs it in the level that a version picks for
+    /// it: then the logs that had its entries aren't needed any more. Returns `IOError`, and does
+    /// nothing, if a call on the manifest failed before.
     pub fn write_level0_table<FP: FilterPolicy + Copy + Drop>(
         &mut self,
         env: &mut E,
@@ -77,7 +78,7 @@ impl<E: Env, C: UserCmp + Copy + Drop> OpenStore<E, C> {
         Ok(())
     }
 
-    // Makes the table of the entries that wait, under this number.
+    // Makes the table of the immutable memtable, under this number.
     fn build_imm_table<FP: FilterPolicy + Copy + Drop>(
         &self,
         env: &mut E,

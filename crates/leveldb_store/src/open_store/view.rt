@@ -1,4 +1,5 @@
 //! Walks over the view of a store at a sequence number.
+// LevelDB: db/db_impl.cc, DBImpl::NewInternalIterator
 ghost use Rattle.std.specs.Prelude.{◌≡◌, ◌≤◌, ◌+◌, ◌++◌, ◌<◌, ◌^◌, IfErr, IfOk, List, OnOk, map, length, vec_len, vec_capacity};
 ghost use Rattle.leveldb_iter.specs.Moves.{MovesAll};
 ghost use Rattle.leveldb_version.specs.Format.{format_of};

@@ -1,4 +1,5 @@
 //! The parts of writing a batch: memory for it, its record, and its entries; and syncs of the log.
+// LevelDB: db/db_impl.cc, DBImpl::Write
 ghost use Rattle.std.specs.Prelude.{◌≡◌, ◌+◌, IfErr, IfOk, OnErr, OnOk};
 ghost use Rattle.leveldb_env.specs.Env.{AreBytes};
 ghost use Rattle.leveldb_mem.specs.Log.Writer.{broken_writer};

@@ -1,4 +1,5 @@
 //! Writing a batch: its record comes to the log, and its entries to the memtable.
+// LevelDB: db/db_impl.cc, DBImpl::Write
 ghost use Rattle.std.specs.Prelude.{◌≡◌, ◌≤◌, OnOk, length};
 ghost use Rattle.leveldb_env.specs.Env.{AreBytes};
 ghost use Rattle.leveldb_mem.specs.WriteBatch.{BatchOf, batch_bytes, max_length};

@@ -1,5 +1,6 @@
 //! The last steps of an opening: what the logs of a store that was recovered have comes to memory
 //! or to tables, and batches may be appended.
+// LevelDB: db/db_impl.cc, DBImpl::Recover and DB::Open
 ghost use Rattle.std.specs.Prelude.{◌≡◌, IfOk, None};
 ghost use Rattle.leveldb_env.specs.Env.{SameLocks};
 ghost use Rattle.leveldb_store.specs.BuildTable.{choices_of};

@@ -1,4 +1,5 @@
 //! The edit with which an opening ends.
+// LevelDB: db/db_impl.cc, DB::Open
 ghost use Rattle.std.specs.Prelude.{◌≡◌, IfErr, IfOk};
 ghost use Rattle.leveldb_base.specs.Error.{IsOutOfMemory};
 ghost use Rattle.leveldb_env.specs.Env.{SameLocks};

@@ -1,4 +1,5 @@
 //! Which store is there: one that is opened, or none, so that one is made.
+// LevelDB: db/db_impl.cc, DBImpl::Recover and NewDB
 ghost use Rattle.std.specs.Prelude.{◌≡◌, ◌⊎◌, ◌↔◌, Any, IfOk, IfSome, IsTrue};
 ghost use Rattle.leveldb_base.specs.declared.types.FileType.TheVariants.{Current, Log, Table};
 ghost use Rattle.leveldb_store.specs.Listing.{AreFilesIn};

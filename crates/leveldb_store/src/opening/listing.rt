@@ -1,4 +1,5 @@
 //! The files of a store's folder, by what their names say.
+// LevelDB: db/db_impl.cc, DBImpl::Recover
 ghost use Rattle.std.specs.Prelude.{◌≡◌, ◌⊎◌, ◌++◌, [], ◌∷◌, Any, IfErr, IfOk, IsTrue, OnOk, map, string_bytes, ◌↔◌};
 ghost use Rattle.leveldb_base.specs.Error.{IsOutOfMemory};
 ghost use Rattle.leveldb_base.specs.declared.error.StatusCode.TheVariants.{Corruption};

@@ -1,4 +1,5 @@
 //! The log to which batches are appended: the last one, or a new one.
+// LevelDB: db/db_impl.cc, DB::Open
 ghost use Rattle.std.specs.Prelude.{◌≡◌, ◌+◌, ◌<◌, ◌^◌, IfSome, OnOk, OnErr};
 ghost use Rattle.leveldb_base.specs.Error.{IsOutOfMemory};
 ghost use Rattle.leveldb_env.specs.Env.{HasCause, created, emptied};

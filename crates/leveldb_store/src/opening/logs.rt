@@ -1,4 +1,5 @@
 //! Which logs of a store are replayed.
+// LevelDB: db/db_impl.cc, DBImpl::Recover
 ghost use Rattle.std.specs.Prelude.{◌≡◌, ◌≢◌, ◌⊎◌, ◌↔◌, [], ◌∷◌, All, IfErr, IfOk, IsTrue, OnOk, string_bytes};
 ghost use Rattle.leveldb_base.specs.Error.{IsOutOfMemory};
 ghost use Rattle.leveldb_base.specs.Names.{file_name};

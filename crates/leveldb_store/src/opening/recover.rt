@@ -1,4 +1,5 @@
 //! A store that is found or made, and recovered.
+// LevelDB: db/db_impl.cc, DBImpl::Recover
 ghost use Rattle.leveldb_version.specs.Format.{format_of};
 ghost use Rattle.leveldb_store.specs.OpeningSteps.{RecoversStore};
 

@@ -1,4 +1,5 @@
 //! The version set that a store's manifest leaves, with the logs that are replayed.
+// LevelDB: db/db_impl.cc, DBImpl::Recover
 ghost use Rattle.std.specs.Prelude.{◌≡◌, ◌⊎◌, ◌<◌, ◌^◌, ◌↔◌, ℕ, All, IfErr, IfOk, IfSome, IsTrue, OnOk, map};
 ghost use Rattle.leveldb_base.specs.Error.{IsOutOfMemory};
 ghost use Rattle.leveldb_base.specs.declared.error.StatusCode.TheVariants.{Corruption};

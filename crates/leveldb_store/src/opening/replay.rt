@@ -1,5 +1,6 @@
 //! The replay of all logs: what comes to tables, and what stays in memory of the log that is used
 //! on.
+// LevelDB: db/db_impl.cc, DBImpl::Recover
 ghost use Rattle.std.specs.Prelude.{◌≡◌, ◌≢◌, [], None, IfOk, IfSome, IsTrue, OnOk, map};
 ghost use Rattle.leveldb_version.specs.VersionEdit.{new_file_of};
 ghost use Rattle.leveldb_store.specs.BuildTable.{choices_of};

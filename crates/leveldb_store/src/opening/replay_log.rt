@@ -1,5 +1,6 @@
 //! The replay of a log: its batches go into a memtable, one after another, and each memtable that
 //! is full becomes a table.
+// LevelDB: db/db_impl.cc, DBImpl::RecoverLogFile
 ghost use Rattle.std.specs.Prelude.{◌≡◌, ◌≢◌, ◌⊎◌, ◌<◌, [], IfErr, IfOk, OnOk, false, length};
 ghost use Rattle.leveldb_base.specs.History.{AreUpTo};
 ghost use Rattle.leveldb_base.specs.declared.error.StatusCode.TheVariants.{Corruption};

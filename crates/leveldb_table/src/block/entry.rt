@@ -1,4 +1,5 @@
 //! Entries and restart points of a block, as they are read.
+// LevelDB: table/block.cc, DecodeEntry
 ghost use Rattle.std.specs.Prelude.{◌≡◌};
 ghost use Rattle.leveldb_env.specs.FilterBlock.{numbers_in};
 ghost use Rattle.leveldb_table.specs.BlockCheck.{begins, borrowed_number, ReadsNumber, ReadsLengths, ReadsEntry};

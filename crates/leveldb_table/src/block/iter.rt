@@ -1,4 +1,5 @@
 //! A walk over a block, beside a borrow of it.
+// LevelDB: table/block.cc, Block::Iter
 ghost use Rattle.std.specs.Prelude.{◌≡◌, None};
 ghost use Rattle.leveldb_base.specs.Error.{IsOutOfMemory};
 ghost use Rattle.leveldb_table.specs.Block.{HasEntries};

@@ -1,4 +1,5 @@
 //! A walk over a block that it holds.
+// LevelDB: table/block.cc, Block::Iter
 ghost use Rattle.std.specs.Prelude.{◌≡◌, None, IfOk, IfErr, OnOk, OnErr, is_some};
 ghost use Rattle.leveldb_base.specs.Types.{next_position, previous_position, seek_position, pair_at, last_position};
 ghost use Rattle.leveldb_base.specs.Error.{IsOutOfMemory};

@@ -1,4 +1,5 @@
 //! The restart points of a block, and the halving over them.
+// LevelDB: table/block.cc, Block::Iter::Seek
 ghost use Rattle.std.specs.Prelude.{◌≡◌, ◌<◌, length, slice_index};
 ghost use Rattle.leveldb_table.specs.Block.{restart_points};
 ghost use Rattle.leveldb_table.specs.BlockWalk.{IsRestartPoint, HasKeyAt, CanSeekFrom};

@@ -1,4 +1,5 @@
 //! A walk over a block, which keeps no borrow of it.
+// LevelDB: table/block.cc, Block::Iter
 ghost use Rattle.std.specs.Prelude.{◌≡◌, ℕ, ◌<◌, ◌≤◌, length, Some, None, MatchOption, IfOk, OnOk, OnErr, IfErr, is_some};
 ghost use Rattle.leveldb_base.specs.Types.{next_position, previous_position, seek_position, position_within, pair_at, pair_of, last_position};
 ghost use Rattle.leveldb_base.specs.Error.{IsOutOfMemory};

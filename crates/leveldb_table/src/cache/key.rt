@@ -1,4 +1,5 @@
 //! The keys of a cache as its map has them.
+// LevelDB: util/cache.cc
 ghost use Rattle.std.specs.Prelude.{◌∷◌, []};
 ghost use Rattle.std.proofs.Common.{ap, sym};
 ghost use Rattle.std.specs.Str.{bytes_eq};

@@ -1,4 +1,5 @@
 //! The judge of a file that may be a table.
+// LevelDB: db/repair.cc, Repairer::ScanTable
 ghost use Rattle.std.specs.Prelude.{◌≡◌, ◌<◌, ◌^◌, length, List, None, IfOk, Contains};
 ghost use Rattle.leveldb_base.specs.Types.{Pair};
 ghost use Rattle.leveldb_table.specs.Block.{pairs_of};

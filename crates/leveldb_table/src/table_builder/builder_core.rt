@@ -1,4 +1,5 @@
 //! What a table builder knows of its table, without the sink that the table moves to.
+// LevelDB: table/table_builder.cc, TableBuilder::Rep
 ghost use Rattle.std.specs.Prelude.{◌≡◌, ◌≢◌, ◌↔◌, ◌⊎◌, ◌+◌, ◌-◌, ◌^◌, min, ◌<◌, ◌≤◌, ◌++◌, ◌∷◌, [], ℕ, List, Bool, true, false, Option, None, Some, Ok, IfOk, IfErr, IfSome, OnOk, OnErr, IsErr, IsErrAnd, IsTrue, length, codes, max};
 ghost use Rattle.std.specs.declared.cmp.Ordering.TheVariants.{Less, Greater};
 ghost use Rattle.leveldb_base.specs.Cmp.{bytewise};

@@ -1,4 +1,5 @@
 //! The footer, a table's last bytes, which say where its metaindex and its index are.
+// LevelDB: table/format.cc, Footer
 ghost use Rattle.std.specs.Prelude.{◌≡◌, ◌+◌, ◌≤◌, ◌++◌, Option, Some, length, drop, IsTrue, ◌↔◌, replicate};
 ghost use Rattle.leveldb_table.specs.Footer.{footer_bytes, ReadsFooter};
 ghost use Rattle.leveldb_table.specs.declared.table_builder.footer.Footer.{Footer};

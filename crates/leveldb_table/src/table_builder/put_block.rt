@@ -1,4 +1,5 @@
 //! Blocks put into a table's file, each with its trailer.
+// LevelDB: table/table_builder.cc, TableBuilder::WriteRawBlock
 ghost use Rattle.std.specs.Prelude.{◌≡◌, ◌+◌, ◌^◌, ◌<◌, ◌≤◌, ◌++◌, ◌∷◌, [], ℕ, List, None, IfOk, IfErr, IfSome, IfNone, OnOk, IsErrAnd, length};
 ghost use Rattle.leveldb_base.specs.Error.{IsOutOfMemory};
 ghost use Rattle.leveldb_env.specs.Compressor.{Decodes, IsUnset};

@@ -1,4 +1,5 @@
 //! A walk over a table, beside borrows of what it takes.
+// LevelDB: table/two_level_iterator.cc
 ghost use Rattle.std.specs.Prelude.{◌≡◌, ℕ, List, Option, None, Some, IfOk, IfErr, is_some, true};
 ghost use Rattle.std.specs.declared.cmp.Ordering.{Ordering};
 ghost use Rattle.leveldb_base.specs.Types.{next_position, previous_position, seek_position, position_within, pair_of, pair_at, last_position};

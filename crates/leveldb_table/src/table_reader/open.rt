@@ -1,4 +1,5 @@
 //! What is read when a table is opened.
+// LevelDB: table/table.cc, Table::Open
 ghost use Rattle.std.specs.Prelude.{◌≡◌, ◌⊎◌, ℕ, List, Option, None, IfOk, IfErr, IfSome};
 ghost use Rattle.leveldb_base.specs.BlockHandle.{Handle};
 ghost use Rattle.leveldb_base.specs.Error.{IsOutOfMemory};

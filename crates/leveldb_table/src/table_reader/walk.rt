@@ -1,4 +1,5 @@
 //! A walk over a table that keeps no borrow of it.
+// LevelDB: table/two_level_iterator.cc; table/table.cc, Table::InternalGet
 ghost use Rattle.std.specs.Prelude.{◌≡◌, ◌⊎◌, List, ℕ, None, Some, IfOk, IfErr, IfSome, OnOk, OnErr, IsErrAnd, Option, is_some, true, map};
 ghost use Rattle.std.specs.Option.{IsSomeAnd};
 ghost use Rattle.std.specs.declared.cmp.Ordering.{Ordering};

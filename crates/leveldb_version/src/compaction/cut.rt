@@ -1,4 +1,5 @@
 //! Where a compaction's outputs are cut, so that none overlaps too much of the level after its own.
+// LevelDB: db/version_set.cc, Compaction::ShouldStopBefore
 ghost use Rattle.std.specs.Prelude.{◌≡◌, ◌+◌, map, take_while};
 ghost use Rattle.std.specs.List.{prefix_len};
 ghost use Rattle.std.specs.Ordering.{is_gt};
@@ -86,8 +87,8 @@ impl OutputCut {
         max_file_size: usize,
         key: InternalKey<'_>,
     ) -> bool
-        ensures { PassesFiles (C.cmp ucmp.now) (map new_file_of files.now) max_file_size key.now self.old
-            result self.new }
+        ensures { PassesFiles (C.cmp ucmp.now) (map new_file_of files.now) max_file_size key.now
+            self.old result self.new }
     {
         let left = &files[self.passed.min(files.len())..];
         let passed = files_before(ucmp, left, key);

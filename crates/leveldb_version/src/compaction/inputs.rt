@@ -1,4 +1,5 @@
 //! The files that a compaction takes of a level and of the next.
+// LevelDB: db/version_set.cc, VersionSet::SetupOtherInputs
 ghost use Rattle.std.specs.Prelude.{◌≡◌, ◌↔◌, ◌<◌, [], None, IfErr, IfOk, IfSome, if◌then◌else◌, map};
 ghost use Rattle.std.specs.List.{list_any};
 ghost use Rattle.std.specs.Ordering.{is_lt};

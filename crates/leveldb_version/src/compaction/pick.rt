@@ -1,4 +1,5 @@
 //! Which compaction is asked for: by a version's score, by reads, or by a range.
+// LevelDB: db/version_set.cc, VersionSet::PickCompaction and CompactRange
 ghost use Rattle.std.specs.Prelude.{◌≡◌, ◌<◌, ◌↔◌, ◌⊎◌, ◌==◌, [], true, Contains, IfErr, IfOk, IfSome, IsTrue, None, find, map};
 ghost use Rattle.std.specs.Option.{option_copied, option_map};
 ghost use Rattle.std.specs.Ordering.{is_gt};
@@ -221,8 +222,9 @@ fn chosen_with<'v, C: UserCmp>(
     requires there { Contains (at_level file.now.0 version.now.files) file.now }
     ensures chosen { IfOk result (λ chosen. AreChosen (C.cmp version.now.cmp)
         (new_files_of version.now) file.now.0 (borrowed_files chosen.items)) }
-    ensures file { IfOk result (λ chosen. AreOrdered (C.cmp version.now.cmp)
-        (new_files_of version.now) → Contains (borrowed_files chosen.items) (new_file_of file.now)) }
+    ensures file { IfOk result (λ chosen.
+        AreOrdered (C.cmp version.now.cmp) (new_files_of version.now)
+        → Contains (borrowed_files chosen.items) (new_file_of file.now)) }
     ensures memory { IfErr result IsOutOfMemory }
 {
     if file.0 == 0 {

@@ -1,4 +1,5 @@
 //! Moves of a walk over a table that is found in a cache by its number.
+// LevelDB: db/table_cache.cc, TableCache::NewIterator
 ghost use Rattle.leveldb_version.specs.TableCache.{options_by};
 ghost use Rattle.leveldb_version.specs.TableMoves.{LeavesPairs, MovesInNumbered, StepsInOpen};
 

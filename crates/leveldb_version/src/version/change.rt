@@ -1,5 +1,5 @@
 //! The next version: what an edit leaves of one.
-// LevelDB: VersionSet::Builder
+// LevelDB: db/version_set.cc, VersionSet::Builder
 ghost use Rattle.std.specs.Prelude.{◌≡◌, IfErr, IfOk, OnOk, fold, map};
 ghost use Rattle.std.specs.List.{list_any};
 ghost use Rattle.leveldb_base.specs.Error.{IsOutOfMemory};

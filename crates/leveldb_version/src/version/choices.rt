@@ -1,4 +1,5 @@
 //! What a choice of files for a compaction asks of a version.
+// LevelDB: db/version_set.cc, Version::GetOverlappingInputs
 ghost use Rattle.std.specs.Prelude.{◌≡◌, ◌<◌, IfErr, IfOk};
 ghost use Rattle.leveldb_base.specs.Error.{IsOutOfMemory};
 ghost use Rattle.leveldb_version.specs.Compaction.{closed_range, is_base_level_for};

@@ -1,4 +1,5 @@
 //! The file of a level that has a key, found by halving.
+// LevelDB: db/version_set.cc, FindFile
 ghost use Rattle.std.specs.Prelude.{◌≡◌, ◌≤◌, Contains, IfSome, length, map};
 ghost use Rattle.std.specs.List.Sorted.{IsSortedByKey};
 ghost use Rattle.std.specs.Option.{option_copied, option_map};

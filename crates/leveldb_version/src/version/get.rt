@@ -1,4 +1,5 @@
 //! Looking a key up in the tables of a version.
+// LevelDB: db/version_set.cc, Version::Get
 ghost use Rattle.std.specs.Prelude.{◌≡◌, ◌<◌, ◌≤◌, IfErr, IfOk, IsSomeAnd, length};
 ghost use Rattle.leveldb_base.specs.Entries.{found_at};
 ghost use Rattle.leveldb_table.specs.BlockWalk.{pair_with};

@@ -1,4 +1,5 @@
 //! The walks over a version's tables.
+// LevelDB: db/version_set.cc, Version::AddIterators
 ghost use Rattle.std.specs.Prelude.{◌≡◌, IfErr, IfOk, OnOk};
 ghost use Rattle.std.specs.List.Sorted.{IsNonDecreasingBy};
 ghost use Rattle.leveldb_base.specs.Error.{IsOutOfMemory};

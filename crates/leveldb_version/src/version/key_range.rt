@@ -1,4 +1,5 @@
 //! Ranges of user keys, and how files are to them.
+// LevelDB: db/version_set.cc, AfterFile and BeforeFile
 ghost use Rattle.std.specs.Prelude.{◌≡◌};
 ghost use Rattle.std.specs.Option.{option_copied};
 ghost use Rattle.leveldb_version.specs.Compaction.{closed_range};

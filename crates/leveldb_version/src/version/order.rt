@@ -1,4 +1,5 @@
 //! The order of a version's files, and the part that is a level.
+// LevelDB: db/version_set.cc, VersionSet::Builder::BySmallestKey
 ghost use Rattle.std.specs.Prelude.{◌≡◌, IsPermutation, IfErr, OnOk, map};
 ghost use Rattle.std.specs.List.Sorted.{IsNonDecreasingBy};
 ghost use Rattle.leveldb_base.specs.Error.{IsOutOfMemory};

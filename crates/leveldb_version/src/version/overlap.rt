@@ -1,4 +1,5 @@
 //! Which files overlap a range of user keys.
+// LevelDB: db/version_set.cc, SomeFileOverlapsRange
 ghost use Rattle.std.specs.Prelude.{◌≡◌, ◌&&◌, IfErr, IfOk, filter, find, map};
 ghost use Rattle.std.specs.List.{list_any};
 ghost use Rattle.std.specs.Option.{option_copied, option_map};

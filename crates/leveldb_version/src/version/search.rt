@@ -1,4 +1,5 @@
 //! The order in which a look-up of a key goes through the files of a version.
+// LevelDB: db/version_set.cc, Version::ForEachOverlapping
 ghost use Rattle.std.specs.Prelude.{◌≡◌, ◌↔◌, ◌++◌, IsTrue, map};
 ghost use Rattle.std.specs.List.Sorted.{IsNonDecreasingBy};
 ghost use Rattle.std.specs.Option.{option_copied, option_map};

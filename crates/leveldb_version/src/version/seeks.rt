@@ -1,4 +1,5 @@
 //! The seeks that a version's files may take, and samples of reads that cost one.
+// LevelDB: db/version_set.cc, Version::UpdateStats
 ghost use Rattle.std.specs.Prelude.{◌≡◌, ◌<◌, ◌^◌, IfErr, IfOk, OnOk, map};
 ghost use Rattle.std.specs.List.{list_any};
 ghost use Rattle.std.specs.List.Sorted.{IsNonDecreasingBy};

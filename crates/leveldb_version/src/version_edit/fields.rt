@@ -1,4 +1,5 @@
 //! The fields of a version edit, each a tag and its value: read from bytes, and put as bytes.
+// LevelDB: db/version_edit.cc, VersionEdit::EncodeTo and DecodeFrom
 ghost use Rattle.std.specs.Prelude.{◌≡◌, ◌^◌, ◌<◌, ◌∷◌, ◌++◌, flat_map, map, All, OnOk, IfErr, IfSome, string_bytes};
 ghost use Rattle.std.specs.List.Sorted.{IsStrictlySortedBy};
 ghost use Rattle.std.specs.Option.{option_map, option_to_list};

@@ -1,4 +1,5 @@
 //! The compactions for which a version set asks, and the merge of the tables that one takes.
+// LevelDB: db/version_set.cc, VersionSet
 ghost use Rattle.std.specs.Prelude.{◌≡◌, ◌<◌, IfErr, IfOk};
 ghost use Rattle.leveldb_base.specs.Error.{IsOutOfMemory};
 ghost use Rattle.leveldb_base.specs.KeyTypes.{user_part};
@@ -101,7 +102,8 @@ impl<E: Env, C: UserCmp + Copy + Drop> VersionSet<E, C> {
         C: 'b,
         FP: 'b,
         K: 'b,
-        ensures merges { let walk = ⟦<VersionIter<'c, C> as Walk<E, ReadTables<'b, E, C, FP, K>>>⟧ in
+        ensures merges { let walk =
+            ⟦<VersionIter<'c, C> as Walk<E, ReadTables<'b, E, C, FP, K>>>⟧ in
             IfOk result (MergesTablesOf walk ⟦<InternalKeyCmp<C> as Cmp>⟧ self.now.current.cmp
             compaction.now.inputs) }
         ensures memory { IfErr result IsOutOfMemory }

@@ -1,4 +1,5 @@
 //! The text of `CURRENT`.
+// LevelDB: db/filename.cc, SetCurrentFile
 ghost use Rattle.std.specs.Prelude.{◌≡◌, ℕ, List, MatchOption, IfOk, IfErr, string_bytes};
 ghost use Rattle.leveldb_base.specs.Error.{IsOutOfMemory};
 ghost use Rattle.leveldb_base.specs.Names.{IsFileName};

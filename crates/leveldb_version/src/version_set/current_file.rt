@@ -1,4 +1,5 @@
 //! Reading and replacing `CURRENT`, which names the manifest of a store.
+// LevelDB: db/filename.cc, SetCurrentFile
 ghost use Rattle.std.specs.Prelude.{◌≡◌, ◌⊎◌, IfOk, IfErr, IsSomeAnd, IsTrue, string_bytes};
 ghost use Rattle.leveldb_base.specs.Error.{IsOutOfMemory};
 ghost use Rattle.leveldb_env.specs.Env.{bytes_of, AppendedAreBytes, ChangesFiles, FilesUnchanged, HasCause, Run, SameLocks};

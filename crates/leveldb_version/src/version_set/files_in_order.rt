@@ -1,4 +1,5 @@
 //! The live files while the edits of a manifest are applied one after another.
+// LevelDB: db/version_set.cc, VersionSet::Builder
 ghost use Rattle.std.specs.BTreeMap.{get};
 ghost use Rattle.std.specs.Prelude.{◌≡◌, [], IfErr, IfOk, None, OnOk, fold, map};
 ghost use Rattle.leveldb_base.specs.Error.{IsOutOfMemory};

@@ -1,4 +1,5 @@
 //! One edit that has all that a store's files are, and what it becomes by another.
+// LevelDB: db/version_set.cc, VersionSet::WriteSnapshot
 ghost use Rattle.std.specs.Prelude.{◌≡◌, ◌≤◌, ◌+◌, fold, map, vec_len, vec_capacity, OnOk, IfErr};
 ghost use Rattle.leveldb_base.specs.Error.{IsOutOfMemory};
 ghost use Rattle.leveldb_version.specs.VersionEdit.{edit_of, new_file_of, pointer_of};

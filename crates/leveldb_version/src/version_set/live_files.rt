@@ -1,5 +1,6 @@
 //! The live files of a store: what the edits of its manifest leave, and the numbers that go with
 //! them.
+// LevelDB: db/version_set.cc, VersionSet
 ghost use Rattle.std.specs.Prelude.{◌≡◌, ◌≢◌, ◌↔◌, ◌+◌, ◌<◌, ◌^◌, Some, None, map, OnOk, OnErr, IfOk, IfErr, IsTrue, string_bytes};
 ghost use Rattle.leveldb_base.specs.Error.{IsOutOfMemory};
 ghost use Rattle.leveldb_version.specs.Summary.{summary_text};

@@ -1,4 +1,5 @@
 //! Logging an edit: into the manifest in use, or into a new one.
+// LevelDB: db/version_set.cc, VersionSet::LogAndApply
 ghost use Rattle.std.specs.Prelude.{◌≡◌, ◌≢◌, ◌⊎◌, ◌↔◌, ◌<◌, [], All, Some, true, false, IfOk, IfErr, OnOk, IsTrue};
 ghost use Rattle.leveldb_base.specs.Error.{IsOutOfMemory};
 ghost use Rattle.leveldb_env.specs.Env.{AreBytes, ChangesFiles, HasCause, SameLocks};

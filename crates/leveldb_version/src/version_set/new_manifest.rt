@@ -1,4 +1,5 @@
 //! Making a manifest, which `CURRENT` then names.
+// LevelDB: db/version_set.cc, VersionSet::LogAndApply and WriteSnapshot
 ghost use Rattle.std.specs.Prelude.{◌≡◌, fold, map, Some, IfOk, IfErr, IsTrue, string_bytes};
 ghost use Rattle.leveldb_base.specs.Error.{IsOutOfMemory};
 ghost use Rattle.leveldb_env.specs.Env.{AppendedAreBytes, ChangesFiles, HasCause, SameBut, SameLocks, kept_file, with_file};

@@ -1,4 +1,5 @@
 //! Manifests of one record, such as that of a new store.
+// LevelDB: db/db_impl.cc, DBImpl::NewDB
 ghost use Rattle.std.specs.Prelude.{◌≡◌, IfOk, IfErr};
 ghost use Rattle.leveldb_base.specs.Error.{IsOutOfMemory};
 ghost use Rattle.leveldb_version.specs.NewStore.{MakeStoreResult, MakesManifest, first_edit};

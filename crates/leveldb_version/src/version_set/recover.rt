@@ -1,4 +1,5 @@
 //! Recovering a version set from the manifest that `CURRENT` names.
+// LevelDB: db/version_set.cc, VersionSet::Recover
 ghost use Rattle.std.specs.Prelude.{◌≡◌, ◌<◌, ◌+◌, ◌^◌, ◌↔◌, if◌then◌else◌, is_some, IfOk, IfSome, IsSome, IsTrue, OnOk, string_bytes};
 ghost use Rattle.leveldb_version.specs.CurrentFile.{IsCurrentUnread};
 ghost use Rattle.leveldb_version.specs.VersionEdit.{edit_of};

@@ -1,4 +1,5 @@
 //! What the records of a manifest leave: one edit of all that there is, and its numbers.
+// LevelDB: db/version_set.cc, VersionSet::Recover
 ghost use Rattle.std.specs.Prelude.{◌≡◌, ◌≤◌, ◌⊎◌, ◌↔◌, [], IfOk, IfErr, IfSome, IsErrAnd, IsTrue, OnOk, if◌then◌else◌};
 ghost use Rattle.leveldb_base.specs.Error.{IsOutOfMemory};
 ghost use Rattle.leveldb_base.specs.KeyTypes.{greatest_sequence};

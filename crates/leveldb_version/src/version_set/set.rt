@@ -1,5 +1,5 @@
 //! A version set: the live files of a store as its manifest has them, and its current version.
-// LevelDB: VersionSet
+// LevelDB: db/version_set.cc, VersionSet
 ghost use Rattle.std.specs.Prelude.{◌≡◌, ◌≢◌, ◌↔◌, ◌+◌, ◌<◌, ◌^◌, Some, map, OnOk, OnErr, IfOk, IfErr, IsTrue, string_bytes};
 ghost use Rattle.leveldb_base.specs.Error.{IsOutOfMemory};
 ghost use Rattle.leveldb_env.specs.Env.{SameLocks};

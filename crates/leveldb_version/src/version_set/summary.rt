@@ -1,4 +1,5 @@
 //! The text that says which files each level has.
+// LevelDB: db/version_set.cc, VersionSet::LevelSummary
 ghost use Rattle.std.specs.Prelude.{◌≡◌, ◌++◌, [], length, map, string_bytes, IfOk, OnOk, IfErr};
 ghost use Rattle.leveldb_base.specs.Error.{IsOutOfMemory};
 ghost use Rattle.leveldb_version.specs.VersionEdit.{new_file_of};

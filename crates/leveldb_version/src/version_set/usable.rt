@@ -1,4 +1,5 @@
 //! Whether a store may begin with what the edits of its manifest leave.
+// LevelDB: db/version_set.cc, VersionSet::Recover
 ghost use Rattle.std.specs.Prelude.{◌≡◌, ◌≢◌, ◌≤◌, ◌<◌, ◌+◌, ◌^◌, ◌↔◌, List, Some, IfErr, IfOk, IsTrue, OnOk, map, string_bytes};
 ghost use Rattle.std.specs.Option.{option_map};
 ghost use Rattle.std.specs.declared.cmp.Ordering.TheVariants.{Less};

@@ -1,4 +1,5 @@
 //! The end of a store's work: giving back its lock.
+// LevelDB: db/db_impl.cc, the destructor of DBImpl
 ghost use Rattle.std.specs.Prelude.{false};
 ghost use Rattle.leveldb_env.specs.Env.{lock_set, same, ChangesFiles, FilesUnchanged, ChangesLocks, HasCause};
 ghost use Rattle.leveldb_store.specs.BuildTable.{choices_of};

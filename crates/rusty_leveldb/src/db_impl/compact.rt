@@ -1,4 +1,5 @@
 //! Compacting a range of keys.
+// LevelDB: db/db_impl.cc, DBImpl::CompactRange
 ghost use Rattle.std.specs.Prelude.{◌≡◌, is_some};
 ghost use Rattle.leveldb_store.specs.BuildTable.{choices_of};
 ghost use Rattle.rusty_leveldb.specs.Calls.{EngineCompacts};

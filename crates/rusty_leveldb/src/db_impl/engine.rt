@@ -1,4 +1,5 @@
 //! What a store has in memory while it is open. Each call is given the environment.
+// LevelDB: db/db_impl.h, DBImpl
 ghost use Rattle.std.specs.Prelude.{◌≡◌, Bool, List, OnOk, IfErr};
 ghost use Rattle.leveldb_base.specs.History.{Item};
 ghost use Rattle.rusty_leveldb.specs.State.{open_mode, write, refused};

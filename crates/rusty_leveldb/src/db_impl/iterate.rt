@@ -1,4 +1,5 @@
 //! Iterators over a store's view.
+// LevelDB: db/db_impl.cc, DBImpl::NewIterator
 ghost use Rattle.std.specs.Prelude.{◌≡◌, None, Some, IfErr, IfOk};
 ghost use Rattle.std.specs.Option.{option_map};
 ghost use Rattle.leveldb_base.specs.Error.{IsOutOfMemory};

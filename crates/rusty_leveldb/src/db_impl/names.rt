@@ -1,4 +1,5 @@
 //! The name of a store.
+// LevelDB: db/filename.cc, LockFileName
 ghost use Rattle.std.specs.Prelude.{◌≡◌, OnOk, IfErr};
 ghost use Rattle.rusty_leveldb.specs.Engine.{IsStoreName};
 

@@ -1,4 +1,5 @@
 //! Opening a store: its lock is taken, and its files are read.
+// LevelDB: db/db_impl.cc, DB::Open
 ghost use Rattle.rusty_leveldb.specs.Engine.{opening_of};
 ghost use Rattle.leveldb_store.specs.BuildTable.{choices_of};
 ghost use Rattle.rusty_leveldb.specs.Calls.{EngineOpens};

@@ -1,4 +1,5 @@
 //! Reading from a store.
+// LevelDB: db/db_impl.cc, DBImpl::Get
 ghost use Rattle.std.specs.Prelude.{◌≡◌, None, Some, OnOk, IfErr};
 ghost use Rattle.leveldb_base.specs.KeyTypes.{IsLongKey};
 ghost use Rattle.leveldb_base.specs.declared.error.StatusCode.TheVariants.{InvalidArgument};

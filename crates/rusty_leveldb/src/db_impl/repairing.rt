@@ -1,4 +1,5 @@
 //! Repairing a store whose files are lost or damaged.
+// LevelDB: db/repair.cc, RepairDB
 ghost use Rattle.leveldb_repair.specs.RepairStore.{WhyNotEnded};
 ghost use Rattle.leveldb_store.specs.BuildTable.{choices_of};
 ghost use Rattle.rusty_leveldb.specs.Engine.{opening_of};

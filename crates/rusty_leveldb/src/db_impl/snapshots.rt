@@ -1,4 +1,5 @@
 //! Snapshots of a store: the numbers at which its readers hold it.
+// LevelDB: db/db_impl.cc, DBImpl::GetSnapshot and ReleaseSnapshot
 ghost use Rattle.std.specs.Prelude.{◌≡◌, Some, Contains, OnOk, IfErr};
 ghost use Rattle.leveldb_base.specs.declared.error.StatusCode.TheVariants.{InvalidArgument};
 ghost use Rattle.rusty_leveldb.specs.Causes.{IsNotHeld};

@@ -1,4 +1,5 @@
 //! The public store: an engine beside a borrow of its environment, which each call gives to it.
+// LevelDB: include/leveldb/db.h
 ghost use Rattle.std.specs.Prelude.{◌≡◌, ◌∷◌, ◌++◌, List, [], Some, None, false, IfOk};
 ghost use Rattle.std.specs.Option.{option_map};
 ghost use Rattle.leveldb_mem.specs.WriteBatch.{item_of};

@@ -1,4 +1,5 @@
 //! Writing to a store: batches, and syncs of its log.
+// LevelDB: db/db_impl.cc, DBImpl::Write
 ghost use Rattle.std.specs.Prelude.{◌≡◌, ◌∷◌, [], Some, None, false, is_some};
 ghost use Rattle.leveldb_mem.specs.WriteBatch.{item_of};
 ghost use Rattle.rusty_leveldb.specs.State.{open_mode};
@@ -28,8 +29,8 @@ impl<E: Env, C: UserCmp + Copy, FP: FilterPolicy + Copy> Engine<E, C, FP> {
         ensures { let choices = choices_of C.Cmp FP.FilterPolicy
             ⟦<InternalKeyCmp<C> as Cmp>⟧ ⟦<InternalFilterPolicy<FP> as FilterPolicy>⟧
             ⟦<CompressorList as Compressors>⟧.codings in
-            EngineWrites E.Env choices self.old env.old (item_of key.now (Some value.now) ∷ []) false
-            result self.new env.new }
+            EngineWrites E.Env choices self.old env.old (item_of key.now (Some value.now) ∷ [])
+            false result self.new env.new }
     {
         self.check_open()?;
         let mut batch = WriteBatch::new(self.alloc)?;

@@ -172,8 +172,8 @@ fn repair_folder<E: Env, O: Write>(
     log: Option<Logger>,
     out: &mut O,
 ) -> Result<(), Status>
-    ensures answered { OnOk result (IsRepairAnswered E.Env folder.now env.old env.new (O.contents out.old)
-        (O.contents out.new)) }
+    ensures answered { OnOk result (IsRepairAnswered E.Env folder.now env.old env.new
+        (O.contents out.old) (O.contents out.new)) }
     ensures repaired { (ended : Result (Unit {0}) Status)
         × HasRepaired E.Env folder.now ldb_opening env.old ended env.new }
 {
