@@ -3,12 +3,11 @@ use super::children::{Device, Source, list_of, list_of_keys};
 use leveldb_base::cmp::DefaultCmp;
 use leveldb_base::error::{Result, StatusCode};
 use leveldb_iter::in_memory::InMemory;
-use leveldb_iter::merging_iter::{MergeCore, MergingIter};
+use leveldb_iter::merging_iter::MergeWalk;
 use leveldb_iter::walk::Walk;
-use leveldb_iter::walk_iter::WalkIter;
 use std::alloc::Global;
 
-type Merged = MergeCore<DefaultCmp, Source<DefaultCmp>>;
+type Merged = MergeWalk<DefaultCmp, Source<DefaultCmp>>;
 
 // Lists of keys, each of a letter, and all keys in order.
 const ROWS: [([&str; 3], &str); 8] = [
@@ -29,7 +28,7 @@ fn merge(alloc: Global, lists: &[&'static str; 3]) -> Result<Merged> {
             list: list_of(alloc, keys)?,
         })?;
     }
-    Ok(MergeCore::new::<Device, ()>(DefaultCmp, children))
+    Ok(MergeWalk::new::<Device, ()>(DefaultCmp, children))
 }
 
 // The moves, each a letter: advance, prev, the first pair, the last, the first at or after "d", and
@@ -153,64 +152,63 @@ fn a_failed_move_leaves_no_position_and_the_walk_goes_on(rt: HostRuntime) -> Res
 // The letters of the pairs from the next one on.
 fn letters_left<W: Walk<Device, ()>>(
     alloc: Global,
-    it: &mut WalkIter<Device, (), W>,
+    it: &mut W,
+    device: &mut Device,
 ) -> Result<Vec<u8>> {
     let mut letters = Vec::new(alloc);
     for _ in 0..100 {
-        let Some((key, value)) = it.next(alloc)? else {
+        if !it.advance(device, &mut ())? {
+            break;
+        }
+        let Some((key, value)) = it.current() else {
             break;
         };
         if key != value {
             break;
         }
-        letters.extend_from_slice(key.as_slice())?;
+        letters.extend_from_slice(key)?;
     }
     Ok(letters)
 }
 
 #[test]
-fn a_merge_beside_its_borrows(rt: HostRuntime) -> Result<()> {
+fn moves_of_a_merge(rt: HostRuntime) -> Result<()> {
     let mut device = Device {
         calls_left: u64::MAX,
     };
-    let mut tables = ();
-    let core = merge(rt.alloc(), &["bde", "ag", "cf"])?;
-    let mut it: MergingIter<Device, (), DefaultCmp, Source<DefaultCmp>> = WalkIter::new(
-        core,
-        &mut device,
-        &mut tables,
-    );
-    assert!(rt; letters_left(rt.alloc(), &mut it)?.as_slice() == b"abcdefg".as_slice());
-    it.seek(b"d")?;
-    assert!(rt; it.prev()? && it.valid() && it.current() == Some((b"c", b"c")));
-    assert!(rt; letters_left(rt.alloc(), &mut it)?.as_slice() == b"defg".as_slice());
-    it.seek_to_last()?;
-    assert!(rt; !it.advance()? && !it.valid());
-    it.seek_to_first()?;
-    it.reset();
-    assert!(rt; it.advance()? && it.current() == Some((b"a", b"a")));
+    let mut it = merge(rt.alloc(), &["bde", "ag", "cf"])?;
+    let letters = letters_left(rt.alloc(), &mut it, &mut device)?;
+    assert!(rt; letters.as_slice() == b"abcdefg".as_slice());
+    it.seek(&mut device, &mut (), b"d")?;
+    assert!(rt; it.prev(&mut device, &mut ())? && is_at(&it, Some((b'c', b'c'))));
+    let letters = letters_left(rt.alloc(), &mut it, &mut device)?;
+    assert!(rt; letters.as_slice() == b"defg".as_slice());
+    it.seek_to_last(&mut device, &mut ())?;
+    assert!(rt; !it.advance(&mut device, &mut ())? && is_at(&it, None));
+    it.seek_to_first(&mut device, &mut ())?;
+    Walk::<Device, ()>::reset(&mut it);
+    assert!(rt; it.advance(&mut device, &mut ())? && is_at(&it, Some((b'a', b'a'))));
     Ok(())
 }
 
 #[test]
 fn iterators_as_walks(rt: HostRuntime) -> Result<()> {
     let mut device = Device { calls_left: 0 };
-    let mut tables = ();
     let mut children = Vec::new(rt.alloc());
     for keys in ["ac", "bd"] {
         children.push(InMemory(list_of(rt.alloc(), keys)?))?;
     }
-    let core = MergeCore::new::<Device, ()>(DefaultCmp, children);
-    let mut it = WalkIter::new(core, &mut device, &mut tables);
-    assert!(rt; letters_left(rt.alloc(), &mut it)?.as_slice() == b"abcd".as_slice());
-    it.seek_to_last()?;
-    assert!(rt; it.prev()? && it.current() == Some((b"c", b"c")));
+    let mut it = MergeWalk::new::<Device, ()>(DefaultCmp, children);
+    let letters = letters_left(rt.alloc(), &mut it, &mut device)?;
+    assert!(rt; letters.as_slice() == b"abcd".as_slice());
+    it.seek_to_last(&mut device, &mut ())?;
+    assert!(rt; it.prev(&mut device, &mut ())? && is_at(&it, Some((b'c', b'c'))));
     Ok(())
 }
 
-// Whether a pair has this key, and the value "def".
-fn is_def(pair: Option<(&[u8], &[u8])>, wanted: &[u8]) -> bool {
-    match pair {
+// Whether the walk is at a pair of this key, and the value "def".
+fn is_at_def<W: Walk<Device, ()>>(it: &W, wanted: &[u8]) -> bool {
+    match it.current() {
         None => false,
         Some((key, value)) => key == wanted && value == b"def".as_slice(),
     }
@@ -220,17 +218,15 @@ fn is_def(pair: Option<(&[u8], &[u8])>, wanted: &[u8]) -> bool {
 fn keys_that_share_a_prefix(rt: HostRuntime) -> Result<()> {
     let alloc = rt.alloc();
     let mut device = Device { calls_left: 0 };
-    let mut tables = ();
     let mut children = Vec::new(alloc);
     children.push(InMemory(list_of_keys(alloc, &[b"aba", b"abc", b"abe"])?))?;
     children.push(InMemory(list_of_keys(alloc, &[b"abb", b"abd"])?))?;
-    let core = MergeCore::new::<Device, ()>(DefaultCmp, children);
-    let mut it = WalkIter::new(core, &mut device, &mut tables);
-    it.seek(b"ab0")?;
-    assert!(rt; is_def(it.current(), b"aba"));
-    it.seek(b"abx")?;
-    assert!(rt; !it.valid());
-    it.reset();
-    assert!(rt; it.advance()? && is_def(it.current(), b"aba"));
+    let mut it = MergeWalk::new::<Device, ()>(DefaultCmp, children);
+    it.seek(&mut device, &mut (), b"ab0")?;
+    assert!(rt; is_at_def(&it, b"aba"));
+    it.seek(&mut device, &mut (), b"abx")?;
+    assert!(rt; is_at(&it, None));
+    Walk::<Device, ()>::reset(&mut it);
+    assert!(rt; it.advance(&mut device, &mut ())? && is_at_def(&it, b"aba"));
     Ok(())
 }

@@ -4,11 +4,11 @@ use super::merges::{MOVES, go, gone, is_at};
 use leveldb_base::cmp::{DefaultCmp, InternalKeyCmp};
 use leveldb_base::error::{Result, StatusCode};
 use leveldb_base::key_types::ValueType;
-use leveldb_iter::db_iter::DbIterCore;
+use leveldb_iter::db_iter::ViewWalk;
 use leveldb_iter::walk::Walk;
 use std::alloc::Global;
 
-type View = DbIterCore<Source<InternalKeyCmp<DefaultCmp>>>;
+type View = ViewWalk<Source<InternalKeyCmp<DefaultCmp>>>;
 
 // Lists of entries in order, each a letter, a digit for its sequence number, and '+' or '-'.
 const ROWS: [&str; 8] = [
@@ -79,7 +79,7 @@ impl Pairs {
 
 fn view(alloc: Global, entries: &[(u8, u8, ValueType)], sequence: u8) -> Result<View> {
     let list = list_of_entries(alloc, entries)?;
-    Ok(DbIterCore::new::<Device, ()>(alloc, Source { list }, u64::from(sequence)))
+    Ok(ViewWalk::new::<Device, ()>(alloc, Source { list }, u64::from(sequence)))
 }
 
 // Whether all moves of a number in base 6 lead where they lead in the list of these pairs.
@@ -185,7 +185,7 @@ fn a_key_without_a_tag_is_corrupt_and_the_view_goes_on(rt: HostRuntime) -> Resul
         let front = entries_of(rt.alloc(), front.as_bytes())?;
         let back = entries_of(rt.alloc(), back.as_bytes())?;
         let list = list_of_damaged(rt.alloc(), front.as_slice(), back.as_slice())?;
-        let mut it = DbIterCore::new::<Device, ()>(rt.alloc(), Source { list }, 9);
+        let mut it = ViewWalk::new::<Device, ()>(rt.alloc(), Source { list }, 9);
         for (letter, key) in letters.as_bytes().iter().zip(keys.as_bytes()) {
             assert!(rt; leads_to(&mut it, *letter, *key)?, "{letters}: {letter}");
         }

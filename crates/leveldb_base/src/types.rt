@@ -240,7 +240,8 @@ pub fn current_key_val<I: LdbIterator>(alloc: Global, it: &I) -> Result<Option<(
     copy_pair(alloc, it.current())
 }
 
-fn copy_pair(alloc: Global, pair: Option<(&[u8], &[u8])>) -> Result<Option<(Vec<u8>, Vec<u8>)>>
+/// A copy of a pair, if there is one.
+pub fn copy_pair(alloc: Global, pair: Option<(&[u8], &[u8])>) -> Result<Option<(Vec<u8>, Vec<u8>)>>
     ensures ok { IfOk result (λ copied. copied_pair copied ≡ pair_of pair.entry) }
     ensures cause { IfErr result IsOutOfMemory }
 {

@@ -5,8 +5,8 @@ use Rattle.std.proofs.lemmas.Bool.{cases_order, cases_lt, false≢true}
 use Rattle.std.proofs.lemmas.Option.{slice_get-get_or, slice_get_within, get_or_from_slice_get}
 use Rattle.leveldb_base.specs.Types.{Pair, IsPosition, pair_at}
 use Rattle.leveldb_base.specs.declared.error.Status.{Status}
-use Rattle.leveldb_iter.specs.declared.children.Step.{Step}
-use Rattle.leveldb_iter.specs.declared.children.Step.TheVariants.{First, Last, Next, Prev, PrevOrLast, Seek}
+use Rattle.leveldb_iter.specs.declared.children.ChildStep.{ChildStep}
+use Rattle.leveldb_iter.specs.declared.children.ChildStep.TheVariants.{First, Last, Next, Prev, PrevOrLast, Seek}
 use Rattle.leveldb_iter.specs.declared.walk.Walk.{Ghosts as WalkGhosts}
 use Rattle.leveldb_iter.specs.Walk.{KeyOrder, Way, WalkLaws, SeeksLast}
 use Rattle.leveldb_iter.specs.Children.{list_at, head_of, same_key, AnyFails, AreOver, AreEachAt, AreEachLedTo, step_from, step_to, MovesChild, previous_or_last, StepsOne, StepsEach, StepsAtKey, StepsCurrent}
@@ -54,7 +54,7 @@ module _ {E T I : Type 0} (walk : WalkGhosts I E T) (laws : WalkLaws walk.over w
   }
 
   -- a step leads from the same where this is left of the world
-  pub from_stays : (first second : E × T) → walk.keeps first second → (step : Step) (it : I) (order : KeyOrder) (pairs : List Pair) (position : Option ℕ)
+  pub from_stays : (first second : E × T) → walk.keeps first second → (step : ChildStep) (it : I) (order : KeyOrder) (pairs : List Pair) (position : Option ℕ)
       → step_from walk step first it order pairs position → step_from walk step second it order pairs position
   from_stays first second k First it order pairs position from = laws.stays_over first second k it order pairs from
   from_stays first second k Last it order pairs position from = laws.stays_over first second k it order pairs from
@@ -104,7 +104,7 @@ module _ {E T I : Type 0} (walk : WalkGhosts I E T) (laws : WalkLaws walk.over w
   -- ---- steps of all
 
   -- So many children have made the step.
-  pub record SteppedSome (step : Step) (to : Way) (old_world : E × T) (old : List I) (i : ℕ) (world : E × T) (now : List I) : Type 0 where
+  pub record SteppedSome (step : ChildStep) (to : Way) (old_world : E × T) (old : List I) (i : ℕ) (world : E × T) (now : List I) : Type 0 where
     -- there are as many children
     pub counted : length now ≡ length old
     -- each of them came to where its step leads
@@ -119,7 +119,7 @@ module _ {E T I : Type 0} (walk : WalkGhosts I E T) (laws : WalkLaws walk.over w
     -- an error that one may have from now on is one that one might have had before
     pub excuses : (later : E × T) (status : Status) → AnyFails walk world now later status → AnyFails walk old_world old later status
 
-  pub none_stepped : (step : Step) (to : Way) (world : E × T) (children : List I) → SteppedSome step to world children 0 world children
+  pub none_stepped : (step : ChildStep) (to : Way) (world : E × T) (children : List I) → SteppedSome step to world children 0 world children
   none_stepped step to world children = record {
     counted = refl;
     came = λ order lists position each k child lt e. absurd (omega (arith, lt));
@@ -129,7 +129,7 @@ module _ {E T I : Type 0} (walk : WalkGhosts I E T) (laws : WalkLaws walk.over w
     excuses = λ later status any. any;
   }
 
-  module _ {step : Step} {to : Way} {old_world : E × T} {old : List I} {i : ℕ} {world : E × T} {now : List I} {new_world : E × T} {new : List I} (some : SteppedSome step to old_world old i world now) where
+  module _ {step : ChildStep} {to : Way} {old_world : E × T} {old : List I} {i : ℕ} {world : E × T} {now : List I} {new_world : E × T} {new : List I} (some : SteppedSome step to old_world old i world now) where
     -- one more makes the step
     pub one_more : i < length now → StepsOne walk {R = Unit {0}} (step_from walk step) to i world now (Ok (tt {0})) new_world new → SteppedSome step to old_world old (i + 1) new_world new
     one_more h one = record {
@@ -169,7 +169,7 @@ module _ {E T I : Type 0} (walk : WalkGhosts I E T) (laws : WalkLaws walk.over w
     }
 
   -- or none does
-  pub all_stepped : {step : Step} {to : Way} {old_world : E × T} {old : List I} {i : ℕ} {world : E × T} {now : List I} → SteppedSome step to old_world old i world now → length now ≤ i
+  pub all_stepped : {step : ChildStep} {to : Way} {old_world : E × T} {old : List I} {i : ℕ} {world : E × T} {now : List I} → SteppedSome step to old_world old i world now → length now ≤ i
       → StepsEach walk (step_from walk step) to old_world old (Ok (tt {0})) world now
   all_stepped {step} {to} {old_world} {old} {i} {world} {now} some h = record {
     counted = some.counted;
@@ -183,7 +183,7 @@ module _ {E T I : Type 0} (walk : WalkGhosts I E T) (laws : WalkLaws walk.over w
   -- ---- a step of those at one key
 
   -- a step to the next pair or to the one before begins at any position
-  from_any : (step : Step) → (step ≡ Next) ⊎ (step ≡ Prev) → (world : E × T) (it : I) (order : KeyOrder) (pairs : List Pair) (position : Option ℕ)
+  from_any : (step : ChildStep) → (step ≡ Next) ⊎ (step ≡ Prev) → (world : E × T) (it : I) (order : KeyOrder) (pairs : List Pair) (position : Option ℕ)
       → walk.is_at world it order pairs position → step_from walk step world it order pairs position
   from_any step moves world it order pairs position at = ⊎_elim
       (λ (e : step ≡ Next). subst (λ s. step_from walk s world it order pairs position) (sym e) at)
@@ -252,7 +252,7 @@ module _ {E T I : Type 0} (walk : WalkGhosts I E T) (laws : WalkLaws walk.over w
             ∙ ap (same_key (head_of walk now i)) (sym (head_left own (inl refl))) ∙ f)
             apart
 
-    module _ {step : Step} {new_world : E × T} {new : List I} (moves : (step ≡ Next) ⊎ (step ≡ Prev)) (leads : step_to step ≡ to) where
+    module _ {step : ChildStep} {new_world : E × T} {new : List I} (moves : (step ≡ Next) ⊎ (step ≡ Prev)) (leads : step_to step ≡ to) where
       -- where the child of this number comes to
       one_came : {k : ℕ} (h : k < length now) (one : StepsOne walk {R = Unit {0}} (step_from walk step) (step_to step) k world now (Ok (tt {0})) new_world new)
           → (k ≡ own) ⊎ (i ≤ k) → (order : KeyOrder) (lists : List (List Pair)) (position : List Pair → Option ℕ) → AreEachAt walk old_world old order lists position
@@ -362,7 +362,7 @@ module _ {E T I : Type 0} (walk : WalkGhosts I E T) (laws : WalkLaws walk.over w
       caused (Err status) s = one_cause h s
 
   -- a step to the next pair or to the one before begins at any position
-  pub one_from_any : {R : Type 0} {to : Way} {i : ℕ} {old_world : E × T} {old : List I} {result : Result R Status} {new_world : E × T} {new : List I} (step : Step) → (step ≡ Next) ⊎ (step ≡ Prev)
+  pub one_from_any : {R : Type 0} {to : Way} {i : ℕ} {old_world : E × T} {old : List I} {result : Result R Status} {new_world : E × T} {new : List I} (step : ChildStep) → (step ≡ Next) ⊎ (step ≡ Prev)
       → StepsOne walk (step_from walk step) to i old_world old result new_world new → StepsOne walk walk.is_at to i old_world old result new_world new
   one_from_any {R} {to} {i} {old_world} {old} {result} {new_world} {new} step moves s = ⊎_elim
       (λ (e : step ≡ Next). subst (λ x. StepsOne walk (step_from walk x) to i old_world old result new_world new) e s)

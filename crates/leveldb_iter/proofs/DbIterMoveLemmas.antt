@@ -9,7 +9,7 @@ use Rattle.leveldb_base.specs.History.{IsView}
 use Rattle.leveldb_base.proofs.EntriesLemmas.{rising_is_sorted}
 use Rattle.leveldb_base.proofs.ViewLemmas.{sorted_has_view}
 use Rattle.leveldb_base.proofs.PositionLemmas.{last_before_end}
-use Rattle.leveldb_iter.specs.declared.db_iter.DbIterCore.{DbIterCore}
+use Rattle.leveldb_iter.specs.declared.db_iter.ViewWalk.{ViewWalk}
 use Rattle.leveldb_iter.specs.declared.walk.Walk.{Ghosts as WalkGhosts}
 use Rattle.leveldb_iter.specs.DbIter.{IsViewOf, IsPlaced, IsAtOrBefore, IsViewAt, IsViewOver, view_pair, view_here, FailsOver, FailsView}
 use Rattle.leveldb_iter.specs.DbIterSteps.{IsOnScan, IsOnScanBack, IsFoundNext, IsFoundPrevious, IsLeft, IsLeftBack, IsSought, IsWhole, KeepsBelow, MovesBelow, number_after}
@@ -18,7 +18,7 @@ use Rattle.leveldb_iter.specs.Walk.{KeyOrder, Way, WalkLaws, MovesWalk, Advances
 use Rattle.leveldb_iter.proofs.DbIterLemmas.{kept_itself, widened}
 
 -- the pair that is saved
-abbrev pub saved_of : {M : Type 0} → DbIterCore M → Pair
+abbrev pub saved_of : {M : Type 0} → ViewWalk M → Pair
 saved_of it = (it.saved_key.items, it.saved_value.items)
 
 module _ {E T M : Type 0} (walk : WalkGhosts M E T) (laws : WalkLaws walk.over walk.is_at walk.here walk.fails walk.keeps) where
@@ -28,7 +28,7 @@ module _ {E T M : Type 0} (walk : WalkGhosts M E T) (laws : WalkLaws walk.over w
   view_kept {order = order} {below} keeps view = record { over = keeps.over (internal_order order) below view.over; exact = view.exact; accepts = view.accepts; view = view.view }
 
   -- with no direction it is at no position
-  pub rests : (world : E × T) (it : DbIterCore M) (order : KeyOrder) (below pairs : List Pair) → it.at ≡ None → IsViewOf walk world it.walk it.sequence order below pairs → IsViewAt walk world it order pairs None
+  pub rests : (world : E × T) (it : ViewWalk M) (order : KeyOrder) (below pairs : List Pair) → it.at ≡ None → IsViewOf walk world it.walk it.sequence order below pairs → IsViewAt walk world it order pairs None
   rests world it order below pairs none view = record {
     below = below;
     view = view;
@@ -36,16 +36,16 @@ module _ {E T M : Type 0} (walk : WalkGhosts M E T) (laws : WalkLaws walk.over w
   }
 
   -- Where a move comes from and where it leads, as situations.
-  pub record Enters {R : Type 0} (From : E × T → DbIterCore M → KeyOrder → List Pair → Option ℕ → Type 0) (to : Way) (Start : KeyOrder → List Pair → List Pair → ℕ → Type 0) (End : R → KeyOrder → List Pair → List Pair → ℕ → Type 0)
-      (old_world : E × T) (old : DbIterCore M) (value : R) (new_world : E × T) (new : DbIterCore M) (order : KeyOrder) (pairs : List Pair) (position : Option ℕ) : Type 0 where
+  pub record Enters {R : Type 0} (From : E × T → ViewWalk M → KeyOrder → List Pair → Option ℕ → Type 0) (to : Way) (Start : KeyOrder → List Pair → List Pair → ℕ → Type 0) (End : R → KeyOrder → List Pair → List Pair → ℕ → Type 0)
+      (old_world : E × T) (old : ViewWalk M) (value : R) (new_world : E × T) (new : ViewWalk M) (order : KeyOrder) (pairs : List Pair) (position : Option ℕ) : Type 0 where
     pub below : List Pair
     pub number : ℕ
     pub view : IsViewOf walk old_world old.walk old.sequence order below pairs
     pub start : Start order below pairs number
     pub end : End value order below pairs number → IsPlaced walk new_world new.walk old.sequence order new.at (saved_of new) below pairs (to order pairs position)
 
-  module _ {R S : Type 0} {From : E × T → DbIterCore M → KeyOrder → List Pair → Option ℕ → Type 0} {to : Way} {Start : KeyOrder → List Pair → List Pair → ℕ → Type 0} {End : R → KeyOrder → List Pair → List Pair → ℕ → Type 0}
-      {old_world : E × T} (old : DbIterCore M) {new_world : E × T} (new : DbIterCore M) (value : R)
+  module _ {R S : Type 0} {From : E × T → ViewWalk M → KeyOrder → List Pair → Option ℕ → Type 0} {to : Way} {Start : KeyOrder → List Pair → List Pair → ℕ → Type 0} {End : R → KeyOrder → List Pair → List Pair → ℕ → Type 0}
+      {old_world : E × T} (old : ViewWalk M) {new_world : E × T} (new : ViewWalk M) (value : R)
       (same : new.sequence ≡ old.sequence) (enters : (order : KeyOrder) (pairs : List Pair) (position : Option ℕ) → From old_world old order pairs position → Enters From to Start End old_world old value new_world new order pairs position)
       (from_over : (order : KeyOrder) (pairs : List Pair) → IsViewOver walk old_world old order pairs → (position : Option ℕ) × From old_world old order pairs position) where
     -- it succeeds
@@ -94,8 +94,8 @@ module _ {E T M : Type 0} (walk : WalkGhosts M E T) (laws : WalkLaws walk.over w
         }
 
   -- a move whose last part gives its result
-  pub finished : {From : E × T → DbIterCore M → KeyOrder → List Pair → Option ℕ → Type 0} {to : Way} {Start : KeyOrder → List Pair → List Pair → ℕ → Type 0} {End : Unit {0} → KeyOrder → List Pair → List Pair → ℕ → Type 0}
-      {old_world : E × T} (old : DbIterCore M) {new_world : E × T} (new : DbIterCore M) → new.sequence ≡ old.sequence
+  pub finished : {From : E × T → ViewWalk M → KeyOrder → List Pair → Option ℕ → Type 0} {to : Way} {Start : KeyOrder → List Pair → List Pair → ℕ → Type 0} {End : Unit {0} → KeyOrder → List Pair → List Pair → ℕ → Type 0}
+      {old_world : E × T} (old : ViewWalk M) {new_world : E × T} (new : ViewWalk M) → new.sequence ≡ old.sequence
       → (enters : (order : KeyOrder) (pairs : List Pair) (position : Option ℕ) → From old_world old order pairs position → Enters From to Start End old_world old (tt {0}) new_world new order pairs position)
       → ((order : KeyOrder) (pairs : List Pair) → IsViewOver walk old_world old order pairs → (position : Option ℕ) × From old_world old order pairs position)
       → (result : Result (Unit {0}) Status) → MovesBelow walk Start End old_world old.walk result new_world new.walk → OnErr result (new.at ≡ None)
@@ -104,7 +104,7 @@ module _ {E T M : Type 0} (walk : WalkGhosts M E T) (laws : WalkLaws walk.over w
   finished old new same enters from_over (Err status) m none = refused old new (tt {0}) same enters from_over status m none
 
   -- the errors of a new view
-  pub made_fails : (it : DbIterCore M) → it.at ≡ None → (world later : E × T) (status : Status) → FailsView walk world it later status
+  pub made_fails : (it : ViewWalk M) → it.at ≡ None → (world later : E × T) (status : Status) → FailsView walk world it later status
       → FailsOver walk (λ order pairs. (below : List Pair) × IsViewOf walk world it.walk it.sequence order below pairs) world it.walk later status
   made_fails it none world later status fails = widened walk laws (kept_itself walk laws world it.walk) (λ order pairs view. (None, rests world it order view.0 pairs none view.1)) later status fails
 
@@ -127,7 +127,7 @@ module _ {E T M : Type 0} (walk : WalkGhosts M E T) (laws : WalkLaws walk.over w
   next_is pairs None = refl
   next_is pairs (Some n) = refl
 
-  module _ {old_world : E × T} {old : DbIterCore M} {new_world : E × T} {new : DbIterCore M} where
+  module _ {old_world : E × T} {old : ViewWalk M} {new_world : E × T} {new : ViewWalk M} where
     pub enters_next : (order : KeyOrder) (pairs : List Pair) (position : Option ℕ) → IsViewAt walk old_world old order pairs position
         → Enters (IsViewAt walk) (λ _. next_position) (IsLeft walk old_world old.walk old.sequence old.at (saved_of old)) (λ (u : Unit {0}). IsFoundNext walk new_world new.walk old.sequence new.at (saved_of new))
         old_world old (tt {0}) new_world new order pairs position
@@ -175,7 +175,7 @@ module _ {E T M : Type 0} (walk : WalkGhosts M E T) (laws : WalkLaws walk.over w
         }
 
   -- over a view it accepts any key
-  pub key_from_over : {world : E × T} {it : DbIterCore M} (key : List ℕ) (order : KeyOrder) (pairs : List Pair) → IsViewOver walk world it order pairs
+  pub key_from_over : {world : E × T} {it : ViewWalk M} (key : List ℕ) (order : KeyOrder) (pairs : List Pair) → IsViewOver walk world it order pairs
       → (position : Option ℕ) × (IsViewOver walk world it order pairs × (order.accepts key ≡ true))
   key_from_over key order pairs was =
       let at = was.1 in
@@ -185,7 +185,7 @@ module _ {E T M : Type 0} (walk : WalkGhosts M E T) (laws : WalkLaws walk.over w
   -- ---- at no position
 
   -- it is where it was, but at no position
-  module _ (old new : DbIterCore M) (same_walk : new.walk ≡ old.walk) (same : new.sequence ≡ old.sequence) (none : new.at ≡ None) where
+  module _ (old new : ViewWalk M) (same_walk : new.walk ≡ old.walk) (same : new.sequence ≡ old.sequence) (none : new.at ≡ None) where
     pub reset_over : (world : E × T) (order : KeyOrder) (pairs : List Pair) → IsViewOver walk world old order pairs → IsViewAt walk world new order pairs None
     reset_over world order pairs was =
         let at = was.1 in
@@ -205,7 +205,7 @@ module _ {E T M : Type 0} (walk : WalkGhosts M E T) (laws : WalkLaws walk.over w
     }
 
     -- the first pair is the one after no position
-    pub first_after_reset : {R S : Type 0} {old_world new_world : E × T} {newest : DbIterCore M} {value : R} (other : S)
+    pub first_after_reset : {R S : Type 0} {old_world new_world : E × T} {newest : ViewWalk M} {value : R} (other : S)
         → Advances (IsViewOver walk) (IsViewAt walk) (view_here walk) (FailsView walk) walk.keeps old_world new (Ok value) new_world newest
         → SeeksFirst (IsViewOver walk) (IsViewAt walk) (view_here walk) (FailsView walk) walk.keeps old_world old (Ok other) new_world newest
     first_after_reset {old_world = old_world} other m = record {
@@ -218,7 +218,7 @@ module _ {E T M : Type 0} (walk : WalkGhosts M E T) (laws : WalkLaws walk.over w
       excuses = λ later status fails. reset_excuses old_world later status (m.excuses later status fails);
     }
 
-    pub first_fails : {R S : Type 0} {old_world new_world : E × T} {newest : DbIterCore M} {status : Status}
+    pub first_fails : {R S : Type 0} {old_world new_world : E × T} {newest : ViewWalk M} {status : Status}
         → Advances (IsViewOver walk) (IsViewAt walk) (view_here walk) (FailsView walk) walk.keeps {R = R} old_world new (Err status) new_world newest
         → SeeksFirst (IsViewOver walk) (IsViewAt walk) (view_here walk) (FailsView walk) walk.keeps {R = S} old_world old (Err status) new_world newest
     first_fails {old_world = old_world} {new_world} {status = status} m = record {
@@ -232,7 +232,7 @@ module _ {E T M : Type 0} (walk : WalkGhosts M E T) (laws : WalkLaws walk.over w
     }
 
   -- before the first pair and from no position it stays at none
-  pub stays_at_none : {world : E × T} (it : DbIterCore M) (result : Bool) → it.at ≡ None → StepsBack (IsViewOver walk) (IsViewAt walk) (view_here walk) (FailsView walk) walk.keeps world it (Ok result) world it
+  pub stays_at_none : {world : E × T} (it : ViewWalk M) (result : Bool) → it.at ≡ None → StepsBack (IsViewOver walk) (IsViewAt walk) (view_here walk) (FailsView walk) walk.keeps world it (Ok result) world it
   stays_at_none {world} it result none = record {
     ok = λ order pairs position at.
         let placed : position ≡ None = subst (λ d. IsPlaced walk world it.walk it.sequence order d (saved_of it) at.below pairs position) none at.placed in

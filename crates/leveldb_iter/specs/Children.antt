@@ -10,8 +10,8 @@ use Rattle.leveldb_base.specs.declared.types.Direction.{Direction}
 use Rattle.leveldb_base.specs.declared.types.Direction.TheVariants.{Forward, Reverse}
 use Rattle.leveldb_base.specs.Types.{Pair, position_within, next_position, previous_position, last_position, seek_position}
 use Rattle.leveldb_iter.specs.declared.children.Best.{Best}
-use Rattle.leveldb_iter.specs.declared.children.Step.{Step}
-use Rattle.leveldb_iter.specs.declared.children.Step.TheVariants.{First, Last, Next, Prev, PrevOrLast, Seek}
+use Rattle.leveldb_iter.specs.declared.children.ChildStep.{ChildStep}
+use Rattle.leveldb_iter.specs.declared.children.ChildStep.TheVariants.{First, Last, Next, Prev, PrevOrLast, Seek}
 use Rattle.leveldb_iter.specs.declared.children.Tie.{Tie}
 use Rattle.leveldb_iter.specs.declared.children.Tie.TheVariants.{Alone, Shared, Clash}
 use Rattle.leveldb_iter.specs.declared.walk.Walk.{Ghosts as WalkGhosts}
@@ -60,7 +60,7 @@ previous_or_last pairs None = last_position pairs
 previous_or_last pairs (Some i) = previous_position (Some i)
 
 -- where a step leads
-abbrev pub step_to : Step → Way
+abbrev pub step_to : ChildStep → Way
 step_to First order pairs position = position_within pairs 0
 step_to Last order pairs position = last_position pairs
 step_to Next order pairs position = next_position pairs position
@@ -70,7 +70,7 @@ step_to (Seek key) order pairs position = seek_position order.cmp pairs key.now
 
 module _ {E T I : Type 0} (walk : WalkGhosts I E T) where
   -- from where it leads there
-  abbrev pub step_from : Step → E × T → I → KeyOrder → List Pair → Option ℕ → Type 0
+  abbrev pub step_from : ChildStep → E × T → I → KeyOrder → List Pair → Option ℕ → Type 0
   step_from First world it order pairs position = walk.over world it order pairs
   step_from Last world it order pairs position = walk.over world it order pairs
   step_from Next world it order pairs position = walk.is_at world it order pairs position

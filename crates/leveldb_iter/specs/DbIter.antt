@@ -14,7 +14,7 @@ use Rattle.leveldb_base.specs.declared.error.Status.{Status}
 use Rattle.leveldb_base.specs.declared.error.StatusCode.TheVariants.{Corruption}
 use Rattle.leveldb_base.specs.declared.types.Direction.{Direction}
 use Rattle.leveldb_base.specs.declared.types.Direction.TheVariants.{Forward, Reverse}
-use Rattle.leveldb_iter.specs.declared.db_iter.DbIterCore.{DbIterCore}
+use Rattle.leveldb_iter.specs.declared.db_iter.ViewWalk.{ViewWalk}
 use Rattle.leveldb_iter.specs.declared.walk.Walk.{Ghosts as WalkGhosts}
 use Rattle.leveldb_iter.specs.MergedEntries.{internal_order}
 use Rattle.leveldb_iter.specs.Walk.{KeyOrder}
@@ -96,7 +96,7 @@ module _ {E T M : Type 0} (walk : WalkGhosts M E T) (world : E × T) (inner : M)
 
 module _ {E T M : Type 0} (walk : WalkGhosts M E T) where
   -- it is at this position of a view
-  pub record IsViewAt (world : E × T) (it : DbIterCore M) (order : KeyOrder) (pairs : List Pair)
+  pub record IsViewAt (world : E × T) (it : ViewWalk M) (order : KeyOrder) (pairs : List Pair)
       (position : Option ℕ) : Type 0 where
     -- the pairs below
     pub below : List Pair
@@ -107,12 +107,12 @@ module _ {E T M : Type 0} (walk : WalkGhosts M E T) where
         (it.saved_key.items, it.saved_value.items) below pairs position
 
   -- it is over a view: at some position of it, or at none
-  abbrev pub IsViewOver : E × T → DbIterCore M → KeyOrder → List Pair → Type 0
+  abbrev pub IsViewOver : E × T → ViewWalk M → KeyOrder → List Pair → Type 0
   IsViewOver world it order pairs =
       (position : Option ℕ) × IsViewAt world it order pairs position
 
   -- the pair that it is at
-  abbrev pub view_here : DbIterCore M → Option Pair
+  abbrev pub view_here : ViewWalk M → Option Pair
   view_here it = view_pair it.at (walk.here it.walk) (it.saved_key.items, it.saved_value.items)
 
   -- the errors of a walk below, of memory, and of pairs that are no entries
@@ -123,5 +123,5 @@ module _ {E T M : Type 0} (walk : WalkGhosts M E T) where
       × ((order : KeyOrder) (pairs : List Pair) → Over order pairs → ⊥))
 
   -- the errors of a view: where it is over one, those below and of memory
-  abbrev pub FailsView : E × T → DbIterCore M → E × T → Status → Type 0
+  abbrev pub FailsView : E × T → ViewWalk M → E × T → Status → Type 0
   FailsView world it = FailsOver (IsViewOver world it) world it.walk

@@ -15,7 +15,7 @@ use Rattle.leveldb_base.specs.declared.types.Direction.TheVariants.{Forward, Rev
 use Rattle.leveldb_base.proofs.EntriesLemmas.{rising_is_sorted}
 use Rattle.leveldb_base.proofs.PositionLemmas.{at_seam}
 use Rattle.leveldb_base.proofs.ViewLemmas.{sorted_has_view}
-use Rattle.leveldb_iter.specs.declared.db_iter.DbIterCore.{DbIterCore}
+use Rattle.leveldb_iter.specs.declared.db_iter.ViewWalk.{ViewWalk}
 use Rattle.leveldb_iter.specs.declared.walk.Walk.{Ghosts as WalkGhosts}
 use Rattle.leveldb_iter.specs.DbIter.{IsViewOf, IsAtOrBefore, IsPlaced, IsViewAt, IsViewOver, view_pair, view_here, FailsView, user_pair}
 use Rattle.leveldb_iter.specs.MergedEntries.{internal_order}
@@ -118,7 +118,7 @@ module _ {E T M : Type 0} {walk : WalkGhosts M E T}
     )
 
   -- what is left of a world has a view at its position
-  view_at_stays : (first second : E × T) → walk.keeps first second → (it : DbIterCore M)
+  view_at_stays : (first second : E × T) → walk.keeps first second → (it : ViewWalk M)
       (order : KeyOrder) (pairs : List Pair) (position : Option ℕ)
       → IsViewAt walk first it order pairs position → IsViewAt walk second it order pairs position
   view_at_stays first second kept it order pairs position at = record {
@@ -129,7 +129,7 @@ module _ {E T M : Type 0} {walk : WalkGhosts M E T}
   }
 
   -- and with no new error
-  view_excuses : (first second : E × T) → walk.keeps first second → (it : DbIterCore M)
+  view_excuses : (first second : E × T) → walk.keeps first second → (it : ViewWalk M)
       (later : E × T) (status : Status) → FailsView walk second it later status
       → FailsView walk first it later status
   unfolding view_at_stays

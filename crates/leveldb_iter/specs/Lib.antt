@@ -1,5 +1,4 @@
 pub mod Walk
-pub mod WalkIter
 pub mod Moves
 pub mod InMemory
 pub mod InMemoryLaws

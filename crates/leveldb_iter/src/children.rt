@@ -4,7 +4,7 @@ ghost use Rattle.std.specs.Prelude.{◌≡◌, ◌<◌, ◌⊎◌, true, length,
 ghost use Rattle.std.specs.Option.{ForSome};
 ghost use Rattle.leveldb_base.specs.Types.{Pair, pair_of};
 ghost use Rattle.leveldb_iter.specs.Children.{step_from, step_to, previous_or_last, same_key, MovesChild, StepsOne, StepsEach, StepsAtKey, IsJoined, IsBetter, IsBest, head_of, order_in};
-ghost use Rattle.leveldb_iter.specs.declared.children.Step.TheVariants.{Next, Prev};
+ghost use Rattle.leveldb_iter.specs.declared.children.ChildStep.TheVariants.{Next, Prev};
 
 use crate::walk::Walk;
 use leveldb_base::cmp::Cmp;
@@ -14,7 +14,7 @@ use std::cmp::Ordering;
 
 // A step that every child makes.
 #[derive(Clone, Copy)]
-pub(crate) enum Step<'k> {
+pub(crate) enum ChildStep<'k> {
     First,
     Last,
     Next,
@@ -48,7 +48,7 @@ pub(crate) fn step_each<E, T, I: Walk<E, T>>(
     children: &mut Vec<I>,
     env: &mut E,
     tables: &mut T,
-    step: Step,
+    step: ChildStep,
 ) -> Result<()>
     ensures { StepsEach I.Walk (step_from I.Walk step.entry) (step_to step.entry)
         (env.old, tables.old) children.old.items result (env.new, tables.new) children.new.items }
@@ -65,7 +65,7 @@ pub(crate) fn step_one<E, T, I: Walk<E, T>>(
     env: &mut E,
     tables: &mut T,
     i: usize,
-    step: Step,
+    step: ChildStep,
 ) -> Result<()>
     requires { i < length children.old.items }
     ensures { StepsOne I.Walk (step_from I.Walk step.entry) (step_to step.entry) i
@@ -78,24 +78,24 @@ fn step_child<E, T, I: Walk<E, T>>(
     child: &mut I,
     env: &mut E,
     tables: &mut T,
-    step: Step,
+    step: ChildStep,
 ) -> Result<()>
     ensures { MovesChild I.Walk (step_from I.Walk step.entry) (step_to step.entry)
         (env.old, tables.old) child.old result (env.new, tables.new) child.new }
 {
     match step {
-        Step::First => child.seek_to_first(env, tables),
-        Step::Last => child.seek_to_last(env, tables),
-        Step::Next => {
+        ChildStep::First => child.seek_to_first(env, tables),
+        ChildStep::Last => child.seek_to_last(env, tables),
+        ChildStep::Next => {
             child.advance(env, tables)?;
             Ok(())
         }
-        Step::Prev => {
+        ChildStep::Prev => {
             child.prev(env, tables)?;
             Ok(())
         }
-        Step::PrevOrLast => step_back(child, env, tables),
-        Step::Seek(key) => child.seek(env, tables, key),
+        ChildStep::PrevOrLast => step_back(child, env, tables),
+        ChildStep::Seek(key) => child.seek(env, tables, key),
     }
 }
 
@@ -117,7 +117,7 @@ pub(crate) fn step_at_key<E, T, I: Walk<E, T>>(
     env: &mut E,
     tables: &mut T,
     i: usize,
-    step: Step,
+    step: ChildStep,
 ) -> Result<()>
     requires index { i < length children.old.items }
     requires moves { (step ≡ Next) ⊎ (step ≡ Prev) }

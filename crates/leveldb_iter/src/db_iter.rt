@@ -8,7 +8,6 @@ ghost use Rattle.leveldb_iter.specs.Walk.{KeyOrder};
 
 use crate::entry::{Seen, entry_at, keep, with_entry};
 use crate::walk::{CountsBytes, Walk};
-use crate::walk_iter::WalkIter;
 use leveldb_base::error::{Result, Status};
 use leveldb_base::key_types::{ValueType, split_sequence, tag_bytes};
 use leveldb_base::types::{Direction, SequenceNumber};
@@ -22,7 +21,7 @@ use std::alloc::{AllocError, Global};
 /// it. After one back it is before all entries of the pair's key, and the pair is a copy. The two
 /// buffers are kept from move to move. A move to a pair below whose key has no tag fails.
 #[derive(Drop)]
-pub struct DbIterCore<M> {
+pub struct ViewWalk<M> {
     walk: M,
     sequence: SequenceNumber,
     // the direction in which it came to the pair that it is at, or none where it is at no pair
@@ -35,16 +34,13 @@ pub struct DbIterCore<M> {
     ghost small: { sequence < 2 ^ 56 },
 }
 
-/// A view beside borrows of the environment and the tables that its entries are read from.
-pub type ViewIter<'a, E, T, M> = WalkIter<'a, E, T, DbIterCore<M>>;
-
-impl<M> DbIterCore<M> {
+impl<M> ViewWalk<M> {
     ghost use Rattle.leveldb_base.specs.declared.error.Status.{Status};
     ghost use Rattle.leveldb_iter.specs.DbIter.{IsViewOf, IsViewAt, FailsOver, FailsView, view_here};
 
     /// The view at a sequence number of the entries that the walk is over, at no position.
     /// The walk may be at any.
-    pub fn new<E, T>(alloc: Global, walk: M, sequence: SequenceNumber) -> DbIterCore<M>
+    pub fn new<E, T>(alloc: Global, walk: M, sequence: SequenceNumber) -> ViewWalk<M>
     where
         M: Walk<E, T>,
         requires { sequence < 2 ^ 56 }
@@ -58,7 +54,7 @@ impl<M> DbIterCore<M> {
             (below : List Pair) × IsViewOf M.Walk world walk sequence order below pairs)
             world walk later status }
     {
-        DbIterCore {
+        ViewWalk {
             walk,
             sequence,
             at: None,
@@ -70,7 +66,7 @@ impl<M> DbIterCore<M> {
 }
 
 // Scans forward.
-impl<M> DbIterCore<M> {
+impl<M> ViewWalk<M> {
     ghost use Rattle.leveldb_base.specs.KeyTypes.{user_part};
     ghost use Rattle.leveldb_iter.specs.DbIterSteps.{IsSeen, FailsToRead, MovesBelow, IsOnScan, IsNextStep, IsFoundNext, IsLeft};
 
@@ -222,7 +218,7 @@ impl<M> DbIterCore<M> {
 }
 
 // Scans back, and the first halves of seeks.
-impl<M> DbIterCore<M> {
+impl<M> ViewWalk<M> {
     ghost use Rattle.leveldb_iter.specs.DbIterSteps.{IsTaken, FailsToRead, MovesBelow, IsOnScan, IsOnScanBack, IsStepBack, IsTurning, IsFoundPrevious, IsLeftBack, IsSought, IsWhole, is_at_key};
 
     // Takes the entry that the walk below is at for the pair to be shown, and returns whether one
@@ -401,7 +397,7 @@ impl<M> DbIterCore<M> {
     }
 }
 
-impl<M> CountsBytes for DbIterCore<M> {
+impl<M> CountsBytes for ViewWalk<M> {
     ghost counted = { λ it. it.bytes_read };
 
     fn bytes_read(&self) -> u64 {
@@ -409,7 +405,7 @@ impl<M> CountsBytes for DbIterCore<M> {
     }
 }
 
-impl<E, T, M: Walk<E, T>> Walk<E, T> for DbIterCore<M> {
+impl<E, T, M: Walk<E, T>> Walk<E, T> for ViewWalk<M> {
     ghost use Rattle.leveldb_iter.specs.DbIter.{IsViewOver, IsViewAt, view_here, FailsView};
     ghost use Rattle.leveldb_iter.specs.DbIterLaws.{view_laws};
 

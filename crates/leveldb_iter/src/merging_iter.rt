@@ -5,9 +5,8 @@ ghost use Rattle.std.specs.Option.{ForSome};
 ghost use Rattle.leveldb_base.specs.Types.{Pair};
 ghost use Rattle.leveldb_iter.specs.Walk.{KeyOrder};
 
-use crate::children::{Step, Tie, best_of, step_at_key, step_each, step_one};
+use crate::children::{ChildStep, Tie, best_of, step_at_key, step_each, step_one};
 use crate::walk::Walk;
-use crate::walk_iter::WalkIter;
 use leveldb_base::cmp::Cmp;
 use leveldb_base::error::{Result, StatusCode, err};
 use leveldb_base::types::Direction;
@@ -20,7 +19,7 @@ use leveldb_base::types::Direction;
 /// one, and a turn one of each. Each child is then compared once at most. No move copies a key or
 /// takes memory, but for the text of that error.
 #[derive(Drop)]
-pub struct MergeCore<C, I> {
+pub struct MergeWalk<C, I> {
     cmp: C,
     children: Vec<I>,
     current: Option<usize>,
@@ -31,15 +30,12 @@ pub struct MergeCore<C, I> {
     ghost within: { ForSome current (λ i. i < length children.items) },
 }
 
-/// A merge beside borrows of the environment and the tables that its children read from.
-pub type MergingIter<'a, E, T, C, I> = WalkIter<'a, E, T, MergeCore<C, I>>;
-
-impl<C: Cmp, I> MergeCore<C, I> {
+impl<C: Cmp, I> MergeWalk<C, I> {
     ghost use Rattle.leveldb_base.specs.declared.error.Status.{Status};
     ghost use Rattle.leveldb_iter.specs.MergingIter.{AreMerged, IsMergeAt, FailsMerged, FailsOrClashes, merged_here};
 
     /// The merge of these walks, at no position. They may be at any.
-    pub fn new<E, T>(cmp: C, children: Vec<I>) -> MergeCore<C, I>
+    pub fn new<E, T>(cmp: C, children: Vec<I>) -> MergeWalk<C, I>
     where
         I: Walk<E, T>,
         ensures is_at { (world : E × T) (order : KeyOrder) (lists : List (List Pair))
@@ -51,7 +47,7 @@ impl<C: Cmp, I> MergeCore<C, I> {
             → FailsMerged I.Walk C.Cmp world result later status
             → FailsOrClashes I.Walk C.Cmp world cmp children.items later status }
     {
-        MergeCore {
+        MergeWalk {
             cmp,
             children,
             current: None,
@@ -61,19 +57,19 @@ impl<C: Cmp, I> MergeCore<C, I> {
     }
 }
 
-impl<C: Cmp, I> MergeCore<C, I> {
+impl<C: Cmp, I> MergeWalk<C, I> {
     ghost use Rattle.std.specs.Prelude.{◌≡◌, ◌<◌, ◌⊎◌, true, ℕ, Some, IfErr, OnErr};
     ghost use Rattle.leveldb_base.specs.declared.error.StatusCode.TheVariants.{Corruption};
     ghost use Rattle.leveldb_base.specs.declared.types.Direction.TheVariants.{Forward, Reverse};
     ghost use Rattle.leveldb_base.specs.Types.{Pair, position_within, next_position, previous_position, last_position, seek_position};
     ghost use Rattle.leveldb_iter.specs.Children.{IsChosen, StepsCurrent, head_of, step_to};
     ghost use Rattle.leveldb_iter.specs.MergingIter.{Readies, IsMergeOfLists, IsMergeOfListsAt};
-    ghost use Rattle.leveldb_iter.specs.declared.children.Step.TheVariants.{Next, Prev};
+    ghost use Rattle.leveldb_iter.specs.declared.children.ChildStep.TheVariants.{Next, Prev};
 
-    // Makes the child that is at the first pair in this direction the current one, if one is at a
-    // pair. Fails where another is at a different pair of its key, and then none is the current
-    // one.
-    fn choose<E, T>(&mut self, direction: Direction) -> Result<()>
+    // The second half of each move: makes the child that is at the first pair in this direction the
+    // current one, if one is at a pair. Fails where another is at a different pair of its key, and
+    // then none is the current one.
+    fn pick_current<E, T>(&mut self, direction: Direction) -> Result<()>
     where
         I: Walk<E, T>,
         ensures cmp { self.new.cmp ≡ self.old.cmp }
@@ -109,7 +105,7 @@ impl<C: Cmp, I> MergeCore<C, I> {
         env: &mut E,
         tables: &mut T,
         i: usize,
-        step: Step,
+        step: ChildStep,
     ) -> Result<()>
     where
         I: Walk<E, T>,
@@ -128,8 +124,8 @@ impl<C: Cmp, I> MergeCore<C, I> {
         }
     }
 
-    // The first half of a move to the next pair.
-    fn to_next<E, T>(&mut self, env: &mut E, tables: &mut T) -> Result<()>
+    // The first half of a move to the next pair: children make steps, and none is the current one.
+    fn ready_next<E, T>(&mut self, env: &mut E, tables: &mut T) -> Result<()>
     where
         I: Walk<E, T>,
         ensures { Readies I.Walk C.Cmp (IsMergeOfListsAt I.Walk C.Cmp) (λ _. next_position) Forward
@@ -139,16 +135,16 @@ impl<C: Cmp, I> MergeCore<C, I> {
         let current = self.current;
         self.current = None;
         match current {
-            None => step_each(&mut self.children, env, tables, Step::First),
+            None => step_each(&mut self.children, env, tables, ChildStep::First),
             Some(i) => match self.direction {
-                Direction::Forward => self.step_current(env, tables, i, Step::Next),
-                Direction::Reverse => step_each(&mut self.children, env, tables, Step::Next),
+                Direction::Forward => self.step_current(env, tables, i, ChildStep::Next),
+                Direction::Reverse => step_each(&mut self.children, env, tables, ChildStep::Next),
             },
         }
     }
 
     // The first half of a move from a pair to the one before.
-    fn to_previous<E, T>(&mut self, env: &mut E, tables: &mut T, i: usize) -> Result<()>
+    fn ready_previous<E, T>(&mut self, env: &mut E, tables: &mut T, i: usize) -> Result<()>
     where
         I: Walk<E, T>,
         requires { self.old.current ≡ Some i }
@@ -158,13 +154,13 @@ impl<C: Cmp, I> MergeCore<C, I> {
     {
         self.current = None;
         match self.direction {
-            Direction::Forward => step_each(&mut self.children, env, tables, Step::PrevOrLast),
-            Direction::Reverse => self.step_current(env, tables, i, Step::Prev),
+            Direction::Forward => step_each(&mut self.children, env, tables, ChildStep::PrevOrLast),
+            Direction::Reverse => self.step_current(env, tables, i, ChildStep::Prev),
         }
     }
 
     // The first half of a move to the first pair.
-    fn to_first<E, T>(&mut self, env: &mut E, tables: &mut T) -> Result<()>
+    fn ready_first<E, T>(&mut self, env: &mut E, tables: &mut T) -> Result<()>
     where
         I: Walk<E, T>,
         ensures { Readies I.Walk C.Cmp (λ world it order lists pairs _.
@@ -173,11 +169,11 @@ impl<C: Cmp, I> MergeCore<C, I> {
             (env.new, tables.new) self.new.cmp self.new.children.items self.new.current }
     {
         self.current = None;
-        step_each(&mut self.children, env, tables, Step::First)
+        step_each(&mut self.children, env, tables, ChildStep::First)
     }
 
     // The first half of a move to the last pair.
-    fn to_last<E, T>(&mut self, env: &mut E, tables: &mut T) -> Result<()>
+    fn ready_last<E, T>(&mut self, env: &mut E, tables: &mut T) -> Result<()>
     where
         I: Walk<E, T>,
         ensures { Readies I.Walk C.Cmp (λ world it order lists pairs _.
@@ -186,11 +182,11 @@ impl<C: Cmp, I> MergeCore<C, I> {
             (env.new, tables.new) self.new.cmp self.new.children.items self.new.current }
     {
         self.current = None;
-        step_each(&mut self.children, env, tables, Step::Last)
+        step_each(&mut self.children, env, tables, ChildStep::Last)
     }
 
     // The first half of a move to the first pair at or after a key.
-    fn to_key<E, T>(&mut self, env: &mut E, tables: &mut T, key: &[u8]) -> Result<()>
+    fn ready_key<E, T>(&mut self, env: &mut E, tables: &mut T, key: &[u8]) -> Result<()>
     where
         I: Walk<E, T>,
         ensures { Readies I.Walk C.Cmp (λ world it order lists pairs _.
@@ -200,11 +196,11 @@ impl<C: Cmp, I> MergeCore<C, I> {
             self.new.children.items self.new.current }
     {
         self.current = None;
-        step_each(&mut self.children, env, tables, Step::Seek(key))
+        step_each(&mut self.children, env, tables, ChildStep::Seek(key))
     }
 }
 
-impl<E, T, C: Cmp, I: Walk<E, T>> Walk<E, T> for MergeCore<C, I> {
+impl<E, T, C: Cmp, I: Walk<E, T>> Walk<E, T> for MergeWalk<C, I> {
     ghost use Rattle.leveldb_iter.specs.MergingIter.{IsMergeOver, IsMergeAt, merged_here, FailsMerged};
     ghost use Rattle.leveldb_iter.specs.MergingIterLaws.{merged_laws};
 
@@ -219,8 +215,8 @@ impl<E, T, C: Cmp, I: Walk<E, T>> Walk<E, T> for MergeCore<C, I> {
     ghost keeps = { I.keeps };
 
     fn advance(&mut self, env: &mut E, tables: &mut T) -> Result<bool> {
-        self.to_next(env, tables)?;
-        self.choose::<E, T>(Direction::Forward)?;
+        self.ready_next(env, tables)?;
+        self.pick_current::<E, T>(Direction::Forward)?;
         Ok(Walk::<E, T>::valid(self))
     }
 
@@ -228,8 +224,8 @@ impl<E, T, C: Cmp, I: Walk<E, T>> Walk<E, T> for MergeCore<C, I> {
         let Some(i) = self.current else {
             return Ok(false);
         };
-        self.to_previous(env, tables, i)?;
-        self.choose::<E, T>(Direction::Reverse)?;
+        self.ready_previous(env, tables, i)?;
+        self.pick_current::<E, T>(Direction::Reverse)?;
         Ok(Walk::<E, T>::valid(self))
     }
 
@@ -238,18 +234,18 @@ impl<E, T, C: Cmp, I: Walk<E, T>> Walk<E, T> for MergeCore<C, I> {
             self.current = None;
             return Ok(());
         }
-        self.to_key(env, tables, key)?;
-        self.choose::<E, T>(Direction::Forward)
+        self.ready_key(env, tables, key)?;
+        self.pick_current::<E, T>(Direction::Forward)
     }
 
     fn seek_to_first(&mut self, env: &mut E, tables: &mut T) -> Result<()> {
-        self.to_first(env, tables)?;
-        self.choose::<E, T>(Direction::Forward)
+        self.ready_first(env, tables)?;
+        self.pick_current::<E, T>(Direction::Forward)
     }
 
     fn seek_to_last(&mut self, env: &mut E, tables: &mut T) -> Result<()> {
-        self.to_last(env, tables)?;
-        self.choose::<E, T>(Direction::Reverse)
+        self.ready_last(env, tables)?;
+        self.pick_current::<E, T>(Direction::Reverse)
     }
 
     fn reset(&mut self) {

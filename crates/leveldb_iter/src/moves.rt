@@ -5,9 +5,9 @@ ghost use Rattle.leveldb_iter.specs.Moves.{SeeksLongKey, AcceptsKeyOf, position_
 ghost use Rattle.leveldb_iter.specs.Walk.{MovesWalk};
 
 use crate::walk::Walk;
-use crate::walk_iter::copy_pair;
 use leveldb_base::error::{Result, Status};
 use leveldb_base::key_types::check_key_size;
+use leveldb_base::types::copy_pair;
 use std::alloc::Global;
 
 /// A move of a walk.

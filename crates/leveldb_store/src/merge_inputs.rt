@@ -8,16 +8,12 @@ use leveldb_base::cmp::{Cmp, InternalKeyCmp, UserCmp};
 use leveldb_base::error::Result;
 use leveldb_env::env::Env;
 use leveldb_env::filter::FilterPolicy;
-use leveldb_iter::merging_iter::MergeCore;
+use leveldb_iter::merging_iter::MergeWalk;
 use leveldb_iter::walk::Walk;
 use leveldb_version::table_cache::{ReadTables, ReadsTables};
 use leveldb_version::version::Version;
-use leveldb_version::version_iter::VersionIter;
+use leveldb_version::version_set::InputWalk;
 use std::alloc::Global;
-
-/// A walk that merges the tables of files. It borrows their metadata for `'v`; each move borrows
-/// the environment and the store's open tables.
-pub type InputWalk<'v, C> = MergeCore<InternalKeyCmp<C>, VersionIter<'v, C>>;
 
 /// The walk over all entries of the tables of a version's files, as those that a compaction takes,
 /// at no position. This reads nothing.
@@ -41,5 +37,5 @@ where
 {
     let iters = inputs.new_iters(alloc)?;
     let cmp = InternalKeyCmp(cmp);
-    Ok(MergeCore::new::<E, ReadTables<'b, E, C, FP, K>>(cmp, iters))
+    Ok(MergeWalk::new::<E, ReadTables<'b, E, C, FP, K>>(cmp, iters))
 }

@@ -22,7 +22,7 @@ mod points;
 mod walk;
 
 pub use iter::BlockIter;
-pub use owned::BlockWalk;
+pub use owned::OwnedBlockIter;
 pub use walk::{BlockCore, Spot};
 
 /// The bytes of a block, shared with no copy.

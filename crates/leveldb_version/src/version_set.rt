@@ -27,7 +27,7 @@ mod summary;
 mod usable;
 
 pub use crate::compaction::Compaction;
-pub use compactions::InputIterator;
+pub use compactions::InputWalk;
 pub use current::{current_text, parse_current_text};
 pub use current_file::{read_current_file, set_current_file};
 pub use leveldb_base::names::manifest_file_name;

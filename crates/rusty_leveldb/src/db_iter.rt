@@ -12,6 +12,7 @@ pub use crate::read_samples::sample_period;
 use leveldb_base::cmp::{Cmp, InternalKeyCmp, UserCmp};
 use leveldb_base::error::Result;
 use leveldb_base::key_types::check_key_size;
+use leveldb_base::types::copy_pair;
 use leveldb_env::compressor::{CompressorList, Compressors};
 use leveldb_env::env::Env;
 use leveldb_env::filter::FilterPolicy;
@@ -189,16 +190,5 @@ impl<
         {
             let _ = self.samples.sample(self.store, key);
         }
-    }
-}
-
-// A copy of a pair.
-fn copy_pair(alloc: Global, pair: Option<(&[u8], &[u8])>) -> Result<Option<(Vec<u8>, Vec<u8>)>>
-    ensures ok { IfOk result (λ copied. copied_pair copied ≡ pair_of pair.entry) }
-    ensures cause { IfErr result IsOutOfMemory }
-{
-    match pair {
-        None => Ok(None),
-        Some((key, value)) => Ok(Some((key.to_vec(alloc)?, value.to_vec(alloc)?))),
     }
 }

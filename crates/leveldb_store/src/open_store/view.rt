@@ -20,9 +20,9 @@ use leveldb_env::compressor::{CompressorList, Compressors};
 use leveldb_env::env::Env;
 use leveldb_env::filter::FilterPolicy;
 use leveldb_env::options::Options;
-use leveldb_iter::db_iter::DbIterCore;
+use leveldb_iter::db_iter::ViewWalk;
 use leveldb_iter::in_memory::InMemory;
-use leveldb_iter::merging_iter::MergeCore;
+use leveldb_iter::merging_iter::MergeWalk;
 use leveldb_iter::moves::{Move, Step, make_moves};
 use leveldb_iter::walk::Walk;
 use leveldb_mem::memtable::MemtableIterator;
@@ -32,8 +32,8 @@ use std::alloc::Global;
 
 /// A walk over the view of a store at a sequence number. It borrows the store's memtables and its
 /// version for `'s`; each move borrows the environment and the store's tables.
-pub type StoreView<'s, C> = DbIterCore<
-    MergeCore<InternalKeyCmp<C>, StoreWalk<'s, C, MemtableIterator<'s, C>>>,
+pub type StoreView<'s, C> = ViewWalk<
+    MergeWalk<InternalKeyCmp<C>, StoreWalk<'s, C, MemtableIterator<'s, C>>>,
 >;
 
 // A walk over a memtable or over tables.
@@ -211,26 +211,26 @@ fn view_over<E, T, C: Cmp + Drop, I: Walk<E, T> + Drop>(
     cmp: C,
     children: Vec<I>,
     sequence: SequenceNumber,
-) -> DbIterCore<MergeCore<C, I>>
+) -> ViewWalk<MergeWalk<C, I>>
     requires { sequence < 2 ^ 56 }
-    ensures { ViewsMerge I.Walk C.Cmp ⟦<DbIterCore<MergeCore<C, I>> as Walk<E, T>>⟧ cmp
+    ensures { ViewsMerge I.Walk C.Cmp ⟦<ViewWalk<MergeWalk<C, I>> as Walk<E, T>>⟧ cmp
         children.items sequence result }
 {
-    let merge = MergeCore::new::<E, T>(cmp, children);
-    DbIterCore::new::<E, T>(alloc, merge, sequence)
+    let merge = MergeWalk::new::<E, T>(cmp, children);
+    ViewWalk::new::<E, T>(alloc, merge, sequence)
 }
 
 // Makes moves of a walk over a view, from where it is on, and returns it.
 fn walk_through<E, T, C: Cmp, I: Walk<E, T>>(
     alloc: Global,
-    view: DbIterCore<MergeCore<C, I>>,
+    view: ViewWalk<MergeWalk<C, I>>,
     env: &mut E,
     tables: &mut T,
     moves: &[Move],
     steps: &mut Vec<Step>,
-) -> DbIterCore<MergeCore<C, I>>
+) -> ViewWalk<MergeWalk<C, I>>
     requires { vec_len steps.old + length moves.now ≤ vec_capacity steps.old }
-    ensures { let walk = ⟦<DbIterCore<MergeCore<C, I>> as Walk<E, T>>⟧ in
+    ensures { let walk = ⟦<ViewWalk<MergeWalk<C, I>> as Walk<E, T>>⟧ in
         (given : List Step) × (steps.new.items ≡ steps.old.items ++ given)
         × MovesAll walk (env.old, tables.old) view moves.now given (env.new, tables.new) result }
 {

@@ -17,7 +17,7 @@ use std::marker::Model;
 
 /// A walk over a block's pairs that holds the block, whose bytes it may share with others.
 #[derive(Drop)]
-pub struct BlockWalk<C: Cmp> {
+pub struct OwnedBlockIter<C: Cmp> {
     block: Block<C>,
     core: BlockCore,
     ghost within: { IsWithin block.contents block.entries core.key
@@ -25,7 +25,7 @@ pub struct BlockWalk<C: Cmp> {
             core.spot },
 }
 
-impl<C: Cmp> Model for BlockWalk<C> {
+impl<C: Cmp> Model for OwnedBlockIter<C> {
     ghost use Rattle.leveldb_table.specs.BlockWalk.{BlockPosition, number_of};
 
     ghost Value = { BlockPosition C };
@@ -37,21 +37,21 @@ impl<C: Cmp> Model for BlockWalk<C> {
     } };
 }
 
-impl<C: Cmp> BlockWalk<C> {
+impl<C: Cmp> OwnedBlockIter<C> {
     /// A walk over the block's pairs, at no position.
-    pub fn new(alloc: Global, block: Block<C>) -> BlockWalk<C>
+    pub fn new(alloc: Global, block: Block<C>) -> OwnedBlockIter<C>
         ensures block { result.block ≡ block }
         ensures position { position_over result ≡ None }
     {
-        BlockWalk::with_room(block, Vec::new(alloc))
+        OwnedBlockIter::with_room(block, Vec::new(alloc))
     }
 
     /// A walk over the block's pairs, at no position, with this room for a key.
-    pub(crate) fn with_room(block: Block<C>, room: Vec<u8>) -> BlockWalk<C>
+    pub(crate) fn with_room(block: Block<C>, room: Vec<u8>) -> OwnedBlockIter<C>
         ensures block { result.block ≡ block }
         ensures position { position_over result ≡ None }
     {
-        BlockWalk {
+        OwnedBlockIter {
             block,
             core: BlockCore::with_room(room),
         }
@@ -98,7 +98,7 @@ impl<C: Cmp> BlockWalk<C> {
     }
 }
 
-impl<C: Cmp> LdbIterator for BlockWalk<C> {
+impl<C: Cmp> LdbIterator for OwnedBlockIter<C> {
     ghost pairs = { pairs_over };
 
     ghost position = { position_over };

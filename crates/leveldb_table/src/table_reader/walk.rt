@@ -13,7 +13,7 @@ ghost use Rattle.leveldb_table.specs.BlockCache.{HoldsOnlyOf, IsBlockOfFile, Gai
 ghost use Rattle.leveldb_table.specs.TableReaderBlocks.{IsAfterLine, IsBeforeBlock, IsKeyPosition, IsLetPosition};
 ghost use Rattle.leveldb_table.specs.TableBlock.{LacksBlock, LacksLine, ReadsFile, ForBytesOf, IsLackError, IsNamedBy};
 
-use crate::block::BlockWalk;
+use crate::block::OwnedBlockIter;
 use crate::block_cache::BlockCache;
 use crate::damage::corruption;
 use crate::table_reader::{KeyBuffers, NO_HANDLE, Table};
@@ -36,8 +36,8 @@ pub struct TableCore<C: Cmp> {
     alloc: Global,
 
     // at the line of the block where it is
-    index: BlockWalk<C>,
-    inner: Option<BlockWalk<C>>,
+    index: OwnedBlockIter<C>,
+    inner: Option<OwnedBlockIter<C>>,
 
     // the room for a key of the next block
     room: Vec<u8>,
@@ -70,7 +70,7 @@ pub enum TableStep<'k> {
 }
 
 // Leaves the block, and keeps its room for a key.
-fn leave<C: Cmp + Drop>(inner: &mut Option<BlockWalk<C>>, room: &mut Vec<u8>)
+fn leave<C: Cmp + Drop>(inner: &mut Option<OwnedBlockIter<C>>, room: &mut Vec<u8>)
     ensures { inner.new ≡ None }
 {
     if let Some(walk) = inner.take() {
@@ -109,7 +109,7 @@ impl<C: Cmp + Copy + Drop> TableCore<C> {
         let (line_room, room) = key_buffers.take_room(alloc);
         Ok(TableCore {
             alloc,
-            index: BlockWalk::with_room(index, line_room),
+            index: OwnedBlockIter::with_room(index, line_room),
             inner: None,
             room,
             fills: true,
@@ -497,7 +497,7 @@ impl<C: Cmp + Copy + Drop> TableCore<C> {
     {
         let block = table.read_block(self.alloc, env, cache, compressors, handle, self.fills)?;
         let room = mem::replace(&mut self.room, Vec::new(self.alloc));
-        self.inner = Some(BlockWalk::with_room(block, room));
+        self.inner = Some(OwnedBlockIter::with_room(block, room));
         Ok(())
     }
 

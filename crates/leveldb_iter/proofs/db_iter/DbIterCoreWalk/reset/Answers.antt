@@ -1,6 +1,0 @@
-use Rattle.std.proofs.Common.{refl}
-use Rattle.leveldb_iter.proofs.DbIterMoveLemmas.{resets}
-use Rattle.leveldb_iter.proofs.db_iter.DbIterCoreWalk.reset.Goals as goal
-
-pub returns : goal.returns
-returns g c = resets g.M.Walk g.met.M.Walk.laws _ _ refl refl refl
